@@ -1,0 +1,5 @@
+pub mod Fault
+pub mod Cents
+pub mod Moment
+pub mod Text
+pub mod ShortText

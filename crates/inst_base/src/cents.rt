@@ -1,0 +1,46 @@
+ghost use Rattle.std.specs.Prelude.{◌≡◌, ℕ, ◌≤◌};
+ghost use Rattle.inst_base.specs.Cents.{cents_of};
+ghost use Rattle.inst_base.specs.declared.cents.TheConstants.{MOST};
+
+use crate::Fault;
+use std::marker::Model;
+
+/// The largest amount of one transfer or funding, in cents: 999,999,999.99 euro.
+pub const MOST: u64 = 99_999_999_999;
+
+/// An amount of whole cents, 1 to 99,999,999,999.
+#[derive(Clone, Copy, Debug, PartialEq, Eq, PartialOrd, Ord, Hash)]
+pub struct Cents {
+    cents: u64,
+}
+
+impl Model for Cents {
+    ghost Value = { ℕ };
+
+    ghost view = { λ amount. amount.cents };
+
+    ghost invariant = { λ amount. (1 ≤ amount.cents) × (amount.cents ≤ MOST) };
+
+    ghost inverse = { λ cents. record { cents = cents } };
+}
+
+impl Cents {
+    /// The amount of this many cents, or `BadAmount` outside 1 to 99,999,999,999.
+    pub fn new(cents: u64) -> Result<Cents, Fault>
+        ensures { result ≡ cents_of cents }
+    {
+        if cents == 0 || cents > MOST {
+            return Err(Fault::BadAmount);
+        }
+        Ok(Cents { cents })
+    }
+
+    /// The number of cents.
+    pub fn get(self) -> u64
+        ensures value { result ≡ self }
+        ensures above { 1 ≤ result }
+        ensures within { result ≤ MOST }
+    {
+        self.cents
+    }
+}

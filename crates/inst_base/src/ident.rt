@@ -1,0 +1,69 @@
+ghost use Rattle.std.specs.Prelude.{◌≡◌, ℕ, List, IsTrue, nat_eq};
+ghost use Rattle.std.specs.List.{list_all};
+ghost use Rattle.inst_base.specs.Text.{is_identifier, is_latin, identifier_of};
+
+use crate::Fault;
+use crate::short_text::ShortText;
+use std::marker::Model;
+
+/// The identifier of a transfer or the reference of a funding: 1 to 35 characters of the scheme's
+/// basic Latin set (`a-z A-Z 0-9 / - ? : ( ) . , ' +` and space), in any arrangement.
+#[derive(Clone, Copy, Debug, PartialEq, Eq, Hash)]
+pub struct Ident {
+    text: ShortText<35>,
+}
+
+impl Model for Ident {
+    ghost Value = { List ℕ };
+
+    ghost view = { λ ident. ident.text };
+
+    ghost invariant = { λ ident. IsTrue (is_identifier ident.text) };
+
+    ghost inverse = { λ text. record { text = text } };
+}
+
+impl Ident {
+    /// The identifier of this text, or `BadIdentifier` where it is none.
+    pub fn new(text: &str) -> Result<Ident, Fault>
+        ensures { result ≡ identifier_of text.now }
+    {
+        if !is_identifier(text.as_bytes()) {
+            return Err(Fault::BadIdentifier);
+        }
+        Ok(Ident {
+            text: ShortText::new(text),
+        })
+    }
+
+    /// The characters of the identifier.
+    pub fn text(&self) -> &str
+        ensures value { result.now ≡ self.now }
+        ensures form { IsTrue (is_identifier result.now) }
+    {
+        self.text.as_str()
+    }
+}
+
+fn is_identifier(text: &[u8]) -> bool
+    ensures { result ≡ is_identifier text.now }
+{
+    !text.is_empty() && text.len() <= 35 && are_latin(text)
+}
+
+/// Whether the byte is a character of the scheme's basic Latin set.
+fn is_latin(byte: u8) -> bool
+    ensures { result ≡ is_latin byte }
+{
+    matches!(
+        byte,
+        b'a'..=b'z' | b'A'..=b'Z' | b'0'..=b'9' | b'/' | b'-' | b'?' | b':' | b'(' | b')' | b'.' | b',' | b'\'' | b'+' | b' '
+    )
+}
+
+/// Whether each byte is a character of the scheme's basic Latin set.
+fn are_latin(text: &[u8]) -> bool
+    ensures { result ≡ list_all is_latin text.now }
+{
+    text.iter().all(|&byte| is_latin(byte))
+}

@@ -1,0 +1,17 @@
+//! The values of the clearing core that have a rule of their own, and the names of its refusals.
+#![tactic(auto)]
+
+mod cents;
+mod code;
+mod fault;
+mod ident;
+mod moment;
+mod reason;
+mod short_text;
+
+pub use cents::Cents;
+pub use code::Code;
+pub use fault::Fault;
+pub use ident::Ident;
+pub use moment::Moment;
+pub use reason::Reason;

@@ -1,0 +1,51 @@
+ghost use Rattle.std.specs.Prelude.{◌≡◌, ℕ, List, IsTrue, nat_eq};
+ghost use Rattle.inst_base.specs.Text.{is_reason, reason_of};
+
+use crate::Fault;
+use crate::code::are_code_characters;
+use crate::short_text::ShortText;
+use std::marker::Model;
+
+/// Why a beneficiary rejects a transfer: four characters of `A-Z 0-9`, passed on unread.
+#[derive(Clone, Copy, Debug, PartialEq, Eq, Hash)]
+pub struct Reason {
+    text: ShortText<4>,
+}
+
+impl Model for Reason {
+    ghost Value = { List ℕ };
+
+    ghost view = { λ reason. reason.text };
+
+    ghost invariant = { λ reason. IsTrue (is_reason reason.text) };
+
+    ghost inverse = { λ text. record { text = text } };
+}
+
+impl Reason {
+    /// The reason of this text, or `BadField` where it has another form.
+    pub fn new(text: &str) -> Result<Reason, Fault>
+        ensures { result ≡ reason_of text.now }
+    {
+        if !is_reason(text.as_bytes()) {
+            return Err(Fault::BadField);
+        }
+        Ok(Reason {
+            text: ShortText::new(text),
+        })
+    }
+
+    /// The four characters.
+    pub fn text(&self) -> &str
+        ensures value { result.now ≡ self.now }
+        ensures form { IsTrue (is_reason result.now) }
+    {
+        self.text.as_str()
+    }
+}
+
+fn is_reason(text: &[u8]) -> bool
+    ensures { result ≡ is_reason text.now }
+{
+    text.len() == 4 && are_code_characters(text)
+}

@@ -1,0 +1,94 @@
+ghost use Rattle.std.specs.Prelude.{◌≡◌, ◌≤◌, length, nat_eq};
+ghost use Rattle.std.specs.Cmp.{partial_equiv_from_equiv};
+ghost use Rattle.std.specs.Cmp.Lexicographic.{pointwise, nat_list_eq_equiv};
+ghost use Rattle.std.specs.Cmp.Rules.{hashing};
+ghost use Rattle.std.specs.Hash as fed;
+ghost use Rattle.std.proofs.Common.{rules};
+ghost use Rattle.std.specs.Str.{IsAscii};
+
+use std::hash::{Hash, Hasher};
+use std::marker::Model;
+use std::{fmt, str};
+
+/// A text of at most `N` ASCII bytes, which lie in the value itself. The bytes past its end are 0,
+/// so that equal texts are equal values.
+#[derive(Clone, Copy)]
+pub(crate) struct ShortText<const N: usize> {
+    bytes: [u8; N],
+    len: usize,
+}
+
+impl<const N: usize> Model for ShortText<N> {
+    ghost use Rattle.std.specs.Prelude.{ℕ, List, ◌++◌, ◌-◌, length, take, replicate};
+    ghost use Rattle.inst_base.specs.ShortText.{IsKept, whole_again};
+
+    ghost Value = { List ℕ };
+
+    ghost view = { λ text. take text.len text.bytes };
+
+    ghost invariant = { λ text. IsKept N text.bytes text.len };
+
+    ghost inverse = { λ xs. record { bytes = xs ++ replicate (N - length xs) 0; len = length xs } };
+
+    ghost inverse_ok = { λ text kept i. record {
+      bytes = (whole_again N text.bytes text.len kept).0 i;
+      len = (whole_again N text.bytes text.len kept).1 i;
+    } };
+}
+
+impl<const N: usize> ShortText<N> {
+    /// A copy of `text`.
+    pub(crate) fn new(text: &str) -> Self
+        requires fits { length text.now ≤ N }
+        requires ascii { IsAscii text.now }
+        ensures { result ≡ text.now }
+    {
+        let mut bytes = [0; N];
+        bytes[..text.len()].copy_from_slice(text.as_bytes());
+        ShortText {
+            bytes,
+            len: text.len(),
+        }
+    }
+
+    /// The text.
+    pub(crate) fn as_str(&self) -> &str
+        ensures value { result.now ≡ self.now }
+        ensures fits { length result.now ≤ N }
+    {
+        match str::from_utf8(&self.bytes[..self.len]) {
+            Ok(text) => text,
+            Err(_) => unreachable!(),
+        }
+    }
+}
+
+impl<const N: usize> PartialEq for ShortText<N> {
+    ghost eq = { pointwise nat_eq };
+
+    ghost laws = { partial_equiv_from_equiv nat_list_eq_equiv };
+
+    fn eq(&self, other: &Self) -> bool {
+        self.as_str() == other.as_str()
+    }
+}
+
+impl<const N: usize> Eq for ShortText<N> {
+    ghost laws = { nat_list_eq_equiv };
+}
+
+impl<const N: usize> Hash for ShortText<N> {
+    ghost hash_input = { fed.str };
+
+    ghost respects_eq = { Prim.search (hashing, rules) };
+
+    fn hash<H: Hasher>(&self, state: &mut H) {
+        self.as_str().hash(state);
+    }
+}
+
+impl<const N: usize> fmt::Debug for ShortText<N> {
+    fn fmt<W: fmt::Write>(&self, f: &mut fmt::Formatter<W>) -> fmt::Result {
+        write!(f, "{:?}", self.as_str())
+    }
+}
