@@ -11,7 +11,7 @@ pub record IsKept (room : ℕ) (bytes : List ℕ) (len : ℕ) : Type 0 where
   pub zeros : drop len bytes ≡ replicate (room - len) 0
 
 pub whole_again : (room : ℕ) (bytes : List ℕ) (len : ℕ) → IsKept room bytes len →
-  (take len bytes ++ replicate (room - length (take len bytes)) 0 ≡ bytes) × (length (take len bytes) ≡ len)
+    (take len bytes ++ replicate (room - length (take len bytes)) 0 ≡ bytes) × (length (take len bytes) ≡ len)
 whole_again room bytes len kept =
     let within : len ≤ length bytes = omega (arith, kept.within, kept.room_is) in
     let same : length (take len bytes) ≡ len = length-take-le len bytes within in

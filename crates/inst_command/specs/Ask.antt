@@ -1,0 +1,33 @@
+-- Which asks belong to a hub. The commands stand for the scheme's messages between a participant and the
+-- mechanism (EPC004-16: submission, positive and negative confirmation, investigation); funding, fetching,
+-- positions and statements are this hub's own.
+use Rattle.std.specs.Prelude.{ℕ, ◌+◌, Bool, true, ◌&&◌, nat_lt, nat_le}
+use Rattle.inst_base.specs.Moment.{is_moment}
+use Rattle.inst_settings.specs.Settings.{HubSettings, participants}
+use Rattle.inst_command.specs.declared.command.Command.{Command}
+use Rattle.inst_command.specs.declared.command.Command.TheVariants.{Fund, Defund, Submit, Confirm, Reject, Investigate, Fetch, Position, Statement}
+use Rattle.inst_command.specs.declared.ask.Ask.{Ask}
+
+-- whether a participant has this number
+abbrev pub is_participant : HubSettings → ℕ → Bool
+is_participant s number = nat_lt number (participants s)
+
+-- whether the number of entries or lines asked for is 1 to 100
+abbrev pub is_count : ℕ → Bool
+is_count count = nat_le 1 count && nat_le count 100
+
+-- whether the command is one of a hub with these settings
+abbrev pub command_fits : HubSettings → Command → Bool
+command_fits s (Fund reference cents) = nat_le cents s.ceiling
+command_fits s (Defund reference cents) = nat_le cents s.ceiling
+command_fits s (Submit id to cents stamp) = is_participant s to && nat_le cents s.ceiling && is_moment (stamp + s.limit)
+command_fits s (Confirm from id) = is_participant s from
+command_fits s (Reject from id reason) = is_participant s from
+command_fits s (Investigate id) = true
+command_fits s (Fetch max) = is_count max
+command_fits s Position = true
+command_fits s (Statement skip count) = is_count count
+
+-- whether the ask is one of a hub with these settings
+abbrev pub ask_fits : HubSettings → Ask → Bool
+ask_fits s ask = is_participant s ask.who && command_fits s ask.command

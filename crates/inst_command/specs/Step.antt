@@ -1,0 +1,13 @@
+-- Which steps belong to a hub. A step is one event under one participant's lock: this hub's own choice.
+use Rattle.std.specs.Prelude.{Bool, ◌&&◌}
+use Rattle.inst_settings.specs.Settings.{HubSettings}
+use Rattle.inst_command.specs.Ask.{is_participant, ask_fits}
+use Rattle.inst_command.specs.declared.step.Step.{Step}
+use Rattle.inst_command.specs.declared.step.Step.TheVariants.{Ask, Deliver, Learn, Expire}
+
+-- whether the step is one of a hub with these settings
+abbrev pub step_fits : HubSettings → Step → Bool
+step_fits s (Ask ask) = ask_fits s ask
+step_fits s (Deliver from place to) = is_participant s from && is_participant s to
+step_fits s (Learn who from place) = is_participant s who && is_participant s from
+step_fits s (Expire who place at) = is_participant s who

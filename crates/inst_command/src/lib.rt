@@ -1,0 +1,18 @@
+//! What is asked of a hub and what it answers.
+#![tactic(auto)]
+
+mod ask;
+mod command;
+mod entry;
+mod line;
+mod outcome;
+mod reply;
+mod step;
+
+pub use ask::Ask;
+pub use command::Command;
+pub use entry::{Entries, Entry};
+pub use line::{Line, LineKind, Lines};
+pub use outcome::{Outcome, State};
+pub use reply::{Answer, Reply};
+pub use step::Step;

@@ -1,0 +1,35 @@
+ghost use Rattle.std.specs.Prelude.{◌≡◌};
+ghost use Rattle.inst_command.specs.Step.{step_fits};
+
+use crate::Ask;
+use inst_base::Moment;
+use inst_settings::Settings;
+
+/// One event of the hub. Places count an originator's taken submissions, from 0.
+#[derive(Clone, Copy, Debug, PartialEq, Eq)]
+pub enum Step {
+    /// A participant asks.
+    Ask(Ask),
+    /// The transfer at `place` of the originator `from` comes to `to`.
+    Deliver { from: u8, place: u16, to: u8 },
+    /// `who` books the decided outcome of that transfer.
+    Learn { who: u8, from: u8, place: u16 },
+    /// The originator `who` books the decided outcome of its transfer, or times it out when due.
+    Expire { who: u8, place: u16, at: Moment },
+}
+
+impl Step {
+    /// Whether the step is one of a hub with these settings: its ask fits, and its participants'
+    /// numbers are below their count. Any place will do.
+    pub fn fits(&self, settings: &Settings) -> bool
+        ensures { result ≡ step_fits settings.now self.now }
+    {
+        let within = |number: u8| u16::from(number) < settings.participants();
+        match self {
+            Step::Ask(ask) => ask.fits(settings),
+            Step::Deliver { from, to, .. } => within(*from) && within(*to),
+            Step::Learn { who, from, .. } => within(*who) && within(*from),
+            Step::Expire { who, .. } => within(*who),
+        }
+    }
+}

@@ -1,0 +1,21 @@
+ghost use Rattle.std.specs.Prelude.{◌≡◌};
+ghost use Rattle.inst_settings.specs.Settings.{are_different, index_of};
+
+use inst_base::Code;
+
+/// Whether no code stands twice. There are few, so each is compared with those after it.
+pub(crate) fn are_different(codes: &[Code]) -> bool
+    ensures { result ≡ are_different codes.now }
+{
+    match codes {
+        [] => true,
+        [code, others @ ..] => !others.contains(code) && are_different(others),
+    }
+}
+
+/// The index of the code among `codes`.
+pub(crate) fn index_of(codes: &[Code], code: &Code) -> Option<usize>
+    ensures { result ≡ index_of code.now codes.now }
+{
+    codes.iter().position(|other| code == other)
+}

@@ -1,0 +1,11 @@
+//! The settings of a hub, checked once.
+#![tactic(auto)]
+
+mod codes;
+mod ranges;
+mod settings;
+
+pub use ranges::{
+    MOST_AHEAD, MOST_BASE, MOST_CEILING, MOST_FUNDINGS, MOST_LIMIT, MOST_PARTICIPANTS, MOST_PLACES,
+};
+pub use settings::Settings;

@@ -1,0 +1,168 @@
+ghost use Rattle.std.specs.Prelude.{◌≡◌, ◌≤◌, slice_get, IfOk, OnErr, IsOkUnless};
+ghost use Rattle.std.specs.Option.{option_copied};
+
+use crate::codes::{are_different, index_of};
+use crate::ranges::{
+    MOST_AHEAD, MOST_BASE, MOST_CEILING, MOST_FUNDINGS, MOST_LIMIT, MOST_PARTICIPANTS, MOST_PLACES,
+};
+use inst_base::{Code, Fault};
+use std::marker::Model;
+
+/// The settings of a hub, in their ranges, with different codes.
+#[derive(Debug, Drop)]
+pub struct Settings {
+    codes: Vec<Code>,
+    places: u16,
+    fundings: u16,
+    limit: u32,
+    ahead: u32,
+    ceiling: u64,
+    base: u64,
+}
+
+impl Model for Settings {
+    ghost use Rattle.inst_settings.specs.Settings.{HubSettings, IsSettings};
+
+    ghost Value = { HubSettings };
+
+    ghost view = { λ s. record {
+      codes = s.codes.items;
+      places = s.places;
+      fundings = s.fundings;
+      limit = s.limit;
+      ahead = s.ahead;
+      ceiling = s.ceiling;
+      base = s.base;
+    } };
+
+    ghost invariant = { λ s. IsSettings (record {
+      codes = s.codes.items;
+      places = s.places;
+      fundings = s.fundings;
+      limit = s.limit;
+      ahead = s.ahead;
+      ceiling = s.ceiling;
+      base = s.base;
+    }) };
+}
+
+impl Settings {
+    ghost use Rattle.inst_settings.specs.Settings.{HubSettings, IsSettings, settings_with, participants, index_of};
+
+    /// The settings with these values, or `BadSettings` where one is outside its range or a code
+    /// stands twice: 1 to 64 participants, 1 to 1,024 places and fundings, a `limit` of 1 to
+    /// 3,600,000 ms, an `ahead` of at most 60,000 ms, a `ceiling` of 1 to 99,999,999,999 cents and a
+    /// `base` of at most 2^62 ms.
+    pub fn check(
+        codes: Vec<Code>,
+        places: u16,
+        fundings: u16,
+        limit: u32,
+        ahead: u32,
+        ceiling: u64,
+        base: u64,
+    ) -> Result<Settings, Fault>
+        ensures ok { IfOk result (λ s. IsSettings s
+            × (s ≡ settings_with codes.items places fundings limit ahead ceiling base)) }
+        ensures err { OnErr result
+            (¬ IsSettings (settings_with codes.items places fundings limit ahead ceiling base)) }
+        ensures only { IsOkUnless result Fault.BadSettings }
+    {
+        if codes.is_empty() || codes.len() > MOST_PARTICIPANTS || !are_different(&codes) {
+            return Err(Fault::BadSettings);
+        }
+        if places == 0 || places > MOST_PLACES || fundings == 0 || fundings > MOST_FUNDINGS {
+            return Err(Fault::BadSettings);
+        }
+        if limit == 0 || limit > MOST_LIMIT || ahead > MOST_AHEAD {
+            return Err(Fault::BadSettings);
+        }
+        if ceiling == 0 || ceiling > MOST_CEILING || base > MOST_BASE {
+            return Err(Fault::BadSettings);
+        }
+        Ok(Settings {
+            codes,
+            places,
+            fundings,
+            limit,
+            ahead,
+            ceiling,
+            base,
+        })
+    }
+
+    /// The number of the participant with this code.
+    pub fn index_of(&self, code: &Code) -> Option<u8>
+        ensures { result ≡ index_of code.now self.now.codes }
+    {
+        index_of(&self.codes, code).map(|index| index as u8)
+    }
+
+    /// The code of the participant with this number, or `None` where there is none.
+    pub fn code(&self, index: u8) -> Option<&Code>
+        ensures { option_copied result ≡ slice_get self.now.codes index }
+    {
+        self.codes.get(usize::from(index))
+    }
+
+    /// How many participants there are.
+    pub fn participants(&self) -> u16
+        ensures value { result ≡ participants self.now }
+        ensures some { 1 ≤ result }
+        ensures most { result ≤ MOST_PARTICIPANTS }
+    {
+        self.codes.len() as u16
+    }
+
+    /// How many submissions each originator may have taken.
+    pub fn places(&self) -> u16
+        ensures value { result ≡ self.now.places }
+        ensures some { 1 ≤ result }
+        ensures most { result ≤ MOST_PLACES }
+    {
+        self.places
+    }
+
+    /// How many fund and defund commands are kept for each participant.
+    pub fn fundings(&self) -> u16
+        ensures value { result ≡ self.now.fundings }
+        ensures some { 1 ≤ result }
+        ensures most { result ≤ MOST_FUNDINGS }
+    {
+        self.fundings
+    }
+
+    /// From a transfer's time stamp to its deadline, in milliseconds.
+    pub fn limit(&self) -> u32
+        ensures value { result ≡ self.now.limit }
+        ensures some { 1 ≤ result }
+        ensures most { result ≤ MOST_LIMIT }
+    {
+        self.limit
+    }
+
+    /// How far a time stamp may lie after the reading, in milliseconds.
+    pub fn ahead(&self) -> u32
+        ensures value { result ≡ self.now.ahead }
+        ensures most { result ≤ MOST_AHEAD }
+    {
+        self.ahead
+    }
+
+    /// The largest amount of one command, in cents.
+    pub fn ceiling(&self) -> u64
+        ensures value { result ≡ self.now.ceiling }
+        ensures some { 1 ≤ result }
+        ensures most { result ≤ MOST_CEILING }
+    {
+        self.ceiling
+    }
+
+    /// The absolute milliseconds from which moments are counted.
+    pub fn base(&self) -> u64
+        ensures value { result ≡ self.now.base }
+        ensures most { result ≤ MOST_BASE }
+    {
+        self.base
+    }
+}
