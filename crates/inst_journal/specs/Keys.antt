@@ -1,0 +1,53 @@
+-- When a command is a repeat of a kept one, and when its key is kept with other contents. A transfer's key is its originator
+-- and identifier, a funding's its reference, in a key space of its own: this hub's own choice.
+use Rattle.std.specs.Prelude.{ℕ, Bool, true, false, ◌&&◌, ◌||◌, ◌==◌, List, count_by}
+use Rattle.std.specs.List.{list_any}
+use Rattle.inst_settings.specs.Settings.{same_text}
+use Rattle.inst_journal.specs.declared.event.Event.{Event}
+use Rattle.inst_journal.specs.declared.event.Event.TheVariants.{Funded, Defunded, Taken, Forwarded, Booked, Fetched}
+
+-- whether the event is this funding
+abbrev pub is_this_fund : List ℕ → ℕ → Event → Bool
+is_this_fund reference cents (Funded other_reference other) = same_text other_reference reference && (other == cents)
+is_this_fund reference cents _ = false
+
+-- whether the event is this defunding
+abbrev pub is_this_defund : List ℕ → ℕ → Event → Bool
+is_this_defund reference cents (Defunded other_reference other) = same_text other_reference reference && (other == cents)
+is_this_defund reference cents _ = false
+
+-- whether the event is this submission
+abbrev pub is_this_submission : List ℕ → ℕ → ℕ → ℕ → Event → Bool
+is_this_submission id to cents stamp (Taken other other_to other_cents other_stamp) =
+    same_text other id && (other_to == to) && (other_cents == cents) && (other_stamp == stamp)
+is_this_submission id to cents stamp _ = false
+
+-- whether the event keeps this funding reference, of either kind
+abbrev pub refers : List ℕ → Event → Bool
+refers reference (Funded other cents) = same_text other reference
+refers reference (Defunded other cents) = same_text other reference
+refers reference _ = false
+
+-- whether the event is a kept fund or defund command
+abbrev pub is_funding : Event → Bool
+is_funding (Funded reference cents) = true
+is_funding (Defunded reference cents) = true
+is_funding _ = false
+
+-- repeats get their kept reply
+abbrev pub is_fund_repeat : List ℕ → ℕ → List Event → Bool
+is_fund_repeat reference cents J = list_any (is_this_fund reference cents) J
+
+abbrev pub is_defund_repeat : List ℕ → ℕ → List Event → Bool
+is_defund_repeat reference cents J = list_any (is_this_defund reference cents) J
+
+abbrev pub is_submission_repeat : List ℕ → ℕ → ℕ → ℕ → List Event → Bool
+is_submission_repeat id to cents stamp J = list_any (is_this_submission id to cents stamp) J
+
+-- whether a funding reference is kept
+abbrev pub has_reference : List ℕ → List Event → Bool
+has_reference reference J = list_any (refers reference) J
+
+-- how many fund and defund commands are kept
+abbrev pub fundings : List Event → ℕ
+fundings J = count_by is_funding J

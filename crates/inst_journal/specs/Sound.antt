@@ -1,0 +1,67 @@
+-- Which lists of events are a participant's history: each event fits the events before it. It says what a slot keeps
+-- true, and is this hub's own choice.
+use Rattle.std.specs.Prelude.{◌≡◌, ◌≢◌, ℕ, ◌+◌, ◌<◌, ◌≤◌, true, false, List, [], ◌∷◌, ◌++◌, length, None, ◌⊎◌}
+use Rattle.inst_base.specs.Moment.{is_moment}
+use Rattle.inst_settings.specs.Settings.{HubSettings, participants}
+use Rattle.inst_journal.specs.declared.event.Event.{Event}
+use Rattle.inst_journal.specs.declared.event.Event.TheVariants.{Funded, Defunded, Taken, Forwarded, Booked, Fetched}
+use Rattle.inst_journal.specs.Booked.{is_taken, is_forwarded, booked, submissions, forwarded_from}
+use Rattle.inst_journal.specs.Money.{available}
+use Rattle.inst_journal.specs.Keys.{has_reference, fundings}
+use Rattle.inst_journal.specs.Reply.{unread}
+
+-- cents that one command may move
+pub record IsWithinCeiling (s : HubSettings) (cents : ℕ) : Type 0 where
+  pub some : 1 ≤ cents
+  pub most : cents ≤ s.ceiling
+
+pub record FundedFits (s : HubSettings) (J : List Event) (reference : List ℕ) (cents : ℕ) : Type 0 where
+  pub new : has_reference reference J ≡ false
+  pub place : fundings J < s.fundings
+  pub amount : IsWithinCeiling s cents
+
+pub record DefundedFits (s : HubSettings) (J : List Event) (reference : List ℕ) (cents : ℕ) : Type 0 where
+  pub funding : FundedFits s J reference cents
+  pub cover : cents ≤ available J
+
+pub record TakenFits (s : HubSettings) (who : ℕ) (J : List Event) (id : List ℕ) (to cents stamp : ℕ) : Type 0 where
+  pub beneficiary : to < participants s
+  pub another : to ≢ who
+  pub deadline : is_moment (stamp + s.limit) ≡ true
+  pub new : is_taken id J ≡ false
+  pub place : submissions J < s.places
+  pub amount : IsWithinCeiling s cents
+  pub cover : cents ≤ available J
+
+pub record ForwardedFits (s : HubSettings) (who : ℕ) (J : List Event) (from : ℕ) (id : List ℕ) : Type 0 where
+  pub originator : from < participants s
+  pub another : from ≢ who
+  pub new : is_forwarded from id J ≡ false
+  pub place : forwarded_from from J < s.places
+
+pub record BookedFits (who : ℕ) (J : List Event) (from : ℕ) (id : List ℕ) : Type 0 where
+  pub party : ((from ≡ who) × (is_taken id J ≡ true)) ⊎ (is_forwarded from id J ≡ true)
+  pub new : booked from id J ≡ None
+
+pub record FetchedFits (J : List Event) (count : ℕ) : Type 0 where
+  pub some : 1 ≤ count
+  pub most : count ≤ 100
+  pub there : count ≤ length (unread J)
+
+-- the event may come after these events
+abbrev pub Fits : HubSettings → ℕ → List Event → Event → Type 0
+Fits s who J (Funded reference cents) = FundedFits s J reference cents
+Fits s who J (Defunded reference cents) = DefundedFits s J reference cents
+Fits s who J (Taken id to cents stamp) = TakenFits s who J id to cents stamp
+Fits s who J (Forwarded from id cents deadline) = ForwardedFits s who J from id
+Fits s who J (Booked from id outcome) = BookedFits who J from id
+Fits s who J (Fetched count) = FetchedFits J count
+
+-- each of the events fits the front and those before it
+abbrev pub FitAfter : HubSettings → ℕ → List Event → List Event → Type 0
+FitAfter s who front [] = Unit {0}
+FitAfter s who front (event ∷ events) = Fits s who front event × FitAfter s who (front ++ event ∷ []) events
+
+-- a history of the participant `who`
+abbrev pub IsSound : HubSettings → ℕ → List Event → Type 0
+IsSound s who J = FitAfter s who [] J

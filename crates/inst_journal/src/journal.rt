@@ -1,0 +1,65 @@
+ghost use Rattle.std.specs.Prelude.{◌≡◌, ◌<◌, [], ◌∷◌, ◌++◌, OnOk, OnErr, IsOk, IsOkUnless};
+use crate::Event;
+use inst_base::Fault;
+use inst_command::Outcome;
+use std::alloc::Global;
+use std::marker::Model;
+
+/// One participant's history: its kept events, the oldest first.
+#[derive(Debug, Drop)]
+pub struct Journal {
+    events: Vec<Event>,
+}
+
+impl Model for Journal {
+    ghost use Rattle.std.specs.Prelude.{◌-◌, vec_len, vec_capacity};
+    ghost use Rattle.inst_journal.specs.History.{History};
+
+    ghost Value = { History };
+
+    ghost view = { λ journal. record {
+        events = journal.events.items;
+        room = vec_capacity journal.events - vec_len journal.events;
+    } };
+}
+
+impl Journal {
+    /// An empty journal. It takes no memory.
+    pub fn new(alloc: Global) -> Self
+        ensures { result.events ≡ [] }
+    {
+        Journal {
+            events: Vec::new(alloc),
+        }
+    }
+
+    /// The events, the oldest first.
+    pub fn events(&self) -> &[Event]
+        ensures { result.now ≡ self.now.events }
+    {
+        self.events.as_slice()
+    }
+
+    /// Makes room for one more event, or answers `Memory`. The events stay as they are.
+    pub fn reserve(&mut self) -> Result<(), Fault>
+        ensures events { self.new.events ≡ self.old.events }
+        ensures room { OnOk result (0 < self.new.room) }
+        ensures only { IsOkUnless result Fault.Memory }
+    {
+        self.events.try_reserve(1)?;
+        Ok(())
+    }
+
+    /// Adds an event at the end. Where there is room it succeeds; else it may answer `Memory`, and
+    /// the events stay as they are.
+    pub fn push(&mut self, event: Event) -> Result<(), Fault>
+        ensures ok { OnOk result (self.new.events ≡ self.old.events ++ event ∷ []) }
+        ensures err { OnErr result (self.new.events ≡ self.old.events) }
+        ensures room { 0 < self.old.room → IsOk result }
+        ensures only { IsOkUnless result Fault.Memory }
+    {
+        // The check is told of a type of another crate inside an event only where a function names it.
+        let _: Option<Outcome> = None;
+        Ok(self.events.push(event)?)
+    }
+}
