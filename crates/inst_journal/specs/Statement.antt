@@ -50,8 +50,8 @@ abbrev pub lines_after : List Event → List Event → ℕ → List Event → Li
 lines_after J front number [] = []
 lines_after J front number (event ∷ events) =
     with_line (line_of J number (position (front ++ event ∷ [])) event)
-      (lines_after J (front ++ event ∷ []) number events)
-      (lines_after J (front ++ event ∷ []) (number + 1) events)
+    (lines_after J (front ++ event ∷ []) number events)
+    (lines_after J (front ++ event ∷ []) (number + 1) events)
 
 -- all lines, numbered from 1
 abbrev pub statement : List Event → List Line

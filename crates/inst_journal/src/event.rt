@@ -5,9 +5,15 @@ use inst_command::Outcome;
 #[derive(Clone, Copy, Debug, PartialEq, Eq)]
 pub enum Event {
     /// The participant's net funding was raised.
-    Funded { reference: Ident, cents: Cents },
+    Funded {
+        reference: Ident,
+        cents: Cents,
+    },
     /// The participant's net funding was lowered.
-    Defunded { reference: Ident, cents: Cents },
+    Defunded {
+        reference: Ident,
+        cents: Cents,
+    },
     /// A submission of the participant's was taken, and its amount reserved.
     Taken {
         id: Ident,
@@ -30,5 +36,7 @@ pub enum Event {
         outcome: Outcome,
     },
     /// The participant was handed out so many of its forwarded transfers.
-    Fetched { count: u32 },
+    Fetched {
+        count: u32,
+    },
 }

@@ -1,4 +1,5 @@
 ghost use Rattle.std.specs.Prelude.{◌≡◌, ◌<◌, [], ◌∷◌, ◌++◌, OnOk, OnErr, IsOk, IsOkUnless};
+
 use crate::Event;
 use inst_base::Fault;
 use inst_command::Outcome;
@@ -18,8 +19,8 @@ impl Model for Journal {
     ghost Value = { History };
 
     ghost view = { λ journal. record {
-        events = journal.events.items;
-        room = vec_capacity journal.events - vec_len journal.events;
+      events = journal.events.items;
+      room = vec_capacity journal.events - vec_len journal.events;
     } };
 }
 

@@ -1,8 +1,10 @@
 //! One participant's kept events, and plain slow functions over them.
 #![tactic(auto)]
 
+mod booked;
 mod event;
 mod journal;
+mod sums;
 
 pub use event::Event;
 pub use journal::Journal;

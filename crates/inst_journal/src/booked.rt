@@ -1,0 +1,104 @@
+//! Which transfers a history has taken, forwarded and booked.
+ghost use Rattle.std.specs.Prelude.{◌≡◌, ◌&&◌, not};
+ghost use Rattle.inst_settings.specs.Settings.{same_text};
+ghost use Rattle.inst_journal.specs.Booked.{is_taken, is_forwarded, books, booked, books_own, own_booked, submissions};
+
+use crate::Event;
+use inst_base::Ident;
+use inst_command::Outcome;
+
+/// Whether the participant has a taken submission with this identifier.
+pub(crate) fn is_taken(events: &[Event], id: &Ident) -> bool
+    ensures { result ≡ is_taken id.now events.now }
+{
+    for event in events {
+        if matches!(event, Event::Taken { id: other, .. } if other == id) {
+            return true;
+        }
+    }
+    false
+}
+
+/// Whether this transfer was forwarded to the participant.
+pub(crate) fn is_forwarded(events: &[Event], from: u8, id: &Ident) -> bool
+    ensures { result ≡ is_forwarded from id.now events.now }
+{
+    for event in events {
+        if matches!(event, Event::Forwarded { from: originator, id: other, .. } if *originator == from && other == id)
+        {
+            return true;
+        }
+    }
+    false
+}
+
+/// The outcome that the event books for this transfer.
+fn books(event: &Event, from: u8, id: &Ident) -> Option<Outcome>
+    ensures { result ≡ books from id.now event.now }
+{
+    match event {
+        Event::Booked {
+            from: originator,
+            id: other,
+            outcome,
+        } if *originator == from && other == id => Some(*outcome),
+        _ => None,
+    }
+}
+
+/// The outcome that the participant has booked for this transfer.
+pub(crate) fn booked(events: &[Event], from: u8, id: &Ident) -> Option<Outcome>
+    ensures { result ≡ booked from id.now events.now }
+{
+    for event in events {
+        let outcome = books(event, from, id);
+        if outcome.is_some() {
+            return outcome;
+        }
+    }
+    None
+}
+
+/// Whether a booked transfer is the participant's own with this identifier.
+fn is_own(events: &[Event], from: u8, other: &Ident, id: &Ident) -> bool
+    ensures { result ≡ (same_text other.now id.now && not (is_forwarded from other.now events.now)) }
+{
+    other == id && !is_forwarded(events, from, other)
+}
+
+/// The outcome that the event books for a transfer of the participant's own.
+fn books_own(events: &[Event], event: &Event, id: &Ident) -> Option<Outcome>
+    ensures { result ≡ books_own events.now id.now event.now }
+{
+    match event {
+        Event::Booked {
+            from,
+            id: other,
+            outcome,
+        } => is_own(events, *from, other, id).then_some(*outcome),
+        _ => None,
+    }
+}
+
+/// The outcome that the participant has booked for its own transfer with this identifier.
+pub(crate) fn own_booked(events: &[Event], id: &Ident) -> Option<Outcome>
+    ensures { result ≡ own_booked id.now events.now }
+{
+    for event in events {
+        let outcome = books_own(events, event, id);
+        if outcome.is_some() {
+            return outcome;
+        }
+    }
+    None
+}
+
+/// How many submissions are taken.
+pub(crate) fn submissions(events: &[Event]) -> usize
+    ensures { result ≡ submissions events.now }
+{
+    events
+        .iter()
+        .filter(|event| matches!(event, Event::Taken { .. }))
+        .count()
+}

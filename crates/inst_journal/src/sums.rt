@@ -1,0 +1,152 @@
+//! The plain sums over a history, in cents.
+ghost use Rattle.std.specs.Prelude.{◌≡◌, ◌*◌, ◌≤◌, length, pos};
+ghost use Rattle.inst_base.specs.declared.cents.TheConstants.{MOST};
+ghost use Rattle.inst_journal.specs.Sums.{if_accepted, if_unbooked, funding, defunding, credit, debit, reservation, funded, defunded, credits, debits};
+ghost use Rattle.inst_journal.specs.Money.{reserved};
+
+use crate::Event;
+use crate::booked::{booked, own_booked};
+use inst_base::Cents;
+use inst_command::Outcome;
+
+/// The amount where the outcome is `Accepted`, else 0.
+fn if_accepted(outcome: Option<Outcome>, cents: Cents) -> u64
+    ensures value { result ≡ if_accepted outcome cents }
+    ensures within { result ≤ MOST }
+{
+    match outcome {
+        Some(Outcome::Accepted) => cents.get(),
+        _ => 0,
+    }
+}
+
+/// The amount where nothing is booked, else 0.
+fn if_unbooked(outcome: Option<Outcome>, cents: Cents) -> u64
+    ensures value { result ≡ if_unbooked outcome cents }
+    ensures within { result ≤ MOST }
+{
+    match outcome {
+        None => cents.get(),
+        Some(_) => 0,
+    }
+}
+
+/// What the event adds to the net funding.
+fn funding(event: &Event) -> u64
+    ensures value { result ≡ funding event.now }
+    ensures within { result ≤ MOST }
+{
+    match event {
+        Event::Funded { cents, .. } => cents.get(),
+        _ => 0,
+    }
+}
+
+/// What the event takes away from the net funding.
+fn defunding(event: &Event) -> u64
+    ensures value { result ≡ defunding event.now }
+    ensures within { result ≤ MOST }
+{
+    match event {
+        Event::Defunded { cents, .. } => cents.get(),
+        _ => 0,
+    }
+}
+
+/// What the event credits: a forwarded transfer that is booked accepted.
+fn credit(events: &[Event], event: &Event) -> u64
+    ensures value { result ≡ credit events.now event.now }
+    ensures within { result ≤ MOST }
+{
+    match event {
+        Event::Forwarded {
+            from,
+            id,
+            cents,
+            ..
+        } => if_accepted(booked(events, *from, id), *cents),
+        _ => 0,
+    }
+}
+
+/// What the event debits: a taken transfer that is booked accepted.
+fn debit(events: &[Event], event: &Event) -> u64
+    ensures value { result ≡ debit events.now event.now }
+    ensures within { result ≤ MOST }
+{
+    match event {
+        Event::Taken { id, cents, .. } => if_accepted(own_booked(events, id), *cents),
+        _ => 0,
+    }
+}
+
+/// What the event reserves: a taken transfer with nothing booked.
+fn reservation(events: &[Event], event: &Event) -> u64
+    ensures value { result ≡ reservation events.now event.now }
+    ensures within { result ≤ MOST }
+{
+    match event {
+        Event::Taken { id, cents, .. } => if_unbooked(own_booked(events, id), *cents),
+        _ => 0,
+    }
+}
+
+/// All that was funded.
+pub(crate) fn funded(events: &[Event]) -> u128
+    ensures value { result ≡ funded events.now }
+    ensures within { result ≤ length events.now * MOST }
+{
+    let mut total = 0;
+    for event in events {
+        total += u128::from(funding(event));
+    }
+    total
+}
+
+/// All that was defunded.
+pub(crate) fn defunded(events: &[Event]) -> u128
+    ensures value { result ≡ defunded events.now }
+    ensures within { result ≤ length events.now * MOST }
+{
+    let mut total = 0;
+    for event in events {
+        total += u128::from(defunding(event));
+    }
+    total
+}
+
+/// The forwarded transfers that are booked accepted.
+pub(crate) fn credits(events: &[Event]) -> u128
+    ensures value { result ≡ credits events.now }
+    ensures within { result ≤ length events.now * MOST }
+{
+    let mut total = 0;
+    for event in events {
+        total += u128::from(credit(events, event));
+    }
+    total
+}
+
+/// The taken transfers that are booked accepted.
+pub(crate) fn debits(events: &[Event]) -> u128
+    ensures value { result ≡ debits events.now }
+    ensures within { result ≤ length events.now * MOST }
+{
+    let mut total = 0;
+    for event in events {
+        total += u128::from(debit(events, event));
+    }
+    total
+}
+
+/// The taken transfers with nothing booked.
+pub(crate) fn reserved(events: &[Event]) -> u128
+    ensures value { result ≡ reserved events.now }
+    ensures within { result ≤ length events.now * MOST }
+{
+    let mut total = 0;
+    for event in events {
+        total += u128::from(reservation(events, event));
+    }
+    total
+}
