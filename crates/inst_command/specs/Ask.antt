@@ -16,11 +16,15 @@ is_participant s number = nat_lt number (participants s)
 abbrev pub is_count : ℕ → Bool
 is_count count = nat_le 1 count && nat_le count 100
 
+-- whether the amount is 1 cent to the ceiling
+abbrev pub is_within_ceiling : HubSettings → ℕ → Bool
+is_within_ceiling s cents = nat_le 1 cents && nat_le cents s.ceiling
+
 -- whether the command is one of a hub with these settings
 abbrev pub command_fits : HubSettings → Command → Bool
-command_fits s (Fund reference cents) = nat_le cents s.ceiling
-command_fits s (Defund reference cents) = nat_le cents s.ceiling
-command_fits s (Submit id to cents stamp) = is_participant s to && nat_le cents s.ceiling && is_moment (stamp + s.limit)
+command_fits s (Fund reference cents) = is_within_ceiling s cents
+command_fits s (Defund reference cents) = is_within_ceiling s cents
+command_fits s (Submit id to cents stamp) = is_participant s to && is_within_ceiling s cents && is_moment (stamp + s.limit)
 command_fits s (Confirm from id) = is_participant s from
 command_fits s (Reject from id reason) = is_participant s from
 command_fits s (Investigate id) = true

@@ -6,3 +6,4 @@ pub mod Keys
 pub mod Statement
 pub mod Reply
 pub mod Sound
+pub mod Laws

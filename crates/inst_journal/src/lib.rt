@@ -4,6 +4,7 @@
 mod booked;
 mod event;
 mod journal;
+pub mod laws;
 mod sums;
 
 pub use event::Event;

@@ -1,0 +1,51 @@
+-- The laws of one participant's books: nothing is overdrawn, each taken amount is in one place, each transfer is booked
+-- once, and what a command keeps leaves the books sound. They are this hub's own promises.
+use Rattle.std.specs.Prelude.{◌≡◌, ℕ, ℤ, pos, ◌+◌, ◌≤◌, ◌+ℤ◌, ◌-ℤ◌, true, List, Option, count_by, is_some, ◌⊎◌}
+use Rattle.inst_settings.specs.Settings.{HubSettings}
+use Rattle.inst_command.specs.Ask.{command_fits}
+use Rattle.inst_command.specs.declared.command.Command.{Command}
+use Rattle.inst_command.specs.declared.outcome.Outcome.{Outcome}
+use Rattle.inst_command.specs.declared.outcome.Outcome.TheVariants.{Accepted, Rejected, TimedOut}
+use Rattle.inst_journal.specs.declared.event.Event.{Event}
+use Rattle.inst_journal.specs.Booked.{books, own_booked}
+use Rattle.inst_journal.specs.Sums.{net, funded, defunded, credits, debits, if_accepted, if_unbooked}
+use Rattle.inst_journal.specs.Money.{reserved, position, available}
+use Rattle.inst_journal.specs.Reply.{history_after}
+use Rattle.inst_journal.specs.Sound.{IsSound}
+
+-- what was paid out and what is reserved is covered by what came in, so the position is net funding and credits less
+-- debits, what is available is the position less what is reserved, and neither is ever below 0
+pub record IsNeverOverdrawn (J : List Event) : Type 0 where
+  pub covered : defunded J + debits J + reserved J ≤ funded J + credits J
+  pub position_is : pos (position J) ≡ ((net J +ℤ pos (credits J)) -ℤ pos (debits J))
+  pub available_is : pos (available J) ≡ (pos (position J) -ℤ pos (reserved J))
+
+abbrev pub NothingIsOverdrawn : Type 0
+NothingIsOverdrawn = (s : HubSettings) (who : ℕ) (J : List Event) → IsSound s who J → IsNeverOverdrawn J
+
+-- the amount where it is booked and not accepted
+abbrev pub if_released : Option Outcome → ℕ → ℕ
+if_released Option.None cents = 0
+if_released (Option.Some Accepted) cents = 0
+if_released (Option.Some (Rejected reason)) cents = cents
+if_released (Option.Some TimedOut) cents = cents
+
+-- an amount is one of three, and the other two are nothing
+pub record IsOneOf (cents a b c : ℕ) : Type 0 where
+  pub one : (a ≡ cents) ⊎ ((b ≡ cents) ⊎ (c ≡ cents))
+  pub only : a + b + c ≡ cents
+
+-- each taken amount is reserved, debited or released, and only one of them
+abbrev pub EachTakenAmountIsInOnePlace : Type 0
+EachTakenAmountIsInOnePlace = (J : List Event) (id : List ℕ) (cents : ℕ) →
+    IsOneOf cents (if_unbooked (own_booked id J) cents) (if_accepted (own_booked id J) cents) (if_released (own_booked id J) cents)
+
+-- a transfer is booked at most once
+abbrev pub ATransferIsBookedOnce : Type 0
+ATransferIsBookedOnce = (s : HubSettings) (who : ℕ) (J : List Event) → IsSound s who J → (from : ℕ) (id : List ℕ) →
+    count_by (λ event. is_some (books from id event)) J ≤ 1
+
+-- what a command keeps leaves a sound history sound
+abbrev pub WhatIsKeptFits : Type 0
+WhatIsKeptFits = (s : HubSettings) (who : ℕ) (J : List Event) (command : Command) (at : ℕ) (found : Option Outcome) →
+    IsSound s who J → command_fits s command ≡ true → IsSound s who (history_after s who J command at found)
