@@ -4,7 +4,9 @@
 mod booked;
 mod event;
 mod journal;
+mod keys;
 pub mod laws;
+mod money;
 mod sums;
 
 pub use event::Event;

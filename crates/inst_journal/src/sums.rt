@@ -2,7 +2,7 @@
 ghost use Rattle.std.specs.Prelude.{◌≡◌, ◌*◌, ◌≤◌, length, pos};
 ghost use Rattle.inst_base.specs.declared.cents.TheConstants.{MOST};
 ghost use Rattle.inst_journal.specs.Sums.{if_accepted, if_unbooked, funding, defunding, credit, debit, reservation, funded, defunded, credits, debits};
-ghost use Rattle.inst_journal.specs.Money.{reserved};
+ghost use Rattle.inst_journal.specs.Money.{reserved, position, available};
 
 use crate::Event;
 use crate::booked::{booked, own_booked};
@@ -149,4 +149,19 @@ pub(crate) fn reserved(events: &[Event]) -> u128
         total += u128::from(reservation(events, event));
     }
     total
+}
+
+/// Net funding and credits less debits.
+pub(crate) fn position(events: &[Event]) -> u128
+    ensures { result ≡ position events.now }
+{
+    let came_in = funded(events) + credits(events);
+    came_in.saturating_sub(defunded(events) + debits(events))
+}
+
+/// The position less what is reserved.
+pub(crate) fn available(events: &[Event]) -> u128
+    ensures { result ≡ available events.now }
+{
+    position(events).saturating_sub(reserved(events))
 }

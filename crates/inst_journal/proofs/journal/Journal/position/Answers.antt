@@ -1,0 +1,6 @@
+use Rattle.std.proofs.Common.{ap, ◌∙◌}
+use Rattle.inst_journal.specs.Money.{position}
+use Rattle.inst_journal.proofs.journal.Journal.position.Goals as goal
+
+pub returns : goal.returns
+returns c = c.position.ensures ∙ ap position c.events.ensures

@@ -1,0 +1,99 @@
+//! When a command is a repeat of a kept one, and which keys are kept.
+ghost use Rattle.std.specs.Prelude.{◌≡◌};
+ghost use Rattle.inst_journal.specs.Keys.{is_fund_repeat, is_defund_repeat, is_this_submission, is_submission_repeat, refers, has_reference, fundings};
+
+use crate::Event;
+use inst_base::{Cents, Ident, Moment};
+
+/// Whether the history has this very funding.
+pub(crate) fn is_fund_repeat(events: &[Event], reference: &Ident, cents: Cents) -> bool
+    ensures { result ≡ is_fund_repeat reference.now cents events.now }
+{
+    for event in events {
+        if matches!(event, Event::Funded { reference: other, cents: amount } if other == reference && *amount == cents)
+        {
+            return true;
+        }
+    }
+    false
+}
+
+/// Whether the history has this very defunding.
+pub(crate) fn is_defund_repeat(events: &[Event], reference: &Ident, cents: Cents) -> bool
+    ensures { result ≡ is_defund_repeat reference.now cents events.now }
+{
+    for event in events {
+        if matches!(event, Event::Defunded { reference: other, cents: amount } if other == reference && *amount == cents)
+        {
+            return true;
+        }
+    }
+    false
+}
+
+/// Whether the history has this very submission.
+pub(crate) fn is_submission_repeat(
+    events: &[Event],
+    id: &Ident,
+    to: u8,
+    cents: Cents,
+    stamp: Moment,
+) -> bool
+    ensures { result ≡ is_submission_repeat id.now to cents stamp events.now }
+{
+    for event in events {
+        if is_this_submission(event, id, to, cents, stamp) {
+            return true;
+        }
+    }
+    false
+}
+
+/// Whether the event is this very submission.
+fn is_this_submission(event: &Event, id: &Ident, to: u8, cents: Cents, stamp: Moment) -> bool
+    ensures { result ≡ is_this_submission id.now to cents stamp event.now }
+{
+    match event {
+        Event::Taken {
+            id: other,
+            to: beneficiary,
+            cents: amount,
+            stamp: stamped,
+        } => other == id && *beneficiary == to && *amount == cents && *stamped == stamp,
+        _ => false,
+    }
+}
+
+/// Whether the history keeps this funding reference, of either kind.
+pub(crate) fn has_reference(events: &[Event], reference: &Ident) -> bool
+    ensures { result ≡ has_reference reference.now events.now }
+{
+    for event in events {
+        if refers(event, reference) {
+            return true;
+        }
+    }
+    false
+}
+
+/// Whether the event keeps this funding reference.
+fn refers(event: &Event, reference: &Ident) -> bool
+    ensures { result ≡ refers reference.now event.now }
+{
+    match event {
+        Event::Funded { reference: other, .. } | Event::Defunded { reference: other, .. } => {
+            other == reference
+        }
+        _ => false,
+    }
+}
+
+/// How many fund and defund commands are kept.
+pub(crate) fn fundings(events: &[Event]) -> usize
+    ensures { result ≡ fundings events.now }
+{
+    events
+        .iter()
+        .filter(|event| matches!(event, Event::Funded { .. } | Event::Defunded { .. }))
+        .count()
+}
