@@ -7,3 +7,4 @@ pub mod Statement
 pub mod Reply
 pub mod Sound
 pub mod Laws
+pub mod Handling

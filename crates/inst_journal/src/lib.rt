@@ -3,11 +3,15 @@
 
 mod booked;
 mod event;
+mod fundings;
+mod handle;
 mod journal;
 mod keys;
 pub mod laws;
 mod money;
 mod sums;
+mod transfers;
 
 pub use event::Event;
+pub use handle::Handled;
 pub use journal::Journal;
