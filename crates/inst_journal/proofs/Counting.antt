@@ -1,13 +1,15 @@
 -- How many events of each kind a sound history has at most.
-use Rattle.std.proofs.Common.{◌≡◌, ℕ, ◌+◌, ◌*◌, ◌<◌, ◌≤◌, Bool, true, false, ◌==◌, cond, zero, suc, nat_lt, List, [], ◌∷◌, ◌++◌, Option, Some, None, is_some, sum_by, count_by, refl, sym, ap, ◌∙◌, arith, inl, inr}
+use Rattle.std.proofs.Common.{◌≡◌, ℕ, ◌+◌, ◌*◌, ◌^◌, ◌<◌, ◌≤◌, Bool, true, false, ◌==◌, cond, zero, suc, nat_lt, List, [], ◌∷◌, ◌++◌, Option, Some, None, is_some, sum_by, count_by, refl, sym, ap, ◌∙◌, arith, inl, inr}
 use Rattle.std.proofs.lemmas.Bool.{lt-ltb, le-ltb, eq-eqb, ne_eqb, cases_eq, eqb-true, cases_Bool, and_parts}
 use Rattle.std.proofs.lemmas.Bool.Decides.{nat_tests}
 use Rattle.std.proofs.lemmas.List.Sums.{sum_by-cons, sum_by-le-sum_by}
+use Rattle.std.proofs.Math.Nat.{mul-le-mul}
 use Rattle.std.specs.Cmp.Lexicographic.{same_text as text_same}
-use Rattle.inst_settings.specs.Settings.{HubSettings, participants, same_text}
+use Rattle.inst_base.specs.declared.cents.TheConstants.{MOST}
+use Rattle.inst_settings.specs.Settings.{HubSettings, IsSettings, participants, same_text}
 use Rattle.inst_journal.specs.declared.event.Event.{Event}
 use Rattle.inst_journal.specs.declared.event.Event.TheVariants.{Funded, Defunded, Taken, Forwarded, Booked, Fetched}
-use Rattle.inst_journal.specs.Booked.{or_else, books, booked, same_transfer, is_submission, submissions, forwards_from, forwarded_from}
+use Rattle.inst_journal.specs.Booked.{or_else, books, booked, same_transfer, is_submission, submissions, is_forwarding, forwards_from, forwarded_from}
 use Rattle.inst_journal.specs.Keys.{is_funding, fundings}
 use Rattle.inst_journal.specs.Sound.{Fits, IsSound}
 use Rattle.inst_journal.proofs.Pushing.{sum_by_push, sum_by-both}
@@ -64,11 +66,6 @@ forwarded_within s who from = sound_induction s who (λ J. forwarded_from from J
 abbrev pub forwards_below : ℕ → Event → Bool
 forwards_below n (Forwarded from id cents deadline) = nat_lt from n
 forwards_below n _ = false
-
--- whether the event forwards a transfer
-abbrev pub is_forwarding : Event → Bool
-is_forwarding (Forwarded from id cents deadline) = true
-is_forwarding _ = false
 
 below_more : (n : ℕ) (event : Event) → cond (forwards_below (suc n) event) 1 0 ≤ cond (forwards_below n event) 1 0 + cond (forwards_from n event) 1 0
 below_more n (Forwarded from id cents deadline) = grind (arith, nat_tests)
@@ -163,3 +160,23 @@ booked_push s who from id J (Fetched count) fits before = omega arith
 pub booked_once : (s : HubSettings) (who : ℕ) (J : List Event) → IsSound s who J → (from : ℕ) (id : List ℕ) → count_by (booking from id) J ≤ 1
 booked_once s who J sound from id = sound_induction s who (λ K. count_by (booking from id) K ≤ 1) (omega arith)
     (λ K event before_sound fits before. omega (arith, count_push (booking from id) K event, booked_push s who from id K event fits before)) J sound
+
+once : (b : Bool) (most n : ℕ) → cond b most 0 + n * most ≡ (cond b 1 0 + n) * most
+once true most n = grind arith
+once false most n = grind arith
+
+-- so many times the most that one event moves
+pub most_times : (p : Event → Bool) (most : ℕ) (J : List Event) → sum_by (λ event. cond (p event) most 0) J ≡ count_by p J * most
+most_times p most [] = omega arith
+most_times p most (event ∷ events) =
+    sum_by-cons (λ e. cond (p e) most 0) event events ∙ ap (λ n. cond (p event) most 0 + n) (most_times p most events)
+    ∙ once (p event) most (count_by p events) ∙ sym (ap (λ n. n * most) (sum_by-cons (λ e. cond (p e) 1 0) event events))
+
+-- no position of a sound history is above 64 bits
+pub position_fits : (s : HubSettings) (who : ℕ) (J : List Event) → IsSettings s → IsSound s who J
+  → sum_by (λ event. cond (is_funding event) MOST 0) J + sum_by (λ event. cond (is_forwarding event) MOST 0) J < 2 ^ 64
+position_fits s who J lawful sound =
+    let all_fundings : fundings J ≤ 1024 = omega (arith, fundings_within s who J sound, lawful.fundings_most) in
+    let places : participants s * s.places ≤ 64 * 1024 = mul-le-mul lawful.participants_most lawful.places_most in
+    let all_forwardings : count_by is_forwarding J ≤ 65536 = omega (arith, forwardings_within s who J sound, places) in
+    omega (arith, most_times is_funding MOST J, most_times is_forwarding MOST J, all_fundings, all_forwardings)

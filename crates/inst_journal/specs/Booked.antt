@@ -66,6 +66,11 @@ is_submission _ = false
 abbrev pub submissions : List Event → ℕ
 submissions J = count_by is_submission J
 
+-- whether the event is a forwarded transfer
+abbrev pub is_forwarding : Event → Bool
+is_forwarding (Forwarded from id cents deadline) = true
+is_forwarding _ = false
+
 -- whether the event forwards a transfer of this originator
 abbrev pub forwards_from : ℕ → Event → Bool
 forwards_from from (Forwarded other id cents deadline) = other == from

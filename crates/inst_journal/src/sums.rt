@@ -1,7 +1,9 @@
 //! The plain sums over a history, in cents.
-ghost use Rattle.std.specs.Prelude.{◌≡◌, ◌*◌, ◌≤◌, length, pos};
+ghost use Rattle.std.specs.Prelude.{◌≡◌, ◌+◌, ◌*◌, ◌≤◌, length, sum_by, if◌then◌else◌};
 ghost use Rattle.inst_base.specs.declared.cents.TheConstants.{MOST};
 ghost use Rattle.inst_journal.specs.Sums.{if_accepted, if_unbooked, funding, defunding, credit, debit, reservation, funded, defunded, credits, debits};
+ghost use Rattle.inst_journal.specs.Booked.{is_forwarding};
+ghost use Rattle.inst_journal.specs.Keys.{is_funding};
 ghost use Rattle.inst_journal.specs.Money.{reserved, position, available};
 
 use crate::Event;
@@ -34,7 +36,7 @@ fn if_unbooked(outcome: Option<Outcome>, cents: Cents) -> u64
 /// What the event adds to the net funding.
 fn funding(event: &Event) -> u64
     ensures value { result ≡ funding event.now }
-    ensures within { result ≤ MOST }
+    ensures within { result ≤ (if is_funding event.now then MOST else 0) }
 {
     match event {
         Event::Funded { cents, .. } => cents.get(),
@@ -56,7 +58,7 @@ fn defunding(event: &Event) -> u64
 /// What the event credits: a forwarded transfer that is booked accepted.
 fn credit(events: &[Event], event: &Event) -> u64
     ensures value { result ≡ credit events.now event.now }
-    ensures within { result ≤ MOST }
+    ensures within { result ≤ (if is_forwarding event.now then MOST else 0) }
 {
     match event {
         Event::Forwarded {
@@ -95,6 +97,7 @@ fn reservation(events: &[Event], event: &Event) -> u64
 pub(crate) fn funded(events: &[Event]) -> u128
     ensures value { result ≡ funded events.now }
     ensures within { result ≤ length events.now * MOST }
+    ensures counted { result ≤ sum_by (λ event. if is_funding event then MOST else 0) events.now }
 {
     let mut total = 0;
     for event in events {
@@ -119,6 +122,7 @@ pub(crate) fn defunded(events: &[Event]) -> u128
 pub(crate) fn credits(events: &[Event]) -> u128
     ensures value { result ≡ credits events.now }
     ensures within { result ≤ length events.now * MOST }
+    ensures counted { result ≤ sum_by (λ event. if is_forwarding event then MOST else 0) events.now }
 {
     let mut total = 0;
     for event in events {
@@ -153,7 +157,9 @@ pub(crate) fn reserved(events: &[Event]) -> u128
 
 /// Net funding and credits less debits.
 pub(crate) fn position(events: &[Event]) -> u128
-    ensures { result ≡ position events.now }
+    ensures value { result ≡ position events.now }
+    ensures counted { result ≤ sum_by (λ event. if is_funding event then MOST else 0) events.now
+        + sum_by (λ event. if is_forwarding event then MOST else 0) events.now }
 {
     let came_in = funded(events) + credits(events);
     came_in.saturating_sub(defunded(events) + debits(events))
