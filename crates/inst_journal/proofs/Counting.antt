@@ -15,7 +15,7 @@ use Rattle.inst_journal.specs.Sound.{Fits, IsSound}
 use Rattle.inst_journal.proofs.Pushing.{sum_by_push, sum_by-both}
 use Rattle.inst_journal.proofs.Soundness.{sound_induction}
 
-count_push : (p : Event → Bool) (J : List Event) (event : Event) → count_by p (J ++ event ∷ []) ≡ count_by p J + cond (p event) 1 0
+pub count_push : (p : Event → Bool) (J : List Event) (event : Event) → count_by p (J ++ event ∷ []) ≡ count_by p J + cond (p event) 1 0
 count_push p J event = sum_by_push (λ e. cond (p e) 1 0) J event
 
 fundings_push : (s : HubSettings) (who : ℕ) (J : List Event) (event : Event) → Fits s who J event → fundings J ≤ s.fundings → fundings J + cond (is_funding event) 1 0 ≤ s.fundings

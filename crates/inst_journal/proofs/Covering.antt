@@ -40,7 +40,7 @@ credited_le None new cents = omega arith
 credited_le (Some outcome) new cents = omega arith
 
 -- what one more event books of the participant's own
-own_push : (s : HubSettings) (who : ℕ) (J : List Event) (event : Event) (id : List ℕ) → IsSound s who J → Fits s who J event → own_booked id (J ++ event ∷ []) ≡ or_else (own_booked id J) (books who id event)
+pub own_push : (s : HubSettings) (who : ℕ) (J : List Event) (event : Event) (id : List ℕ) → IsSound s who J → Fits s who J event → own_booked id (J ++ event ∷ []) ≡ or_else (own_booked id J) (books who id event)
 own_push s who J event id sound fits =
     own_booked-booked s who (J ++ event ∷ []) id (sound_push s who J event sound fits) ∙ first_some_push (books who id) J event
     ∙ ap (λ o. or_else o (books who id event)) (sym (own_booked-booked s who J id sound))

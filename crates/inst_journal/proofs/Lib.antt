@@ -4,5 +4,6 @@ pub mod Soundness
 pub mod OwnBookings
 pub mod Covering
 pub mod Counting
+pub mod Booking
 pub mod Keeping
 pub mod Places
