@@ -7,3 +7,5 @@ pub mod Counting
 pub mod Booking
 pub mod Keeping
 pub mod Places
+pub mod Reading
+pub mod Walking

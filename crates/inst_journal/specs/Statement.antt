@@ -25,14 +25,18 @@ paid number after id (Taken other to cents stamp) =
     else None
 paid number after id _ = None
 
+-- the line of an accepted transfer of the history J, which is forwarded or else the participant's own
+abbrev pub accepted : List Event → ℕ → ℕ → ℕ → List ℕ → Option Line
+accepted J number after from id =
+    if is_forwarded from id J then first_some (received number after from id) J else first_some (paid number after id) J
+
 -- the line of an event in the history J, with this number and this position after it
 abbrev pub line_of : List Event → ℕ → ℕ → Event → Option Line
 line_of J number after (Funded reference cents) =
     Some (record { number = number; kind = FundedKind; other = None; id = reference; cents = cents; position = after })
 line_of J number after (Defunded reference cents) =
     Some (record { number = number; kind = DefundedKind; other = None; id = reference; cents = cents; position = after })
-line_of J number after (Booked from id Accepted) =
-    if is_forwarded from id J then first_some (received number after from id) J else first_some (paid number after id) J
+line_of J number after (Booked from id Accepted) = accepted J number after from id
 line_of J number after (Booked from id (Rejected reason)) = None
 line_of J number after (Booked from id TimedOut) = None
 line_of J number after (Taken id to cents stamp) = None

@@ -10,6 +10,7 @@ mod keys;
 pub mod laws;
 mod money;
 mod queries;
+mod statement;
 mod sums;
 mod transfers;
 

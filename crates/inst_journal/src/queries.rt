@@ -1,12 +1,17 @@
 //! Questions for the position, the inbox and the statement.
-ghost use Rattle.std.specs.Prelude.{◌≡◌};
+ghost use Rattle.std.specs.Prelude.{◌≡◌, ◌⊎◌, ◌≤◌, take, length, sum_by, IfOk, IsOkUnless};
 ghost use Rattle.inst_settings.specs.Settings.{IsSettings};
 ghost use Rattle.inst_journal.specs.Money.{reserved, position, available};
+ghost use Rattle.inst_journal.specs.Reply.{entry_of, inbox, handed_out, unread, hand_out};
 ghost use Rattle.inst_journal.specs.Sound.{IsSound};
+ghost use Rattle.inst_journal.specs.Handling.{AnswersUnlessMemory};
 
+use crate::handle::Handled;
 use crate::{Event, sums};
-use inst_command::Reply;
+use inst_base::Fault;
+use inst_command::{Entries, Entry, Outcome, Reply};
 use inst_settings::Settings;
+use std::alloc::{AllocError, Global};
 
 /// The position, what of it is reserved, and what is available.
 pub(crate) fn position(settings: &Settings, who: u8, events: &[Event]) -> Reply
@@ -22,4 +27,82 @@ pub(crate) fn position(settings: &Settings, who: u8, events: &[Event]) -> Reply
         reserved: reserved as u64,
         available: available as u64,
     }
+}
+
+/// How many forwarded transfers were handed out.
+fn handed_out(events: &[Event]) -> usize
+    requires { sum_by handed_out events.now ≤ length events.now }
+    ensures { result ≡ sum_by handed_out events.now }
+{
+    let mut total = 0;
+    for event in events {
+        if let Event::Fetched { count } = event {
+            total += *count as usize;
+        }
+    }
+    total
+}
+
+/// The entry of a forwarded transfer.
+fn entry_of(event: &Event) -> Option<Entry>
+    ensures { result ≡ entry_of event.now }
+{
+    match event {
+        Event::Forwarded {
+            from,
+            id,
+            cents,
+            deadline,
+        } => Some(Entry {
+            from: *from,
+            id: *id,
+            cents: *cents,
+            deadline: *deadline,
+        }),
+        _ => None,
+    }
+}
+
+/// All forwarded transfers, in order of arrival.
+fn inbox(alloc: Global, events: &[Event]) -> Result<Vec<Entry>, AllocError>
+    ensures { IfOk result (λ entries. entries.items ≡ inbox events.now) }
+{
+    events.iter().filter_map(entry_of).collect(alloc)
+}
+
+/// The next unread forwarded transfers, at most `max` of them.
+fn unread(alloc: Global, events: &[Event], max: u32) -> Result<Vec<Entry>, AllocError>
+    requires { sum_by handed_out events.now ≤ length (inbox events.now) }
+    ensures { IfOk result (λ entries. entries.items ≡ take max (unread events.now)) }
+{
+    let inbox = inbox(alloc, events)?;
+    let rest = &inbox[handed_out(events)..];
+    rest[..rest.len().min(max as usize)].to_vec(alloc)
+}
+
+/// Hands out the next unread forwarded transfers, at most `max` of them.
+pub(crate) fn fetch(
+    alloc: Global,
+    settings: &Settings,
+    who: u8,
+    events: &[Event],
+    max: u32,
+) -> Result<Handled, Fault>
+    requires count { max ≤ 100 }
+    requires sound { IsSound settings.now who events.now }
+    ensures { AnswersUnlessMemory result (hand_out (take max (unread events.now))) }
+{
+    let entries = unread(alloc, events, max)?;
+    let count = entries.len() as u32;
+    let reply = Reply::Inbox {
+        entries: Entries::new(entries),
+    };
+    if count == 0 {
+        return Ok(Handled { reply, kept: None });
+    }
+    let event = Event::Fetched { count };
+    Ok(Handled {
+        reply,
+        kept: Some(event),
+    })
 }

@@ -1,0 +1,183 @@
+//! A participant's statement, by a walk over the fronts of its history.
+ghost use Rattle.std.specs.Prelude.{◌≡◌, ◌+◌, ◌<◌, ◌≤◌, ◌^◌, length, take, drop, count_by, None, IfOk};
+ghost use Rattle.inst_settings.specs.Settings.{IsSettings};
+ghost use Rattle.inst_journal.specs.Booked.{first_some};
+ghost use Rattle.inst_journal.specs.Money.{position};
+ghost use Rattle.inst_journal.specs.Sound.{IsSound};
+ghost use Rattle.inst_journal.specs.Statement.{received, paid, accepted, line_of, statement, statement_part};
+
+use crate::booked::is_forwarded;
+use crate::{Event, sums};
+use inst_base::{Cents, Ident};
+use inst_command::{Line, LineKind, Outcome};
+use inst_settings::Settings;
+use std::alloc::{AllocError, Global};
+
+/// The line of the forwarded transfer with this key, from the event that forwards it.
+fn received(number: u32, position: u64, from: u8, id: &Ident, event: &Event) -> Option<Line>
+    ensures { result ≡ received number position from id.now event.now }
+{
+    match event {
+        Event::Forwarded {
+            from: originator,
+            id: other,
+            cents,
+            ..
+        } if *originator == from && other == id => Some(Line {
+            number,
+            kind: LineKind::Received,
+            other: Some(from),
+            id: *id,
+            cents: *cents,
+            position,
+        }),
+        _ => None,
+    }
+}
+
+/// The line of the taken transfer with this identifier, from the event that takes it.
+fn paid(number: u32, position: u64, id: &Ident, event: &Event) -> Option<Line>
+    ensures { result ≡ paid number position id.now event.now }
+{
+    match event {
+        Event::Taken {
+            id: other,
+            to,
+            cents,
+            ..
+        } if other == id => Some(Line {
+            number,
+            kind: LineKind::Paid,
+            other: Some(*to),
+            id: *id,
+            cents: *cents,
+            position,
+        }),
+        _ => None,
+    }
+}
+
+/// The line of the forwarded transfer with this key.
+fn line_received(
+    events: &[Event],
+    number: u32,
+    position: u64,
+    from: u8,
+    id: &Ident,
+) -> Option<Line>
+    ensures { result ≡ first_some (received number position from id.now) events.now }
+{
+    for event in events {
+        let line = received(number, position, from, id, event);
+        if line.is_some() {
+            return line;
+        }
+    }
+    None
+}
+
+/// The line of the taken transfer with this identifier.
+fn line_paid(events: &[Event], number: u32, position: u64, id: &Ident) -> Option<Line>
+    ensures { result ≡ first_some (paid number position id.now) events.now }
+{
+    for event in events {
+        let line = paid(number, position, id, event);
+        if line.is_some() {
+            return line;
+        }
+    }
+    None
+}
+
+/// The line of an accepted transfer of the history.
+fn accepted(events: &[Event], number: u32, position: u64, from: u8, id: &Ident) -> Option<Line>
+    ensures { result ≡ accepted events.now number position from id.now }
+{
+    if is_forwarded(events, from, id) {
+        line_received(events, number, position, from, id)
+    } else {
+        line_paid(events, number, position, id)
+    }
+}
+
+/// The line of a booked transfer of the history, if it was accepted.
+fn booked_line(
+    events: &[Event],
+    number: u32,
+    position: u64,
+    from: u8,
+    id: &Ident,
+    outcome: &Outcome,
+) -> Option<Line>
+    ensures { result ≡ line_of events.now number position (Event.Booked from id.now outcome.now) }
+{
+    match outcome {
+        Outcome::Accepted => accepted(events, number, position, from, id),
+        _ => None,
+    }
+}
+
+/// The line of an event of the history, if it has one.
+fn line_of(events: &[Event], number: u32, position: u64, event: &Event) -> Option<Line>
+    ensures { result ≡ line_of events.now number position event.now }
+{
+    match event {
+        Event::Funded { reference, cents } => {
+            Some(funding_line(number, LineKind::Funded, *reference, *cents, position))
+        }
+        Event::Defunded { reference, cents } => {
+            Some(funding_line(number, LineKind::Defunded, *reference, *cents, position))
+        }
+        Event::Booked { from, id, outcome } => {
+            booked_line(events, number, position, *from, id, outcome)
+        }
+        _ => None,
+    }
+}
+
+/// The line of a funding or a defunding.
+fn funding_line(number: u32, kind: LineKind, id: Ident, cents: Cents, position: u64) -> Line
+    ensures { result ≡ record { number = number; kind = kind; other = None; id = id; cents = cents; position = position } }
+{
+    Line {
+        number,
+        kind,
+        other: None,
+        id,
+        cents,
+        position,
+    }
+}
+
+/// The position after a front of the history.
+fn position_after(settings: &Settings, who: u8, front: &[Event]) -> u64
+    requires lawful { IsSettings settings.now }
+    requires sound { IsSound settings.now who front.now }
+    ensures { result ≡ position front.now }
+{
+    sums::position(front) as u64
+}
+
+/// All lines of the history, numbered from 1.
+fn all_lines(
+    alloc: Global,
+    settings: &Settings,
+    who: u8,
+    events: &[Event],
+) -> Result<Vec<Line>, AllocError>
+    requires lawful { IsSettings settings.now }
+    requires sound { IsSound settings.now who events.now }
+    ensures { IfOk result (λ lines. lines.items ≡ statement events.now) }
+{
+    // The check is told of a type of another crate inside a line only where a function names it.
+    let _: Option<LineKind> = None;
+    let mut lines = Vec::new(alloc);
+    for (index, event) in events.iter().enumerate() {
+        let position = position_after(settings, who, &events[..index + 1]);
+        let number = lines.len() as u32 + 1;
+        if let Some(line) = line_of(events, number, position, event) {
+            lines.push(line)?;
+        }
+    }
+    Ok(lines)
+}
