@@ -1,6 +1,6 @@
 -- The refusals of the hub, by the number and the name that a participant reads. The order of the
 -- first fourteen is the order in which a line and a command are checked: this hub's own choice.
-use Rattle.std.specs.Prelude.{ℕ, List, codes}
+use Rattle.std.specs.Prelude.{◌≡◌, ◌⊎◌, ℕ, List, Result, Err, codes}
 use Rattle.inst_base.specs.declared.fault.Fault.{Fault}
 use Rattle.inst_base.specs.declared.fault.Fault.TheVariants.{NotJson, BadField, BadIdentifier, BadAmount, BadMoment, UnknownParticipant, SelfTransfer, UnknownTransfer, Duplicate, StampAhead, Expired, Full, Shortage, Memory, BadSettings, LineTooLong, ReadFault, WriteFault}
 
@@ -45,3 +45,7 @@ name_of BadSettings = codes "BadSettings"
 name_of LineTooLong = codes "LineTooLong"
 name_of ReadFault = codes "ReadFault"
 name_of WriteFault = codes "WriteFault"
+
+-- what is returned is what is wanted, unless memory was refused
+abbrev pub IsUnlessMemory : {X : Type 0} → Result X Fault → Result X Fault → Type 0
+IsUnlessMemory returned wanted = (returned ≡ Err Memory) ⊎ (returned ≡ wanted)

@@ -3,13 +3,16 @@ ghost use Rattle.std.specs.Prelude.{◌≡◌, ◌+◌, ◌<◌, ◌≤◌, ◌^
 ghost use Rattle.inst_settings.specs.Settings.{IsSettings};
 ghost use Rattle.inst_journal.specs.Booked.{first_some};
 ghost use Rattle.inst_journal.specs.Money.{position};
+ghost use Rattle.inst_journal.specs.Reply.{answered};
 ghost use Rattle.inst_journal.specs.Sound.{IsSound};
+ghost use Rattle.inst_journal.specs.Handling.{AnswersUnlessMemory};
 ghost use Rattle.inst_journal.specs.Statement.{received, paid, accepted, line_of, statement, statement_part};
 
 use crate::booked::is_forwarded;
+use crate::handle::Handled;
 use crate::{Event, sums};
-use inst_base::{Cents, Ident};
-use inst_command::{Line, LineKind, Outcome};
+use inst_base::{Cents, Fault, Ident};
+use inst_command::{Line, LineKind, Lines, Outcome, Reply};
 use inst_settings::Settings;
 use std::alloc::{AllocError, Global};
 
@@ -180,4 +183,45 @@ fn all_lines(
         }
     }
     Ok(lines)
+}
+
+/// At most `count` lines after the first `skip`.
+fn lines_part(
+    alloc: Global,
+    settings: &Settings,
+    who: u8,
+    events: &[Event],
+    skip: u64,
+    count: u32,
+) -> Result<Vec<Line>, AllocError>
+    requires lawful { IsSettings settings.now }
+    requires sound { IsSound settings.now who events.now }
+    ensures { IfOk result (λ lines. lines.items ≡ statement_part events.now skip count) }
+{
+    let all = all_lines(alloc, settings, who, events)?;
+    if skip >= all.len() as u64 {
+        return Ok(Vec::new(alloc));
+    }
+    let rest = &all[skip as usize..];
+    rest[..rest.len().min(count as usize)].to_vec(alloc)
+}
+
+/// Answers at most `count` statement lines after the first `skip`.
+pub(crate) fn statement(
+    alloc: Global,
+    settings: &Settings,
+    who: u8,
+    events: &[Event],
+    skip: u64,
+    count: u32,
+) -> Result<Handled, Fault>
+    requires lawful { IsSettings settings.now }
+    requires sound { IsSound settings.now who events.now }
+    ensures { AnswersUnlessMemory result (answered (Reply.Statement (statement_part events.now skip count))) }
+{
+    let lines = lines_part(alloc, settings, who, events, skip, count)?;
+    let reply = Reply::Statement {
+        lines: Lines::new(lines),
+    };
+    Ok(Handled { reply, kept: None })
 }

@@ -14,6 +14,7 @@ use inst_command::{Outcome, Reply, State};
 use inst_settings::Settings;
 
 /// What a submission asks for.
+#[derive(Clone, Copy)]
 pub(crate) struct Submission {
     pub id: Ident,
     pub to: u8,
