@@ -2,14 +2,18 @@
 #![tactic(auto)]
 
 mod ask;
+mod columns;
 mod command;
 mod entry;
 mod line;
 mod outcome;
 mod reply;
 mod step;
+#[cfg(test)]
+mod tests;
 
 pub use ask::Ask;
+pub use columns::line_text;
 pub use command::Command;
 pub use entry::{Entries, Entry};
 pub use line::{Line, LineKind, Lines};

@@ -3,7 +3,7 @@ ghost use Rattle.std.specs.Prelude.{◌≡◌, true, false};
 ghost use Rattle.inst_base.specs.Fault.{IsUnlessMemory};
 ghost use Rattle.inst_settings.specs.Settings.{IsSettings};
 ghost use Rattle.inst_command.specs.Ask.{command_fits};
-ghost use Rattle.inst_journal.specs.Reply.{handle, reply};
+ghost use Rattle.inst_journal.specs.Reply.{handle, reply, history_after};
 ghost use Rattle.inst_journal.specs.Sound.{IsSound};
 ghost use Rattle.inst_journal.specs.Handling.{Answers, AnswersUnlessMemory, copies};
 
@@ -36,6 +36,9 @@ pub fn handle_command(
     requires fits { command_fits settings.now command.now ≡ true }
     ensures reply { AnswersUnlessMemory result (handle settings.now who events.now command.now at found) }
     ensures no_memory { copies command.now ≡ false → Answers result (handle settings.now who events.now command.now at found) }
+
+    // With the kept event the history is sound again.
+    ensures sound { IsSound settings.now who (history_after settings.now who events.now command.now at found) }
 {
     match command {
         Command::Fund { reference, cents } => fund(settings, events, *reference, *cents),

@@ -91,6 +91,23 @@ impl Settings {
         })
     }
 
+    /// The same settings once more, or `Memory`.
+    pub fn copy(&self) -> Result<Settings, Fault>
+        ensures ok { IfOk result (λ s. s ≡ self.now) }
+        ensures lawful { IsSettings self.now }
+        ensures only { IsOkUnless result Fault.Memory }
+    {
+        Ok(Settings {
+            codes: self.codes.clone()?,
+            places: self.places,
+            fundings: self.fundings,
+            limit: self.limit,
+            ahead: self.ahead,
+            ceiling: self.ceiling,
+            base: self.base,
+        })
+    }
+
     /// The number of the participant with this code.
     pub fn index_of(&self, code: &Code) -> Option<u8>
         ensures { result ≡ index_of code.now self.now.codes }

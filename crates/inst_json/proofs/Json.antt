@@ -1,0 +1,22 @@
+-- What a line is, from what the reader of JSON says of it.
+use Rattle.std.proofs.Common.{◌≡◌, ℕ, List, Bool, true, false, Some, None, Result, Ok, Err, ok_or, if◌then◌else◌, refl, sym, ap, ◌∙◌}
+use Rattle.std.proofs.lemmas.Str.{IsUtf8-from_is_utf8, is_utf8-from_IsUtf8}
+use Rattle.std.specs.Str.{IsUtf8, is_utf8}
+use Rattle.serde_json.specs.Data.{Data}
+use Rattle.serde_json.specs.Read.{read}
+use Rattle.inst_base.specs.declared.fault.Fault.{Fault}
+use Rattle.inst_base.specs.declared.fault.Fault.TheVariants.{NotJson}
+use Rattle.inst_json.specs.Lines.{json_of}
+
+pub json_of-value : (line : List ℕ) (d : Data) → IsUtf8 line → read line ≡ Some d → Ok d ≡ json_of line
+unfolding json_of
+json_of-value line d utf8 is =
+    ap (λ o. ok_or o NotJson) (sym is) ∙ ap (λ b. ok_or (if b then read line else None) NotJson) (sym (is_utf8-from_IsUtf8 line utf8))
+
+none_at : (line : List ℕ) (b : Bool) → is_utf8 line ≡ b → (IsUtf8 line → read line ≡ None) → Err NotJson ≡ ok_or (if b then read line else None) NotJson
+none_at line true is none = ap (λ o. ok_or o NotJson) (sym (none (IsUtf8-from_is_utf8 line is)))
+none_at line false is none = refl
+
+pub json_of-none : (line : List ℕ) → (IsUtf8 line → read line ≡ None) → Err NotJson ≡ json_of line
+unfolding json_of
+json_of-none line none = none_at line (is_utf8 line) refl none

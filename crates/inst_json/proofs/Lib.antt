@@ -1,0 +1,3 @@
+pub mod Json
+pub mod Plain
+pub mod Texts

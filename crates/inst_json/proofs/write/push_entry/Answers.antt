@@ -1,0 +1,17 @@
+use Rattle.std.proofs.Common.{◌∙◌, ◌≡◌, ◌++◌, ap, string_bytes, codes, decimal, List, ℕ, sym}
+use Rattle.std.proofs.lemmas.Result.{on_ok_weaker}
+use Rattle.serde_json.specs.Written.{compact_text}
+use Rattle.inst_json.specs.Replies.{entry_data}
+use Rattle.inst_json.proofs.Plain.{escape-code, escape-identifier}
+use Rattle.inst_json.proofs.Texts.{entry_line, entry_text}
+use Rattle.inst_json.proofs.write.push_entry.Goals as goal
+
+pub returns : goal.returns
+returns c =
+    let from = c.code_text-from.result.now in
+    let id = c.text-id.result.now in
+    let line = entry_line c.get-cents.result c.millis-deadline.result from id (escape-code from c.code_text-from.ensures.form) (escape-identifier id c.text-id.ensures.form) in
+    let old : List ℕ = string_bytes c.args.text.now in
+    let is : old ++ entry_text c.get-cents.result c.millis-deadline.result from id ≡ old ++ compact_text (entry_data c.args.settings.now c.args.entry.now) =
+    ap (λ t. old ++ t) (line ∙ cc) in
+    on_ok_weaker c.write.result (λ h. h ∙ is) c.write.ensures.bytes

@@ -1,0 +1,29 @@
+-- What a line of bytes is: a JSON text (RFC 8259) in UTF-8 that nests at most 127 deep, or none.
+use Rattle.std.specs.Prelude.{ℕ, List, None, ok_or, Result, if◌then◌else◌}
+use Rattle.std.specs.Str.{is_utf8}
+use Rattle.serde_json.specs.Data.{Data}
+use Rattle.serde_json.specs.Read.{read}
+use Rattle.inst_base.specs.declared.fault.Fault.{Fault}
+use Rattle.inst_base.specs.declared.fault.Fault.TheVariants.{NotJson}
+use Rattle.inst_settings.specs.Settings.{HubSettings}
+use Rattle.inst_command.specs.declared.ask.Ask.{Ask}
+use Rattle.inst_json.specs.Outcome.{◌>>=◌}
+use Rattle.inst_command.specs.declared.step.Step.{Step}
+use Rattle.inst_json.specs.Commands.{ask_of}
+use Rattle.inst_json.specs.Steps.{step_of}
+
+-- the JSON value of a line
+unfoldable pub json_of : List ℕ → Result Data Fault
+json_of line = ok_or (if is_utf8 line then read line else None) NotJson
+
+-- the ask of a line
+unfoldable pub command_of_line : HubSettings → List ℕ → Result Ask Fault
+command_of_line s line = do
+  value ← json_of line
+  ask_of s value
+
+-- the step of a script line
+unfoldable pub step_of_line : HubSettings → List ℕ → Result Step Fault
+step_of_line s line = do
+  value ← json_of line
+  step_of s value

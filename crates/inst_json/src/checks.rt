@@ -1,0 +1,48 @@
+//! The checks that come after each field is there: amount, moments, participants.
+ghost use Rattle.std.specs.Prelude.{◌≡◌, ◌+◌, true, nat_le, IfOk};
+ghost use Rattle.inst_base.specs.Moment.{is_moment, moment_of};
+ghost use Rattle.inst_command.specs.Ask.{is_participant};
+ghost use Rattle.inst_json.specs.Checks.{amount_of, stamp_of, participant_of};
+
+use inst_base::{Cents, Code, Fault, Moment};
+use inst_settings::Settings;
+
+/// The amount of this many cents, or `BadAmount` outside 1 to the ceiling.
+#[tactic(auto, unfolding(crate::specs::Checks::amount_of))]
+pub(crate) fn amount(settings: &Settings, cents: u64) -> Result<Cents, Fault>
+    ensures value { result ≡ amount_of settings.now cents }
+    ensures fits { IfOk result (λ amount. nat_le amount settings.now.ceiling ≡ true) }
+{
+    if cents > settings.ceiling() {
+        return Err(Fault::BadAmount);
+    }
+    Cents::new(cents)
+}
+
+/// The moment at `ms` absolute milliseconds, or `BadMoment` outside the moments of the hub.
+pub(crate) fn moment(settings: &Settings, ms: u64) -> Result<Moment, Fault>
+    ensures { result ≡ moment_of settings.now.base ms }
+{
+    Moment::new(settings.base(), ms)
+}
+
+/// The time stamp at `ms` absolute milliseconds, or `BadMoment` where it or its deadline is outside
+/// the moments of the hub.
+#[tactic(auto, unfolding(crate::specs::Checks::stamp_of))]
+pub(crate) fn time_stamp(settings: &Settings, ms: u64) -> Result<Moment, Fault>
+    ensures value { result ≡ stamp_of settings.now ms }
+    ensures fits { IfOk result (λ stamp. is_moment (stamp + settings.now.limit) ≡ true) }
+{
+    let stamp = moment(settings, ms)?;
+    stamp.later(settings.limit())?;
+    Ok(stamp)
+}
+
+/// The number of the participant with this code, or `UnknownParticipant`.
+#[tactic(auto, unfolding(crate::specs::Checks::participant_of))]
+pub(crate) fn participant(settings: &Settings, code: &Code) -> Result<u8, Fault>
+    ensures value { result ≡ participant_of settings.now code.now }
+    ensures fits { IfOk result (λ number. is_participant settings.now number ≡ true) }
+{
+    settings.index_of(code).ok_or(Fault::UnknownParticipant)
+}

@@ -1,0 +1,15 @@
+//! The lines of a hub: commands and steps read from JSON, replies written to it.
+#![tactic(auto)]
+
+mod checks;
+mod command;
+mod fields;
+mod read;
+mod step;
+#[cfg(test)]
+mod tests;
+mod verb;
+mod write;
+
+pub use read::{read_command, read_step};
+pub use write::{write_answer, write_reply};

@@ -1,0 +1,37 @@
+ghost use Rattle.std.specs.Prelude.{◌≡◌};
+ghost use Rattle.inst_json.specs.Verb.{verb_of};
+
+use inst_base::Fault;
+
+/// What a command line asks for, by its field `cmd`.
+#[derive(Clone, Copy)]
+pub(crate) enum Verb {
+    Fund,
+    Defund,
+    Submit,
+    Confirm,
+    Reject,
+    Investigate,
+    Fetch,
+    Position,
+    Statement,
+}
+
+/// The verb of this name, or `BadField` where no command has it.
+#[tactic(auto, unfolding(crate::specs::Verb::verb_of))]
+pub(crate) fn verb_of(name: &str) -> Result<Verb, Fault>
+    ensures { result ≡ verb_of name.now }
+{
+    match name {
+        "fund" => Ok(Verb::Fund),
+        "defund" => Ok(Verb::Defund),
+        "submit" => Ok(Verb::Submit),
+        "confirm" => Ok(Verb::Confirm),
+        "reject" => Ok(Verb::Reject),
+        "investigate" => Ok(Verb::Investigate),
+        "fetch" => Ok(Verb::Fetch),
+        "position" => Ok(Verb::Position),
+        "statement" => Ok(Verb::Statement),
+        _ => Err(Fault::BadField),
+    }
+}

@@ -1,0 +1,88 @@
+ghost use Rattle.std.specs.Prelude.{◌≡◌, ◌<◌, ◌++◌, true, [], IfOk, OnOk, OnErr, IsOkUnless};
+ghost use Rattle.inst_base.specs.Fault.{IsUnlessMemory};
+ghost use Rattle.inst_settings.specs.Settings.{IsSettings, participants};
+ghost use Rattle.inst_command.specs.Ask.{ask_fits};
+ghost use Rattle.inst_journal.specs.Sound.{IsSound};
+ghost use Rattle.inst_slot.specs.Book.{is_served, handle_ask};
+
+use inst_base::Fault;
+use inst_command::{Ask, Reply};
+use inst_journal::{Journal, handle_command};
+use inst_settings::Settings;
+use std::alloc::Global;
+use std::marker::Model;
+
+/// The books of one participant. Its history is sound, always.
+#[derive(Debug, Drop)]
+pub struct Slot {
+    alloc: Global,
+    settings: Settings,
+    who: u8,
+    journal: Journal,
+}
+
+impl Model for Slot {
+    ghost use Rattle.inst_settings.specs.Settings.{IsSettings};
+    ghost use Rattle.inst_journal.specs.Sound.{IsSound};
+    ghost use Rattle.inst_slot.specs.Book.{Book};
+
+    ghost Value = { Book };
+
+    ghost view = { λ slot. record {
+        settings = slot.settings;
+        who = slot.who;
+        events = slot.journal.events;
+    } };
+
+    ghost invariant = { λ slot. IsSettings slot.settings × IsSound slot.settings slot.who slot.journal.events };
+}
+
+impl Slot {
+    /// The slot of the participant `who`, with no history. `Memory` where the settings can't be copied.
+    pub fn open(alloc: Global, settings: &Settings, who: u8) -> Result<Slot, Fault>
+        ensures { IfOk result (λ slot. (slot.settings ≡ settings.now) × (slot.who ≡ who) × (slot.events ≡ [])) }
+        ensures only { IsOkUnless result Fault.Memory }
+    {
+        Ok(Slot {
+            alloc,
+            settings: settings.copy()?,
+            who,
+            journal: Journal::new(alloc),
+        })
+    }
+
+    /// Answers a command of the participant, and keeps what its history is to keep of it. Refused by
+    /// the first of `SelfTransfer` to `Shortage` that holds, and then the slot is as it was; so it is
+    /// after `Memory`, which comes only where an event is to be kept.
+    pub fn apply(&mut self, ask: &Ask) -> Result<Reply, Fault>
+        requires own { ask.now.who ≡ self.old.who }
+        requires fits { ask_fits self.old.settings ask.now ≡ true }
+        requires served { is_served ask.now.command ≡ true }
+        ensures reply { IsUnlessMemory result (handle_ask self.old ask.now).reply }
+        ensures ok { OnOk result (self.new ≡ record self.old { events = self.old.events ++ (handle_ask self.old ask.now).kept }) }
+        ensures err { OnErr result (self.new ≡ self.old) }
+        ensures no_memory { (handle_ask self.old ask.now).kept ≡ [] → result ≡ (handle_ask self.old ask.now).reply }
+    {
+        let events = self.journal.events();
+        let handled = handle_command(
+            self.alloc,
+            &self.settings,
+            self.who,
+            events,
+            &ask.command,
+            ask.at,
+            None,
+        )?;
+        if let Some(event) = handled.kept {
+            self.journal.push(event)?;
+        }
+        Ok(handled.reply)
+    }
+
+    /// The participant's history.
+    pub fn journal(&self) -> &Journal
+        ensures { result.now.events ≡ self.now.events }
+    {
+        &self.journal
+    }
+}
