@@ -7,7 +7,7 @@ ghost use Rattle.inst_slot.specs.Book.{is_served, handle_ask};
 
 use inst_base::Fault;
 use inst_command::{Ask, Reply};
-use inst_journal::{Journal, handle_command};
+use inst_journal::{Handled, Journal, handle_command};
 use inst_settings::Settings;
 use std::alloc::Global;
 use std::marker::Model;
@@ -40,7 +40,7 @@ impl Model for Slot {
 impl Slot {
     /// The slot of the participant `who`, with no history. `Memory` where the settings can't be copied.
     pub fn open(alloc: Global, settings: &Settings, who: u8) -> Result<Slot, Fault>
-        ensures { IfOk result (λ slot. (slot.settings ≡ settings.now) × (slot.who ≡ who) × (slot.events ≡ [])) }
+        ensures ok { IfOk result (λ slot. (slot.settings ≡ settings.now) × (slot.who ≡ who) × (slot.events ≡ [])) }
         ensures only { IsOkUnless result Fault.Memory }
     {
         Ok(Slot {
@@ -64,7 +64,7 @@ impl Slot {
         ensures no_memory { (handle_ask self.old ask.now).kept ≡ [] → result ≡ (handle_ask self.old ask.now).reply }
     {
         let events = self.journal.events();
-        let handled = handle_command(
+        let Handled { reply, kept } = handle_command(
             self.alloc,
             &self.settings,
             self.who,
@@ -73,10 +73,10 @@ impl Slot {
             ask.at,
             None,
         )?;
-        if let Some(event) = handled.kept {
+        if let Some(event) = kept {
             self.journal.push(event)?;
         }
-        Ok(handled.reply)
+        Ok(reply)
     }
 
     /// The participant's history.
