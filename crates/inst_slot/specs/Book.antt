@@ -1,7 +1,8 @@
 -- What a contract sees of a slot: the settings of its hub, the number of its participant, and its history. That a
 -- participant's books stand by themselves is this hub's own choice.
-use Rattle.std.specs.Prelude.{ℕ, Bool, true, false, List, None, Result}
+use Rattle.std.specs.Prelude.{◌≡◌, ◌⊎◌, ◌++◌, ℕ, Bool, true, false, List, None, Result, Err}
 use Rattle.inst_base.specs.declared.fault.Fault.{Fault}
+use Rattle.inst_base.specs.declared.fault.Fault.TheVariants.{Memory}
 use Rattle.inst_settings.specs.Settings.{HubSettings}
 use Rattle.inst_command.specs.declared.ask.Ask.{Ask}
 use Rattle.inst_command.specs.declared.command.Command.{Command}
@@ -27,3 +28,11 @@ is_served _ = false
 -- what an ask of the participant is answered, and what its history keeps of it
 abbrev pub handle_ask : Book → Ask → Handled
 handle_ask book ask = handle book.settings book.who book.events ask.command ask.at None
+
+-- the book after an ask of its participant
+abbrev pub book_after : Book → Ask → Book
+book_after book ask = record book { events = book.events ++ (handle_ask book ask).kept }
+
+-- an ask is answered as the books demand, and they keep what they are to keep, unless memory was refused
+abbrev pub AppliesUnlessMemory : Book → Book → Ask → Result Reply Fault → Type 0
+AppliesUnlessMemory old new ask result = (result ≡ Err Memory) ⊎ ((result ≡ (handle_ask old ask).reply) × (new ≡ book_after old ask))

@@ -1,9 +1,8 @@
-ghost use Rattle.std.specs.Prelude.{◌≡◌, ◌<◌, ◌++◌, true, [], IfOk, OnOk, OnErr, IsOkUnless};
-ghost use Rattle.inst_base.specs.Fault.{IsUnlessMemory};
+ghost use Rattle.std.specs.Prelude.{◌≡◌, true, [], IfOk, OnErr, IsOkUnless};
 ghost use Rattle.inst_settings.specs.Settings.{IsSettings, participants};
 ghost use Rattle.inst_command.specs.Ask.{ask_fits};
 ghost use Rattle.inst_journal.specs.Sound.{IsSound};
-ghost use Rattle.inst_slot.specs.Book.{is_served, handle_ask};
+ghost use Rattle.inst_slot.specs.Book.{is_served, handle_ask, AppliesUnlessMemory};
 
 use inst_base::Fault;
 use inst_command::{Ask, Reply};
@@ -58,8 +57,7 @@ impl Slot {
         requires own { ask.now.who ≡ self.old.who }
         requires fits { ask_fits self.old.settings ask.now ≡ true }
         requires served { is_served ask.now.command ≡ true }
-        ensures reply { IsUnlessMemory result (handle_ask self.old ask.now).reply }
-        ensures ok { OnOk result (self.new ≡ record self.old { events = self.old.events ++ (handle_ask self.old ask.now).kept }) }
+        ensures applied { AppliesUnlessMemory self.old self.new ask.now result }
         ensures err { OnErr result (self.new ≡ self.old) }
         ensures no_memory { (handle_ask self.old ask.now).kept ≡ [] → result ≡ (handle_ask self.old ask.now).reply }
     {

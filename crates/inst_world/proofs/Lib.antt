@@ -1,0 +1,9 @@
+pub mod LinesLemmas
+pub mod AnswersLemmas
+pub mod ProgressLemmas
+pub mod BufferLemmas
+pub mod WriteLemmas
+pub mod SessionLemmas
+pub mod RunLemmas
+pub mod SlotsLemmas
+pub mod WorldLemmas

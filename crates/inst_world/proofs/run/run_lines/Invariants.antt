@@ -1,0 +1,12 @@
+use Rattle.std.proofs.Common.{◌-◌}
+use Rattle.inst_world.specs.World.{answering}
+use Rattle.inst_world.proofs.RunLemmas.{Runs}
+use Rattle.inst_world.proofs.run.run_lines.Given as goal
+
+abbrev pub invariant-loop-session : goal.invariant-loop-session
+invariant-loop-session g l =
+    Runs answering l.initial.world (g.W.Write.contents l.initial.writer) (g.R.Read.remaining l.initial.reader)
+    l.session l.world (g.W.Write.contents l.writer) (g.R.Read.remaining l.reader)
+
+abbrev pub decreases-loop-session : goal.decreases-loop-session
+decreases-loop-session g l = 4294967296 - l.session.input.taken

@@ -1,0 +1,12 @@
+use Rattle.std.proofs.Common.{◌≡◌, ◌-◌}
+use Rattle.inst_world.specs.World.{answering}
+use Rattle.inst_world.specs.Session.{Advances}
+use Rattle.inst_world.proofs.session.Session.answer_held.Given as goal
+
+abbrev pub invariant-loop-self : goal.invariant-loop-self
+invariant-loop-self g l =
+    Advances answering l.initial.self l.initial.world (g.W.Write.contents l.initial.writer) l.self l.world (g.W.Write.contents l.writer)
+    × (l.self.input.taken ≡ l.initial.self.input.taken)
+
+abbrev pub decreases-loop-self : goal.decreases-loop-self
+decreases-loop-self g l = 1000000 - l.self.counts.lines

@@ -1,0 +1,63 @@
+-- What is answered to lines, at any world.
+use Rattle.std.specs.Prelude.{◌≡◌, ℕ, ◌+◌, ◌<◌, Bool, true, false, List, [], ◌∷◌, ◌++◌, length, nat_lt, if◌then◌else◌}
+use Rattle.inst_world.specs.Lines.{newline, NoNewline}
+
+-- how a world of states S answers a line: by which reply, into which state, and whether the reply is
+-- a refusal; and the reply to a line that is too long, which is a refusal and changes no state
+pub record Answerer (S : Type 0) : Type 0 where
+  pub reply : S → List ℕ → List ℕ
+  pub next : S → List ℕ → S
+  pub is_refusal : S → List ℕ → Bool
+  pub too_long : List ℕ
+
+-- the most bytes of a line that reaches the world
+abbrev pub max_line_len : ℕ
+max_line_len = 4096
+
+abbrev pub is_too_long : List ℕ → Bool
+is_too_long line = nat_lt max_line_len (length line)
+
+-- the reply to a line, without its newline
+abbrev pub reply_to : {S : Type 0} → Answerer S → S → List ℕ → List ℕ
+reply_to a s line = if is_too_long line then a.too_long else a.reply s line
+
+-- the state after a line
+abbrev pub state_after_line : {S : Type 0} → Answerer S → S → List ℕ → S
+state_after_line a s line = if is_too_long line then s else a.next s line
+
+-- whether a line is answered by a refusal
+abbrev pub is_refused : {S : Type 0} → Answerer S → S → List ℕ → Bool
+is_refused a s line = if is_too_long line then true else a.is_refusal s line
+
+-- the replies to lines in order, with a newline after each
+abbrev pub output : {S : Type 0} → Answerer S → S → List (List ℕ) → List ℕ
+output a s [] = []
+output a s (line ∷ lines) = (reply_to a s line ++ newline ∷ []) ++ output a (state_after_line a s line) lines
+
+-- the state after lines
+abbrev pub state_after : {S : Type 0} → Answerer S → S → List (List ℕ) → S
+state_after a s [] = s
+state_after a s (line ∷ lines) = state_after a (state_after_line a s line) lines
+
+-- how many of the lines are answered by a refusal
+abbrev pub refusals : {S : Type 0} → Answerer S → S → List (List ℕ) → ℕ
+refusals a s [] = 0
+refusals a s (line ∷ lines) =
+    (if is_refused a s line then 1 else 0) + refusals a (state_after_line a s line) lines
+
+-- the front of a line that was let go since the line is too long already, or nothing
+abbrev pub IsFront : Bool → List ℕ → Type 0
+IsFront true front = (max_line_len < length front) × NoNewline front
+IsFront false front = front ≡ []
+
+-- what is held changes where no newline is: part of it may be let go, where the line is too long
+pub record MakesRoom (was_long : Bool) (old : List ℕ) (is_long : Bool) (new : List ℕ) : Type 0 where
+  pub line : (front : List ℕ) → IsFront was_long front → (front' : List ℕ) × IsFront is_long front' × (front' ++ new ≡ front ++ old)
+  pub no_newline : NoNewline new
+  pub idle : was_long ≡ false → old ≡ [] → (is_long ≡ false) × (new ≡ [])
+
+-- a line is answered, of which this part is held and any front of it was let go
+pub record AnswersLine {S : Type 0} (a : Answerer S) (is_long : Bool) (part : List ℕ) (old new : S) (out_old out_new : List ℕ) (refused : Bool) : Type 0 where
+  pub reply : (front : List ℕ) → IsFront is_long front → out_new ≡ out_old ++ (reply_to a old (front ++ part) ++ newline ∷ [])
+  pub state : (front : List ℕ) → IsFront is_long front → new ≡ state_after_line a old (front ++ part)
+  pub refusal : (front : List ℕ) → IsFront is_long front → refused ≡ is_refused a old (front ++ part)

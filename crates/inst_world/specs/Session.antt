@@ -1,0 +1,99 @@
+-- How far a session has come, at any world.
+use Rattle.std.specs.Prelude.{◌≡◌, ℕ, ◌+◌, ◌<◌, ◌≤◌, Bool, false, cond, List, [], ◌++◌, length, take, drop, Option}
+use Rattle.std.specs.Io.KnownBytes.{Consumes, IsAtEnd}
+use Rattle.inst_base.specs.declared.fault.Fault.{Fault}
+use Rattle.inst_base.specs.declared.fault.Fault.TheVariants.{Memory, ReadFault, WriteFault}
+use Rattle.inst_world.specs.declared.session.Session.{Session}
+use Rattle.inst_world.specs.declared.session.Counts.{Counts}
+use Rattle.inst_world.specs.Lines.{NoNewline, lines_of, max_lines}
+use Rattle.inst_world.specs.Answers.{Answerer, AnswersLine}
+use Rattle.inst_world.specs.LineBuffer.{held}
+use Rattle.inst_world.specs.Progress.{Progress, Stopped, Finished, CutOff}
+
+-- the session has come this far in the bytes that were read
+pub record Reached {S : Type 0} (a : Answerer S) (start : S) (before : Option (List ℕ)) (bytes : List ℕ) (now : Option (List ℕ)) (session : Session) (state : S) : Type 0 where
+  pub progress : Progress a start before bytes now session.replies.bytes.items state session.input.is_long (held session.input) session.counts.lines session.counts.refused
+  pub taken_is : session.input.taken ≡ length bytes
+
+-- no whole line is held, and after the last line that a run may have nothing is
+pub record IsAnswered (session : Session) : Type 0 where
+  pub no_newline : NoNewline (held session.input)
+  pub limit : session.counts.lines ≡ max_lines → (session.input.is_long ≡ false) × (held session.input ≡ [])
+
+-- each whole line is answered, the replies are written, and there is room for a read
+pub record IsReady (session : Session) : Type 0 where
+  pub answered : IsAnswered session
+  pub pending : session.replies.bytes.items ≡ []
+  pub room : session.input.end ≤ 4096
+
+-- the first n bytes that are held are answered as the rest of a line, and let go with the byte after them
+pub record TakesLine {S : Type 0} (a : Answerer S) (n : ℕ) (old new : Session) (old_state new_state : S) : Type 0 where
+  pub is_refused : Bool
+  pub answers : AnswersLine a old.input.is_long (take n (held old.input)) old_state new_state old.replies.bytes.items new.replies.bytes.items is_refused
+  pub held_is : held new.input ≡ drop (n + 1) (held old.input)
+  pub is_long_is : new.input.is_long ≡ false
+  pub taken_is : new.input.taken ≡ old.input.taken
+  pub lines_are : new.counts.lines ≡ old.counts.lines + 1
+  pub refused_are : new.counts.refused ≡ old.counts.refused + cond is_refused 1 0
+
+-- what was answered stays answered, with no further read
+pub record Advances {S : Type 0} (a : Answerer S) (old : Session) (old_state : S) (now : Option (List ℕ)) (new : Session) (new_state : S) (now' : Option (List ℕ)) : Type 0 where
+  pub reaches : (start : S) (before : Option (List ℕ)) (bytes : List ℕ) → Reached a start before bytes now old old_state → Reached a start before bytes now' new new_state
+
+-- a front of the replies is written
+pub record Stops {S : Type 0} (a : Answerer S) (old : Session) (old_state : S) (now now' : Option (List ℕ)) : Type 0 where
+  pub stops : (start : S) (before : Option (List ℕ)) (bytes : List ℕ) → Reached a start before bytes now old old_state → Stopped a start before bytes now'
+
+-- the replies to all the bytes are written or pending
+pub record AnsweredAll {S : Type 0} (a : Answerer S) (start : S) (before : Option (List ℕ)) (bytes : List ℕ) (now : Option (List ℕ)) (session : Session) (state : S) : Type 0 where
+  pub closed : List ℕ
+  pub progress : Progress a start before closed now session.replies.bytes.items state false [] session.counts.lines session.counts.refused
+  pub same_lines : lines_of closed ≡ lines_of bytes
+
+-- a last line is answered
+pub record AnswersLast {S : Type 0} (a : Answerer S) (old new : Session) (old_state new_state : S) : Type 0 where
+  pub ends : (start : S) (before : Option (List ℕ)) (bytes : List ℕ) (now : Option (List ℕ)) → Reached a start before bytes now old old_state → AnsweredAll a start before bytes now new new_state
+
+-- all is answered and written, with these counts
+pub record Finishes {S : Type 0} (a : Answerer S) (old : Session) (old_state : S) (now : Option (List ℕ)) (counts : Counts) (new_state : S) (now' : Option (List ℕ)) : Type 0 where
+  pub finishes : (start : S) (before : Option (List ℕ)) (bytes : List ℕ) → Reached a start before bytes now old old_state → Finished a start before bytes now' new_state counts.lines counts.refused
+
+-- the fault is none of reading
+abbrev pub IsNoReadFault : Fault → Type 0
+IsNoReadFault Memory = Unit {0}
+IsNoReadFault ReadFault = ⊥
+IsNoReadFault WriteFault = Unit {0}
+IsNoReadFault _ = ⊥
+
+-- what a fault leaves of the replies to the bytes that were read; no other fault ends a run
+abbrev pub Leaves : {S : Type 0} → Answerer S → S → Option (List ℕ) → List ℕ → Option (List ℕ) → Fault → Type 0
+Leaves a start before bytes now Memory = Stopped a start before bytes now
+Leaves a start before bytes now ReadFault = CutOff a start before bytes now
+Leaves a start before bytes now WriteFault = Stopped a start before bytes now
+Leaves a start before bytes now _ = ⊥
+
+-- further bytes were read and answered
+pub record Turns {S : Type 0} (a : Answerer S) (old : Session) (old_state : S) (now : Option (List ℕ)) (new : Session) (new_state : S) (now' : Option (List ℕ)) (left left' : Option (List ℕ)) : Type 0 where
+  pub read : List ℕ
+  pub consumes : Consumes left left' read
+  pub is_ready : IsReady new
+  pub more : old.input.taken < new.input.taken
+  pub reaches : (start : S) (before : Option (List ℕ)) (bytes : List ℕ) → Reached a start before bytes now old old_state → Reached a start before (bytes ++ read) now' new new_state
+
+-- the input is at its end, and all is answered and written, with these counts
+pub record Ends {S : Type 0} (a : Answerer S) (old : Session) (old_state : S) (now : Option (List ℕ)) (counts : Counts) (new_state : S) (now' : Option (List ℕ)) (left left' : Option (List ℕ)) : Type 0 where
+  pub consumes : Consumes left left' []
+  pub at_end : IsAtEnd left'
+  pub finishes : Finishes a old old_state now counts new_state now'
+
+-- a fault ended the run, after some further bytes
+pub record Fails {S : Type 0} (a : Answerer S) (old : Session) (old_state : S) (now now' : Option (List ℕ)) (left left' : Option (List ℕ)) (fault : Fault) : Type 0 where
+  pub read : List ℕ
+  pub consumes : Consumes left left' read
+  pub leaves : (start : S) (before : Option (List ℕ)) (bytes : List ℕ) → Reached a start before bytes now old old_state → Leaves a start before (bytes ++ read) now' fault
+
+-- what a fault leaves after a whole run
+pub record FailsAfter {S : Type 0} (a : Answerer S) (start : S) (before now : Option (List ℕ)) (left left' : Option (List ℕ)) (fault : Fault) : Type 0 where
+  pub bytes : List ℕ
+  pub consumes : Consumes left left' bytes
+  pub leaves : Leaves a start before bytes now fault

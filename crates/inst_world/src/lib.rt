@@ -1,0 +1,16 @@
+//! All slots of a hub in one thread, and whole runs: each line of the input is answered by one line.
+#![tactic(auto)]
+
+mod answer;
+mod line_buffer;
+mod replies;
+mod run;
+mod session;
+mod slots;
+#[cfg(test)]
+mod tests;
+mod world;
+
+pub use run::run_lines;
+pub use session::Counts;
+pub use world::World;
