@@ -40,7 +40,7 @@ slot-book_at s books k d slots below =
     let own : (get_or books k d).who ≡ k = at.1 ∙ omega arith in
     let events : (get_or books k d).events ≡ get_or (map (λ (book : Book). book.events) books) k [] = sym (get_or-map (λ (book : Book). book.events) books k d [] below) in
     ap (λ (r : HubSettings × ℕ × List Event). let book : Book = record { settings = r.0; who = r.1; events = r.2 } in book)
-      (λ i. (at.0 i, own i, events i))
+    (λ i. (at.0 i, own i, events i))
 
 -- the slot that a participant's number leads to
 pub found : (s : HubSettings) (books : List Book) (k i : ℕ) (slot : Book) → IsHub s books → is_participant s k ≡ true → i ≡ k → slot ≡ get_or books i slot → slot ≡ book_at s books k
@@ -59,18 +59,18 @@ told_ok P (Err _) here = here
 
 -- what an ask is answered by its slot
 pub answered : (s : HubSettings) (books : List Book) (ask : Ask) (i : ℕ) (slot new : Book) (x r : Result Reply Fault) → slot ≡ book_at s books ask.who → i ≡ ask.who
-  → AppliesUnlessMemory slot new ask x → r ≡ refusals_told x
-  → IfOk r (λ reply. (reply ≡ told (handle_ask (book_at s books ask.who) ask).reply) × (set books i new ≡ set books ask.who (book_after (book_at s books ask.who) ask)))
+    → AppliesUnlessMemory slot new ask x → r ≡ refusals_told x
+    → IfOk r (λ reply. (reply ≡ told (handle_ask (book_at s books ask.who) ask).reply) × (set books i new ≡ set books ask.who (book_after (book_at s books ask.who) ask)))
 answered s books ask i slot new x r is_slot same applied is_told = elim applied [
-    | inl memory ↦ rw (is_told, memory) tt
-    | inr done ↦
+  | inl memory ↦ rw (is_told, memory) tt
+  | inr done ↦
       let book : Book = book_at s books ask.who in
       let P : Reply → Type 0 = λ reply. (reply ≡ told (handle_ask book ask).reply) × (set books i new ≡ set books ask.who (book_after book ask)) in
       let reply_is : x ≡ (handle_ask book ask).reply = done.0 ∙ ap (λ b. (handle_ask b ask).reply) is_slot in
       let new_is : new ≡ book_after book ask = done.1 ∙ ap (λ b. book_after b ask) is_slot in
       subst (λ (z : Result Reply Fault). IfOk z P) (sym (is_told ∙ ap refusals_told reply_is))
-        (told_ok P (handle_ask book ask).reply (refl, ap (λ n. set books n new) same ∙ ap (λ b. set books ask.who b) new_is))
-  ]
+      (told_ok P (handle_ask book ask).reply (refl, ap (λ n. set books n new) same ∙ ap (λ b. set books ask.who b) new_is))
+]
 
 stays : (s : HubSettings) (books : List Book) (i : ℕ) (new : Book) → IsHub s books → new.settings ≡ s → new.who ≡ i → IsHub s (set books i new)
 stays s books i new hub same own = record {
@@ -81,39 +81,39 @@ stays s books i new hub same own = record {
 
 -- the slots stay those of the hub
 pub hub_stays : (s : HubSettings) (books : List Book) (ask : Ask) (i : ℕ) (slot new : Book) (x : Result Reply Fault) → IsHub s books → slot ≡ book_at s books ask.who → i ≡ ask.who
-  → AppliesUnlessMemory slot new ask x → OnErr x (new ≡ slot) → IsHub s (set books i new)
+    → AppliesUnlessMemory slot new ask x → OnErr x (new ≡ slot) → IsHub s (set books i new)
 hub_stays s books ask i slot new x hub is_slot same applied err = elim applied [
-    | inl memory ↦
+  | inl memory ↦
       let back : new ≡ slot = subst (λ (z : Result Reply Fault). OnErr z (new ≡ slot)) memory err in
       let now : new ≡ book_at s books ask.who = back ∙ is_slot in
       stays s books i new hub (ap (λ b. b.settings) now) (ap (λ b. b.who) now ∙ sym same)
-    | inr done ↦
+  | inr done ↦
       let now : new ≡ book_after (book_at s books ask.who) ask = done.1 ∙ ap (λ b. book_after b ask) is_slot in
       stays s books i new hub (ap (λ b. b.settings) now) (ap (λ b. b.who) now ∙ sym same)
-  ]
+]
 
 -- an ask that is served is answered as the model says
 pub served_reply : (s : HubSettings) (books : List Book) (ask : Ask) (reply : Reply) → is_served ask.command ≡ true → reply ≡ told (handle_ask (book_at s books ask.who) ask).reply
-  → reply ≡ reply_to_ask (record { settings = s; books = histories books }) ask
+    → reply ≡ reply_to_ask (record { settings = s; books = histories books }) ask
 served_reply s books ask reply served is_told =
     is_told ∙ sym (ap (λ b. cond b (told (handle_ask (book_at s books ask.who) ask).reply) (Refused BadField)) served)
 
 -- and changes the hub as the model says
 pub served_after : (s : HubSettings) (books new : List Book) (ask : Ask) → is_served ask.command ≡ true → new ≡ set books ask.who (book_after (book_at s books ask.who) ask)
-  → ◌≡◌ {A = Hub} (record { settings = s; books = histories new }) (after_ask (record { settings = s; books = histories books }) ask)
+    → ◌≡◌ {A = Hub} (record { settings = s; books = histories new }) (after_ask (record { settings = s; books = histories books }) ask)
 served_after s books new ask served new_is =
     let hub : Hub = record { settings = s; books = histories books } in
     let changed : Hub = record { settings = s; books = set (histories books) ask.who (book_after (book_at s books ask.who) ask).events } in
     let histories_are : histories new ≡ set (histories books) ask.who (book_after (book_at s books ask.who) ask).events =
-      ap histories new_is ∙ map-set (λ (b : Book). b.events) books ask.who (book_after (book_at s books ask.who) ask) in
+    ap histories new_is ∙ map-set (λ (b : Book). b.events) books ask.who (book_after (book_at s books ask.who) ask) in
     ap (λ (hs : List (List Event)). let h : Hub = record { settings = s; books = hs } in h) histories_are
     ∙ sym (ap (λ b. cond b changed hub) served)
 
 -- the slots of one participant more
 pub opened_push : (s : HubSettings) (books : List Book) (who : ℕ) (book : Book) → AreSlots s 0 books → length books ≡ who → histories books ≡ replicate who [] → book.settings ≡ s → book.who ≡ who → book.events ≡ []
-  → AreSlots s 0 (books ++ book ∷ []) × (length (books ++ book ∷ []) ≡ who + 1) × (histories (books ++ book ∷ []) ≡ replicate (who + 1) [])
+    → AreSlots s 0 (books ++ book ∷ []) × (length (books ++ book ∷ []) ≡ who + 1) × (histories (books ++ book ∷ []) ≡ replicate (who + 1) [])
 opened_push s books who book slots long empty same own none = (
-    slots_push s 0 books book slots same (own ∙ sym long ∙ omega arith),
-    length-append books (book ∷ []) ∙ ap (λ n. n + 1) long,
-    map-append (λ (b : Book). b.events) books (book ∷ []) ∙ ap (λ hs. hs ++ book.events ∷ []) empty ∙ ap (λ e. replicate who [] ++ e ∷ []) none ∙ replicate_more who []
-  )
+  slots_push s 0 books book slots same (own ∙ sym long ∙ omega arith),
+  length-append books (book ∷ []) ∙ ap (λ n. n + 1) long,
+  map-append (λ (b : Book). b.events) books (book ∷ []) ∙ ap (λ hs. hs ++ book.events ∷ []) empty ∙ ap (λ e. replicate who [] ++ e ∷ []) none ∙ replicate_more who [],
+)

@@ -119,11 +119,11 @@ refusal_of hub line =
 
 -- the reply to a line, appended, answers the line
 pub answers_line : (is_long : Bool) (part : List ℕ) (old new : Hub) (reply : Reply) (out out' : List ℕ) (refused : Bool) → RepliesToLine is_long part old new reply
-  → out' ≡ out ++ (compact_text (reply_data new.settings reply) ++ newline ∷ []) → refused ≡ is_refusal reply → AnswersLine answering is_long part old new out out' refused
+    → out' ≡ out ++ (compact_text (reply_data new.settings reply) ++ newline ∷ []) → refused ≡ is_refusal reply → AnswersLine answering is_long part old new out out' refused
 answers_line is_long part old new reply out out' refused replies appended refusal = record {
   reply = λ front is_front.
-    let line : List ℕ = front ++ part in
-    appended ∙ ap (λ t. out ++ (t ++ newline ∷ []))
+      let line : List ℕ = front ++ part in
+      appended ∙ ap (λ t. out ++ (t ++ newline ∷ []))
       (ap (λ s. compact_text (reply_data s reply)) replies.same_settings ∙ ap (λ r. compact_text (reply_data old.settings r)) (replies.told front is_front) ∙ text_of old line);
   state = replies.after;
   refusal = λ front is_front. refusal ∙ ap is_refusal (replies.told front is_front) ∙ refusal_of old (front ++ part);

@@ -32,12 +32,7 @@ pub(crate) fn answer(
 }
 
 /// The reply to a line, of which a part is given. The only error is `Memory`.
-fn reply_to(
-    alloc: Global,
-    world: &mut World,
-    is_long: bool,
-    line: &[u8],
-) -> Result<Reply, Fault>
+fn reply_to(alloc: Global, world: &mut World, is_long: bool, line: &[u8]) -> Result<Reply, Fault>
     ensures ok { IfOk result (λ reply. RepliesToLine is_long line.now world.old world.new reply) }
     ensures only { IsOkUnless result Fault.Memory }
 {

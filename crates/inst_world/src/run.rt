@@ -3,18 +3,19 @@ ghost use Rattle.std.specs.Prelude.{◌≡◌, OnOk, IfOk, IfErr, IfSome, length
 ghost use Rattle.std.specs.Io.KnownBytes.{Appends, IsAtEnd};
 ghost use Rattle.inst_world.specs.Lines.{lines_of, IsWithinLimits};
 ghost use Rattle.inst_world.specs.Answers.{output, refusals, state_after};
-ghost use Rattle.inst_world.specs.World.{answering};
+ghost use Rattle.inst_world.specs.World.{answering, opened};
 ghost use Rattle.inst_world.specs.Session.{FailsAfter};
 
-use inst_base::Fault;
 use crate::session::{Counts, Session};
 use crate::world::World;
+use inst_base::Fault;
+use inst_settings::Settings;
 use std::alloc::Global;
 use std::io::{Read, Write};
 
 /// Answers each line that the reader gives by one line to the writer, and says how many there were.
 /// A line ends by a newline, and the last one may lack it; a line of more than 4,096 bytes is answered
-/// by `TOO_LONG`. Whatever was answered is written and flushed before each read and at the end.
+/// `LineTooLong`. Whatever was answered is written and flushed before each read and at the end.
 ///
 /// `ReadFault` comes where a read fails in any way, and where the input goes on after `MAX_LINES`
 /// lines, each with its newline, or after `MAX_BYTES` bytes: what was read up to there is answered.
@@ -22,11 +23,38 @@ use std::io::{Read, Write};
 /// there is none: then a front of the replies is written.
 pub fn run_lines<R: Read, W: Write>(
     alloc: Global,
-    world: &mut World,
+    settings: &Settings,
     reader: &mut R,
     writer: &mut W,
 ) -> Result<Counts, Fault>
     // All that the reader has left is read and answered, where its bytes are known.
+    ensures end { OnOk result (IsAtEnd (R.remaining reader.new)) }
+    ensures output { OnOk result (IfSome (R.remaining reader.old) (λ bytes.
+        Appends (W.contents writer.old) (W.contents writer.new)
+        (output answering (opened settings.now) (lines_of bytes)))) }
+    ensures lines { IfOk result (λ counts. IfSome (R.remaining reader.old) (λ bytes.
+        counts.lines ≡ length (lines_of bytes))) }
+    ensures refused { IfOk result (λ counts. IfSome (R.remaining reader.old) (λ bytes.
+        counts.refused ≡ refusals answering (opened settings.now) (lines_of bytes))) }
+    ensures limits { OnOk result (IfSome (R.remaining reader.old) IsWithinLimits) }
+
+    // Some bytes were read: at `ReadFault` each line whose newline stands within the limits is
+    // answered, and at another fault a front of the replies is written.
+    ensures err { IfErr result (FailsAfter answering (opened settings.now)
+        (W.contents writer.old) (W.contents writer.new)
+        (R.remaining reader.old) (R.remaining reader.new)) }
+{
+    let mut world = World::open(alloc, settings)?;
+    answer_lines(alloc, &mut world, reader, writer)
+}
+
+/// The same over a world that is there.
+pub(crate) fn answer_lines<R: Read, W: Write>(
+    alloc: Global,
+    world: &mut World,
+    reader: &mut R,
+    writer: &mut W,
+) -> Result<Counts, Fault>
     ensures end { OnOk result (IsAtEnd (R.remaining reader.new)) }
     ensures output { OnOk result (IfSome (R.remaining reader.old) (λ bytes.
         Appends (W.contents writer.old) (W.contents writer.new)
@@ -38,9 +66,6 @@ pub fn run_lines<R: Read, W: Write>(
     ensures refused { IfOk result (λ counts. IfSome (R.remaining reader.old) (λ bytes.
         counts.refused ≡ refusals answering world.old (lines_of bytes))) }
     ensures limits { OnOk result (IfSome (R.remaining reader.old) IsWithinLimits) }
-
-    // Some bytes were read: at `ReadFault` each line whose newline stands within the limits is
-    // answered, and at another fault a front of the replies is written.
     ensures err { IfErr result (FailsAfter answering world.old
         (W.contents writer.old) (W.contents writer.new)
         (R.remaining reader.old) (R.remaining reader.new)) }

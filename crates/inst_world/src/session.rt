@@ -2,10 +2,10 @@
 ghost use Rattle.std.specs.Prelude.{◌≡◌, ◌≤◌, ◌<◌, ◌⊎◌, [], OnOk, IfOk, OnErr, IfErr, IsErrOf, MatchBool, false, length};
 
 use crate::answer::answer;
-use inst_base::Fault;
 use crate::line_buffer::{LineBuffer, find_newline};
 use crate::replies::ReplyBuffer;
 use crate::world::World;
+use inst_base::Fault;
 use std::alloc::Global;
 use std::io::{Read, Write};
 

@@ -26,11 +26,7 @@ pub(crate) fn open(alloc: Global, settings: &Settings) -> Result<Vec<Slot>, Faul
 }
 
 /// Answers an ask by the slot of its participant.
-pub(crate) fn answer(
-    settings: &Settings,
-    slots: &mut Vec<Slot>,
-    ask: &Ask,
-) -> Result<Reply, Fault>
+pub(crate) fn answer(settings: &Settings, slots: &mut Vec<Slot>, ask: &Ask) -> Result<Reply, Fault>
     requires hub { IsHub settings.now slots.old.items }
     requires fits { ask_fits settings.now ask.now ≡ true }
     requires served { is_served ask.now.command ≡ true }

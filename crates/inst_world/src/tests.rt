@@ -1,8 +1,8 @@
 // Runs over readers and writers that give and take little, or fail.
-use inst_base::Fault;
 use crate::run::run_lines;
 use crate::session::Counts;
 use crate::world::World;
+use inst_base::Fault;
 use std::cell::Cell;
 use std::io::{self, ErrorKind, Read, Write};
 use std::process::Abort;

@@ -26,8 +26,8 @@ impl Model for World {
     ghost Value = { Hub };
 
     ghost view = { λ world. record {
-        settings = world.settings;
-        books = histories world.slots.items;
+      settings = world.settings;
+      books = histories world.slots.items;
     } };
 
     ghost invariant = { λ world. IsHub world.settings world.slots.items };

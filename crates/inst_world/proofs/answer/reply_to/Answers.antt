@@ -11,5 +11,5 @@ returns-clause-ok c =
     let new = c.reply_to_line.new.world in
     let short : length c.args.line.now ≤ 4096 = omega arith in
     rw c.if-is_long.false
-      (IfOk-weaker c.reply_to_line.result _ _ (λ reply ok. replies_whole old new line reply short ok.0 ok.1)
-        (ok_both c.reply_to_line.result _ _ c.reply_to_line.ensures.reply c.reply_to_line.ensures.after))
+    (IfOk-weaker c.reply_to_line.result _ _ (λ reply ok. replies_whole old new line reply short ok.0 ok.1)
+    (ok_both c.reply_to_line.result _ _ c.reply_to_line.ensures.reply c.reply_to_line.ensures.after))

@@ -13,4 +13,4 @@ returns-clause-ok c =
     let books = c.self.inside.slots.items in
     let ask = c.args.ask.now in
     rw (← c.self.view_is)
-      (IfOk-weaker c.answer.result _ _ (λ reply ok. (served_reply s books ask reply served ok.0, served_after s books c.answer.new.slots.items ask served ok.1)) c.answer.ensures.ok)
+    (IfOk-weaker c.answer.result _ _ (λ reply ok. (served_reply s books ask reply served ok.0, served_after s books c.answer.new.slots.items ask served ok.1)) c.answer.ensures.ok)

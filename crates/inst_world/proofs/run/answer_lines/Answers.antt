@@ -4,7 +4,7 @@ use Rattle.inst_world.specs.World.{answering}
 use Rattle.inst_world.specs.Session.{FailsAfter}
 use Rattle.inst_world.proofs.SessionLemmas.{err_passed}
 use Rattle.inst_world.proofs.RunLemmas.{runs-start, runs-turn, runs-end, runs-fail}
-use Rattle.inst_world.proofs.run.run_lines.Goals as goal
+use Rattle.inst_world.proofs.run.answer_lines.Goals as goal
 
 pub loop-session-init : goal.loop-session-init
 loop-session-init g c =

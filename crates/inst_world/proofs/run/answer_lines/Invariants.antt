@@ -1,7 +1,7 @@
 use Rattle.std.proofs.Common.{◌-◌}
 use Rattle.inst_world.specs.World.{answering}
 use Rattle.inst_world.proofs.RunLemmas.{Runs}
-use Rattle.inst_world.proofs.run.run_lines.Given as goal
+use Rattle.inst_world.proofs.run.answer_lines.Given as goal
 
 abbrev pub invariant-loop-session : goal.invariant-loop-session
 invariant-loop-session g l =
