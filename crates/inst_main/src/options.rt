@@ -1,0 +1,104 @@
+use clap::{Arg, ArgAction, ArgMatches, Command};
+use inst_base::{Code, Fault};
+use inst_settings::Settings;
+use std::alloc::{AllocError, Global};
+
+/// The command line of the program.
+pub(crate) fn command_line<'a>(alloc: Global) -> Result<Command<'a>, AllocError> {
+    let run = Command::new(alloc, "run")
+        .about("Answers each command line of standard input by one line on standard output")
+        .arg(participants(alloc))?
+        .arg(number(
+            alloc,
+            "places",
+            "256",
+            "Taken submissions of each originator, 1 to 1024",
+        ))?
+        .arg(number(
+            alloc,
+            "fundings",
+            "256",
+            "Kept fundings of each participant, 1 to 1024",
+        ))?
+        .arg(number(
+            alloc,
+            "limit",
+            "10000",
+            "From time stamp to deadline in ms, 1 to 3600000",
+        ))?
+        .arg(number(
+            alloc,
+            "ahead",
+            "1000",
+            "From reading to time stamp in ms, at most 60000",
+        ))?
+        .arg(number(
+            alloc,
+            "ceiling",
+            "99999999999",
+            "The largest amount in cents",
+        ))?
+        .arg(number(
+            alloc,
+            "base",
+            "0",
+            "The milliseconds from which moments count, at most 2^62",
+        ))?;
+    Command::new(alloc, "inst_main")
+        .about("The clearing core of a hub for instant credit transfers")
+        .subcommand_required(true)
+        .subcommand(run)
+}
+
+fn participants<'a>(alloc: Global) -> Arg<'a> {
+    Arg::new(alloc, "participants")
+        .long("participants")
+        .required(true)
+        .action(ArgAction::Set)
+        .help("The participants' codes with commas between them, numbered from 0")
+}
+
+fn number<'a>(alloc: Global, name: &'a str, value: &'a str, help: &'a str) -> Arg<'a> {
+    Arg::new(alloc, name)
+        .long(name)
+        .action(ArgAction::Set)
+        .value_parser(clap::value_parser!(u64))
+        .default_value(value)
+        .help(help)
+}
+
+/// The settings that the options give. `BadSettings` where a code has the wrong form or a number is
+/// outside its range, the codes first.
+pub(crate) fn settings(alloc: Global, options: &ArgMatches<'_>) -> Result<Settings, Fault> {
+    let codes = codes(alloc, options.get_str("participants").unwrap_or(""))?;
+    let places = small(options, "places")?;
+    let fundings = small(options, "fundings")?;
+    let limit = medium(options, "limit")?;
+    let ahead = medium(options, "ahead")?;
+    let ceiling = whole(options, "ceiling");
+    let base = whole(options, "base");
+    Settings::check(codes, places, fundings, limit, ahead, ceiling, base)
+}
+
+/// The codes between the commas. Nothing is trimmed.
+fn codes(alloc: Global, text: &str) -> Result<Vec<Code>, Fault> {
+    let mut codes = Vec::new(alloc);
+    for part in text.split(',') {
+        let code = Code::new(part).map_err(|_| Fault::BadSettings)?;
+        codes.push(code)?;
+    }
+    Ok(codes)
+}
+
+/// The number of an option. The command line has read it as a whole number.
+fn whole(options: &ArgMatches<'_>, name: &str) -> u64 {
+    options.get_one::<u64>(name).unwrap_or(0)
+}
+
+fn medium(options: &ArgMatches<'_>, name: &str) -> Result<u32, Fault> {
+    u32::try_from(whole(options, name)).map_err(|_| Fault::BadSettings)
+}
+
+fn small(options: &ArgMatches<'_>, name: &str) -> Result<u16, Fault> {
+    u16::try_from(whole(options, name)).map_err(|_| Fault::BadSettings)
+}
