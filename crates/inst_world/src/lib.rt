@@ -4,6 +4,8 @@
 mod answer;
 mod line_buffer;
 mod replies;
+#[cfg(test)]
+mod rows;
 mod run;
 mod session;
 mod slots;

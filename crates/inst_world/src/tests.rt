@@ -1,7 +1,6 @@
 // Runs over readers and writers that give and take little, or fail.
-use crate::run::run_lines;
-use crate::session::Counts;
-use crate::world::World;
+use crate::rows::settings;
+use crate::{Counts, run_lines};
 use inst_base::Fault;
 use std::cell::Cell;
 use std::io::{self, ErrorKind, Read, Write};
@@ -102,53 +101,93 @@ impl Write for Taker<'_> {
     }
 }
 
-/// What a run over this input writes, and what it answers.
+/// A question for a position, and its reply.
+const POSITION: &[u8] = br#"{"at":0,"cmd":"position","who":"AAAADEFF"}"#;
+
+const POSITION_REPLY: &[u8] = br#"{"available":0,"position":0,"reply":"position","reserved":0}"#;
+
+const NOT_JSON: &[u8] = br#"{"fault":"NotJson","number":1,"reply":"refused"}"#;
+
+const BAD_FIELD: &[u8] = br#"{"fault":"BadField","number":2,"reply":"refused"}"#;
+
+const TOO_LONG: &[u8] = br#"{"fault":"LineTooLong","number":16,"reply":"refused"}"#;
+
+/// Compares what a run over these lines, each with a newline, writes and answers.
 fn run(
     rt: &(impl Abort + AllocGlobal),
-    input: &[u8],
-    expected: &[u8],
-    lines: u64,
+    lines: &[&[u8]],
+    replies: &[&[u8]],
     refused: u64,
 ) -> Result<(), Fail> {
-    let mut world = World { count: 0 };
-    let mut reader = input;
+    let settings = settings(rt)?;
+    let input = joined(rt, lines)?;
+    let expected = joined(rt, replies)?;
+    let mut reader = input.as_slice();
     let mut written = Vec::new(rt.alloc());
-    let counts = run_lines(rt.alloc(), &mut world, &mut reader, &mut written)?;
-    assert_eq!(rt; counts, Counts { lines, refused });
-    assert_eq!(rt; written.as_slice(), expected);
+    let counts = run_lines(rt.alloc(), &settings, &mut reader, &mut written)?;
+    let all = Counts {
+        lines: lines.len() as u64,
+        refused,
+    };
+    assert_eq!(rt; counts, all);
+    assert_eq!(rt; written.as_slice(), expected.as_slice());
     Ok(())
 }
 
-#[test]
-fn answers_each_line(rt: HostRuntime) -> Result<(), Fail> {
-    run(&rt, b"", b"", 0, 0)?;
-    run(&rt, b"\n", b"0\n", 1, 1)?;
-    run(&rt, b"ab\n", b"0ab\n", 1, 0)?;
-    run(&rt, b"ab\r\n\ncd", b"0ab\r\n1\n2cd\n", 3, 1)
+/// The lines, each with a newline.
+fn joined(rt: &impl AllocGlobal, lines: &[&[u8]]) -> Result<Vec<u8>, Fail> {
+    let mut bytes = Vec::new(rt.alloc());
+    for line in lines {
+        bytes.extend_from_slice(line)?;
+        bytes.push(b'\n')?;
+    }
+    Ok(bytes)
 }
 
 #[test]
-fn answers_a_long_line(rt: HostRuntime) -> Result<(), Fail> {
-    let mut input = Vec::new(rt.alloc());
-    input.resize(4_096, b'x')?;
-    input.push(b'\n')?;
-    let mut expected = b"0".to_vec(rt.alloc())?;
-    expected.extend_from_slice(input.as_slice())?;
-    run(&rt, input.as_slice(), expected.as_slice(), 1, 0)?;
-
-    let mut long = b"x".to_vec(rt.alloc())?;
-    long.extend_from_slice(input.as_slice())?;
-    long.extend_from_slice(b"y\n")?;
-    run(&rt, long.as_slice(), b"too long\n0y\n", 2, 1)?;
-
-    let mut longer = Vec::new(rt.alloc());
-    longer.resize(200_000, b'x')?;
-    run(&rt, longer.as_slice(), b"too long\n", 1, 1)?;
-    longer.extend_from_slice(b"\ny")?;
-    run(&rt, longer.as_slice(), b"too long\n0y\n", 2, 1)
+fn malformed_lines(rt: HostRuntime) -> Result<(), Fail> {
+    let mut longest = Vec::new(rt.alloc());
+    longest.resize(4_096, b' ')?;
+    let mut long = Vec::new(rt.alloc());
+    long.resize(4_097, b' ')?;
+    let mut huge = Vec::new(rt.alloc());
+    huge.resize(200_000, b'{')?;
+    run(
+        &rt,
+        &[
+            long.as_slice(),
+            POSITION,
+            longest.as_slice(),
+            POSITION,
+            b"",
+            POSITION,
+            b"[]",
+            POSITION,
+            huge.as_slice(),
+            b"\xff\xfe",
+            b"{\"cmd\":\"sub",
+            POSITION,
+        ],
+        &[
+            TOO_LONG,
+            POSITION_REPLY,
+            NOT_JSON,
+            POSITION_REPLY,
+            NOT_JSON,
+            POSITION_REPLY,
+            BAD_FIELD,
+            POSITION_REPLY,
+            TOO_LONG,
+            NOT_JSON,
+            NOT_JSON,
+            POSITION_REPLY,
+        ],
+        7,
+    )
 }
 
-/// A run over a reader and a writer of this kind.
+/// A run over a reader that gives `most` bytes a read and a writer of this manner, and whether its
+/// calls begin with these events.
 fn run_pieces(
     rt: &(impl Abort + AllocGlobal),
     input: &[u8],
@@ -159,7 +198,7 @@ fn run_pieces(
     events: &[u8],
 ) -> Result<Result<Counts, Fault>, Fail> {
     let log = Log::new();
-    let mut world = World { count: 0 };
+    let settings = settings(rt)?;
     let mut reader = Pieces {
         bytes: input,
         most,
@@ -168,11 +207,11 @@ fn run_pieces(
     };
     let mut writer = Taker {
         taken: Vec::new(rt.alloc()),
-        most: 4,
+        most: 40,
         manner,
         log: &log,
     };
-    let outcome = run_lines(rt.alloc(), &mut world, &mut reader, &mut writer);
+    let outcome = run_lines(rt.alloc(), &settings, &mut reader, &mut writer);
     assert_eq!(rt; writer.taken.as_slice(), expected);
     assert!(rt; log.is(events));
     Ok(outcome)
@@ -180,59 +219,54 @@ fn run_pieces(
 
 #[test]
 fn flushes_before_each_read(rt: HostRuntime) -> Result<(), Fail> {
+    let input = b"[]\n[]\n";
+    let replies = joined(&rt, &[BAD_FIELD, BAD_FIELD])?;
     let both = Counts {
         lines: 2,
-        refused: 0,
+        refused: 2,
     };
-    let outcome = run_pieces(
-        &rt,
-        b"a\nb\n",
-        2,
-        false,
-        Manner::Takes,
-        b"0a\n1b\n",
-        b"rwfrwfr",
-    )?;
-    assert_eq!(rt; outcome, Ok(both));
-    let outcome = run_pieces(
-        &rt,
-        b"a\nb\n",
-        9,
-        false,
-        Manner::Takes,
-        b"0a\n1b\n",
-        b"rwwfr",
-    )?;
-    assert_eq!(rt; outcome, Ok(both));
-    let outcome = run_pieces(
-        &rt,
-        b"a\nb",
-        1,
-        false,
-        Manner::Takes,
-        b"0a\n1b\n",
-        b"rrwfrrwf",
-    )?;
-    assert_eq!(rt; outcome, Ok(both));
+    let cases: [(usize, &[u8]); 3] = [(3, b"rwwfrwwfr"), (9, b"rwwwfr"), (2, b"rrwwfrwwfr")];
+    for (most, events) in cases {
+        let outcome = run_pieces(
+            &rt,
+            input,
+            most,
+            false,
+            Manner::Takes,
+            replies.as_slice(),
+            events,
+        )?;
+        assert_eq!(rt; outcome, Ok(both));
+    }
     Ok(())
 }
 
 #[test]
 fn stops_at_faults(rt: HostRuntime) -> Result<(), Fail> {
-    let outcome = run_pieces(&rt, b"a\nb", 9, true, Manner::Takes, b"0a\n", b"rwfr")?;
+    let input = b"[]\n[";
+    let first = joined(&rt, &[BAD_FIELD])?;
+    let outcome = run_pieces(
+        &rt,
+        input,
+        9,
+        true,
+        Manner::Takes,
+        first.as_slice(),
+        b"rwwfr",
+    )?;
     assert_eq!(rt; outcome, Err(Fault::ReadFault));
-    let outcome = run_pieces(&rt, b"a\nb", 9, false, Manner::TakesNone, b"", b"rw")?;
+    let outcome = run_pieces(&rt, input, 9, false, Manner::TakesNone, b"", b"rw")?;
     assert_eq!(rt; outcome, Err(Fault::WriteFault));
-    let outcome = run_pieces(&rt, b"a\nb", 9, false, Manner::FailsToWrite, b"", b"rw")?;
+    let outcome = run_pieces(&rt, input, 9, false, Manner::FailsToWrite, b"", b"rw")?;
     assert_eq!(rt; outcome, Err(Fault::WriteFault));
     let outcome = run_pieces(
         &rt,
-        b"a\nb",
+        input,
         9,
         false,
         Manner::FailsToFlush,
-        b"0a\n",
-        b"rwf",
+        first.as_slice(),
+        b"rwwf",
     )?;
     assert_eq!(rt; outcome, Err(Fault::WriteFault));
     Ok(())
@@ -240,24 +274,25 @@ fn stops_at_faults(rt: HostRuntime) -> Result<(), Fail> {
 
 #[test]
 fn ends_after_the_last_line(rt: HostRuntime) -> Result<(), Fail> {
+    let settings = settings(&rt)?;
     let mut input = Vec::new(rt.alloc());
     input.resize(1_000_000, b'\n')?;
-    let mut world = World { count: 0 };
     let mut written = Vec::new(rt.alloc());
     let mut reader = input.as_slice();
-    let outcome = run_lines(rt.alloc(), &mut world, &mut reader, &mut written);
+    let outcome = run_lines(rt.alloc(), &settings, &mut reader, &mut written);
     let all = Counts {
         lines: 1_000_000,
         refused: 1_000_000,
     };
     assert_eq!(rt; outcome, Ok(all));
-    assert_eq!(rt; written.len(), 2_000_000);
+    let len = written.len();
+    assert_eq!(rt; len, 1_000_000 * (NOT_JSON.len() + 1));
 
     input.push(b'\n')?;
     written.clear();
     let mut reader = input.as_slice();
-    let outcome = run_lines(rt.alloc(), &mut world, &mut reader, &mut written);
+    let outcome = run_lines(rt.alloc(), &settings, &mut reader, &mut written);
     assert_eq!(rt; outcome, Err(Fault::ReadFault));
-    assert_eq!(rt; written.len(), 2_000_000);
+    assert_eq!(rt; written.len(), len);
     Ok(())
 }
