@@ -53,9 +53,9 @@ open_push s who J new sound fits (Fetched count) = omega arith
 smaller : (f g : Event → ℕ) (p : Event → Bool) (xs : List Event) → ((x : Event) → f x ≤ g x) → ((x : Event) → p x ≡ true → f x + 1 ≤ g x) → list_any p xs ≡ true → sum_by f xs + 1 ≤ sum_by g xs
 smaller f g p [] le less any = absurd (false≢true any)
 smaller f g p (x ∷ xs) le less any = elim (or_cases (p x) (list_any p xs) any) [
-    | inl here ↦ omega (arith, sum_by-cons f x xs, sum_by-cons g x xs, less x here, sum_by-le-sum_by f g xs le)
-    | inr later ↦ omega (arith, sum_by-cons f x xs, sum_by-cons g x xs, le x, smaller f g p xs le less later)
-  ]
+  | inl here ↦ omega (arith, sum_by-cons f x xs, sum_by-cons g x xs, less x here, sum_by-le-sum_by f g xs le)
+  | inr later ↦ omega (arith, sum_by-cons f x xs, sum_by-cons g x xs, le x, smaller f g p xs le less later)
+]
 
 -- a text is itself
 itself : (text : List ℕ) → same_text text text ≡ true
@@ -69,13 +69,13 @@ books_itself from id outcome = ap (λ b. cond b (Some outcome) None) (and_from (
 
 -- a booking closes the taken transfer that it is of
 taken_closed : (s : HubSettings) (who : ℕ) (J : List Event) (id : List ℕ) (outcome : Outcome) → IsSound s who J → Fits s who J (Booked who id outcome)
-  → (event : Event) → takes id event ≡ true → open_at (J ++ Booked who id outcome ∷ []) event + 1 ≤ open_at J event
+    → (event : Event) → takes id event ≡ true → open_at (J ++ Booked who id outcome ∷ []) event + 1 ≤ open_at J event
 taken_closed s who J id outcome sound fits (Taken other to cents stamp) same =
     let key : other ≡ id = text_same other id (sym same) in
     let nothing : own_booked other J ≡ None = ap (λ i. own_booked i J) key ∙ own_booked-booked s who J id sound ∙ fits.new in
     let new : books who other (Booked who id outcome) ≡ Some outcome = ap (λ i. books who i (Booked who id outcome)) key ∙ books_itself who id outcome in
     subst (λ (o : Option Outcome). if_unbooked o 1 + 1 ≤ if_unbooked (own_booked other J) 1) (sym (own_push s who J (Booked who id outcome) other sound fits))
-      (closing (own_booked other J) (books who other (Booked who id outcome)) outcome nothing new)
+    (closing (own_booked other J) (books who other (Booked who id outcome)) outcome nothing new)
 taken_closed s who J id outcome sound fits (Forwarded from other cents deadline) same = absurd (false≢true same)
 taken_closed s who J id outcome sound fits (Funded reference cents) same = absurd (false≢true same)
 taken_closed s who J id outcome sound fits (Defunded reference cents) same = absurd (false≢true same)
@@ -84,16 +84,16 @@ taken_closed s who J id outcome sound fits (Fetched count) same = absurd (false�
 
 -- a booking closes the forwarded transfer that it is of
 forwarded_closed : (s : HubSettings) (who : ℕ) (J : List Event) (from : ℕ) (id : List ℕ) (outcome : Outcome) → Fits s who J (Booked from id outcome)
-  → (event : Event) → forwards from id event ≡ true → open_at (J ++ Booked from id outcome ∷ []) event + 1 ≤ open_at J event
+    → (event : Event) → forwards from id event ≡ true → open_at (J ++ Booked from id outcome ∷ []) event + 1 ≤ open_at J event
 forwarded_closed s who J from id outcome fits (Forwarded other_from other cents deadline) same =
     let key = and_parts (other_from == from) (same_text other id) same in
     let originator : other_from ≡ from = eqb-true other_from from key.0 in
     let text : other ≡ id = text_same other id (sym key.1) in
     let nothing : booked other_from other J ≡ None = ap (λ f. booked f other J) originator ∙ ap (λ i. booked from i J) text ∙ fits.new in
     let new : books other_from other (Booked from id outcome) ≡ Some outcome =
-      ap (λ f. books f other (Booked from id outcome)) originator ∙ ap (λ i. books from i (Booked from id outcome)) text ∙ books_itself from id outcome in
+    ap (λ f. books f other (Booked from id outcome)) originator ∙ ap (λ i. books from i (Booked from id outcome)) text ∙ books_itself from id outcome in
     subst (λ (o : Option Outcome). if_unbooked o 1 + 1 ≤ if_unbooked (booked other_from other J) 1) (sym (first_some_push (books other_from other) J (Booked from id outcome)))
-      (closing (booked other_from other J) (books other_from other (Booked from id outcome)) outcome nothing new)
+    (closing (booked other_from other J) (books other_from other (Booked from id outcome)) outcome nothing new)
 forwarded_closed s who J from id outcome fits (Taken other to cents stamp) same = absurd (false≢true same)
 forwarded_closed s who J from id outcome fits (Funded reference cents) same = absurd (false≢true same)
 forwarded_closed s who J from id outcome fits (Defunded reference cents) same = absurd (false≢true same)
@@ -101,27 +101,27 @@ forwarded_closed s who J from id outcome fits (Booked other_from other o) same =
 forwarded_closed s who J from id outcome fits (Fetched count) same = absurd (false≢true same)
 
 own_closes : (s : HubSettings) (who : ℕ) (J : List Event) (from : ℕ) (id : List ℕ) (outcome : Outcome) → IsSound s who J → Fits s who J (Booked from id outcome) → from ≡ who → is_taken id J ≡ true
-  → sum_by (open_at (J ++ Booked from id outcome ∷ [])) J + 1 ≤ sum_by (open_at J) J
+    → sum_by (open_at (J ++ Booked from id outcome ∷ [])) J + 1 ≤ sum_by (open_at J) J
 own_closes s who J from id outcome sound fits own taken =
     let Claim : ℕ → Type 0 = λ f. Fits s who J (Booked f id outcome) → sum_by (open_at (J ++ Booked f id outcome ∷ [])) J + 1 ≤ sum_by (open_at J) J in
     subst Claim (sym own)
-      (λ fits'. smaller _ _ (takes id) J (open_push s who J (Booked who id outcome) sound fits') (taken_closed s who J id outcome sound fits') taken) fits
+    (λ fits'. smaller _ _ (takes id) J (open_push s who J (Booked who id outcome) sound fits') (taken_closed s who J id outcome sound fits') taken) fits
 
 -- what a booking closes
 booking_closes : (s : HubSettings) (who : ℕ) (J : List Event) (from : ℕ) (id : List ℕ) (outcome : Outcome) → IsSound s who J → Fits s who J (Booked from id outcome)
-  → sum_by (open_at (J ++ Booked from id outcome ∷ [])) J + 1 ≤ sum_by (open_at J) J
+    → sum_by (open_at (J ++ Booked from id outcome ∷ [])) J + 1 ≤ sum_by (open_at J) J
 booking_closes s who J from id outcome sound fits = elim fits.party [
-    | inl own ↦ own_closes s who J from id outcome sound fits own.0 own.1
-    | inr forwarded ↦
+  | inl own ↦ own_closes s who J from id outcome sound fits own.0 own.1
+  | inr forwarded ↦
       smaller _ _ (forwards from id) J (open_push s who J (Booked from id outcome) sound fits) (forwarded_closed s who J from id outcome fits) forwarded
-  ]
+]
 
 -- bookings and what is open make no more than the transfers there are
 abbrev IsCounted : List Event → Type 0
 IsCounted J = count_by is_booking J + sum_by (open_at J) J ≤ submissions J + count_by is_forwarding J
 
 counted_new : (s : HubSettings) (who : ℕ) (J : List Event) (event : Event) → IsSound s who J → Fits s who J event
-  → cond (is_booking event) 1 0 + (sum_by (open_at (J ++ event ∷ [])) J + open_at (J ++ event ∷ []) event) ≤ sum_by (open_at J) J + (cond (is_submission event) 1 0 + cond (is_forwarding event) 1 0)
+    → cond (is_booking event) 1 0 + (sum_by (open_at (J ++ event ∷ [])) J + open_at (J ++ event ∷ []) event) ≤ sum_by (open_at J) J + (cond (is_submission event) 1 0 + cond (is_forwarding event) 1 0)
 counted_new s who J (Booked from id outcome) sound fits = omega (arith, booking_closes s who J from id outcome sound fits)
 counted_new s who J (Taken id to cents stamp) sound fits =
     omega (arith, unbooked_le (own_booked id (J ++ Taken id to cents stamp ∷ [])), sum_by-le-sum_by _ _ J (open_push s who J (Taken id to cents stamp) sound fits))
@@ -135,5 +135,11 @@ counted_new s who J (Fetched count) sound fits = omega (arith, sum_by-le-sum_by 
 pub bookings_within : (s : HubSettings) (who : ℕ) (J : List Event) → IsSound s who J → IsCounted J
 bookings_within s who = sound_induction s who IsCounted (omega arith)
     (λ J event sound fits before.
-      omega (arith, count_push is_booking J event, count_push is_submission J event, count_push is_forwarding J event,
-        sum_by_push (open_at (J ++ event ∷ [])) J event, counted_new s who J event sound fits))
+    omega (
+      arith,
+      count_push is_booking J event,
+      count_push is_submission J event,
+      count_push is_forwarding J event,
+      sum_by_push (open_at (J ++ event ∷ [])) J event,
+      counted_new s who J event sound fits,
+    ))

@@ -46,11 +46,11 @@ submissions_within s who = sound_induction s who (λ J. submissions J ≤ s.plac
 
 forwarded_push : (s : HubSettings) (who from : ℕ) (J : List Event) (event : Event) → Fits s who J event → forwarded_from from J ≤ s.places → forwarded_from from J + cond (forwards_from from event) 1 0 ≤ s.places
 forwarded_push s who from J (Forwarded other id cents deadline) fits before = elim (cases_eq other from) [
-    | inl same ↦
+  | inl same ↦
       let place : forwarded_from from J < s.places = rw same at fits.place in
       rw (eq-eqb other from same) (omega arith)
-    | inr another ↦ rw (ne_eqb other from another) (omega arith)
-  ]
+  | inr another ↦ rw (ne_eqb other from another) (omega arith)
+]
 forwarded_push s who from J (Taken id to cents stamp) fits before = omega arith
 forwarded_push s who from J (Funded reference cents) fits before = omega arith
 forwarded_push s who from J (Defunded reference cents) fits before = omega arith
@@ -98,9 +98,9 @@ below_within : (s : HubSettings) (who : ℕ) (J : List Event) (n : ℕ) → IsSo
 below_within s who J zero sound = rw (none_below J) (omega arith)
 below_within s who J (suc n) sound =
     let more : count_by (forwards_below (suc n)) J ≤ sum_by (λ e. cond (forwards_below n e) 1 0 + cond (forwards_from n e) 1 0) J =
-      sum_by-le-sum_by _ _ J (below_more n) in
+    sum_by-le-sum_by _ _ J (below_more n) in
     let parts : sum_by (λ e. cond (forwards_below n e) 1 0 + cond (forwards_from n e) 1 0) J ≡ count_by (forwards_below n) J + forwarded_from n J =
-      sum_by-both (λ e. cond (forwards_below n e) 1 0) (λ e. cond (forwards_from n e) 1 0) J in
+    sum_by-both (λ e. cond (forwards_below n e) 1 0) (λ e. cond (forwards_from n e) 1 0) J in
     omega (arith, below_within s who J n sound, forwarded_within s who n J sound, more, parts, suc_times n s.places)
 
 forwarding_new : (s : HubSettings) (who : ℕ) (J : List Event) (event : Event) → Fits s who J event → cond (is_forwarding event) 1 0 ≤ cond (forwards_below (participants s) event) 1 0
@@ -115,7 +115,7 @@ forwarding_new s who J (Fetched count) fits = omega arith
 all_below : (s : HubSettings) (who : ℕ) (J : List Event) → IsSound s who J → count_by is_forwarding J ≤ count_by (forwards_below (participants s)) J
 all_below s who = sound_induction s who (λ J. count_by is_forwarding J ≤ count_by (forwards_below (participants s)) J) (omega arith)
     (λ J event sound fits before.
-      omega (arith, count_push is_forwarding J event, count_push (forwards_below (participants s)) J event, forwarding_new s who J event fits))
+    omega (arith, count_push is_forwarding J event, count_push (forwards_below (participants s)) J event, forwarding_new s who J event fits))
 
 -- no more transfers are forwarded than the participants have places
 pub forwardings_within : (s : HubSettings) (who : ℕ) (J : List Event) → IsSound s who J → count_by is_forwarding J ≤ participants s * s.places
@@ -143,13 +143,13 @@ booking_le false = omega arith
 
 booked_push : (s : HubSettings) (who from : ℕ) (id : List ℕ) (J : List Event) (event : Event) → Fits s who J event → count_by (booking from id) J ≤ 1 → count_by (booking from id) J + cond (booking from id event) 1 0 ≤ 1
 booked_push s who from id J (Booked other_from other outcome) fits before = elim (cases_Bool (same_transfer from id other_from other)) [
-    | inl same ↦
+  | inl same ↦
       let key = and_parts (other_from == from) (same_text other id) same in
       let none : booked from id J ≡ None =
-        ap (λ f. booked f id J) (sym (eqb-true other_from from key.0)) ∙ ap (λ i. booked other_from i J) (sym (text_same other id (sym key.1))) ∙ fits.new in
+      ap (λ f. booked f id J) (sym (eqb-true other_from from key.0)) ∙ ap (λ i. booked other_from i J) (sym (text_same other id (sym key.1))) ∙ fits.new in
       omega (arith, unbooked_none from id J none, booking_le (booking from id (Booked other_from other outcome)))
-    | inr another ↦ rw (another) (omega arith)
-  ]
+  | inr another ↦ rw (another) (omega arith)
+]
 booked_push s who from id J (Taken other to cents stamp) fits before = omega arith
 booked_push s who from id J (Funded reference cents) fits before = omega arith
 booked_push s who from id J (Defunded reference cents) fits before = omega arith
@@ -174,7 +174,7 @@ most_times p most (event ∷ events) =
 
 -- no position of a sound history is above 64 bits
 pub position_fits : (s : HubSettings) (who : ℕ) (J : List Event) → IsSettings s → IsSound s who J
-  → sum_by (λ event. cond (is_funding event) MOST 0) J + sum_by (λ event. cond (is_forwarding event) MOST 0) J < 2 ^ 64
+    → sum_by (λ event. cond (is_funding event) MOST 0) J + sum_by (λ event. cond (is_forwarding event) MOST 0) J < 2 ^ 64
 position_fits s who J lawful sound =
     let all_fundings : fundings J ≤ 1024 = omega (arith, fundings_within s who J sound, lawful.fundings_most) in
     let places : participants s * s.places ≤ 64 * 1024 = mul-le-mul lawful.participants_most lawful.places_most in

@@ -48,7 +48,7 @@ own_push s who J event id sound fits =
 held_le : (s : HubSettings) (who : ℕ) (J : List Event) (new : Event) → IsSound s who J → Fits s who J new → (event : Event) → debit (J ++ new ∷ []) event + reservation (J ++ new ∷ []) event ≤ debit J event + reservation J event
 held_le s who J new sound fits (Taken id to cents stamp) =
     subst (λ (o : Option Outcome). if_accepted o cents + if_unbooked o cents ≤ if_accepted (own_booked id J) cents + if_unbooked (own_booked id J) cents)
-      (sym (own_push s who J new id sound fits)) (settled_le (own_booked id J) (books who id new) cents)
+    (sym (own_push s who J new id sound fits)) (settled_le (own_booked id J) (books who id new) cents)
 held_le s who J new sound fits (Funded reference cents) = omega arith
 held_le s who J new sound fits (Defunded reference cents) = omega arith
 held_le s who J new sound fits (Forwarded from id cents deadline) = omega arith
@@ -66,7 +66,7 @@ held_new J (Fetched count) = omega arith
 credit_le : (J : List Event) (new : Event) (event : Event) → credit J event ≤ credit (J ++ new ∷ []) event
 credit_le J new (Forwarded from id cents deadline) =
     subst (λ (o : Option Outcome). if_accepted (booked from id J) cents ≤ if_accepted o cents)
-      (sym (first_some_push (books from id) J new)) (credited_le (booked from id J) (books from id new) cents)
+    (sym (first_some_push (books from id) J new)) (credited_le (booked from id J) (books from id new) cents)
 credit_le J new (Taken id to cents stamp) = omega arith
 credit_le J new (Funded reference cents) = omega arith
 credit_le J new (Defunded reference cents) = omega arith

@@ -44,11 +44,13 @@ defund_kept s who J reference cents amount =
     chosen s who J (is_defund_repeat reference cents J) _ _ (λ _. tt) (λ _.
     chosen s who J (has_reference reference J) _ _ (λ _. tt) (λ new.
     chosen s who J (nat_le s.fundings (fundings J)) _ _ (λ _. tt) (λ room.
-    chosen s who J (nat_lt (available J) cents) _ _ (λ _. tt) (λ cover.
-    (record {
-      funding = record { new = new; place = leb-false s.fundings (fundings J) room; amount = ceiling_parts s cents amount };
-      cover = ltb-false (available J) cents cover
-    }, tt)))))
+    chosen s who J (nat_lt (available J) cents) _ _ (λ _. tt) (λ cover. (
+      record {
+        funding = record { new = new; place = leb-false s.fundings (fundings J) room; amount = ceiling_parts s cents amount };
+        cover = ltb-false (available J) cents cover;
+      },
+      tt,
+    )))))
 
 submit_kept : (s : HubSettings) (who : ℕ) (J : List Event) (at : ℕ) (id : List ℕ) (to cents stamp : ℕ) → command_fits s (Submit id to cents stamp) ≡ true → KeptFits s who J (submit s who J at id to cents stamp)
 submit_kept s who J at id to cents stamp h =
@@ -60,19 +62,21 @@ submit_kept s who J at id to cents stamp h =
     chosen s who J (nat_lt (at + s.ahead) stamp) _ _ (λ _. tt) (λ _.
     chosen s who J (nat_le (stamp + s.limit) at) _ _ (λ _. tt) (λ _.
     chosen s who J (nat_le s.places (submissions J)) _ _ (λ _. tt) (λ room.
-    chosen s who J (nat_lt (available J) cents) _ _ (λ _. tt) (λ cover.
-    (record {
-      beneficiary = ltb-true to (participants s) first.0;
-      another = eqb-false to who another;
-      deadline = last.1;
-      new = new;
-      place = leb-false s.places (submissions J) room;
-      amount = ceiling_parts s cents first.1;
-      cover = ltb-false (available J) cents cover
-    }, tt))))))))
+    chosen s who J (nat_lt (available J) cents) _ _ (λ _. tt) (λ cover. (
+      record {
+        beneficiary = ltb-true to (participants s) first.0;
+        another = eqb-false to who another;
+        deadline = last.1;
+        new = new;
+        place = leb-false s.places (submissions J) room;
+        amount = ceiling_parts s cents first.1;
+        cover = ltb-false (available J) cents cover;
+      },
+      tt,
+    ))))))))
 
 standing_kept : (s : HubSettings) (who : ℕ) (J : List Event) (from : ℕ) (id : List ℕ) (found : Option Outcome) → ((from ≡ who) × (is_taken id J ≡ true)) ⊎ (is_forwarded from id J ≡ true)
-  → (known : Option Outcome) → booked from id J ≡ known → KeptFits s who J (standing from id known found)
+    → (known : Option Outcome) → booked from id J ≡ known → KeptFits s who J (standing from id known found)
 standing_kept s who J from id found party (Some outcome) same = tt
 standing_kept s who J from id None party None same = tt
 standing_kept s who J from id (Some outcome) party None same = (record { party = party; new = same }, tt)

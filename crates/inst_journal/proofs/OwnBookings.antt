@@ -57,8 +57,8 @@ known_new s who J (Fetched count) fits = tt
 all_known : (s : HubSettings) (who : ℕ) (J : List Event) → IsSound s who J → AllByRecursion (IsKnown who J) J
 all_known s who = sound_induction s who (λ J. AllByRecursion (IsKnown who J) J) tt
     (λ J event sound fits before. all_push (IsKnown who (J ++ event ∷ [])) J event
-      (all_weaker (IsKnown who J) (IsKnown who (J ++ event ∷ [])) (known_later who J event) J before)
-      (known_new s who J event fits))
+    (all_weaker (IsKnown who J) (IsKnown who (J ++ event ∷ [])) (known_later who J event) J before)
+    (known_new s who J event fits))
 
 and-true : (b : Bool) → (b && true) ≡ b
 and-true true = refl
@@ -71,17 +71,17 @@ and-false false = refl
 -- at a booking the two ways to tell an own one agree
 own_same : (who : ℕ) (J : List Event) → ((id : List ℕ) → is_forwarded who id J ≡ false) → (id : List ℕ) (event : Event) → IsKnown who J event → books_own J id event ≡ books who id event
 own_same who J unforwarded id (Booked from other outcome) known = elim known [
-    | inl own ↦
+  | inl own ↦
       let forwarded : is_forwarded from other J ≡ false = ap (λ p. is_forwarded p other J) own ∙ unforwarded other in
       ap (λ b. cond (same_text other id && not b) (Some outcome) None) forwarded
       ∙ ap (λ b. cond b (Some outcome) None) (and-true (same_text other id))
       ∙ sym (ap (λ b. cond (b && same_text other id) (Some outcome) None) (eq-eqb from who own))
-    | inr forwarded ↦
+  | inr forwarded ↦
       let another : from ≢ who = λ own. true≢false (sym forwarded ∙ ap (λ p. is_forwarded p other J) own ∙ unforwarded other) in
       ap (λ b. cond (same_text other id && not b) (Some outcome) None) forwarded
       ∙ ap (λ b. cond b (Some outcome) None) (and-false (same_text other id))
       ∙ sym (ap (λ b. cond (b && same_text other id) (Some outcome) None) (ne_eqb from who another))
-  ]
+]
 own_same who J unforwarded id (Funded reference cents) known = refl
 own_same who J unforwarded id (Defunded reference cents) known = refl
 own_same who J unforwarded id (Taken other to cents stamp) known = refl
@@ -92,4 +92,4 @@ own_same who J unforwarded id (Fetched count) known = refl
 pub own_booked-booked : (s : HubSettings) (who : ℕ) (J : List Event) (id : List ℕ) → IsSound s who J → own_booked id J ≡ booked who id J
 own_booked-booked s who J id sound = first_some-same (books_own J id) (books who id) J
     (all_weaker (IsKnown who J) (λ event. books_own J id event ≡ books who id event)
-      (own_same who J (λ other. own_unforwarded s who other J sound) id) J (all_known s who J sound))
+    (own_same who J (λ other. own_unforwarded s who other J sound) id) J (all_known s who J sound))

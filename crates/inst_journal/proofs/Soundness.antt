@@ -18,14 +18,14 @@ pub sound_with : (s : HubSettings) (who : ℕ) (J kept : List Event) → IsSound
 sound_with s who J kept sound fits = fit_append s who [] J kept sound fits
 
 along : (s : HubSettings) (who : ℕ) (P : List Event → Type 0) → ((J : List Event) (event : Event) → IsSound s who J → Fits s who J event → P J → P (J ++ event ∷ []))
-  → (front rest : List Event) → IsSound s who front → P front → FitAfter s who front rest → P (front ++ rest)
+    → (front rest : List Event) → IsSound s who front → P front → FitAfter s who front rest → P (front ++ rest)
 along s who P step front [] sound here fits = subst P (sym (append-nil front)) here
 along s who P step front (event ∷ events) sound here fits =
     subst P (append_assoc front (event ∷ []) events)
-      (along s who P step (front ++ event ∷ []) events (sound_push s who front event sound fits.0) (step front event sound fits.0 here) fits.1)
+    (along s who P step (front ++ event ∷ []) events (sound_push s who front event sound fits.0) (step front event sound fits.0 here) fits.1)
 
 -- induction over the events of a sound history
 pub sound_induction : (s : HubSettings) (who : ℕ) (P : List Event → Type 0) → P []
-  → ((J : List Event) (event : Event) → IsSound s who J → Fits s who J event → P J → P (J ++ event ∷ []))
-  → (J : List Event) → IsSound s who J → P J
+    → ((J : List Event) (event : Event) → IsSound s who J → Fits s who J event → P J → P (J ++ event ∷ []))
+    → (J : List Event) → IsSound s who J → P J
 sound_induction s who P start step J sound = along s who P step [] J tt start sound

@@ -18,7 +18,7 @@ use Rattle.inst_journal.proofs.Booking.{is_booking, bookings_within}
 
 -- the step of a walk at an event
 walk_step : (J : List Event) (number i : ℕ) (x : Event) → i < length J → x ≡ get_or J i x
-  → lines_after J (take i J) number (drop i J) ≡ with_line (line_of J number (position (take (i + 1) J)) x) (lines_after J (take (i + 1) J) number (drop (i + 1) J)) (lines_after J (take (i + 1) J) (number + 1) (drop (i + 1) J))
+    → lines_after J (take i J) number (drop i J) ≡ with_line (line_of J number (position (take (i + 1) J)) x) (lines_after J (take (i + 1) J) number (drop (i + 1) J)) (lines_after J (take (i + 1) J) (number + 1) (drop (i + 1) J))
 walk_step J number i x below here =
     let rest : drop i J ≡ x ∷ drop (i + 1) J = rw add-one (drop-cons J i x below) ∙ ap (λ y. y ∷ drop (i + 1) J) (sym here) in
     let front : take i J ++ x ∷ [] ≡ take (i + 1) J = ap (λ y. take i J ++ y ∷ []) here ∙ sym (take_more J i x below) in
@@ -27,13 +27,13 @@ walk_step J number i x below here =
 
 -- an event without a line
 pub walk_none : (J : List Event) (number i : ℕ) (x : Event) → i < length J → x ≡ get_or J i x → line_of J number (position (take (i + 1) J)) x ≡ None
-  → lines_after J (take i J) number (drop i J) ≡ lines_after J (take (i + 1) J) number (drop (i + 1) J)
+    → lines_after J (take i J) number (drop i J) ≡ lines_after J (take (i + 1) J) number (drop (i + 1) J)
 walk_none J number i x below here none =
     walk_step J number i x below here ∙ ap (λ o. with_line o (lines_after J (take (i + 1) J) number (drop (i + 1) J)) (lines_after J (take (i + 1) J) (number + 1) (drop (i + 1) J))) none
 
 -- an event with a line
 pub walk_some : (J : List Event) (number i : ℕ) (x : Event) (line : Line) → i < length J → x ≡ get_or J i x → line_of J number (position (take (i + 1) J)) x ≡ Some line
-  → lines_after J (take i J) number (drop i J) ≡ line ∷ lines_after J (take (i + 1) J) (number + 1) (drop (i + 1) J)
+    → lines_after J (take i J) number (drop i J) ≡ line ∷ lines_after J (take (i + 1) J) (number + 1) (drop (i + 1) J)
 walk_some J number i x line below here some =
     walk_step J number i x below here ∙ ap (λ o. with_line o (lines_after J (take (i + 1) J) number (drop (i + 1) J)) (lines_after J (take (i + 1) J) (number + 1) (drop (i + 1) J))) some
 
@@ -65,8 +65,19 @@ lines_few s who J i lawful sound =
     let both : count_by may_have_line J ≤ sum_by (λ e. cond (is_funding e) 1 0 + cond (is_booking e) 1 0) J = sum_by-le-sum_by _ _ J line_le in
     let parts : sum_by (λ e. cond (is_funding e) 1 0 + cond (is_booking e) 1 0) J ≡ fundings J + count_by is_booking J = sum_by-both (λ e. cond (is_funding e) 1 0) (λ e. cond (is_booking e) 1 0) J in
     let places : participants s * s.places ≤ 64 * 1024 = mul-le-mul lawful.participants_most lawful.places_most in
-    omega (arith, front, both, parts, places, fundings_within s who J sound, submissions_within s who J sound, forwardings_within s who J sound, bookings_within s who J sound,
-      lawful.fundings_most, lawful.places_most)
+    omega (
+      arith,
+      front,
+      both,
+      parts,
+      places,
+      fundings_within s who J sound,
+      submissions_within s who J sound,
+      forwardings_within s who J sound,
+      bookings_within s who J sound,
+      lawful.fundings_most,
+      lawful.places_most,
+    )
 
 front_fits : (s : HubSettings) (who : ℕ) (before xs ys : List Event) → FitAfter s who before (xs ++ ys) → FitAfter s who before xs
 front_fits s who before [] ys fits = tt
@@ -86,22 +97,22 @@ few_more J i x below here =
     ap (count_by may_have_line) (take_more J i x below ∙ ap (λ y. take i J ++ y ∷ []) (sym here)) ∙ sum_by_push (λ e. cond (may_have_line e) 1 0) (take i J) x
 
 pub walked_none : (J : List Event) (i : ℕ) (x : Event) (lines all : List Line) (after : ℕ) → i < length J → x ≡ get_or J i x → after ≡ position (take (i + 1) J)
-  → line_of J (length lines + 1) after x ≡ None → Walked J i lines all → Walked J (i + 1) lines all
+    → line_of J (length lines + 1) after x ≡ None → Walked J i lines all → Walked J (i + 1) lines all
 walked_none J i x lines all after below here after_is none so_far = record {
   walked = ap (λ rest. lines ++ rest) (sym (walk_none J (length lines + 1) i x below here (ap (λ a. line_of J (length lines + 1) a x) (sym after_is) ∙ none))) ∙ so_far.walked;
   few = omega (arith, few_more J i x below here, so_far.few);
 }
 
 pub walked_some : (J : List Event) (i : ℕ) (x : Event) (lines all : List Line) (after : ℕ) (line : Line) → i < length J → x ≡ get_or J i x → after ≡ position (take (i + 1) J)
-  → line_of J (length lines + 1) after x ≡ Some line → Walked J i lines all → Walked J (i + 1) (lines ++ line ∷ []) all
+    → line_of J (length lines + 1) after x ≡ Some line → Walked J i lines all → Walked J (i + 1) (lines ++ line ∷ []) all
 walked_some J i x lines all after line below here after_is some so_far =
     let long : length (lines ++ line ∷ []) ≡ length lines + 1 = length-append lines (line ∷ []) in
     let has : may_have_line x ≡ true = lined J (length lines + 1) after x line some in
     record {
       walked =
-        ap (λ n. (lines ++ line ∷ []) ++ lines_after J (take (i + 1) J) (n + 1) (drop (i + 1) J)) long
-        ∙ append_assoc lines (line ∷ []) (lines_after J (take (i + 1) J) (length lines + 1 + 1) (drop (i + 1) J))
-        ∙ ap (λ rest. lines ++ rest) (sym (walk_some J (length lines + 1) i x line below here (ap (λ a. line_of J (length lines + 1) a x) (sym after_is) ∙ some)))
-        ∙ so_far.walked;
+          ap (λ n. (lines ++ line ∷ []) ++ lines_after J (take (i + 1) J) (n + 1) (drop (i + 1) J)) long
+          ∙ append_assoc lines (line ∷ []) (lines_after J (take (i + 1) J) (length lines + 1 + 1) (drop (i + 1) J))
+          ∙ ap (λ rest. lines ++ rest) (sym (walk_some J (length lines + 1) i x line below here (ap (λ a. line_of J (length lines + 1) a x) (sym after_is) ∙ some)))
+          ∙ so_far.walked;
       few = omega (arith, few_more J i x below here, so_far.few, long, ap {B = ℕ} (λ b. cond b 1 0) has);
     }

@@ -2,10 +2,10 @@
 ghost use Rattle.inst_journal.specs.Reply.{fund, defund};
 ghost use Rattle.inst_journal.specs.Handling.{Answers};
 
+use crate::Event;
 use crate::handle::Handled;
 use crate::keys::{fundings, has_reference, is_defund_repeat, is_fund_repeat};
 use crate::sums::available;
-use crate::Event;
 use inst_base::{Cents, Fault, Ident};
 use inst_command::{Outcome, Reply};
 use inst_settings::Settings;

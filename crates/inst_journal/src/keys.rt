@@ -81,9 +81,14 @@ fn refers(event: &Event, reference: &Ident) -> bool
     ensures { result ≡ refers reference.now event.now }
 {
     match event {
-        Event::Funded { reference: other, .. } | Event::Defunded { reference: other, .. } => {
-            other == reference
+        Event::Funded {
+            reference: other,
+            ..
         }
+        | Event::Defunded {
+            reference: other,
+            ..
+        } => { other == reference }
         _ => false,
     }
 }

@@ -61,13 +61,7 @@ fn paid(number: u32, position: u64, id: &Ident, event: &Event) -> Option<Line>
 }
 
 /// The line of the forwarded transfer with this key.
-fn line_received(
-    events: &[Event],
-    number: u32,
-    position: u64,
-    from: u8,
-    id: &Ident,
-) -> Option<Line>
+fn line_received(events: &[Event], number: u32, position: u64, from: u8, id: &Ident) -> Option<Line>
     ensures { result ≡ first_some (received number position from id.now) events.now }
 {
     for event in events {

@@ -28,9 +28,9 @@ impl Model for Slot {
     ghost Value = { Book };
 
     ghost view = { λ slot. record {
-        settings = slot.settings;
-        who = slot.who;
-        events = slot.journal.events;
+      settings = slot.settings;
+      who = slot.who;
+      events = slot.journal.events;
     } };
 
     ghost invariant = { λ slot. IsSettings slot.settings × IsSound slot.settings slot.who slot.journal.events };

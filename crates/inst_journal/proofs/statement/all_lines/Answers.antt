@@ -29,11 +29,11 @@ loop-index-preserved c =
     let at : line_of J (length old + 1) after x ≡ c.line_of.result = ap (λ n. line_of J (n + 1) after x) (sym (c.len.ensures ∙ c.loop-index.lines.ok.0)) ∙ sym c.line_of.ensures in
     elim c.match-line_of.branch [
       | in-Some+in_ok-push w ↦
-        let new : c.match-line_of.lines.items ≡ old ++ w.in-Some.line ∷ [] = ap (λ v. v.items) w.lines-is ∙ w.in_ok-push.ensures.items in
-        rw new (walked_some J c.loop-index.index x old (statement J) after w.in-Some.line (omega arith) c.index-events-index.is c.position_after-position.ensures
+          let new : c.match-line_of.lines.items ≡ old ++ w.in-Some.line ∷ [] = ap (λ v. v.items) w.lines-is ∙ w.in_ok-push.ensures.items in
+          rw new (walked_some J c.loop-index.index x old (statement J) after w.in-Some.line (omega arith) c.index-events-index.is c.position_after-position.ensures
           (at ∙ w.in-Some.is) (record { walked = c.loop-index.invariant.walked; few = c.loop-index.invariant.few }))
       | in_default w ↦
-        let same : c.match-line_of.lines.items ≡ old = ap (λ v. v.items) w.lines-is in
-        rw same (walked_none J c.loop-index.index x old (statement J) after (omega arith) c.index-events-index.is c.position_after-position.ensures
+          let same : c.match-line_of.lines.items ≡ old = ap (λ v. v.items) w.lines-is in
+          rw same (walked_none J c.loop-index.index x old (statement J) after (omega arith) c.index-events-index.is c.position_after-position.ensures
           (at ∙ w.in_default.is) (record { walked = c.loop-index.invariant.walked; few = c.loop-index.invariant.few }))
     ]

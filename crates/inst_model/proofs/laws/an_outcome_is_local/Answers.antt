@@ -1,0 +1,5 @@
+use Rattle.inst_model.proofs.Local.{outcome_is_local}
+use Rattle.inst_model.proofs.laws.an_outcome_is_local.Goals as goal
+
+pub returns : goal.returns
+returns c = outcome_is_local

@@ -1,0 +1,5 @@
+use Rattle.inst_model.proofs.Closing.{closed_books_sum_to_the_net}
+use Rattle.inst_model.proofs.laws.closed_books_sum_to_the_net.Goals as goal
+
+pub returns : goal.returns
+returns c = closed_books_sum_to_the_net

@@ -1,0 +1,5 @@
+use Rattle.inst_model.proofs.Conserved.{money_is_conserved}
+use Rattle.inst_model.proofs.laws.money_is_conserved.Goals as goal
+
+pub returns : goal.returns
+returns c = money_is_conserved

@@ -1,0 +1,15 @@
+-- Books that are sound and closed, however they came about, sum to the net funding: this hub's own promise for the books
+-- of a hub that was closed.
+use Rattle.std.specs.Prelude.{◌≡◌, ℕ, pos, List}
+use Rattle.inst_settings.specs.Settings.{HubSettings}
+use Rattle.inst_journal.specs.declared.event.Event.{Event}
+use Rattle.inst_journal.specs.Sums.{net}
+use Rattle.inst_journal.specs.Money.{position}
+use Rattle.inst_journal.specs.Sound.{IsSound}
+use Rattle.inst_model.specs.Fit.{BooksAreClosed}
+use Rattle.inst_model.specs.Untold.{total, signed_total}
+
+abbrev pub ClosedBooksSumToTheNet : Type 0
+ClosedBooksSumToTheNet =
+    (s : HubSettings) (J : ℕ → List Event) → ((p : ℕ) → IsSound s p (J p)) → BooksAreClosed s J →
+    pos (total s (λ p. position (J p))) ≡ signed_total s (λ p. net (J p))

@@ -1,0 +1,24 @@
+-- A participant's history, made from its view alone, entry by entry: a transfer that comes is forwarded, an outcome that
+-- is told is booked, and an ask leaves the event of its reply, if any. This hub's own choice.
+use Rattle.std.specs.Prelude.{ℕ, List, [], ◌∷◌, ◌++◌}
+use Rattle.inst_settings.specs.Settings.{HubSettings}
+use Rattle.inst_journal.specs.declared.event.Event.{Event}
+use Rattle.inst_journal.specs.declared.event.Event.TheVariants.{Forwarded, Booked}
+use Rattle.inst_journal.specs.Reply.{handle}
+use Rattle.inst_model.specs.View.{Seen}
+use Rattle.inst_model.specs.View.Seen.{Asked, Came, Told}
+
+-- the event that an entry leaves in the history J of p
+abbrev pub kept : HubSettings → ℕ → List Event → Seen → List Event
+kept s p J (Asked command at found) = (handle s p J command at found).kept
+kept s p J (Came from id cents deadline) = Forwarded from id cents deadline ∷ []
+kept s p J (Told from id outcome) = Booked from id outcome ∷ []
+
+-- the history J of p after these entries
+abbrev pub with_entries : HubSettings → ℕ → List Event → List Seen → List Event
+with_entries s p J [] = J
+with_entries s p J (seen ∷ view) = with_entries s p (J ++ kept s p J seen) view
+
+-- the history that a view makes
+abbrev pub history_of : HubSettings → ℕ → List Seen → List Event
+history_of s p view = with_entries s p [] view

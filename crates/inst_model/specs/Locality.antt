@@ -1,0 +1,59 @@
+-- What decides a transfer: the steps on it alone. In two interleavings where it was taken with the same beneficiary,
+-- amount and time stamp, and where after that the deliveries to its beneficiary, its beneficiary's confirmations and
+-- rejections and its originator's investigations and expiries are the same in the same order with the same readings, it
+-- has the same outcome. This hub's own promise.
+use Rattle.std.specs.Prelude.{◌≡◌, ℕ, ◌==◌, ◌&&◌, if◌then◌else◌, List, [], ◌∷◌, ◌++◌, Option, Some, None}
+use Rattle.inst_settings.specs.Settings.{HubSettings}
+use Rattle.inst_command.specs.declared.command.Command.{Command}
+use Rattle.inst_command.specs.declared.command.Command.TheVariants.{Fund, Defund, Submit, Confirm, Reject, Investigate, Fetch, Position, Statement}
+use Rattle.inst_command.specs.declared.step.Step.{Step}
+use Rattle.inst_command.specs.declared.step.Step.TheVariants.{Ask, Deliver, Learn, Expire}
+use Rattle.inst_journal.specs.declared.event.Event.{Event}
+use Rattle.inst_journal.specs.Booked.{same_transfer}
+use Rattle.inst_model.specs.Transfer.{Transfer, transfer, at_place, is_named}
+use Rattle.inst_model.specs.Interleaving.{IsInterleaving}
+use Rattle.inst_model.specs.Hub.{outcome, history}
+
+-- a step on a transfer, by whatever name or place
+pub data Touch : Type 0 where
+  Delivers : Touch
+  Confirms : (at : ℕ) → Touch
+  Rejects : (reason : List ℕ) (at : ℕ) → Touch
+  Investigates : (at : ℕ) → Touch
+  Expires : (at : ℕ) → Touch
+
+-- whether an ask is on the transfer x with this identifier of the originator p
+abbrev pub ask_on : ℕ → Command → ℕ → ℕ → List ℕ → Transfer → List Touch
+ask_on who (Confirm from other) at p id x = if same_transfer p id from other && (who == x.to) then Confirms at ∷ [] else []
+ask_on who (Reject from other reason) at p id x =
+    if same_transfer p id from other && (who == x.to) then Rejects reason at ∷ [] else []
+ask_on who (Investigate other) at p id x = if same_transfer p id who other then Investigates at ∷ [] else []
+ask_on who (Fund reference cents) at p id x = []
+ask_on who (Defund reference cents) at p id x = []
+ask_on who (Submit other to cents stamp) at p id x = []
+ask_on who (Fetch max) at p id x = []
+ask_on who Position at p id x = []
+ask_on who (Statement skip count) at p id x = []
+
+-- whether a step is on it
+abbrev pub step_on : (ℕ → List Event) → Step → ℕ → List ℕ → Transfer → List Touch
+step_on J (Ask ask) p id x = ask_on ask.who ask.command ask.at p id x
+step_on J (Deliver from place to) p id x =
+    if (from == p) && (to == x.to) && is_named id (at_place (J p) place) then Delivers ∷ [] else []
+step_on J (Learn who from place) p id x = []
+step_on J (Expire who place at) p id x = if (who == p) && is_named id (at_place (J p) place) then Expires at ∷ [] else []
+
+abbrev pub taken_on : (ℕ → List Event) → Step → ℕ → List ℕ → Option Transfer → List Touch
+taken_on J step p id None = []
+taken_on J step p id (Some x) = step_on J step p id x
+
+-- the steps on the transfer with this identifier of the originator p after it was taken, the oldest first
+abbrev pub steps_on : HubSettings → List Step → ℕ → List ℕ → List Touch
+steps_on s [] p id = []
+steps_on s (step ∷ past) p id = steps_on s past p id ++ taken_on (history s past) step p id (transfer id (history s past p))
+
+abbrev pub OutcomeIsLocal : Type 0
+OutcomeIsLocal =
+    (s : HubSettings) (L M : List Step) (p : ℕ) (id : List ℕ) (x : Transfer) → IsInterleaving s L → IsInterleaving s M →
+    transfer id (history s L p) ≡ Some x → transfer id (history s M p) ≡ Some x →
+    steps_on s L p id ≡ steps_on s M p id → outcome s L p id ≡ outcome s M p id

@@ -1,0 +1,24 @@
+-- A place and an identifier name a transfer of an originator alike, and for good: this hub's own choice.
+use Rattle.std.specs.Prelude.{◌≡◌, ℕ, List, ◌++◌, Some}
+use Rattle.inst_settings.specs.Settings.{HubSettings}
+use Rattle.inst_command.specs.declared.step.Step.{Step}
+use Rattle.inst_model.specs.Interleaving.{IsInterleaving}
+use Rattle.inst_model.specs.Transfer.{Transfer, transfer, at_place}
+use Rattle.inst_model.specs.Hub.{history, outcome, outcome_at}
+
+-- what stands at a place is found by its identifier, and the place has its outcome
+pub record IsNamedByPlace (s : HubSettings) (L : List Step) (p place : ℕ) (x : Transfer) : Type 0 where
+  pub by_identifier : transfer x.id (history s L p) ≡ Some x
+  pub outcome_is : outcome_at s L p place ≡ outcome s L p x.id
+  pub for_good : (later : List Step) → at_place (history s (later ++ L) p) place ≡ Some x
+
+abbrev pub PlacesName : Type 0
+PlacesName =
+    (s : HubSettings) (L : List Step) (p place : ℕ) (x : Transfer) → IsInterleaving s L →
+    at_place (history s L p) place ≡ Some x → IsNamedByPlace s L p place x
+
+-- what is found by its identifier stands at a place
+abbrev pub IdentifiersName : Type 0
+IdentifiersName =
+    (s : HubSettings) (L : List Step) (p : ℕ) (id : List ℕ) (x : Transfer) →
+    transfer id (history s L p) ≡ Some x → (place : ℕ) × (at_place (history s L p) place ≡ Some x) × (x.id ≡ id)

@@ -1,0 +1,210 @@
+-- The scripts of the worked rows and their short forms: steps in the order in which they happen, at a hub of three
+-- participants with two places and four fundings each, a time limit of ten seconds, and time stamps at most one second
+-- ahead. This hub's own choice.
+use Rattle.std.specs.Prelude.{ℕ, Bool, List, [], ◌∷◌, ◌++◌, reverse, codes}
+use Rattle.inst_base.specs.declared.fault.Fault.{Fault}
+use Rattle.inst_settings.specs.Settings.{HubSettings}
+use Rattle.inst_command.specs.declared.command.Command.{Command}
+use Rattle.inst_command.specs.declared.command.Command.TheVariants.{Fund, Submit, Confirm, Reject, Investigate, Fetch, Position, Statement}
+use Rattle.inst_command.specs.declared.outcome.State.{State as StateValue}
+use Rattle.inst_command.specs.declared.step.Step.{Step}
+use Rattle.inst_command.specs.declared.step.Step.TheVariants.{Ask, Deliver, Learn, Expire}
+use Rattle.inst_command.specs.declared.reply.Reply.TheVariants.{Done, Taken, State, Position as PositionReply, Refused}
+use Rattle.inst_command.specs.declared.reply.Answer.{Answer}
+use Rattle.inst_command.specs.declared.reply.Answer.TheVariants.{Reply, New}
+use Rattle.inst_model.specs.Trace.{trace}
+
+abbrev pub settings : HubSettings
+settings = record {
+  codes = codes "AAAADEFF" ∷ codes "BBBBFRPP" ∷ codes "CCCCITMM" ∷ [];
+  places = 2;
+  fundings = 4;
+  limit = 10000;
+  ahead = 1000;
+  ceiling = 99999999999;
+  base = 0;
+}
+
+-- the participants
+abbrev pub A : ℕ
+A = 0
+
+abbrev pub B : ℕ
+B = 1
+
+abbrev pub C : ℕ
+C = 2
+
+abbrev pub ask : ℕ → Command → ℕ → Step
+ask who command at = Ask (record { who = who; command = command; at = at })
+
+abbrev pub fund : ℕ → List ℕ → ℕ → ℕ → Step
+fund who reference cents at = ask who (Fund reference cents) at
+
+abbrev pub submit : ℕ → List ℕ → ℕ → ℕ → ℕ → ℕ → Step
+submit who id to cents stamp at = ask who (Submit id to cents stamp) at
+
+abbrev pub confirm : ℕ → ℕ → List ℕ → ℕ → Step
+confirm who from id at = ask who (Confirm from id) at
+
+abbrev pub reject : ℕ → ℕ → List ℕ → List ℕ → ℕ → Step
+reject who from id reason at = ask who (Reject from id reason) at
+
+abbrev pub investigate : ℕ → List ℕ → ℕ → Step
+investigate who id at = ask who (Investigate id) at
+
+abbrev pub position : ℕ → ℕ → Step
+position who at = ask who Position at
+
+-- who sees it, the originator, the place
+abbrev pub deliver : ℕ → ℕ → ℕ → Step
+deliver to from place = Deliver from place to
+
+abbrev pub learn : ℕ → ℕ → ℕ → Step
+learn who from place = Learn who from place
+
+abbrev pub expire : ℕ → ℕ → ℕ → Step
+expire who place at = Expire who place at
+
+abbrev pub is_done : List ℕ → Answer
+is_done reference = Reply (Done reference)
+
+abbrev pub is_taken : List ℕ → ℕ → Answer
+is_taken id deadline = Reply (Taken id deadline)
+
+abbrev pub is_state : ℕ → List ℕ → StateValue → Answer
+is_state from id state = Reply (State from id state)
+
+abbrev pub is_position : ℕ → ℕ → ℕ → Answer
+is_position position reserved available = Reply (PositionReply position reserved available)
+
+abbrev pub is_refused : Fault → Answer
+is_refused fault = Reply (Refused fault)
+
+abbrev pub is_new : Bool → Answer
+is_new new = New new
+
+-- the answers to a script
+abbrev pub answers : List Step → List Answer
+answers script = trace settings (reverse script)
+
+-- A is funded and submits a transfer to B
+abbrev pub submitted : List Step
+submitted =
+    fund A (codes "F1") 50000 0
+    ∷ submit A (codes "T1") B 20000 1000 1000
+    ∷ []
+
+-- and the transfer comes to B
+abbrev pub delivered : List Step
+delivered = submitted ++ deliver B A 0 ∷ []
+
+-- the positions of A and B
+abbrev pub positions : ℕ → List Step
+positions at = position A at ∷ position B at ∷ []
+
+abbrev pub confirm_before_expire : List Step
+confirm_before_expire =
+    delivered ++ confirm B A (codes "T1") 10999 ∷ expire A 0 11000 ∷ learn A A 0 ∷ positions 11000
+
+abbrev pub expire_before_confirm : List Step
+expire_before_confirm = delivered ++ expire A 0 11000 ∷ confirm B A (codes "T1") 10999 ∷ positions 11000
+
+-- B has confirmed, and A doesn't know yet
+abbrev pub untold_yet : List Step
+untold_yet = delivered ++ confirm B A (codes "T1") 2000 ∷ []
+
+abbrev pub untold_then_learnt : List Step
+untold_then_learnt = untold_yet ++ position A 2000 ∷ position B 2000 ∷ learn A A 0 ∷ position A 2000 ∷ []
+
+-- what B asks beside other traffic
+abbrev pub fetch_B : Step
+fetch_B = ask B (Fetch 10) 1500
+
+abbrev pub statement_B : Step
+statement_B = ask B (Statement 0 10) 2100
+
+abbrev pub alone : List Step
+alone = delivered ++ fetch_B ∷ confirm B A (codes "T1") 2000 ∷ statement_B ∷ position B 2100 ∷ []
+
+abbrev pub among_others : List Step
+among_others =
+    fund C (codes "F9") 700 5
+    ∷ submit C (codes "Z1") A 300 1200 1200
+    ∷ fund A (codes "F7") 90000 3
+    ∷ submit A (codes "T0") C 100 900 950
+    ∷ submit A (codes "T1") B 20000 1000 1000
+    ∷ deliver B A 1
+    ∷ deliver A C 0
+    ∷ fetch_B
+    ∷ confirm A C (codes "Z1") 1600
+    ∷ confirm B A (codes "T1") 2000
+    ∷ learn C C 0
+    ∷ statement_B
+    ∷ position B 2100
+    ∷ []
+
+abbrev pub confirmed_late : List Step
+confirmed_late = delivered ++ confirm B A (codes "T1") 11000 ∷ learn A A 0 ∷ positions 11000
+
+abbrev pub confirmed_before_delivery : List Step
+confirmed_before_delivery =
+    submitted ++ confirm B A (codes "T1") 2000 ∷ investigate A (codes "T1") 2000 ∷ deliver B A 0 ∷ []
+
+abbrev pub expired_before_taken : List Step
+expired_before_taken =
+    fund A (codes "F1") 50000 0 ∷ expire A 0 11000 ∷ submit A (codes "T1") B 20000 1000 1000 ∷ deliver B A 0 ∷ []
+
+abbrev pub one_of_two_expired : List Step
+one_of_two_expired =
+    submitted
+    ++ submit A (codes "T2") B 100 1000 1000
+    ∷ expire A 0 11000
+    ∷ investigate A (codes "T1") 2000
+    ∷ investigate A (codes "T2") 2000
+    ∷ []
+
+abbrev pub wrong_deliveries_and_stamp_ahead : List Step
+wrong_deliveries_and_stamp_ahead =
+    delivered
+    ++ deliver B A 0
+    ∷ deliver C A 0
+    ∷ deliver B A 1
+    ∷ submit A (codes "T2") B 1 2001 1000
+    ∷ submit A (codes "T2") B 1 2000 1000
+    ∷ []
+
+abbrev pub expired_before_delivery : List Step
+expired_before_delivery =
+    submitted ++ expire A 0 11000 ∷ deliver B A 0 ∷ confirm B A (codes "T1") 11000 ∷ []
+
+abbrev pub rejected_with_reason : List Step
+rejected_with_reason =
+    delivered
+    ++ reject B A (codes "T1") (codes "AC04") 2000
+    ∷ investigate A (codes "T1") 2100
+    ∷ confirm B A (codes "T1") 2200
+    ∷ position A 2200
+    ∷ []
+
+abbrev pub investigate_at_the_deadline : List Step
+investigate_at_the_deadline =
+    delivered
+    ++ investigate A (codes "T1") 10999
+    ∷ investigate A (codes "T1") 11000
+    ∷ position A 11000
+    ∷ []
+
+abbrev pub confirmed_by_another : List Step
+confirmed_by_another =
+    delivered ++ confirm C A (codes "T1") 2000 ∷ confirm A A (codes "T1") 2000 ∷ investigate A (codes "T1") 2000 ∷ []
+
+abbrev pub learnt_twice : List Step
+learnt_twice =
+    delivered
+    ++ confirm B A (codes "T1") 2000
+    ∷ learn A A 0
+    ∷ learn A A 0
+    ∷ learn B A 0
+    ∷ position A 2000
+    ∷ []

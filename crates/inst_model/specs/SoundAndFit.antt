@@ -1,0 +1,15 @@
+-- After any interleaving each history is one that a participant can have, and the histories fit one another: this hub's
+-- own promise.
+use Rattle.std.specs.Prelude.{ℕ, List}
+use Rattle.inst_settings.specs.Settings.{HubSettings}
+use Rattle.inst_command.specs.declared.step.Step.{Step}
+use Rattle.inst_journal.specs.Sound.{IsSound}
+use Rattle.inst_model.specs.Interleaving.{IsInterleaving}
+use Rattle.inst_model.specs.Hub.{history}
+use Rattle.inst_model.specs.Fit.{BooksFit}
+
+abbrev pub HistoriesAreSound : Type 0
+HistoriesAreSound = (s : HubSettings) (L : List Step) → IsInterleaving s L → (p : ℕ) → IsSound s p (history s L p)
+
+abbrev pub HistoriesFit : Type 0
+HistoriesFit = (s : HubSettings) (L : List Step) → IsInterleaving s L → BooksFit s (history s L)

@@ -1,0 +1,27 @@
+-- The whole hub step by step: the first step that wants something decides; a participant sees at most one entry of a
+-- step, made of what was before it and of the outcomes after it. This hub's own choice.
+use Rattle.std.specs.Prelude.{◌≡◌, ℕ, ◌≤◌, List, ◌∷◌, ◌++◌, length, reverse}
+use Rattle.inst_settings.specs.Settings.{HubSettings}
+use Rattle.inst_command.specs.declared.step.Step.{Step}
+use Rattle.inst_journal.specs.Booked.{or_else}
+use Rattle.inst_model.specs.Wants.{wants}
+use Rattle.inst_model.specs.View.{sees}
+use Rattle.inst_model.specs.Hub.{view, outcome, history}
+use Rattle.inst_model.specs.Trace.{trace, replies, own_answers}
+
+abbrev pub TheFirstThatWantsDecides : Type 0
+TheFirstThatWantsDecides = (s : HubSettings) (step : Step) (past : List Step) (p : ℕ) (id : List ℕ) →
+    outcome s (step ∷ past) p id ≡ or_else (outcome s past p id) (wants s (history s past) step p id)
+
+abbrev pub AViewGrowsByWhatIsSeen : Type 0
+AViewGrowsByWhatIsSeen = (s : HubSettings) (step : Step) (past : List Step) (p : ℕ) →
+    view s (step ∷ past) p ≡ view s past p ++ sees s (history s past) (outcome s past) (outcome s (step ∷ past)) step p
+
+abbrev pub AtMostOneEntryIsSeen : Type 0
+AtMostOneEntryIsSeen = (s : HubSettings) (step : Step) (past : List Step) (p : ℕ) →
+    length (sees s (history s past) (outcome s past) (outcome s (step ∷ past)) step p) ≤ 1
+
+-- each step has one answer, and the replies to p are those to its asks
+abbrev pub RepliesAreInTheTrace : Type 0
+RepliesAreInTheTrace = (s : HubSettings) (L : List Step) (p : ℕ) →
+    (length (trace s L) ≡ length L) × (own_answers p (reverse L) (trace s L) ≡ replies s L p)

@@ -1,0 +1,52 @@
+-- What a step wants for a transfer that was taken before it. Until its deadline the beneficiary's confirmation or
+-- rejection decides a transfer; from the deadline on, whoever asks after it finds it timed out (EPC004-16: time-out
+-- deadline, positive and negative confirmation, investigation). Expiry as a step is this hub's own choice.
+use Rattle.std.specs.Prelude.{ℕ, Bool, ◌&&◌, ◌==◌, nat_lt, if◌then◌else◌, List, Option, Some, None}
+use Rattle.inst_settings.specs.Settings.{HubSettings}
+use Rattle.inst_command.specs.declared.command.Command.{Command}
+use Rattle.inst_command.specs.declared.command.Command.TheVariants.{Fund, Defund, Submit, Confirm, Reject, Investigate, Fetch, Position, Statement}
+use Rattle.inst_command.specs.declared.outcome.Outcome.{Outcome}
+use Rattle.inst_command.specs.declared.outcome.Outcome.TheVariants.{Accepted, Rejected, TimedOut}
+use Rattle.inst_command.specs.declared.step.Step.{Step}
+use Rattle.inst_command.specs.declared.step.Step.TheVariants.{Ask, Deliver, Learn, Expire}
+use Rattle.inst_journal.specs.declared.event.Event.{Event}
+use Rattle.inst_journal.specs.Booked.{is_forwarded, same_transfer}
+use Rattle.inst_model.specs.Transfer.{Transfer, transfer, at_place, deadline, is_named}
+
+-- what is wanted at a reading: this before the deadline, timed out from the deadline on
+abbrev pub in_time : HubSettings → Transfer → ℕ → Option Outcome → Option Outcome
+in_time s x at early = if nat_lt at (deadline s x) then early else Some TimedOut
+
+-- whether the asker `who` is the beneficiary of the transfer, which it has forwarded, and names it
+abbrev pub is_addressed : (ℕ → List Event) → ℕ → ℕ → List ℕ → ℕ → List ℕ → Transfer → Bool
+is_addressed J who from other p id x = same_transfer p id from other && (who == x.to) && is_forwarded p id (J who)
+
+-- what an ask wants for the transfer x with this identifier of the originator p
+abbrev pub ask_wants : HubSettings → (ℕ → List Event) → ℕ → Command → ℕ → ℕ → List ℕ → Transfer → Option Outcome
+ask_wants s J who (Confirm from other) at p id x =
+    if is_addressed J who from other p id x then in_time s x at (Some Accepted) else None
+ask_wants s J who (Reject from other reason) at p id x =
+    if is_addressed J who from other p id x then in_time s x at (Some (Rejected reason)) else None
+ask_wants s J who (Investigate other) at p id x = if same_transfer p id who other then in_time s x at None else None
+ask_wants s J who (Fund reference cents) at p id x = None
+ask_wants s J who (Defund reference cents) at p id x = None
+ask_wants s J who (Submit other to cents stamp) at p id x = None
+ask_wants s J who (Fetch max) at p id x = None
+ask_wants s J who Position at p id x = None
+ask_wants s J who (Statement skip count) at p id x = None
+
+-- what a step wants for the transfer x
+abbrev pub step_wants : HubSettings → (ℕ → List Event) → Step → ℕ → List ℕ → Transfer → Option Outcome
+step_wants s J (Ask ask) p id x = ask_wants s J ask.who ask.command ask.at p id x
+step_wants s J (Deliver from place to) p id x = None
+step_wants s J (Learn who from place) p id x = None
+step_wants s J (Expire who place at) p id x =
+    if (who == p) && is_named id (at_place (J p) place) then in_time s x at None else None
+
+abbrev pub taken_wants : HubSettings → (ℕ → List Event) → Step → ℕ → List ℕ → Option Transfer → Option Outcome
+taken_wants s J step p id None = None
+taken_wants s J step p id (Some x) = step_wants s J step p id x
+
+-- what a step wants for the transfer with this identifier of the originator p, after the histories J
+abbrev pub wants : HubSettings → (ℕ → List Event) → Step → ℕ → List ℕ → Option Outcome
+wants s J step p id = taken_wants s J step p id (transfer id (J p))

@@ -1,0 +1,62 @@
+//! The laws of all participants together, over every list of steps, of any length and in any order.
+ghost use Rattle.inst_model.specs.Isolation.{EqualViewsGiveEqualReplies};
+ghost use Rattle.inst_model.specs.OneOutcome.{AnsweredIsTheOutcome, BookedIsTheOutcome, OutcomeStays};
+ghost use Rattle.inst_model.specs.Once.{MoneyIsSettledOnce};
+ghost use Rattle.inst_model.specs.ClosedBooks.{ClosedBooksSumToTheNet};
+ghost use Rattle.inst_model.specs.Conservation.{MoneyIsConserved};
+ghost use Rattle.inst_model.specs.Locality.{OutcomeIsLocal};
+ghost use Rattle.inst_model.specs.Places.{PlacesName, IdentifiersName};
+ghost use Rattle.inst_model.specs.SoundAndFit.{HistoriesAreSound, HistoriesFit};
+ghost use Rattle.inst_model.specs.StepByStep.{TheFirstThatWantsDecides, AViewGrowsByWhatIsSeen, AtMostOneEntryIsSeen, RepliesAreInTheTrace};
+
+/// The first step that wants something decides, and a participant sees at most one entry of a step.
+pub fn the_hub_goes_step_by_step()
+    ensures outcome { TheFirstThatWantsDecides }
+    ensures view { AViewGrowsByWhatIsSeen }
+    ensures entry { AtMostOneEntryIsSeen }
+    ensures replies { RepliesAreInTheTrace }
+{}
+
+/// A participant that sees the same in two interleavings gets the same replies, history, money and statement.
+pub fn equal_views_give_equal_replies()
+    ensures { EqualViewsGiveEqualReplies }
+{}
+
+/// Whatever a participant is answered or has booked of a transfer is its outcome, which never changes.
+pub fn a_transfer_has_one_outcome()
+    ensures answered { AnsweredIsTheOutcome }
+    ensures booked { BookedIsTheOutcome }
+    ensures stays { OutcomeStays }
+{}
+
+/// A transfer's money is settled or released at most once.
+pub fn money_is_settled_once()
+    ensures { MoneyIsSettledOnce }
+{}
+
+/// Positions sum to the net funding and what is untold, and nobody is overdrawn.
+pub fn money_is_conserved()
+    ensures { MoneyIsConserved }
+{}
+
+/// Each history is sound, and they fit one another.
+pub fn histories_are_sound_and_fit()
+    ensures sound { HistoriesAreSound }
+    ensures fit { HistoriesFit }
+{}
+
+/// The outcome of a transfer depends on the steps on it alone, whatever its place.
+pub fn an_outcome_is_local()
+    ensures { OutcomeIsLocal }
+{}
+
+/// A place and an identifier name a transfer alike, and for good.
+pub fn a_name_is_for_good()
+    ensures places { PlacesName }
+    ensures identifiers { IdentifiersName }
+{}
+
+/// Books that are sound and closed, however they came about, sum to the net funding.
+pub fn closed_books_sum_to_the_net()
+    ensures { ClosedBooksSumToTheNet }
+{}

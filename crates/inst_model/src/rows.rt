@@ -1,0 +1,151 @@
+//! Worked rows, computed from the definitions.
+ghost use Rattle.std.specs.Prelude.{◌≡◌, pos, true, false, List, [], ◌∷◌, ◌++◌, Some, None, reverse, codes};
+ghost use Rattle.inst_base.specs.declared.fault.Fault.{Fault};
+ghost use Rattle.inst_command.specs.declared.entry.Entry.{Entry};
+ghost use Rattle.inst_command.specs.declared.line.Line.{Line};
+ghost use Rattle.inst_command.specs.declared.line.LineKind.{LineKind};
+ghost use Rattle.inst_command.specs.declared.outcome.Outcome.{Outcome};
+ghost use Rattle.inst_command.specs.declared.outcome.State.{State};
+ghost use Rattle.inst_command.specs.declared.reply.Answer.{Answer};
+ghost use Rattle.inst_command.specs.declared.reply.Reply.{Reply};
+ghost use Rattle.inst_journal.specs.declared.event.Event.{Event};
+ghost use Rattle.inst_journal.specs.Money.{position};
+ghost use Rattle.inst_journal.specs.Sums.{net};
+ghost use Rattle.inst_model.specs.Hub.{history};
+ghost use Rattle.inst_model.specs.Untold.{total, signed_total, untold};
+ghost use Rattle.inst_model.specs.Trace.{replies};
+ghost use Rattle.inst_model.specs.Rows.{A, B, settings, answers, is_done, is_taken, is_state, is_position, is_refused, is_new, confirm_before_expire, expire_before_confirm, untold_yet, untold_then_learnt, alone, among_others, confirmed_late, confirmed_before_delivery, expired_before_taken, one_of_two_expired, wrong_deliveries_and_stamp_ahead, expired_before_delivery, rejected_with_reason, investigate_at_the_deadline, confirmed_by_another, learnt_twice};
+
+/// A confirmation just in time stands, though the deadline passes before the originator learns of it.
+pub fn confirm_before_expire()
+    ensures { answers confirm_before_expire ≡
+        is_done (codes "F1") ∷ is_taken (codes "T1") 11000 ∷ is_new true
+        ∷ is_state A (codes "T1") (State.Decided Outcome.Accepted) ∷ is_new true ∷ is_new false
+        ∷ is_position 30000 0 30000 ∷ is_position 20000 0 20000 ∷ [] }
+{}
+
+/// A time-out that comes first stands against a confirmation with an earlier reading.
+pub fn expire_before_confirm()
+    ensures answers { answers expire_before_confirm ≡
+        is_done (codes "F1") ∷ is_taken (codes "T1") 11000 ∷ is_new true ∷ is_new true
+        ∷ is_state A (codes "T1") (State.Decided Outcome.TimedOut)
+        ∷ is_position 50000 0 50000 ∷ is_position 0 0 0 ∷ [] }
+    ensures history { history settings (reverse expire_before_confirm) B ≡
+        Event.Forwarded A (codes "T1") 20000 11000 ∷ Event.Booked A (codes "T1") Outcome.TimedOut ∷ [] }
+{}
+
+/// Until the originator learns of an accepted transfer its amount stays reserved, and the positions sum to 20000 more
+/// than the net funding.
+pub fn untold_then_learnt()
+    ensures answers { answers untold_then_learnt ≡
+        is_done (codes "F1") ∷ is_taken (codes "T1") 11000 ∷ is_new true
+        ∷ is_state A (codes "T1") (State.Decided Outcome.Accepted)
+        ∷ is_position 50000 20000 30000 ∷ is_position 20000 0 20000 ∷ is_new true
+        ∷ is_position 30000 0 30000 ∷ [] }
+    ensures positions { total settings (λ p. position (history settings (reverse untold_yet) p)) ≡ 70000 }
+    ensures net { signed_total settings (λ p. net (history settings (reverse untold_yet) p)) ≡ pos 50000 }
+    ensures untold { untold settings (reverse untold_yet) ≡ 20000 }
+    ensures learnt { untold settings (reverse untold_then_learnt) ≡ 0 }
+{}
+
+/// What B is answered is the same beside the traffic of others.
+pub fn other_traffic_unseen()
+    ensures alone { replies settings (reverse alone) B ≡
+        Answer.Reply (Reply.Inbox (record { from = A; id = codes "T1"; cents = 20000; deadline = 11000 } ∷ []))
+        ∷ is_state A (codes "T1") (State.Decided Outcome.Accepted)
+        ∷ Answer.Reply (Reply.Statement (record {
+          number = 1;
+          kind = LineKind.Received;
+          other = Some A;
+          id = codes "T1";
+          cents = 20000;
+          position = 20000;
+        } ∷ []))
+        ∷ is_position 20000 0 20000 ∷ [] }
+    ensures same { replies settings (reverse among_others) B ≡ replies settings (reverse alone) B }
+{}
+
+/// A transfer comes once, to its beneficiary; a time stamp may lie one second after the reading and no more.
+pub fn wrong_deliveries_and_stamp_ahead()
+    ensures { answers wrong_deliveries_and_stamp_ahead ≡
+        is_done (codes "F1") ∷ is_taken (codes "T1") 11000 ∷ is_new true
+        ∷ is_new false ∷ is_new false ∷ is_new false
+        ∷ is_refused Fault.StampAhead ∷ is_taken (codes "T2") 12000 ∷ [] }
+{}
+
+/// A transfer that timed out isn't forwarded any more.
+pub fn expired_before_delivery()
+    ensures { answers expired_before_delivery ≡
+        is_done (codes "F1") ∷ is_taken (codes "T1") 11000 ∷ is_new true ∷ is_new false
+        ∷ is_refused Fault.UnknownTransfer ∷ [] }
+{}
+
+/// A confirmation at the deadline times the transfer out.
+pub fn confirmed_late()
+    ensures { answers confirmed_late ≡
+        is_done (codes "F1") ∷ is_taken (codes "T1") 11000 ∷ is_new true
+        ∷ is_state A (codes "T1") (State.Decided Outcome.TimedOut) ∷ is_new true
+        ∷ is_position 50000 0 50000 ∷ is_position 0 0 0 ∷ [] }
+{}
+
+/// A beneficiary can't confirm what hasn't come to it, and the transfer goes on as if it hadn't tried.
+pub fn confirmed_before_delivery()
+    ensures { answers confirmed_before_delivery ≡
+        is_done (codes "F1") ∷ is_taken (codes "T1") 11000 ∷ is_refused Fault.UnknownTransfer
+        ∷ is_state A (codes "T1") State.Pending ∷ is_new true ∷ [] }
+{}
+
+/// An expiry of a place that is taken later wants nothing.
+pub fn expired_before_taken()
+    ensures { answers expired_before_taken ≡
+        is_done (codes "F1") ∷ is_new false ∷ is_taken (codes "T1") 11000 ∷ is_new true ∷ [] }
+{}
+
+/// An expiry times out the transfer at its place and no other.
+pub fn one_of_two_expired()
+    ensures { answers one_of_two_expired ≡
+        is_done (codes "F1") ∷ is_taken (codes "T1") 11000 ∷ is_taken (codes "T2") 11000 ∷ is_new true
+        ∷ is_state A (codes "T1") (State.Decided Outcome.TimedOut)
+        ∷ is_state A (codes "T2") State.Pending ∷ [] }
+{}
+
+/// A rejection stands, with its reason, and frees the amount.
+pub fn rejected_with_reason()
+    ensures answers { answers rejected_with_reason ≡
+        is_done (codes "F1") ∷ is_taken (codes "T1") 11000 ∷ is_new true
+        ∷ is_state A (codes "T1") (State.Decided (Outcome.Rejected (codes "AC04")))
+        ∷ is_state A (codes "T1") (State.Decided (Outcome.Rejected (codes "AC04")))
+        ∷ is_state A (codes "T1") (State.Decided (Outcome.Rejected (codes "AC04")))
+        ∷ is_position 50000 0 50000 ∷ [] }
+    ensures history { history settings (reverse rejected_with_reason) B ≡
+        Event.Forwarded A (codes "T1") 20000 11000
+        ∷ Event.Booked A (codes "T1") (Outcome.Rejected (codes "AC04")) ∷ [] }
+{}
+
+/// An investigation before the deadline leaves the transfer pending, one at the deadline times it out.
+pub fn investigate_at_the_deadline()
+    ensures { answers investigate_at_the_deadline ≡
+        is_done (codes "F1") ∷ is_taken (codes "T1") 11000 ∷ is_new true
+        ∷ is_state A (codes "T1") State.Pending
+        ∷ is_state A (codes "T1") (State.Decided Outcome.TimedOut)
+        ∷ is_position 50000 0 50000 ∷ [] }
+{}
+
+/// A party that the transfer wasn't forwarded to can't confirm it, nor can its originator.
+pub fn confirmed_by_another()
+    ensures { answers confirmed_by_another ≡
+        is_done (codes "F1") ∷ is_taken (codes "T1") 11000 ∷ is_new true
+        ∷ is_refused Fault.UnknownTransfer ∷ is_refused Fault.UnknownTransfer
+        ∷ is_state A (codes "T1") State.Pending ∷ [] }
+{}
+
+/// A second learning changes nothing, nor does that of the beneficiary, who knows.
+pub fn learnt_twice()
+    ensures answers { answers learnt_twice ≡
+        is_done (codes "F1") ∷ is_taken (codes "T1") 11000 ∷ is_new true
+        ∷ is_state A (codes "T1") (State.Decided Outcome.Accepted)
+        ∷ is_new true ∷ is_new false ∷ is_new false ∷ is_position 30000 0 30000 ∷ [] }
+    ensures history { history settings (reverse learnt_twice) A ≡
+        Event.Funded (codes "F1") 50000 ∷ Event.Taken (codes "T1") B 20000 1000
+        ∷ Event.Booked A (codes "T1") Outcome.Accepted ∷ [] }
+{}
