@@ -9,19 +9,11 @@ use Rattle.inst_journal.specs.declared.event.Event.TheVariants.{Funded, Defunded
 use Rattle.inst_journal.specs.Booked.{or_else, books, booked, own_booked}
 use Rattle.inst_journal.specs.Sums.{funding, defunding, funded, defunded, if_accepted, if_unbooked, credit, debit, reservation, credits, debits}
 use Rattle.inst_journal.specs.Money.{reserved, position, available}
+use Rattle.inst_journal.specs.Laws.{taking}
 use Rattle.inst_journal.specs.Sound.{Fits, IsSound}
 use Rattle.inst_journal.proofs.Pushing.{sum_by_push, sum_by-both, first_some_push}
 use Rattle.inst_journal.proofs.Soundness.{sound_induction, sound_push}
 use Rattle.inst_journal.proofs.OwnBookings.{own_booked-booked}
-
--- the amount of a taken transfer
-abbrev pub taking : Event → ℕ
-taking (Taken id to cents stamp) = cents
-taking (Funded reference cents) = 0
-taking (Defunded reference cents) = 0
-taking (Forwarded from id cents deadline) = 0
-taking (Booked from id outcome) = 0
-taking (Fetched count) = 0
 
 accepted_le : (o : Option Outcome) (cents : ℕ) → if_accepted o cents + if_unbooked o cents ≤ cents
 accepted_le None cents = omega arith

@@ -1,15 +1,19 @@
 -- Where each taken amount is, and what the position is as a signed sum.
-use Rattle.std.proofs.Common.{◌≡◌, ℕ, pos, ◌+ℤ◌, ◌-ℤ◌, ◌+◌, ◌-◌, ◌≤◌, List, inl, inr, Option, Some, None, refl, arith}
+use Rattle.std.proofs.Common.{◌≡◌, ℕ, pos, ◌+ℤ◌, ◌-ℤ◌, ◌+◌, ◌-◌, ◌≤◌, List, [], ◌∷◌, sum_by, inl, inr, Option, Some, None, refl, arith}
 use Rattle.std.proofs.lemmas.Int.{ints}
 use Rattle.inst_settings.specs.Settings.{HubSettings}
 use Rattle.inst_command.specs.declared.outcome.Outcome.{Outcome}
 use Rattle.inst_command.specs.declared.outcome.Outcome.TheVariants.{Accepted, Rejected, TimedOut}
 use Rattle.inst_journal.specs.declared.event.Event.{Event}
-use Rattle.inst_journal.specs.Sums.{net, funded, defunded, credits, debits, if_accepted, if_unbooked}
+use Rattle.inst_journal.specs.declared.event.Event.TheVariants.{Funded, Defunded, Taken, Forwarded, Booked, Fetched}
+use Rattle.inst_journal.specs.Booked.{own_booked}
+use Rattle.inst_journal.specs.Sums.{net, funded, defunded, credits, debits, debit, reservation, if_accepted, if_unbooked}
 use Rattle.inst_journal.specs.Money.{reserved, position, available}
-use Rattle.inst_journal.specs.Laws.{if_released, IsOneOf, IsNeverOverdrawn}
+use Rattle.inst_journal.specs.Laws.{if_released, taking, release, released, IsOneOf, IsInOnePlace, IsNeverOverdrawn}
 use Rattle.inst_journal.specs.Sound.{IsSound}
 use Rattle.inst_journal.proofs.Covering.{covered}
+use Rattle.inst_journal.proofs.Pushing.{sum_by-both}
+use Rattle.std.proofs.lemmas.List.Sums.{sum_by-cons}
 
 pub in_one_place : (o : Option Outcome) (cents : ℕ) → IsOneOf cents (if_unbooked o cents) (if_accepted o cents) (if_released o cents)
 in_one_place None cents = record { one = inl refl; only = omega arith }
@@ -31,3 +35,26 @@ never_overdrawn s who J sound =
       position_is = signed (funded J) (defunded J) (credits J) (debits J) (reserved J) within;
       available_is = signed_less (position J) (reserved J) (omega (arith, within));
     }
+
+places_of : (J : List Event) (event : Event) → reservation J event + debit J event + release J event ≡ taking event
+places_of J (Taken id to cents stamp) = (in_one_place (own_booked id J) cents).only
+places_of J (Funded reference cents) = refl
+places_of J (Defunded reference cents) = refl
+places_of J (Forwarded from id cents deadline) = refl
+places_of J (Booked from id outcome) = refl
+places_of J (Fetched count) = refl
+
+sum_same : (f g : Event → ℕ) (xs : List Event) → ((x : Event) → f x ≡ g x) → sum_by f xs ≡ sum_by g xs
+sum_same f g [] same = refl
+sum_same f g (x ∷ xs) same = omega (arith, sum_by-cons f x xs, sum_by-cons g x xs, same x, sum_same f g xs same)
+
+-- all that was taken is in one place
+pub all_in_one_place : (J : List Event) → IsInOnePlace J
+all_in_one_place J = record {
+  each = λ id to cents stamp. in_one_place (own_booked id J) cents;
+  all =
+    let first : sum_by (λ e. reservation J e + debit J e) J ≡ reserved J + debits J = sum_by-both (reservation J) (debit J) J in
+    let second : sum_by (λ e. reservation J e + debit J e + release J e) J ≡ sum_by (λ e. reservation J e + debit J e) J + released J = sum_by-both (λ e. reservation J e + debit J e) (release J) J in
+    let whole : sum_by (λ e. reservation J e + debit J e + release J e) J ≡ sum_by taking J = sum_same _ _ J (places_of J) in
+    omega (arith, first, second, whole);
+}

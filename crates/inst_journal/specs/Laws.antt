@@ -1,14 +1,15 @@
 -- The laws of one participant's books: nothing is overdrawn, each taken amount is in one place, each transfer is booked
 -- once, and what a command keeps leaves the books sound. They are this hub's own promises.
-use Rattle.std.specs.Prelude.{◌≡◌, ℕ, ℤ, pos, ◌+◌, ◌≤◌, ◌+ℤ◌, ◌-ℤ◌, true, List, Option, count_by, is_some, ◌⊎◌}
+use Rattle.std.specs.Prelude.{◌≡◌, ℕ, ℤ, pos, ◌+◌, ◌≤◌, ◌+ℤ◌, ◌-ℤ◌, true, List, Option, sum_by, count_by, is_some, ◌⊎◌}
 use Rattle.inst_settings.specs.Settings.{HubSettings}
 use Rattle.inst_command.specs.Ask.{command_fits}
 use Rattle.inst_command.specs.declared.command.Command.{Command}
 use Rattle.inst_command.specs.declared.outcome.Outcome.{Outcome}
 use Rattle.inst_command.specs.declared.outcome.Outcome.TheVariants.{Accepted, Rejected, TimedOut}
 use Rattle.inst_journal.specs.declared.event.Event.{Event}
+use Rattle.inst_journal.specs.declared.event.Event.TheVariants.{Funded, Defunded, Taken, Forwarded, Booked, Fetched}
 use Rattle.inst_journal.specs.Booked.{books, own_booked}
-use Rattle.inst_journal.specs.Sums.{net, funded, defunded, credits, debits, if_accepted, if_unbooked}
+use Rattle.inst_journal.specs.Sums.{net, funded, defunded, credits, debits, debit, reservation}
 use Rattle.inst_journal.specs.Money.{reserved, position, available}
 use Rattle.inst_journal.specs.Reply.{history_after}
 use Rattle.inst_journal.specs.Sound.{IsSound}
@@ -35,10 +36,27 @@ pub record IsOneOf (cents a b c : ℕ) : Type 0 where
   pub one : (a ≡ cents) ⊎ ((b ≡ cents) ⊎ (c ≡ cents))
   pub only : a + b + c ≡ cents
 
--- each taken amount is reserved, debited or released, and only one of them
+-- the amount of a taken transfer
+abbrev pub taking : Event → ℕ
+taking (Taken id to cents stamp) = cents
+taking _ = 0
+
+-- what a taken transfer releases: it is booked and not accepted
+abbrev pub release : List Event → Event → ℕ
+release J (Taken id to cents stamp) = if_released (own_booked id J) cents
+release J _ = 0
+
+-- all that was released
+abbrev pub released : List Event → ℕ
+released J = sum_by (release J) J
+
+-- each taken amount is reserved, debited or released, and only one of them, and so are all of them together
+pub record IsInOnePlace (J : List Event) : Type 0 where
+  pub each : (id : List ℕ) (to cents stamp : ℕ) → IsOneOf cents (reservation J (Taken id to cents stamp)) (debit J (Taken id to cents stamp)) (release J (Taken id to cents stamp))
+  pub all : reserved J + debits J + released J ≡ sum_by taking J
+
 abbrev pub EachTakenAmountIsInOnePlace : Type 0
-EachTakenAmountIsInOnePlace = (J : List Event) (id : List ℕ) (cents : ℕ) →
-    IsOneOf cents (if_unbooked (own_booked id J) cents) (if_accepted (own_booked id J) cents) (if_released (own_booked id J) cents)
+EachTakenAmountIsInOnePlace = (J : List Event) → IsInOnePlace J
 
 -- a transfer is booked at most once
 abbrev pub ATransferIsBookedOnce : Type 0
