@@ -1,0 +1,4 @@
+pub mod Places
+pub mod PlainSteps
+pub mod Deciding
+pub mod Exact

@@ -1,0 +1,5 @@
+use Rattle.inst_board.proofs.Exact.{looks_exactly}
+use Rattle.inst_board.proofs.laws.plain_looks_exactly.Goals as goal
+
+pub returns : goal.returns
+returns c = looks_exactly

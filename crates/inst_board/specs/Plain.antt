@@ -1,0 +1,78 @@
+-- What a plain board keeps: one value for each place, by the owner's number and the index. All of it is known to its
+-- one holder. How places lie in a list is this hub's own choice.
+use Rattle.std.specs.Prelude.{◌≡◌, ◌≢◌, ℕ, ◌+◌, ◌*◌, List, Option, Some, None, if◌then◌else◌, length, slice_get}
+use Rattle.inst_command.specs.declared.outcome.Outcome.{Outcome}
+use Rattle.inst_settings.specs.Settings.{HubSettings, participants}
+use Rattle.inst_terms.specs.declared.terms.Terms.{Terms}
+use Rattle.inst_board.specs.declared.place.Place.{Place}
+use Rattle.inst_board.specs.declared.wish.Wish.{Wish}
+use Rattle.inst_board.specs.declared.about.About.TheVariants.{Decided}
+use Rattle.inst_board.specs.declared.about.Fact.{Fact}
+use Rattle.inst_board.specs.declared.plain.Kept.{Kept}
+use Rattle.inst_board.specs.declared.plain.Kept.TheVariants.{Unused, Written, Pending, Final}
+use Rattle.inst_board.specs.Standing.{Standing, unused, pending, final, is_place, IsLawful, Says}
+use Rattle.inst_board.specs.Wish.{wanted}
+
+-- settings: those of the hub
+-- kept: what is kept of each place, one originator after another
+pub record Contents : Type 0 where
+  pub settings : HubSettings
+  pub kept : List Kept
+
+-- the place's number among all
+abbrev pub number_of : HubSettings → Place → ℕ
+number_of s place = place.owner * s.places + place.index
+
+abbrev pub kept_or_unused : Option Kept → Kept
+kept_or_unused None = Unused
+kept_or_unused (Some kept) = kept
+
+-- what is kept of a place, and nothing of one that the settings don't have
+abbrev pub kept_at : Contents → Place → Kept
+kept_at board place = if is_place board.settings place then kept_or_unused (slice_get board.kept (number_of board.settings place)) else Unused
+
+-- what a place is of which this is kept
+abbrev pub standing_of : Kept → Standing
+standing_of Unused = unused
+standing_of (Written terms) = unused
+standing_of (Pending terms deadline) = pending terms deadline
+standing_of (Final terms deadline outcome at) = final terms deadline outcome at
+
+-- what each place is
+abbrev pub standing_at : Contents → Place → Standing
+standing_at board place = standing_of (kept_at board place)
+
+-- all that is true of the places is known
+abbrev pub plain_knows : Contents → Fact → Type 0
+plain_knows board fact = Says (standing_at board fact.place) fact.about
+
+-- the terms written to a place that isn't opened
+abbrev pub plain_wrote : Contents → Place → Terms → Type 0
+plain_wrote board place terms = kept_at board place ≡ Written terms
+
+-- the outcome stood before, exactly if it is the place's
+abbrev pub plain_stood : Contents → Place → Outcome → Type 0
+plain_stood board place outcome = Says (standing_at board place) (Decided outcome)
+
+-- what a place is after a wish was read at the moment
+abbrev pub after : Wish → ℕ → Standing → Standing
+after wish at unused = unused
+after wish at (pending terms deadline) = elim (wanted wish deadline at) [ None ↦ pending terms deadline | Some outcome ↦ final terms deadline outcome at ]
+after wish at (final terms deadline outcome moment) = final terms deadline outcome moment
+
+-- the outcome that stands
+abbrev pub outcome_of : Standing → Option Outcome
+outcome_of unused = None
+outcome_of (pending terms deadline) = None
+outcome_of (final terms deadline outcome at) = Some outcome
+
+-- there is one kept value for each place, and each is lawful
+pub record IsContents (board : Contents) : Type 0 where
+  pub sized : length board.kept ≡ board.settings.places * participants board.settings
+  pub lawful : (k : ℕ) → IsLawful (standing_of (kept_or_unused (slice_get board.kept k)))
+
+-- from the first to the second, the place k comes to be kept so, and all others stay
+pub record Becomes (old : Contents) (k : Place) (kept : Kept) (new : Contents) : Type 0 where
+  pub settings : new.settings ≡ old.settings
+  pub here : kept_at new k ≡ kept
+  pub elsewhere : (j : Place) → j ≢ k → kept_at new j ≡ kept_at old j

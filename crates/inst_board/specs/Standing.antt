@@ -1,0 +1,64 @@
+-- What a place is at a moment, and what is true of it: unused, pending with the terms and the deadline of its transfer,
+-- or final. A transfer is pending, accepted, rejected or timed out as in the rulebook (EPC004-16); places are this
+-- hub's own choice.
+use Rattle.std.specs.Prelude.{◌≡◌, ℕ, ◌≤◌, IsTrue, Bool, ◌&&◌, nat_lt}
+use Rattle.inst_command.specs.declared.outcome.Outcome.{Outcome}
+use Rattle.inst_settings.specs.Settings.{HubSettings, participants}
+use Rattle.inst_terms.specs.declared.terms.Terms.{Terms}
+use Rattle.inst_terms.specs.WordLaw.{InTime}
+use Rattle.inst_board.specs.declared.place.Place.{Place}
+use Rattle.inst_board.specs.declared.look.Look.{Look}
+use Rattle.inst_board.specs.declared.look.Look.TheVariants.{Unused, Pending, Decided as Ended}
+use Rattle.inst_board.specs.declared.about.About.{About}
+use Rattle.inst_board.specs.declared.about.About.TheVariants.{Opened, HasTerms, Due, Decided}
+use Rattle.inst_board.specs.declared.about.Fact.{Fact}
+
+-- whether the settings have the place
+abbrev pub is_place : HubSettings → Place → Bool
+is_place s place = nat_lt place.owner (participants s) && nat_lt place.index s.places
+
+abbrev pub IsPlace : HubSettings → Place → Type 0
+IsPlace s place = IsTrue (is_place s place)
+
+pub data Standing : Type 0 where
+  unused : Standing
+  -- the terms and the deadline
+  pending : Terms → ℕ → Standing
+  -- the terms, the deadline, the outcome and the deciding moment
+  final : Terms → ℕ → Outcome → ℕ → Standing
+
+-- what a place may be: a deadline is at least 1, an outcome is in time
+abbrev pub IsLawful : Standing → Type 0
+IsLawful unused = Unit {0}
+IsLawful (pending terms deadline) = 1 ≤ deadline
+IsLawful (final terms deadline outcome at) = (1 ≤ deadline) × InTime outcome deadline at
+
+-- what is true of a place
+abbrev pub Says : Standing → About → Type 0
+Says unused about = ⊥
+Says (pending terms deadline) Opened = Unit {0}
+Says (pending terms deadline) (HasTerms others) = others ≡ terms
+Says (pending terms deadline) (Due other) = other ≡ deadline
+Says (pending terms deadline) (Decided other) = ⊥
+Says (final terms deadline outcome at) Opened = Unit {0}
+Says (final terms deadline outcome at) (HasTerms others) = others ≡ terms
+Says (final terms deadline outcome at) (Due other) = other ≡ deadline
+Says (final terms deadline outcome at) (Decided other) = other ≡ outcome
+
+-- what one who reads the place's words sees of that: a final word does not show the deadline
+abbrev pub Shows : Standing → About → Type 0
+Shows unused about = ⊥
+Shows (pending terms deadline) about = Says (pending terms deadline) about
+Shows (final terms deadline outcome at) Opened = Unit {0}
+Shows (final terms deadline outcome at) (HasTerms others) = others ≡ terms
+Shows (final terms deadline outcome at) (Due other) = ⊥
+Shows (final terms deadline outcome at) (Decided other) = other ≡ outcome
+
+-- the look of a place
+abbrev pub look_of : Standing → Look
+look_of unused = Unused
+look_of (pending terms deadline) = Pending terms deadline
+look_of (final terms deadline outcome at) = Ended terms outcome
+
+abbrev pub about : Place → About → Fact
+about place what = record { place = place; about = what }

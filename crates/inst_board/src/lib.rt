@@ -1,0 +1,20 @@
+//! Who holds the outcome words of places: the trait between a slot and the words, and the plain board
+//! of a hub on one thread.
+#![tactic(auto)]
+
+mod about;
+mod board;
+pub mod laws;
+mod look;
+mod place;
+mod plain;
+#[cfg(test)]
+mod tests;
+mod wish;
+
+pub use about::{About, Fact};
+pub use board::Board;
+pub use look::Look;
+pub use place::Place;
+pub use plain::{Kept, PlainBoard};
+pub use wish::Wish;

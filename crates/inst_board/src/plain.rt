@@ -1,0 +1,210 @@
+//! The board of a hub on one thread.
+ghost use Rattle.std.specs.Prelude.{◌≡◌, ◌+◌, ◌*◌, ◌<◌, IfOk, IsOkUnless, IsTrue};
+
+use crate::{Board, Look, Place, Wish};
+use inst_base::{Fault, Moment};
+use inst_command::Outcome;
+use inst_settings::Settings;
+use inst_terms::Terms;
+use std::alloc::Global;
+use std::marker::Model;
+use std::snapshot::Snapshot;
+
+/// What a plain board keeps of a place.
+#[derive(Clone, Copy, Debug, PartialEq, Eq)]
+pub enum Kept {
+    /// Nothing.
+    Unused,
+    /// The terms, until the place is opened.
+    Written(Terms),
+    /// The terms and the deadline.
+    Pending(Terms, Moment),
+    /// The terms, the deadline, the outcome and the reading at which it was decided.
+    Final(Terms, Moment, Outcome, Moment),
+}
+
+/// A board that one holder has alone, with all roles. It knows all that is true of the places.
+#[derive(Drop)]
+pub struct PlainBoard {
+    settings: Snapshot<Settings>,
+    participants: u16,
+    places: u16,
+    kept: Vec<Kept>,
+}
+
+impl Model for PlainBoard {
+    ghost use Rattle.std.specs.Prelude.{◌≡◌, length};
+    ghost use Rattle.inst_board.specs.Plain.{Contents, IsContents};
+
+    ghost Value = { Contents };
+
+    ghost view = { λ b. record { settings = b.settings.value; kept = b.kept.items } };
+
+    ghost invariant = { λ b. IsContents (record { settings = b.settings.value; kept = b.kept.items })
+        × (b.participants ≡ length b.settings.value.codes)
+        × (b.places ≡ b.settings.value.places) };
+}
+
+impl PlainBoard {
+    ghost use Rattle.inst_board.specs.declared.place.Place.{Place};
+    ghost use Rattle.inst_board.specs.declared.plain.Kept.TheVariants.{Unused as KeptUnused};
+    ghost use Rattle.inst_board.specs.Standing.{IsPlace, IsLawful, is_place};
+    ghost use Rattle.inst_board.specs.Plain.{Becomes, kept_at, standing_of};
+
+    /// The board of a hub that opens: each place is unused.
+    pub fn new(alloc: Global, settings: &Settings) -> Result<PlainBoard, Fault>
+        ensures unused { IfOk result (λ b. (b.settings ≡ settings.now) × ((place : Place) → kept_at b place ≡ KeptUnused)) }
+        ensures only { IsOkUnless result Fault.Memory }
+    {
+        // The check is told of a type of another crate inside an element only where a function names it.
+        let _: Option<Outcome> = None;
+        let participants = settings.participants();
+        let places = settings.places();
+        let size = usize::from(places) * usize::from(participants);
+        Ok(PlainBoard {
+            settings: Snapshot::of(settings),
+            participants,
+            places,
+            kept: vec![in alloc; Kept::Unused; size]?,
+        })
+    }
+
+    fn has(&self, place: Place) -> bool
+        ensures { result ≡ is_place self.now.settings place }
+    {
+        u16::from(place.owner) < self.participants && place.index < self.places
+    }
+
+    /// What is kept of the place.
+    fn kept(&self, place: Place) -> Kept
+        ensures value { result ≡ kept_at self.now place }
+        ensures lawful { IsLawful (standing_of result) }
+    {
+        if !self.has(place) {
+            return Kept::Unused;
+        }
+        self.kept[number_of(self.places, place)]
+    }
+
+    /// Keeps this of the place.
+    fn keep(&mut self, place: Place, kept: Kept)
+        requires place { IsPlace self.old.settings place }
+        requires lawful { IsLawful (standing_of kept) }
+        ensures { Becomes self.old place kept self.new }
+    {
+        self.kept[number_of(self.places, place)] = kept;
+    }
+}
+
+/// The place's number among all.
+fn number_of(places: u16, place: Place) -> usize
+    ensures { result ≡ place.owner * places + place.index }
+{
+    usize::from(place.owner) * usize::from(places) + usize::from(place.index)
+}
+
+/// What is kept of a decided place.
+fn ended(terms: Terms, deadline: Moment, outcome: &Outcome, at: Moment) -> Kept
+    ensures { result ≡ Kept.Final terms deadline outcome.now at }
+{
+    Kept::Final(terms, deadline, *outcome, at)
+}
+
+impl Board for PlainBoard {
+    ghost use Rattle.std.specs.Prelude.{◌≡◌, ◌≢◌, ◌≤◌};
+    ghost use Rattle.inst_terms.specs.declared.terms.Terms.{Terms};
+    ghost use Rattle.inst_board.specs.declared.place.Place.{Place};
+    ghost use Rattle.inst_board.specs.declared.about.About.TheVariants.{Opened};
+    ghost use Rattle.inst_board.specs.Standing.{IsPlace, pending, about, look_of};
+    ghost use Rattle.inst_board.specs.Learning.{Learns, KnowTheSame, KeepsWritten, Looks, Decides};
+    ghost use Rattle.inst_board.specs.Plain.{Becomes, after, outcome_of, kept_at, standing_at};
+    ghost use Rattle.std.proofs.Common.{refl, ◌∙◌, inl, ap};
+    ghost use Rattle.inst_board.specs.Plain.{Contents, plain_knows, plain_wrote, plain_stood};
+
+    ghost settings = { λ b. b.settings };
+
+    ghost knows = { plain_knows };
+
+    ghost has_role = { λ b p. Unit {0} };
+
+    ghost wrote = { plain_wrote };
+
+    ghost stood = { plain_stood };
+
+    ghost stays = { λ a b. b.settings ≡ a.settings };
+
+    ghost stays_still = { λ a. refl };
+
+    ghost stays_on = { λ a b c p q. q ∙ p };
+
+    ghost stays_settings = { λ a b p. p };
+
+    ghost stays_roles = { λ a b p q. (λ r. r, λ r. r) };
+
+    ghost stood_seldom = { λ b k t o known role was. inl was };
+
+    fn write_terms(&mut self, place: Place, terms: &Terms)
+        requires place { IsPlace self.old.settings place }
+        requires unused { ¬ plain_knows self.old (about place Opened) }
+
+        ensures exact { Becomes self.old place (Kept.Written terms.now) self.new }
+        ensures written { plain_wrote self.new place terms.now }
+        ensures others { KeepsWritten plain_wrote self.old (λ k. k ≢ place) self.new }
+        ensures knowledge { KnowTheSame plain_knows self.old self.new }
+        ensures stays { self.new.settings ≡ self.old.settings }
+    {
+        self.keep(place, Kept::Written(*terms));
+    }
+
+    fn open(&mut self, place: Place, deadline: Moment)
+        requires place { IsPlace self.old.settings place }
+        requires unused { ¬ plain_knows self.old (about place Opened) }
+        requires written { (terms : Terms) × plain_wrote self.old place terms }
+        requires deadline { 1 ≤ deadline }
+
+        ensures exact { (terms : Terms) → plain_wrote self.old place terms → Becomes self.old place (Kept.Pending terms deadline) self.new }
+        ensures opened { (terms : Terms) → plain_wrote self.old place terms → Learns plain_knows self.old place (pending terms deadline) self.new }
+        ensures others { KeepsWritten plain_wrote self.old (λ k. k ≢ place) self.new }
+        ensures stays { self.new.settings ≡ self.old.settings }
+    {
+        match self.kept(place) {
+            Kept::Written(terms) => self.keep(place, Kept::Pending(terms, deadline)),
+            _ => unreachable!(),
+        }
+    }
+
+    fn look(&mut self, place: Place) -> Look
+        ensures exact { (result ≡ look_of (standing_at self.old place)) × (self.new ≡ self.old) }
+        ensures look { Looks plain_knows (λ _ _. Unit {0}) plain_stood self.old place result self.new }
+        ensures outside { ¬ IsPlace self.old.settings place → result ≡ Look.Unused }
+        ensures written { KeepsWritten plain_wrote self.old (λ _. Unit {0}) self.new }
+        ensures stays { self.new.settings ≡ self.old.settings }
+    {
+        match self.kept(place) {
+            Kept::Unused | Kept::Written(_) => Look::Unused,
+            Kept::Pending(terms, deadline) => Look::Pending(terms, deadline),
+            Kept::Final(terms, _, outcome, _) => Look::Decided(terms, outcome),
+        }
+    }
+
+    fn decide(&mut self, place: Place, wish: Wish, at: Moment) -> Option<Outcome>
+        requires { plain_knows self.old (about place Opened) }
+
+        ensures answer { result ≡ outcome_of (standing_at self.new place) }
+        ensures here { standing_at self.new place ≡ after wish at (standing_at self.old place) }
+        ensures elsewhere { (j : Place) → j ≢ place → kept_at self.new j ≡ kept_at self.old j }
+        ensures decides { Decides plain_knows plain_stood self.old place wish at result self.new }
+        ensures written { KeepsWritten plain_wrote self.old (λ _. Unit {0}) self.new }
+        ensures stays { self.new.settings ≡ self.old.settings }
+    {
+        match self.kept(place) {
+            Kept::Pending(terms, deadline) => {
+                let outcome = wish.outcome(deadline, at)?;
+                self.keep(place, ended(terms, deadline, &outcome, at));
+                Some(outcome)
+            }
+            Kept::Final(_, _, outcome, _) => Some(outcome),
+            _ => unreachable!(),
+        }
+    }
+}

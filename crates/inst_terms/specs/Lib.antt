@@ -1,0 +1,6 @@
+pub mod Identifier
+pub mod Reason
+pub mod Terms
+pub mod Word
+pub mod WordLaw
+pub mod Laws

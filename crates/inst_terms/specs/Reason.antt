@@ -1,0 +1,15 @@
+-- A rejection reason as a number: its four characters in base 36, the first highest, `0-9` as 0 to 9 and `A-Z` as 10
+-- to 35. The reason's form is the scheme's (EPC004-16, ISO reason codes); its number is this hub's own choice.
+use Rattle.std.specs.Prelude.{ℕ, ◌+◌, ◌-◌, ◌*◌, ◌^◌, List, get_or, nat_lt, if◌then◌else◌}
+
+-- the value of a character of `0-9 A-Z`
+abbrev pub digit_of : ℕ → ℕ
+digit_of character = if nat_lt character 65 then character - 48 else character - 55
+
+-- the character with this value
+abbrev pub character_of : ℕ → ℕ
+character_of digit = if nat_lt digit 10 then digit + 48 else digit + 55
+
+-- the number of four characters
+abbrev pub reason_number : List ℕ → ℕ
+reason_number text = digit_of (get_or text 0 0) * 36 ^ 3 + digit_of (get_or text 1 0) * 36 ^ 2 + digit_of (get_or text 2 0) * 36 + digit_of (get_or text 3 0)

@@ -1,0 +1,18 @@
+-- The five terms words of a place. The first has the amount in cents and the beneficiary's number, the other four the
+-- identifier: this hub's own choice. What a transfer names is the scheme's (EPC004-16).
+use Rattle.std.specs.Prelude.{ℕ, ◌+◌, ◌*◌, ◌<◌, List, ◌∷◌, IsTrue}
+use Rattle.inst_base.specs.Cents.{is_amount}
+use Rattle.inst_base.specs.Text.{is_identifier}
+use Rattle.inst_terms.specs.declared.terms.TheConstants.{BENEFICIARIES}
+use Rattle.inst_terms.specs.declared.terms.Terms.{Terms}
+use Rattle.inst_terms.specs.Identifier.{identifier_words}
+
+-- the five words
+abbrev pub words_of : Terms → List ℕ
+words_of terms = (terms.cents * BENEFICIARIES + terms.to) ∷ identifier_words terms.id
+
+-- terms that a place's words can have: a beneficiary below the factor, an amount and an identifier
+pub record IsTerms (terms : Terms) : Type 0 where
+  pub beneficiary : terms.to < BENEFICIARIES
+  pub amount : IsTrue (is_amount terms.cents)
+  pub identifier : IsTrue (is_identifier terms.id)

@@ -1,0 +1,39 @@
+-- The outcome word of a place: 0 while nothing is opened, else a moment in milliseconds past the base, a reason and a
+-- kind. Pending, accepted and rejected are the scheme's states of a transfer (EPC004-16); that they and the time-out
+-- stand in one number is this hub's own choice.
+use Rattle.std.specs.Prelude.{ℕ, ◌+◌, ◌*◌, ◌^◌, ◌≤◌, IsTrue}
+use Rattle.inst_base.specs.Moment.{is_moment}
+use Rattle.inst_base.specs.Text.{is_reason}
+use Rattle.inst_command.specs.declared.outcome.Outcome.{Outcome}
+use Rattle.inst_command.specs.declared.outcome.Outcome.TheVariants.{Accepted, Rejected, TimedOut}
+use Rattle.inst_terms.specs.declared.word.Word.{Word}
+use Rattle.inst_terms.specs.declared.word.Word.TheVariants.{Unused, Pending, Final}
+use Rattle.inst_terms.specs.Reason.{reason_number}
+
+-- a moment, a reason below 2^21 and a kind below 4 in one number
+abbrev pub number : ℕ → ℕ → ℕ → ℕ
+number moment reason kind = (moment * 2 ^ 21 + reason) * 4 + kind
+
+-- the number of an outcome at the moment of its decision
+abbrev pub outcome_number : Outcome → ℕ → ℕ
+outcome_number Accepted moment = number moment 0 1
+outcome_number (Rejected reason) moment = number moment (reason_number reason) 2
+outcome_number TimedOut moment = number moment 0 3
+
+-- the outcome word
+abbrev pub number_of : Word → ℕ
+number_of Unused = 0
+number_of (Pending deadline) = number deadline 0 0
+number_of (Final outcome moment) = outcome_number outcome moment
+
+-- an outcome whose reason, if it has one, is one
+abbrev pub IsOutcome : Outcome → Type 0
+IsOutcome Accepted = Unit {0}
+IsOutcome (Rejected reason) = IsTrue (is_reason reason)
+IsOutcome TimedOut = Unit {0}
+
+-- what an outcome word can say: a deadline of at least 1, and moments
+abbrev pub IsWord : Word → Type 0
+IsWord Unused = Unit {0}
+IsWord (Pending deadline) = (1 ≤ deadline) × IsTrue (is_moment deadline)
+IsWord (Final outcome moment) = IsOutcome outcome × IsTrue (is_moment moment)

@@ -1,0 +1,28 @@
+//! The laws of a place's words. Each is a function without a body whose contract is the law, so that
+//! the check proves it.
+ghost use Rattle.inst_terms.specs.Laws.{DifferentTermsHaveDifferentWords, DifferentWordsHaveDifferentNumbers, OneFinalWord, NothingSeenGoesBack, EachOutcomeIsInTime};
+
+/// Two different terms never have the same words.
+pub fn different_terms_have_different_words()
+    ensures { DifferentTermsHaveDifferentWords }
+{}
+
+/// Two different outcome words never have the same number.
+pub fn different_words_have_different_numbers()
+    ensures { DifferentWordsHaveDifferentNumbers }
+{}
+
+/// Over all its words a place has one final word at most.
+pub fn one_final_word()
+    ensures { OneFinalWord }
+{}
+
+/// What could be seen of a place once can be seen from then on.
+pub fn nothing_seen_goes_back()
+    ensures { NothingSeenGoesBack }
+{}
+
+/// A place is accepted or rejected before its deadline, and timed out at it or after it.
+pub fn each_outcome_is_in_time()
+    ensures { EachOutcomeIsInTime }
+{}

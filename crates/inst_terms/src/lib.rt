@@ -1,0 +1,16 @@
+//! A place's six words, packed and read: five for the terms of a transfer, one for its outcome. No
+//! call takes memory.
+#![tactic(auto)]
+
+mod identifier;
+pub mod laws;
+mod outcome;
+mod reason;
+mod terms;
+#[cfg(test)]
+mod tests;
+mod word;
+
+pub use outcome::{pack_outcome, read_outcome};
+pub use terms::{BENEFICIARIES, Terms, pack, unpack};
+pub use word::Word;

@@ -1,0 +1,77 @@
+ghost use Rattle.std.specs.Prelude.{◌≡◌, ◌<◌, ◌≤◌, Some, ◌↔◌};
+ghost use Rattle.inst_base.specs.declared.moment.TheConstants.{LAST};
+ghost use Rattle.inst_terms.specs.declared.word.Word.{Word};
+ghost use Rattle.inst_terms.specs.Word.{IsWord, number, number_of};
+
+use crate::Word;
+use crate::reason::{pack_reason, read_reason};
+use inst_base::Moment;
+use inst_command::Outcome;
+
+// The kinds of word, in its two lowest bits.
+const PENDING: u64 = 0;
+
+const ACCEPTED: u64 = 1;
+
+const REJECTED: u64 = 2;
+
+const TIMED_OUT: u64 = 3;
+
+const KINDS: u64 = 4;
+
+/// The reason has 21 bits.
+const REASON_ROOM: u64 = 2_097_152;
+
+/// The outcome word, 0 where the place is unused. Different words have different numbers where a
+/// deadline is at least 1.
+pub fn pack_outcome(word: &Word) -> u64
+    ensures { result ≡ number_of word.now }
+{
+    match word {
+        Word::Unused => 0,
+        Word::Pending(deadline) => number(deadline.past_base(), 0, PENDING),
+        Word::Final(outcome, at) => {
+            let at = at.past_base();
+            match outcome {
+                Outcome::Accepted => number(at, 0, ACCEPTED),
+                Outcome::Rejected(reason) => number(at, pack_reason(reason), REJECTED),
+                Outcome::TimedOut => number(at, 0, TIMED_OUT),
+            }
+        }
+    }
+}
+
+/// What this outcome word says, or `None` where no place has such a word: a pending one has moment
+/// 0 or a reason, an accepted or timed out one a reason, a rejected one a reason of 36^4 or more.
+pub fn read_outcome(word: u64) -> Option<Word>
+    ensures { (read : Word) → (result ≡ Some read) ↔ (IsWord read × (number_of read ≡ word)) }
+{
+    if word == 0 {
+        return Some(Word::Unused);
+    }
+    let kind = word % KINDS;
+    let reason = word / KINDS % REASON_ROOM;
+    let at = Moment::new(0, word / KINDS / REASON_ROOM).ok()?;
+    if kind == REJECTED {
+        let reason = read_reason(reason)?;
+        return Some(Word::Final(Outcome::Rejected(reason), at));
+    }
+    if reason != 0 {
+        return None;
+    }
+    match kind {
+        ACCEPTED => Some(Word::Final(Outcome::Accepted, at)),
+        TIMED_OUT => Some(Word::Final(Outcome::TimedOut, at)),
+        _ => Some(Word::Pending(at)),
+    }
+}
+
+/// The number with these three parts, the moment highest.
+fn number(moment: u64, reason: u64, kind: u64) -> u64
+    requires moment { moment ≤ LAST }
+    requires reason { reason < REASON_ROOM }
+    requires kind { kind < KINDS }
+    ensures { result ≡ number moment reason kind }
+{
+    (moment * REASON_ROOM + reason) * KINDS + kind
+}
