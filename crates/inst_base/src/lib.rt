@@ -8,6 +8,8 @@ mod ident;
 mod moment;
 mod reason;
 mod short_text;
+#[cfg(test)]
+mod tests;
 
 pub use cents::Cents;
 pub use code::Code;

@@ -2,7 +2,5 @@
 #![tactic(auto)]
 
 mod slot;
-#[cfg(test)]
-mod tests;
 
 pub use slot::Slot;

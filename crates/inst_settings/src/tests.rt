@@ -1,0 +1,167 @@
+use crate::Settings;
+use inst_base::{Code, Fault};
+use std::alloc::Global;
+use std::test::Fail;
+
+/// The numbers of a setting: places, fundings, limit, ahead, ceiling and base.
+#[derive(Clone, Copy, Debug, PartialEq, Eq)]
+struct Numbers {
+    places: u16,
+    fundings: u16,
+    limit: u32,
+    ahead: u32,
+    ceiling: u64,
+    base: u64,
+}
+
+const LEAST: Numbers = Numbers {
+    places: 1,
+    fundings: 1,
+    limit: 1,
+    ahead: 0,
+    ceiling: 1,
+    base: 0,
+};
+
+const MOST: Numbers = Numbers {
+    places: 1024,
+    fundings: 1024,
+    limit: 3_600_000,
+    ahead: 60_000,
+    ceiling: 99_999_999_999,
+    base: 4_611_686_018_427_387_904,
+};
+
+fn check(codes: Vec<Code>, numbers: &Numbers) -> Result<Settings, Fault> {
+    Settings::check(
+        codes,
+        numbers.places,
+        numbers.fundings,
+        numbers.limit,
+        numbers.ahead,
+        numbers.ceiling,
+        numbers.base,
+    )
+}
+
+/// What the readers tell.
+fn told(settings: &Settings) -> Numbers {
+    Numbers {
+        places: settings.places(),
+        fundings: settings.fundings(),
+        limit: settings.limit(),
+        ahead: settings.ahead(),
+        ceiling: settings.ceiling(),
+        base: settings.base(),
+    }
+}
+
+/// So many codes: `AAAADE10`, `AAAADE11` and so on.
+fn codes(alloc: Global, count: u32) -> Result<Vec<Code>, Fail> {
+    let mut codes = Vec::new(alloc);
+    for index in 0..count {
+        let number = u64::from(index) + 10;
+        let text = format!(in alloc; "AAAADE{number}")?;
+        codes.push(Code::new(text.as_str())?)?;
+    }
+    Ok(codes)
+}
+
+#[test]
+fn numbers_to_their_bounds(rt: HostRuntime) -> Result<(), Fail> {
+    let alloc = rt.alloc();
+    for numbers in [LEAST, MOST] {
+        let settings = check(codes(alloc, 1)?, &numbers)?;
+        assert_eq!(rt; told(&settings), numbers);
+    }
+    for numbers in [
+        Numbers { places: 0, ..LEAST },
+        Numbers {
+            fundings: 0,
+            ..LEAST
+        },
+        Numbers { limit: 0, ..LEAST },
+        Numbers {
+            ceiling: 0,
+            ..LEAST
+        },
+        Numbers {
+            places: 1025,
+            ..MOST
+        },
+        Numbers {
+            fundings: 1025,
+            ..MOST
+        },
+        Numbers {
+            limit: 3_600_001,
+            ..MOST
+        },
+        Numbers {
+            ahead: 60_001,
+            ..MOST
+        },
+        Numbers {
+            ceiling: 100_000_000_000,
+            ..MOST
+        },
+        Numbers {
+            base: 4_611_686_018_427_387_905,
+            ..MOST
+        },
+    ] {
+        let refusal = check(codes(alloc, 1)?, &numbers).err();
+        assert_eq!(rt; refusal, Some(Fault::BadSettings), "{numbers:?}");
+    }
+    Ok(())
+}
+
+#[test]
+fn participants_to_their_bounds(rt: HostRuntime) -> Result<(), Fail> {
+    let alloc = rt.alloc();
+    for (count, fault) in [
+        (0, Some(Fault::BadSettings)),
+        (1, None),
+        (64, None),
+        (65, Some(Fault::BadSettings)),
+    ] {
+        let refusal = check(codes(alloc, count)?, &MOST).err();
+        assert_eq!(rt; refusal, fault, "{count}");
+    }
+    let settings = check(codes(alloc, 64)?, &MOST)?;
+    assert_eq!(rt; settings.participants(), 64);
+    assert_eq!(rt; settings.code(63), Some(&Code::new("AAAADE73")?));
+    assert_eq!(rt; settings.code(64), None);
+    assert_eq!(rt; settings.index_of(&Code::new("AAAADE73")?), Some(63));
+    Ok(())
+}
+
+#[test]
+fn codes_are_numbered_as_given(rt: HostRuntime) -> Result<(), Fail> {
+    let alloc = rt.alloc();
+    let first = Code::new("CCCCITMM")?;
+    let second = Code::new("AAAADEFF")?;
+    let longer = Code::new("AAAADEFF123")?;
+    let other = Code::new("DDDDESMM")?;
+    let settings = check([first, second, longer].to_vec(alloc)?, &LEAST)?;
+    let copy = settings.copy()?;
+    for settings in [&settings, &copy] {
+        assert_eq!(rt; told(settings), LEAST);
+        assert_eq!(rt; settings.participants(), 3);
+        for (index, code) in [(0, first), (1, second), (2, longer)] {
+            assert_eq!(rt; settings.code(index).copied(), Some(code));
+            assert_eq!(rt; settings.index_of(&code), Some(index));
+        }
+        assert_eq!(rt; settings.code(3).copied(), None);
+        assert_eq!(rt; settings.index_of(&other), None);
+    }
+    for twice in [
+        [first, first, second],
+        [first, second, first],
+        [first, second, second],
+    ] {
+        let refusal = check(twice.to_vec(alloc)?, &LEAST).err();
+        assert_eq!(rt; refusal, Some(Fault::BadSettings), "{twice:?}");
+    }
+    Ok(())
+}
