@@ -53,8 +53,8 @@ pub all_in_one_place : (J : List Event) → IsInOnePlace J
 all_in_one_place J = record {
   each = λ id to cents stamp. in_one_place (own_booked id J) cents;
   all =
-    let first : sum_by (λ e. reservation J e + debit J e) J ≡ reserved J + debits J = sum_by-both (reservation J) (debit J) J in
-    let second : sum_by (λ e. reservation J e + debit J e + release J e) J ≡ sum_by (λ e. reservation J e + debit J e) J + released J = sum_by-both (λ e. reservation J e + debit J e) (release J) J in
-    let whole : sum_by (λ e. reservation J e + debit J e + release J e) J ≡ sum_by taking J = sum_same _ _ J (places_of J) in
-    omega (arith, first, second, whole);
+      let first : sum_by (λ e. reservation J e + debit J e) J ≡ reserved J + debits J = sum_by-both (reservation J) (debit J) J in
+      let second : sum_by (λ e. reservation J e + debit J e + release J e) J ≡ sum_by (λ e. reservation J e + debit J e) J + released J = sum_by-both (λ e. reservation J e + debit J e) (release J) J in
+      let whole : sum_by (λ e. reservation J e + debit J e + release J e) J ≡ sum_by taking J = sum_same _ _ J (places_of J) in
+      omega (arith, first, second, whole);
 }
