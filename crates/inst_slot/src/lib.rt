@@ -2,5 +2,7 @@
 #![tactic(auto)]
 
 mod slot;
+#[cfg(test)]
+mod tests;
 
 pub use slot::Slot;
