@@ -13,6 +13,8 @@ mod queries;
 mod reply;
 mod statement;
 mod sums;
+#[cfg(test)]
+mod tests;
 mod transfers;
 
 pub use event::Event;
