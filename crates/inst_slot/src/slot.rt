@@ -5,7 +5,7 @@ ghost use Rattle.inst_journal.specs.Sound.{IsSound};
 ghost use Rattle.inst_slot.specs.Book.{is_served, handle_ask, AppliesUnlessMemory};
 
 use inst_base::Fault;
-use inst_command::{Ask, Reply};
+use inst_command::{Ask, Command, Reply};
 use inst_journal::{Handled, Journal, handle_command};
 use inst_settings::Settings;
 use std::alloc::Global;
@@ -48,6 +48,19 @@ impl Slot {
             who,
             journal: Journal::new(alloc),
         })
+    }
+
+    /// Whether slots take the command.
+    pub fn serves(command: &Command) -> bool
+        ensures { result ≡ is_served command.now }
+    {
+        matches!(
+            command,
+            Command::Fund { .. }
+                | Command::Defund { .. }
+                | Command::Submit { .. }
+                | Command::Position
+        )
     }
 
     /// Answers a command of the participant, and keeps what its history is to keep of it. Refused by

@@ -1,7 +1,4 @@
 // Worked rows on one slot: the participant 0 of three, with 2 places and 4 fundings.
-ghost use Rattle.std.specs.Prelude.{◌≡◌};
-ghost use Rattle.inst_slot.specs.Book.{is_served};
-
 use crate::Slot;
 use inst_base::{Cents, Code, Fault, Ident, Moment};
 use inst_command::{Ask, Command, Outcome, Reply};
@@ -81,16 +78,6 @@ fn shortened(reply: &Reply) -> Told {
     }
 }
 
-/// Whether slots take the command.
-fn is_served(command: &Command) -> bool
-    ensures { result ≡ is_served command.now }
-{
-    matches!(
-        command,
-        Command::Fund { .. } | Command::Defund { .. } | Command::Submit { .. } | Command::Position
-    )
-}
-
 /// Compares what the slot of the participant 0 answers; after `Memory`, what it then answers.
 fn answers(
     rt: &impl Abort,
@@ -111,7 +98,7 @@ fn answers(
         at: Moment::new(0, at)?,
     };
     assert!(rt; ask.fits(settings));
-    assert!(rt; is_served(&ask.command));
+    assert!(rt; Slot::serves(&ask.command));
     // An ask that an allocation failed is answered as if it had never been asked before.
     let answer = match slot.apply(&ask) {
         Err(Fault::Memory) => slot.apply(&ask),

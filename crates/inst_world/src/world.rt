@@ -1,11 +1,10 @@
 ghost use Rattle.std.specs.Prelude.{◌≡◌, true, IfOk, OnErr, IsOkUnless};
 ghost use Rattle.inst_command.specs.Ask.{ask_fits};
-ghost use Rattle.inst_slot.specs.Book.{is_served};
 ghost use Rattle.inst_world.specs.World.{opened, reply_to_ask, after_ask};
 
 use crate::slots;
 use inst_base::Fault;
-use inst_command::{Ask, Command, Reply};
+use inst_command::{Ask, Reply};
 use inst_journal::Journal;
 use inst_settings::Settings;
 use inst_slot::Slot;
@@ -58,19 +57,9 @@ impl World {
         ensures err { OnErr result (self.new ≡ self.old) }
         ensures only { IsOkUnless result Fault.Memory }
     {
-        if !is_served(&ask.command) {
+        if !Slot::serves(&ask.command) {
             return Ok(Reply::Refused(Fault::BadField));
         }
         slots::answer(&self.settings, &mut self.slots, ask)
     }
-}
-
-/// Whether slots take the command.
-fn is_served(command: &Command) -> bool
-    ensures { result ≡ is_served command.now }
-{
-    matches!(
-        command,
-        Command::Fund { .. } | Command::Defund { .. } | Command::Submit { .. } | Command::Position
-    )
 }
