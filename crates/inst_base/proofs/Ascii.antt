@@ -1,25 +1,16 @@
 -- The texts that the hub takes are ASCII, since each of their characters is.
-use Rattle.std.proofs.Common.{◌≡◌, ℕ, ◌+◌, ◌<◌, ◌≤◌, Bool, true, false, ◌&&◌, ◌||◌, ◌==◌, nat_le, eqb, List, [], ◌∷◌, ◌⊎◌, inl, inr, refl, arith, codes}
-use Rattle.std.specs.List.{list_all, list_any}
+use Rattle.std.proofs.Common.{◌≡◌, ℕ, ◌<◌, Bool, true, List, [], ◌∷◌, arith}
+use Rattle.std.specs.List.{list_all}
 use Rattle.std.specs.Str.{IsAscii}
 use Rattle.std.proofs.lemmas.Str.Ascii.{IsAscii-nil, IsAscii-cons}
+use Rattle.std.proofs.lemmas.Bool.{and_parts}
 use Rattle.std.proofs.lemmas.Bool.Decides.{nat_tests}
-use Rattle.inst_base.specs.Text.{is_latin, is_code_character, is_code, is_identifier, is_reason}
-
--- both of two tests that hold together
-pub both : (a b : Bool) → (a && b) ≡ true → (a ≡ true) × (b ≡ true)
-both true b h = (refl, h)
-both false b h = (h, absurd (cc))
-
--- a test that fails without the other
-pub either : (a b : Bool) → (a || b) ≡ true → (a ≡ true) ⊎ (b ≡ true)
-either true b h = inl refl
-either false b h = inr h
+use Rattle.inst_base.specs.Text.{is_latin, is_code_character}
 
 pub IsAscii-from_each : (p : ℕ → Bool) → ((x : ℕ) → p x ≡ true → x < 128) → (xs : List ℕ) → list_all p xs ≡ true → IsAscii xs
 IsAscii-from_each p below [] h = IsAscii-nil
 IsAscii-from_each p below (x ∷ xs) h =
-    let parts = both (p x) (list_all p xs) h in
+    let parts = and_parts (p x) (list_all p xs) h in
     IsAscii-cons x xs (below x parts.0) (IsAscii-from_each p below xs parts.1)
 
 pub is_code_character-below : (x : ℕ) → is_code_character x ≡ true → x < 128

@@ -1,5 +1,5 @@
 -- A text laid at the front of zeros is kept there.
-use Rattle.std.proofs.Common.{◌≡◌, ℕ, ◌-◌, ◌≤◌, ◌++◌, List, length, take, drop, replicate, sym, ◌∙◌, ap, subst, arith, length-append, length-drop}
+use Rattle.std.proofs.Common.{ℕ, ◌≤◌, ◌++◌, List, length, drop, replicate, sym, ◌∙◌, subst, arith, length-append, length-drop}
 use Rattle.std.proofs.Math.Seq.{take-append_seam, drop-append_seam}
 use Rattle.std.proofs.lemmas.List.{drop-replicate, length-replicate}
 use Rattle.std.specs.Str.{IsAscii}

@@ -1,13 +1,13 @@
 -- An amount in whole euro cents. The rulebook (EPC004-16) has transfers in euro with two decimals;
 -- the bounds, 1 to 99,999,999,999, are this hub's own choice.
 use Rattle.std.specs.Prelude.{ℕ, Bool, ◌&&◌, nat_le, if◌then◌else◌, Result, Ok, Err}
-use Rattle.inst_base.specs.declared.cents.TheConstants.{MOST}
+use Rattle.inst_base.specs.declared.cents.TheConstants.{MOST_CENTS}
 use Rattle.inst_base.specs.declared.fault.Fault.{Fault}
 use Rattle.inst_base.specs.declared.fault.Fault.TheVariants.{BadAmount}
 
 -- whether this many cents are an amount
 abbrev pub is_amount : ℕ → Bool
-is_amount cents = nat_le 1 cents && nat_le cents MOST
+is_amount cents = nat_le 1 cents && nat_le cents MOST_CENTS
 
 -- the amount, or that there is none
 abbrev pub cents_of : ℕ → Result ℕ Fault

@@ -11,7 +11,7 @@ mod short_text;
 #[cfg(test)]
 mod tests;
 
-pub use cents::Cents;
+pub use cents::{Cents, MOST_CENTS};
 pub use code::Code;
 pub use fault::Fault;
 pub use ident::Ident;

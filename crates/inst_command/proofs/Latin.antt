@@ -1,11 +1,11 @@
 -- The characters of a statement line are of the basic Latin set.
-use Rattle.std.proofs.Common.{◌≡◌, ℕ, zero, suc, ◌+◌, ◌-◌, ◌/◌, ◌%◌, ◌<◌, ◌≤◌, Bool, true, false, cond, ◌==◌, ◌&&◌, ◌||◌, nat_lt, nat_le, List, [], ◌∷◌, ◌++◌, length, replicate, refl, sym, ap, ◌∙◌, arith, codes, decimal}
+use Rattle.std.proofs.Common.{◌≡◌, ℕ, zero, suc, ◌-◌, ◌/◌, ◌%◌, ◌<◌, true, false, cond, ◌==◌, List, [], ◌∷◌, ◌++◌, length, replicate, refl, arith, codes, decimal}
 use Rattle.std.proofs.lemmas.Bool.Decides.{nat_tests}
 use Rattle.std.proofs.lemmas.List.Folds.{list_all-append}
-use Rattle.std.specs.List.{list_all, list_any}
+use Rattle.std.specs.List.{list_all}
 use Rattle.std.specs.Fmt.{digits, digits_onto, digit_glyph}
 use Rattle.inst_base.specs.Text.{is_latin, is_code_character}
-use Rattle.inst_base.proofs.Ascii.{both}
+use Rattle.std.proofs.lemmas.Bool.{and_parts}
 use Rattle.inst_settings.specs.Settings.{HubSettings}
 use Rattle.inst_command.specs.LineText.{left_in, right_in, kind_name, other_code, line_text}
 use Rattle.inst_command.specs.declared.line.Line.{Line}
@@ -15,7 +15,7 @@ use Rattle.inst_command.specs.declared.line.LineKind.TheVariants.{Funded, Defund
 pub joined : (xs ys : List ℕ) → list_all is_latin xs ≡ true → list_all is_latin ys ≡ true → list_all is_latin (xs ++ ys) ≡ true
 joined [] ys hx hy = hy
 joined (x ∷ xs) ys hx hy =
-    let parts = both (is_latin x) (list_all is_latin xs) hx in
+    let parts = and_parts (is_latin x) (list_all is_latin xs) hx in
     rw (parts.0, joined xs ys parts.1 hy) refl
 
 spaces : (n : ℕ) → list_all is_latin (replicate n 32) ≡ true
@@ -66,5 +66,5 @@ code_character x h = grind (arith, nat_tests)
 pub latin-code : (text : List ℕ) → list_all is_code_character text ≡ true → list_all is_latin text ≡ true
 latin-code [] h = refl
 latin-code (x ∷ text) h =
-    let parts = both (is_code_character x) (list_all is_code_character text) h in
+    let parts = and_parts (is_code_character x) (list_all is_code_character text) h in
     rw (code_character x parts.0, latin-code text parts.1) refl

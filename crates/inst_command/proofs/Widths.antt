@@ -1,5 +1,5 @@
 -- What the format's options write for a column of a statement line.
-use Rattle.std.proofs.Common.{◌≡◌, ℕ, zero, suc, ◌+◌, ◌-◌, ◌<◌, ◌≤◌, ◌^◌, Bool, true, false, cond, ◌||◌, ◌==◌, ◌&&◌, IsTrue, nat_lt, nat_le, List, [], ◌∷◌, ◌++◌, length, replicate, refl, sym, ap, ◌∙◌, arith, codes, decimal, append_assoc, append-nil}
+use Rattle.std.proofs.Common.{◌≡◌, ℕ, zero, suc, ◌-◌, ◌<◌, ◌≤◌, ◌^◌, Bool, true, false, ◌==◌, ◌&&◌, IsTrue, nat_lt, nat_le, List, [], ◌∷◌, ◌++◌, length, replicate, refl, ap, arith, codes, decimal, append_assoc, append-nil}
 use Rattle.std.proofs.Math.Nat.{sub-zero, sub_self}
 use Rattle.std.proofs.Math.Numerals.{sub-one}
 use Rattle.std.proofs.lemmas.Bool.Decides.{nat_tests}
@@ -7,7 +7,7 @@ use Rattle.std.specs.Char.{encode_utf8}
 use Rattle.std.specs.List.{list_all, repeat}
 use Rattle.std.specs.Fmt.{format_spec, styled_text, styled_decimal, padded, padded_integral, take_chars, char_count}
 use Rattle.inst_base.specs.Text.{is_latin, is_identifier}
-use Rattle.inst_base.proofs.Ascii.{both}
+use Rattle.std.proofs.lemmas.Bool.{and_parts}
 use Rattle.inst_command.specs.LineText.{left_in, right_in}
 
 suc_not_zero : (n : ℕ) → (suc n == 0) ≡ false
@@ -22,7 +22,7 @@ char_count-each : (p : ℕ → Bool) → ((x : ℕ) → p x ≡ true → x < 128
 unfolding char_count
 char_count-each p below [] h = refl
 char_count-each p below (x ∷ text) h =
-    let parts = both (p x) (list_all p text) h in
+    let parts = and_parts (p x) (list_all p text) h in
     let start : nat_lt x 128 ≡ true = let small = below x parts.0 in grind (arith, nat_tests) in
     rw (start, char_count-each p below text parts.1) (omega arith)
 
@@ -31,7 +31,7 @@ unfolding take_chars
 take_chars-each p below n [] h fits = refl
 take_chars-each p below zero (x ∷ text) h fits = absurd (omega arith)
 take_chars-each p below (suc n) (x ∷ text) h fits =
-    let parts = both (p x) (list_all p text) h in
+    let parts = and_parts (p x) (list_all p text) h in
     let start : nat_lt x 128 ≡ true = let small = below x parts.0 in grind (arith, nat_tests) in
     rw (start, suc_not_zero n, sub-one) (ap (λ rest. x ∷ rest) (take_chars-each p below n text parts.1 (omega arith)))
 
@@ -46,8 +46,8 @@ right_column width n = rw (suc_not_zero width, repeat_one, sub_self) (simp (appe
 
 pub identifier_form : (text : List ℕ) → IsTrue (is_identifier text) → (list_all is_latin text ≡ true) × (length text ≤ 35)
 identifier_form text h =
-    let parts = both (nat_le 1 (length text) && nat_le (length text) 35) (list_all is_latin text) h in
-    let short = (both (nat_le 1 (length text)) (nat_le (length text) 35) parts.0).1 in
+    let parts = and_parts (nat_le 1 (length text) && nat_le (length text) 35) (list_all is_latin text) h in
+    let short = (and_parts (nat_le 1 (length text)) (nat_le (length text) 35) parts.0).1 in
     (parts.1, grind (arith, nat_tests))
 
 pub columns_are : {a b c d e f : List ℕ} (number kind other id cents position : List ℕ) → a ≡ number → b ≡ kind → c ≡ other → d ≡ id → e ≡ cents → f ≡ position →

@@ -5,7 +5,7 @@ use Rattle.std.proofs.lemmas.Bool.Decides.{nat_tests}
 use Rattle.std.proofs.lemmas.List.Sums.{sum_by-cons, sum_by-le-sum_by}
 use Rattle.std.proofs.Math.Nat.{mul-le-mul}
 use Rattle.std.specs.Cmp.Lexicographic.{same_text as text_same}
-use Rattle.inst_base.specs.declared.cents.TheConstants.{MOST}
+use Rattle.inst_base.specs.declared.cents.TheConstants.{MOST_CENTS}
 use Rattle.inst_settings.specs.Settings.{HubSettings, IsSettings, participants, same_text}
 use Rattle.inst_journal.specs.declared.event.Event.{Event}
 use Rattle.inst_journal.specs.declared.event.Event.TheVariants.{Funded, Defunded, Taken, Forwarded, Booked, Fetched}
@@ -174,9 +174,9 @@ most_times p most (event ∷ events) =
 
 -- no position of a sound history is above 64 bits
 pub position_fits : (s : HubSettings) (who : ℕ) (J : List Event) → IsSettings s → IsSound s who J
-    → sum_by (λ event. cond (is_funding event) MOST 0) J + sum_by (λ event. cond (is_forwarding event) MOST 0) J < 2 ^ 64
+    → sum_by (λ event. cond (is_funding event) MOST_CENTS 0) J + sum_by (λ event. cond (is_forwarding event) MOST_CENTS 0) J < 2 ^ 64
 position_fits s who J lawful sound =
     let all_fundings : fundings J ≤ 1024 = omega (arith, fundings_within s who J sound, lawful.fundings_most) in
     let places : participants s * s.places ≤ 64 * 1024 = mul-le-mul lawful.participants_most lawful.places_most in
     let all_forwardings : count_by is_forwarding J ≤ 65536 = omega (arith, forwardings_within s who J sound, places) in
-    omega (arith, most_times is_funding MOST J, most_times is_forwarding MOST J, all_fundings, all_forwardings)
+    omega (arith, most_times is_funding MOST_CENTS J, most_times is_forwarding MOST_CENTS J, all_fundings, all_forwardings)

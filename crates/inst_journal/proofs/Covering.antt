@@ -1,5 +1,5 @@
 -- In a sound history, what was paid out and what is reserved is covered by what came in.
-use Rattle.std.proofs.Common.{◌≡◌, ℕ, ◌+◌, ◌-◌, ◌≤◌, List, [], ◌∷◌, ◌++◌, Option, Some, None, sum_by, refl, sym, ap, ◌∙◌, subst, arith}
+use Rattle.std.proofs.Common.{◌≡◌, ℕ, ◌+◌, ◌≤◌, List, [], ◌∷◌, ◌++◌, Option, Some, None, sum_by, sym, ap, ◌∙◌, subst, arith}
 use Rattle.std.proofs.lemmas.List.Sums.{sum_by-le-sum_by}
 use Rattle.inst_settings.specs.Settings.{HubSettings}
 use Rattle.inst_command.specs.declared.outcome.Outcome.{Outcome}
@@ -8,7 +8,7 @@ use Rattle.inst_journal.specs.declared.event.Event.{Event}
 use Rattle.inst_journal.specs.declared.event.Event.TheVariants.{Funded, Defunded, Taken, Forwarded, Booked, Fetched}
 use Rattle.inst_journal.specs.Booked.{or_else, books, booked, own_booked}
 use Rattle.inst_journal.specs.Sums.{funding, defunding, funded, defunded, if_accepted, if_unbooked, credit, debit, reservation, credits, debits}
-use Rattle.inst_journal.specs.Money.{reserved, position, available}
+use Rattle.inst_journal.specs.Money.{reserved, available}
 use Rattle.inst_journal.specs.Laws.{taking}
 use Rattle.inst_journal.specs.Sound.{Fits, IsSound}
 use Rattle.inst_journal.proofs.Pushing.{sum_by_push, sum_by-both, first_some_push}

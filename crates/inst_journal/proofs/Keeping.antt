@@ -1,6 +1,6 @@
 -- What a command keeps fits the history before it.
-use Rattle.std.proofs.Common.{◌≡◌, ℕ, ◌+◌, ◌-◌, ◌≤◌, Bool, true, false, ◌==◌, cond, nat_le, nat_lt, List, [], ◌∷◌, ◌++◌, length, take, drop, ◌⊎◌, inl, inr, Option, Some, None, sum_by, refl, sym, ap, ◌∙◌, subst, arith, min, ◌&&◌, append-nil}
-use Rattle.std.proofs.lemmas.Bool.{and_parts, leb-true, leb-false, ltb-true, ltb-false, eqb-false, true≢false}
+use Rattle.std.proofs.Common.{◌≡◌, ℕ, ◌+◌, ◌≤◌, Bool, true, false, ◌==◌, cond, nat_le, nat_lt, List, [], ◌∷◌, length, take, ◌⊎◌, inl, inr, Option, Some, None, refl, ap, ◌∙◌, arith, min, ◌&&◌}
+use Rattle.std.proofs.lemmas.Bool.{and_parts, leb-true, leb-false, ltb-true, ltb-false, eqb-false}
 use Rattle.std.proofs.lemmas.List.{length-take}
 use Rattle.inst_base.specs.Moment.{is_moment}
 use Rattle.inst_settings.specs.Settings.{HubSettings, participants}
@@ -10,11 +10,10 @@ use Rattle.inst_command.specs.declared.command.Command.TheVariants.{Fund, Defund
 use Rattle.inst_command.specs.declared.entry.Entry.{Entry}
 use Rattle.inst_command.specs.declared.outcome.Outcome.{Outcome}
 use Rattle.inst_journal.specs.declared.event.Event.{Event}
-use Rattle.inst_journal.specs.declared.event.Event.TheVariants.{Funded, Defunded, Taken, Forwarded, Booked, Fetched}
 use Rattle.inst_journal.specs.Booked.{is_taken, is_forwarded, booked, submissions}
 use Rattle.inst_journal.specs.Money.{available}
 use Rattle.inst_journal.specs.Keys.{is_fund_repeat, is_defund_repeat, is_submission_repeat, has_reference, fundings}
-use Rattle.inst_journal.specs.Reply.{Handled, answered, keeping, refused, fund, defund, submit, standing, confirm, investigate, unread, hand_out, handle, history_after}
+use Rattle.inst_journal.specs.Reply.{Handled, fund, defund, submit, standing, confirm, investigate, unread, hand_out, handle, history_after}
 use Rattle.inst_journal.specs.Sound.{IsWithinCeiling, FitAfter, IsSound}
 use Rattle.inst_journal.proofs.Soundness.{sound_with}
 

@@ -7,8 +7,8 @@ use Rattle.inst_command.specs.declared.outcome.Outcome.TheVariants.{Accepted, Re
 use Rattle.inst_journal.specs.declared.event.Event.{Event}
 use Rattle.inst_journal.specs.declared.event.Event.TheVariants.{Funded, Defunded, Taken, Forwarded, Booked, Fetched}
 use Rattle.inst_journal.specs.Booked.{own_booked}
-use Rattle.inst_journal.specs.Sums.{net, funded, defunded, credits, debits, debit, reservation, if_accepted, if_unbooked}
-use Rattle.inst_journal.specs.Money.{reserved, position, available}
+use Rattle.inst_journal.specs.Sums.{funded, defunded, credits, debits, debit, reservation, if_accepted, if_unbooked}
+use Rattle.inst_journal.specs.Money.{reserved, position}
 use Rattle.inst_journal.specs.Laws.{if_released, taking, release, released, IsOneOf, IsInOnePlace, IsNeverOverdrawn}
 use Rattle.inst_journal.specs.Sound.{IsSound}
 use Rattle.inst_journal.proofs.Covering.{covered}

@@ -1,5 +1,5 @@
 -- One step of a walk over a history's fronts, and how many lines it gives.
-use Rattle.std.proofs.Common.{◌≡◌, ℕ, ◌+◌, ◌*◌, ◌^◌, ◌<◌, ◌≤◌, Bool, true, false, ◌||◌, cond, List, [], ◌∷◌, ◌++◌, length, take, drop, get_or, Option, Some, None, is_some, sum_by, count_by, refl, sym, ap, ◌∙◌, subst, arith, take-append-drop, add-one, drop-cons, append_assoc, append-nil, length-append}
+use Rattle.std.proofs.Common.{◌≡◌, ℕ, ◌+◌, ◌*◌, ◌<◌, ◌≤◌, Bool, true, ◌||◌, cond, List, [], ◌∷◌, ◌++◌, length, take, drop, get_or, Some, None, sum_by, count_by, refl, sym, ap, ◌∙◌, subst, arith, take-append-drop, add-one, drop-cons, append_assoc, length-append}
 use Rattle.std.proofs.lemmas.List.{take_more}
 use Rattle.std.proofs.lemmas.List.Sums.{sum_by-le-sum_by, sum_by-take-le}
 use Rattle.std.proofs.Math.Nat.{mul-le-mul}
@@ -7,7 +7,6 @@ use Rattle.inst_settings.specs.Settings.{HubSettings, IsSettings, participants}
 use Rattle.inst_command.specs.declared.line.Line.{Line}
 use Rattle.inst_journal.specs.declared.event.Event.{Event}
 use Rattle.inst_journal.specs.declared.event.Event.TheVariants.{Funded, Defunded, Taken, Forwarded, Booked, Fetched}
-use Rattle.inst_journal.specs.Booked.{submissions, is_forwarding}
 use Rattle.inst_journal.specs.Keys.{is_funding, fundings}
 use Rattle.inst_journal.specs.Money.{position}
 use Rattle.inst_journal.specs.Statement.{line_of, with_line, lines_after}

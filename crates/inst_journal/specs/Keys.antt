@@ -1,10 +1,10 @@
 -- When a command is a repeat of a kept one, and when its key is kept with other contents. A transfer's key is its originator
 -- and identifier, a funding's its reference, in a key space of its own: this hub's own choice.
-use Rattle.std.specs.Prelude.{ℕ, Bool, true, false, ◌&&◌, ◌||◌, ◌==◌, List, count_by}
+use Rattle.std.specs.Prelude.{ℕ, Bool, true, false, ◌&&◌, ◌==◌, List, count_by}
 use Rattle.std.specs.List.{list_any}
 use Rattle.inst_settings.specs.Settings.{same_text}
 use Rattle.inst_journal.specs.declared.event.Event.{Event}
-use Rattle.inst_journal.specs.declared.event.Event.TheVariants.{Funded, Defunded, Taken, Forwarded, Booked, Fetched}
+use Rattle.inst_journal.specs.declared.event.Event.TheVariants.{Funded, Defunded, Taken}
 
 -- whether the event is this funding
 abbrev pub is_this_fund : List ℕ → ℕ → Event → Bool

@@ -1,13 +1,13 @@
 -- The laws of one participant's books: nothing is overdrawn, each taken amount is in one place, each transfer is booked
 -- once, and what a command keeps leaves the books sound. They are this hub's own promises.
-use Rattle.std.specs.Prelude.{◌≡◌, ℕ, ℤ, pos, ◌+◌, ◌≤◌, ◌+ℤ◌, ◌-ℤ◌, true, List, Option, sum_by, count_by, is_some, ◌⊎◌}
+use Rattle.std.specs.Prelude.{◌≡◌, ℕ, pos, ◌+◌, ◌≤◌, ◌+ℤ◌, ◌-ℤ◌, true, List, Option, sum_by, count_by, is_some, ◌⊎◌}
 use Rattle.inst_settings.specs.Settings.{HubSettings}
 use Rattle.inst_command.specs.Ask.{command_fits}
 use Rattle.inst_command.specs.declared.command.Command.{Command}
 use Rattle.inst_command.specs.declared.outcome.Outcome.{Outcome}
 use Rattle.inst_command.specs.declared.outcome.Outcome.TheVariants.{Accepted, Rejected, TimedOut}
 use Rattle.inst_journal.specs.declared.event.Event.{Event}
-use Rattle.inst_journal.specs.declared.event.Event.TheVariants.{Funded, Defunded, Taken, Forwarded, Booked, Fetched}
+use Rattle.inst_journal.specs.declared.event.Event.TheVariants.{Taken}
 use Rattle.inst_journal.specs.Booked.{books, own_booked}
 use Rattle.inst_journal.specs.Sums.{net, funded, defunded, credits, debits, debit, reservation}
 use Rattle.inst_journal.specs.Money.{reserved, position, available}

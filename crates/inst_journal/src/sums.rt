@@ -1,6 +1,6 @@
 //! The plain sums over a history, in cents.
 ghost use Rattle.std.specs.Prelude.{◌≡◌, ◌+◌, ◌*◌, ◌≤◌, length, sum_by, if◌then◌else◌};
-ghost use Rattle.inst_base.specs.declared.cents.TheConstants.{MOST};
+ghost use Rattle.inst_base.specs.declared.cents.TheConstants.{MOST_CENTS};
 ghost use Rattle.inst_journal.specs.Sums.{if_accepted, if_unbooked, funding, defunding, credit, debit, reservation, funded, defunded, credits, debits};
 ghost use Rattle.inst_journal.specs.Booked.{is_forwarding};
 ghost use Rattle.inst_journal.specs.Keys.{is_funding};
@@ -14,7 +14,7 @@ use inst_command::Outcome;
 /// The amount where the outcome is `Accepted`, else 0.
 fn if_accepted(outcome: Option<Outcome>, cents: Cents) -> u64
     ensures value { result ≡ if_accepted outcome cents }
-    ensures within { result ≤ MOST }
+    ensures within { result ≤ MOST_CENTS }
 {
     match outcome {
         Some(Outcome::Accepted) => cents.get(),
@@ -25,7 +25,7 @@ fn if_accepted(outcome: Option<Outcome>, cents: Cents) -> u64
 /// The amount where nothing is booked, else 0.
 fn if_unbooked(outcome: Option<Outcome>, cents: Cents) -> u64
     ensures value { result ≡ if_unbooked outcome cents }
-    ensures within { result ≤ MOST }
+    ensures within { result ≤ MOST_CENTS }
 {
     match outcome {
         None => cents.get(),
@@ -36,7 +36,7 @@ fn if_unbooked(outcome: Option<Outcome>, cents: Cents) -> u64
 /// What the event adds to the net funding.
 fn funding(event: &Event) -> u64
     ensures value { result ≡ funding event.now }
-    ensures within { result ≤ (if is_funding event.now then MOST else 0) }
+    ensures within { result ≤ (if is_funding event.now then MOST_CENTS else 0) }
 {
     match event {
         Event::Funded { cents, .. } => cents.get(),
@@ -47,7 +47,7 @@ fn funding(event: &Event) -> u64
 /// What the event takes away from the net funding.
 fn defunding(event: &Event) -> u64
     ensures value { result ≡ defunding event.now }
-    ensures within { result ≤ MOST }
+    ensures within { result ≤ MOST_CENTS }
 {
     match event {
         Event::Defunded { cents, .. } => cents.get(),
@@ -58,7 +58,7 @@ fn defunding(event: &Event) -> u64
 /// What the event credits: a forwarded transfer that is booked accepted.
 fn credit(events: &[Event], event: &Event) -> u64
     ensures value { result ≡ credit events.now event.now }
-    ensures within { result ≤ (if is_forwarding event.now then MOST else 0) }
+    ensures within { result ≤ (if is_forwarding event.now then MOST_CENTS else 0) }
 {
     match event {
         Event::Forwarded {
@@ -74,7 +74,7 @@ fn credit(events: &[Event], event: &Event) -> u64
 /// What the event debits: a taken transfer that is booked accepted.
 fn debit(events: &[Event], event: &Event) -> u64
     ensures value { result ≡ debit events.now event.now }
-    ensures within { result ≤ MOST }
+    ensures within { result ≤ MOST_CENTS }
 {
     match event {
         Event::Taken { id, cents, .. } => if_accepted(own_booked(events, id), *cents),
@@ -85,7 +85,7 @@ fn debit(events: &[Event], event: &Event) -> u64
 /// What the event reserves: a taken transfer with nothing booked.
 fn reservation(events: &[Event], event: &Event) -> u64
     ensures value { result ≡ reservation events.now event.now }
-    ensures within { result ≤ MOST }
+    ensures within { result ≤ MOST_CENTS }
 {
     match event {
         Event::Taken { id, cents, .. } => if_unbooked(own_booked(events, id), *cents),
@@ -96,8 +96,8 @@ fn reservation(events: &[Event], event: &Event) -> u64
 /// All that was funded.
 pub(crate) fn funded(events: &[Event]) -> u128
     ensures value { result ≡ funded events.now }
-    ensures within { result ≤ length events.now * MOST }
-    ensures counted { result ≤ sum_by (λ event. if is_funding event then MOST else 0) events.now }
+    ensures within { result ≤ length events.now * MOST_CENTS }
+    ensures counted { result ≤ sum_by (λ event. if is_funding event then MOST_CENTS else 0) events.now }
 {
     let mut total = 0;
     for event in events {
@@ -109,7 +109,7 @@ pub(crate) fn funded(events: &[Event]) -> u128
 /// All that was defunded.
 pub(crate) fn defunded(events: &[Event]) -> u128
     ensures value { result ≡ defunded events.now }
-    ensures within { result ≤ length events.now * MOST }
+    ensures within { result ≤ length events.now * MOST_CENTS }
 {
     let mut total = 0;
     for event in events {
@@ -121,8 +121,8 @@ pub(crate) fn defunded(events: &[Event]) -> u128
 /// The forwarded transfers that are booked accepted.
 pub(crate) fn credits(events: &[Event]) -> u128
     ensures value { result ≡ credits events.now }
-    ensures within { result ≤ length events.now * MOST }
-    ensures counted { result ≤ sum_by (λ event. if is_forwarding event then MOST else 0) events.now }
+    ensures within { result ≤ length events.now * MOST_CENTS }
+    ensures counted { result ≤ sum_by (λ event. if is_forwarding event then MOST_CENTS else 0) events.now }
 {
     let mut total = 0;
     for event in events {
@@ -134,7 +134,7 @@ pub(crate) fn credits(events: &[Event]) -> u128
 /// The taken transfers that are booked accepted.
 pub(crate) fn debits(events: &[Event]) -> u128
     ensures value { result ≡ debits events.now }
-    ensures within { result ≤ length events.now * MOST }
+    ensures within { result ≤ length events.now * MOST_CENTS }
 {
     let mut total = 0;
     for event in events {
@@ -146,7 +146,7 @@ pub(crate) fn debits(events: &[Event]) -> u128
 /// The taken transfers with nothing booked.
 pub(crate) fn reserved(events: &[Event]) -> u128
     ensures value { result ≡ reserved events.now }
-    ensures within { result ≤ length events.now * MOST }
+    ensures within { result ≤ length events.now * MOST_CENTS }
 {
     let mut total = 0;
     for event in events {
@@ -158,8 +158,8 @@ pub(crate) fn reserved(events: &[Event]) -> u128
 /// Net funding and credits less debits.
 pub(crate) fn position(events: &[Event]) -> u128
     ensures value { result ≡ position events.now }
-    ensures counted { result ≤ sum_by (λ event. if is_funding event then MOST else 0) events.now
-        + sum_by (λ event. if is_forwarding event then MOST else 0) events.now }
+    ensures counted { result ≤ sum_by (λ event. if is_funding event then MOST_CENTS else 0) events.now
+        + sum_by (λ event. if is_forwarding event then MOST_CENTS else 0) events.now }
 {
     let came_in = funded(events) + credits(events);
     came_in.saturating_sub(defunded(events) + debits(events))

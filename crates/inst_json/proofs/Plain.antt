@@ -11,7 +11,7 @@ use Rattle.inst_base.specs.declared.fault.Fault.{Fault}
 use Rattle.inst_base.specs.declared.fault.Fault.TheVariants.{NotJson, BadField, BadIdentifier, BadAmount, BadMoment, UnknownParticipant, SelfTransfer, UnknownTransfer, Duplicate, StampAhead, Expired, Full, Shortage, Memory, BadSettings, LineTooLong, ReadFault, WriteFault}
 use Rattle.inst_settings.specs.Settings.{same_text}
 use Rattle.inst_json.specs.Replies.{is_state_name}
-use Rattle.inst_base.proofs.Ascii.{both, either}
+use Rattle.std.proofs.lemmas.Bool.{and_parts, or_cases}
 
 -- a character that stands for itself
 escape_byte-each : (p : ℕ → Bool) → ((x : ℕ) → p x ≡ true → 32 ≤ x) → p 34 ≡ false → p 92 ≡ false → (x : ℕ) → p x ≡ true → escape_byte x ≡ x ∷ []
@@ -23,7 +23,7 @@ escape_byte-each p above quote backslash x h =
 escape-each : (p : ℕ → Bool) → ((x : ℕ) → p x ≡ true → escape_byte x ≡ x ∷ []) → (xs : List ℕ) → list_all p xs ≡ true → escape xs ≡ xs
 escape-each p plain [] h = refl
 escape-each p plain (x ∷ xs) h =
-    let parts = both (p x) (list_all p xs) h in
+    let parts = and_parts (p x) (list_all p xs) h in
     ap (λ front. front ++ escape xs) (plain x parts.0) ∙ ap (λ rest. x ∷ rest) (escape-each p plain xs parts.1)
 
 is_latin-above : (x : ℕ) → is_latin x ≡ true → 32 ≤ x
@@ -34,7 +34,7 @@ is_code_character-above x h = grind (arith, nat_tests)
 
 pub escape-identifier : (text : List ℕ) → IsTrue (is_identifier text) → escape text ≡ text
 escape-identifier text h =
-    let each = both _ (list_all is_latin text) h in
+    let each = and_parts _ (list_all is_latin text) h in
     escape-each is_latin (escape_byte-each is_latin is_latin-above refl refl) text each.1
 
 pub escape-latin : (text : List ℕ) → list_all is_latin text ≡ true → escape text ≡ text
@@ -44,10 +44,10 @@ escape-code_characters : (text : List ℕ) → list_all is_code_character text �
 escape-code_characters = escape-each is_code_character (escape_byte-each is_code_character is_code_character-above refl refl)
 
 pub escape-code : (text : List ℕ) → IsTrue (is_code text) → escape text ≡ text
-escape-code text h = escape-code_characters text (both _ (list_all is_code_character text) h).1
+escape-code text h = escape-code_characters text (and_parts _ (list_all is_code_character text) h).1
 
 pub escape-reason : (text : List ℕ) → IsTrue (is_reason text) → escape text ≡ text
-escape-reason text h = escape-code_characters text (both _ (list_all is_code_character text) h).1
+escape-reason text h = escape-code_characters text (and_parts _ (list_all is_code_character text) h).1
 
 pub escape-name_of : (fault : Fault) → escape (name_of fault) ≡ name_of fault
 unfolding escape_byte
@@ -78,7 +78,7 @@ escape-same name wanted plain h =
 escape-among : (name : List ℕ) (names : List (List ℕ)) → AllByRecursion (λ wanted. escape wanted ≡ wanted) names → list_any (same_text name) names ≡ true → escape name ≡ name
 escape-among name [] plain h = absurd (true≢false (sym h))
 escape-among name (first ∷ rest) plain h =
-    elim (either (same_text name first) (list_any (same_text name) rest) h) [
+    elim (or_cases (same_text name first) (list_any (same_text name) rest) h) [
       | inl here ↦ escape-same name first plain.0 here
       | inr later ↦ escape-among name rest plain.1 later
     ]

@@ -8,10 +8,10 @@ use Rattle.std.specs.List.{list_all}
 use Rattle.std.proofs.lemmas.List.{get_or-take, get_or_past}
 use Rattle.std.proofs.lemmas.Grind.{same_number_lists}
 use Rattle.std.proofs.lemmas.Bool.Decides.{nat_tests}
-use Rattle.std.proofs.lemmas.Bool.{cases_lt}
+use Rattle.std.proofs.lemmas.Bool.{and_parts, cases_lt}
 use Rattle.inst_base.specs.declared.fault.Fault.TheVariants.{BadIdentifier}
 use Rattle.inst_base.specs.Text.{is_latin, is_identifier, identifier_of}
-use Rattle.inst_base.proofs.Ascii.{both, IsAscii-latin}
+use Rattle.inst_base.proofs.Ascii.{IsAscii-latin}
 use Rattle.inst_terms.specs.Identifier.{nine_from, identifier_words, digit, StandsIn}
 use Rattle.inst_terms.proofs.Base128.{same_number, number_below, digit-in_base_128, in_base_128-digit}
 
@@ -28,8 +28,8 @@ pub record IsLatinText (id : List ℕ) : Type 0 where
 
 pub latin_text : (id : List ℕ) → IsTrue (is_identifier id) → IsLatinText id
 latin_text id h =
-    let parts = both (nat_le 1 (length id) && nat_le (length id) 35) (list_all is_latin id) h in
-    let lengths = both (nat_le 1 (length id)) (nat_le (length id) 35) parts.0 in
+    let parts = and_parts (nat_le 1 (length id) && nat_le (length id) 35) (list_all is_latin id) h in
+    let lengths = and_parts (nat_le 1 (length id)) (nat_le (length id) 35) parts.0 in
     let low = lengths.0 in let high = lengths.1 in
     record { some = grind (arith, nat_tests); most = grind (arith, nat_tests); latin = parts.1 }
 
@@ -39,8 +39,8 @@ is_latin_above (suc x) h = omega arith
 
 pub latin_at : (xs : List ℕ) → list_all is_latin xs ≡ true → (k : ℕ) → k < length xs → 0 < get_or xs k 0
 latin_at [] h k below = absurd (omega arith)
-latin_at (x ∷ xs) h zero below = is_latin_above x (both (is_latin x) (list_all is_latin xs) h).0
-latin_at (x ∷ xs) h (suc k) below = latin_at xs (both (is_latin x) (list_all is_latin xs) h).1 k (omega arith)
+latin_at (x ∷ xs) h zero below = is_latin_above x (and_parts (is_latin x) (list_all is_latin xs) h).0
+latin_at (x ∷ xs) h (suc k) below = latin_at xs (and_parts (is_latin x) (list_all is_latin xs) h).1 k (omega arith)
 
 pub character_below : (id : List ℕ) → IsTrue (is_identifier id) → (k : ℕ) → get_or id k 0 < 128
 character_below id h k = IsAscii-latin id (latin_text id h).latin k
@@ -88,8 +88,8 @@ words_below id h =
 
 pub below_at : (ws : List ℕ) → list_all (λ word. nat_lt word (2 ^ 63)) ws ≡ true → (i : ℕ) → i < length ws → get_or ws i 0 < 2 ^ 63
 below_at [] h i below = absurd (omega arith)
-below_at (w ∷ ws) h zero below = let first = (both (nat_lt w (2 ^ 63)) (list_all (λ word. nat_lt word (2 ^ 63)) ws) h).0 in grind (arith, nat_tests)
-below_at (w ∷ ws) h (suc i) below = below_at ws (both (nat_lt w (2 ^ 63)) (list_all (λ word. nat_lt word (2 ^ 63)) ws) h).1 i (omega arith)
+below_at (w ∷ ws) h zero below = let first = (and_parts (nat_lt w (2 ^ 63)) (list_all (λ word. nat_lt word (2 ^ 63)) ws) h).0 in grind (arith, nat_tests)
+below_at (w ∷ ws) h (suc i) below = below_at ws (and_parts (nat_lt w (2 ^ 63)) (list_all (λ word. nat_lt word (2 ^ 63)) ws) h).1 i (omega arith)
 
 module _ (ws cs : List ℕ) (size : length ws ≡ 4)
     (digits : (k : ℕ) → k < 36 → get_or cs k 0 ≡ digit (get_or ws (k / 9) 0) (k % 9)) where

@@ -8,7 +8,8 @@ use Rattle.std.proofs.lemmas.Str.{IsUtf8-from_ascii}
 use Rattle.std.proofs.lemmas.Bool.Decides.{nat_tests}
 use Rattle.inst_base.specs.declared.fault.Fault.TheVariants.{BadField}
 use Rattle.inst_base.specs.Text.{is_code_character, is_reason, reason_of}
-use Rattle.inst_base.proofs.Ascii.{both, IsAscii-code}
+use Rattle.std.proofs.lemmas.Bool.{and_parts}
+use Rattle.inst_base.proofs.Ascii.{IsAscii-code}
 use Rattle.inst_terms.specs.Reason.{digit_of, character_of, reason_number}
 
 pub digit_below : (c : ℕ) → is_code_character c ≡ true → digit_of c < 36
@@ -68,7 +69,7 @@ four a b c d ha hb hc hd =
     record { below = omega arith; again = cc }
 
 length_is : (text : List ℕ) → IsTrue (is_reason text) → length text ≡ 4
-length_is text h = let e = (both (length text == 4) (list_all is_code_character text) h).0 in grind (arith, nat_tests)
+length_is text h = let e = (and_parts (length text == 4) (list_all is_code_character text) h).0 in grind (arith, nat_tests)
 
 pub four_characters : (text : List ℕ) → IsTrue (is_reason text) → IsFour text
 four_characters [] h = absurd (cc)
@@ -76,15 +77,15 @@ four_characters (a ∷ []) h = absurd (cc)
 four_characters (a ∷ b ∷ []) h = absurd (cc)
 four_characters (a ∷ b ∷ c ∷ []) h = absurd (cc)
 four_characters (a ∷ b ∷ c ∷ d ∷ []) h =
-    let one = both (is_code_character a) (list_all is_code_character (b ∷ c ∷ d ∷ [])) h in
-    let two = both (is_code_character b) (list_all is_code_character (c ∷ d ∷ [])) one.1 in
-    let three = both (is_code_character c) (list_all is_code_character (d ∷ [])) two.1 in
-    let last = both (is_code_character d) true three.1 in
+    let one = and_parts (is_code_character a) (list_all is_code_character (b ∷ c ∷ d ∷ [])) h in
+    let two = and_parts (is_code_character b) (list_all is_code_character (c ∷ d ∷ [])) one.1 in
+    let three = and_parts (is_code_character c) (list_all is_code_character (d ∷ [])) two.1 in
+    let last = and_parts (is_code_character d) true three.1 in
     four a b c d one.0 two.0 three.0 last.0
 four_characters (a ∷ b ∷ c ∷ d ∷ e ∷ rest) h = absurd (omega (arith, length_is (a ∷ b ∷ c ∷ d ∷ e ∷ rest) h))
 
 pub utf8_reason : (n : ℕ) → n < 1679616 → IsUtf8 (characters n)
-utf8_reason n h = IsUtf8-from_ascii (characters n) (IsAscii-code (characters n) (both (length (characters n) == 4) (list_all is_code_character (characters n)) (is_reason_of n h)).1)
+utf8_reason n h = IsUtf8-from_ascii (characters n) (IsAscii-code (characters n) (and_parts (length (characters n) == 4) (list_all is_code_character (characters n)) (is_reason_of n h)).1)
 
 -- the reason of a number below 36^4
 pub reason_found : (n : ℕ) → n < 1679616 → (reason : List ℕ) → result_ok (reason_of (characters n)) ≡ Some reason → IsTrue (is_reason reason) × (reason_number reason ≡ n)

@@ -1,5 +1,4 @@
-use Rattle.std.proofs.Common.{◌≡◌, ◌+◌, ◌<◌, ◌^◌, ◌≤◌, ℕ, Fits, arith}
-use Rattle.inst_journal.specs.Money.{position, reserved}
+use Rattle.std.proofs.Common.{arith}
 use Rattle.inst_journal.proofs.Counting.{position_fits}
 use Rattle.inst_journal.proofs.Covering.{covered}
 use Rattle.inst_journal.proofs.queries.position.Goals as goal

@@ -1,4 +1,4 @@
-use Rattle.std.proofs.Common.{◌≡◌, sym, subst, inr}
+use Rattle.std.proofs.Common.{sym, subst, inr}
 use Rattle.inst_command.specs.declared.command.Command.{Command}
 use Rattle.inst_journal.specs.Reply.{handle}
 use Rattle.inst_journal.specs.Handling.{Answers}

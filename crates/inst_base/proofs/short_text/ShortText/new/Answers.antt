@@ -1,5 +1,4 @@
-use Rattle.std.proofs.Common.{◌++◌, length, drop, replicate, sym, subst, List, ℕ}
-use Rattle.inst_base.specs.ShortText.{IsKept}
+use Rattle.std.proofs.Common.{List, ℕ}
 use Rattle.inst_base.proofs.Kept.{IsKept-front}
 use Rattle.inst_base.proofs.short_text.ShortText.new.Goals as goal
 
