@@ -5,6 +5,7 @@ mod ask;
 mod columns;
 mod command;
 mod entry;
+pub mod laws;
 mod line;
 mod outcome;
 mod reply;

@@ -1,3 +1,5 @@
 pub mod Json
 pub mod Plain
 pub mod Texts
+pub mod Reading
+pub mod Telling

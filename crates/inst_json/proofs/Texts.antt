@@ -1,5 +1,5 @@
 -- The text of each reply's object, piece by piece, where its texts need no escape.
-use Rattle.std.proofs.Common.{◌≡◌, ℕ, List, [], ◌∷◌, ◌++◌, ◌+◌, refl, sym, ap, ◌∙◌, codes, decimal, append_assoc, drop, map, length, ◌≤◌, nat_lt, false}
+use Rattle.std.proofs.Common.{◌≡◌, ℕ, List, [], ◌∷◌, ◌++◌, refl, sym, ap, ◌∙◌, codes, decimal, append_assoc, drop, map, length, ◌≤◌, nat_lt, false}
 use Rattle.std.proofs.lemmas.List.{drop_all}
 use Rattle.json.specs.Print.{escape}
 use Rattle.serde_json.specs.Data.{string}

@@ -1,6 +1,6 @@
 -- The checks of a line that come after each field is there, in their order: amount, moments, participants.
 -- The order is this hub's own choice.
-use Rattle.std.specs.Prelude.{ℕ, ◌+◌, ◌&&◌, nat_le, List, ok_or, Result, Ok, Err, if◌then◌else◌}
+use Rattle.std.specs.Prelude.{ℕ, ◌&&◌, nat_le, List, ok_or, Result, Ok, Err, if◌then◌else◌}
 use Rattle.inst_base.specs.Moment.{moment_of, later_of}
 use Rattle.inst_base.specs.declared.fault.Fault.{Fault}
 use Rattle.inst_base.specs.declared.fault.Fault.TheVariants.{BadAmount, UnknownParticipant}

@@ -1,5 +1,5 @@
 -- The fields of a line's object (JSON, RFC 8259), by name. What a field must hold is this hub's own choice.
-use Rattle.std.specs.Prelude.{ℕ, nat_le, List, Option, option_and_then, ok_or, Result, Ok, Err, if◌then◌else◌}
+use Rattle.std.specs.Prelude.{ℕ, nat_le, List, option_and_then, ok_or, Result, Ok, Err, if◌then◌else◌}
 use Rattle.serde_json.specs.Data.{Data}
 use Rattle.serde_json.specs.Find.{get, as_str, as_number, as_u64}
 use Rattle.inst_base.specs.Text.{code_of, reason_of}

@@ -6,3 +6,4 @@ pub mod Commands
 pub mod Replies
 pub mod Steps
 pub mod Lines
+pub mod Laws

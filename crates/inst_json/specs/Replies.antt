@@ -9,7 +9,6 @@ use Rattle.inst_base.specs.declared.fault.Fault.{Fault}
 use Rattle.inst_settings.specs.Settings.{HubSettings, same_text}
 use Rattle.inst_command.specs.Ask.{is_participant}
 use Rattle.inst_command.specs.LineText.{code_numbered, line_text, line_fits}
-use Rattle.inst_command.specs.declared.outcome.Outcome.{Outcome}
 use Rattle.inst_command.specs.declared.outcome.Outcome.TheVariants.{Accepted, Rejected, TimedOut}
 use Rattle.inst_command.specs.declared.outcome.State.{State}
 use Rattle.inst_command.specs.declared.outcome.State.TheVariants as state

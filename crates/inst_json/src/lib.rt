@@ -4,6 +4,7 @@
 mod checks;
 mod command;
 mod fields;
+pub mod laws;
 mod read;
 mod step;
 #[cfg(test)]

@@ -1,4 +1,4 @@
-use Rattle.std.proofs.Common.{◌∙◌, ap}
+use Rattle.std.proofs.Common.{◌∙◌}
 use Rattle.std.proofs.lemmas.Result.{IfOk-weaker}
 use Rattle.inst_json.proofs.Plain.{escape-identifier}
 use Rattle.inst_json.proofs.Texts.{done_line}

@@ -1,4 +1,4 @@
-use Rattle.std.proofs.Common.{◌∙◌, ◌≡◌, ◌++◌, ap, string_bytes, codes, decimal, List, ℕ, sym}
+use Rattle.std.proofs.Common.{◌∙◌, ◌≡◌, ◌++◌, ap, string_bytes, List, ℕ}
 use Rattle.std.proofs.lemmas.Result.{on_ok_weaker}
 use Rattle.serde_json.specs.Written.{compact_text}
 use Rattle.inst_json.specs.Replies.{entry_data}
