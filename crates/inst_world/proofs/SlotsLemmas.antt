@@ -1,5 +1,5 @@
 -- Slots in a list by their participants' numbers.
-use Rattle.std.proofs.Common.{◌≡◌, ℕ, ◌+◌, ◌<◌, Bool, true, cond, List, [], ◌∷◌, ◌++◌, length, get_or, set, map, replicate, zero, suc, ◌⊎◌, inl, inr, Result, Ok, Err, IfOk, OnErr, refl, sym, ap, ◌∙◌, subst, arith, length-set, length-append}
+use Rattle.std.proofs.Common.{◌≡◌, ℕ, ◌+◌, ◌<◌, true, cond, List, [], ◌∷◌, ◌++◌, length, get_or, set, map, replicate, zero, suc, inl, inr, Result, Ok, Err, IfOk, OnErr, refl, sym, ap, ◌∙◌, subst, arith, length-set, length-append}
 use Rattle.std.proofs.lemmas.List.{get_or-map, map-set, map-append, replicate_more}
 use Rattle.std.proofs.lemmas.Bool.{ltb-true, and_parts}
 use Rattle.inst_base.specs.declared.fault.Fault.{Fault}

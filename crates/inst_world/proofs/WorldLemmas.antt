@@ -1,8 +1,8 @@
 -- What the hub answers to a line can be written, and keeps its settings.
-use Rattle.std.proofs.Common.{◌≡◌, ℕ, ◌+◌, ◌<◌, ◌≤◌, Bool, true, false, cond, nat_lt, nat_le, ◌==◌, List, [], ◌∷◌, ◌++◌, length, ◌⊎◌, inl, inr, Result, Ok, Err, IfOk, OnOk, refl, sym, ap, ◌∙◌, subst, arith}
+use Rattle.std.proofs.Common.{◌≡◌, ℕ, ◌+◌, ◌<◌, ◌≤◌, Bool, true, false, cond, nat_lt, nat_le, ◌==◌, List, [], ◌∷◌, ◌++◌, length, ◌⊎◌, Result, Ok, Err, IfOk, OnOk, refl, sym, ap, ◌∙◌}
 use Rattle.std.proofs.lemmas.Bool.{le-ltb}
 use Rattle.inst_base.specs.declared.fault.Fault.{Fault}
-use Rattle.inst_base.specs.declared.fault.Fault.TheVariants.{Memory, LineTooLong}
+use Rattle.inst_base.specs.declared.fault.Fault.TheVariants.{LineTooLong}
 use Rattle.inst_settings.specs.Settings.{HubSettings}
 use Rattle.inst_command.specs.declared.ask.Ask.{Ask}
 use Rattle.inst_command.specs.declared.command.Command.{Command}
@@ -12,17 +12,17 @@ use Rattle.inst_journal.specs.declared.event.Event.{Event}
 use Rattle.inst_journal.specs.Booked.{is_taken, submissions}
 use Rattle.inst_journal.specs.Money.{available}
 use Rattle.inst_journal.specs.Keys.{is_fund_repeat, is_defund_repeat, is_submission_repeat, has_reference, fundings}
-use Rattle.inst_journal.specs.Reply.{Handled, fund, defund, submit, handle}
+use Rattle.inst_journal.specs.Reply.{Handled, fund, defund, submit}
 use Rattle.inst_json.specs.Replies.{reply_can_be_written}
 use Rattle.inst_json.specs.Lines.{command_of_line}
-use Rattle.inst_slot.specs.Book.{is_served, handle_ask}
+use Rattle.inst_slot.specs.Book.{is_served}
 use Rattle.serde_json.specs.Written.{compact_text}
 use Rattle.inst_command.specs.declared.reply.Reply.TheVariants.{Refused}
 use Rattle.inst_json.specs.Replies.{reply_data}
 use Rattle.inst_world.specs.Lines.{newline}
-use Rattle.inst_world.specs.Answers.{is_too_long, reply_to, is_refused, IsFront, AnswersLine}
+use Rattle.inst_world.specs.Answers.{is_too_long, reply_to, is_refused, AnswersLine}
 use Rattle.inst_world.proofs.AnswersLemmas.{is_too_long-front}
-use Rattle.inst_world.specs.World.{any_line_reply, after_any_line, RepliesToLine, answering, reply_line, too_long_line, is_refused_line, is_refusal, Hub, book_of, told, refusals_told, reply_to_ask, after_ask, reply_to_read, after_read, line_reply, after_line}
+use Rattle.inst_world.specs.World.{any_line_reply, after_any_line, RepliesToLine, answering, reply_line, too_long_line, is_refused_line, is_refusal, Hub, book_of, told, reply_to_ask, reply_to_read, after_read, line_reply, after_line}
 
 abbrev CanBeTold : HubSettings → Handled → Type 0
 CanBeTold s h = reply_can_be_written s (told h.reply) ≡ true

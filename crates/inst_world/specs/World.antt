@@ -1,10 +1,10 @@
 -- The hub as the model of a run sees it: its settings and one history for each participant, and how it answers a line.
 -- A line is read, then its ask is answered on its participant's books alone: this hub's own choice.
-use Rattle.std.specs.Prelude.{◌≡◌, ℕ, ◌+◌, Bool, true, false, if◌then◌else◌, List, [], ◌∷◌, ◌++◌, length, map, replicate, slice_index_or, slice_set, Result, Ok, Err}
+use Rattle.std.specs.Prelude.{◌≡◌, ℕ, Bool, true, false, if◌then◌else◌, List, [], ◌++◌, map, replicate, slice_index_or, slice_set, Result, Ok, Err}
 use Rattle.serde_json.specs.Written.{compact_text}
 use Rattle.inst_base.specs.declared.fault.Fault.{Fault}
 use Rattle.inst_base.specs.declared.fault.Fault.TheVariants.{BadField, LineTooLong, Memory}
-use Rattle.inst_settings.specs.Settings.{HubSettings, IsSettings, participants}
+use Rattle.inst_settings.specs.Settings.{HubSettings, participants}
 use Rattle.inst_command.specs.declared.ask.Ask.{Ask}
 use Rattle.inst_command.specs.declared.reply.Reply.{Reply}
 use Rattle.inst_command.specs.declared.reply.Reply.TheVariants.{Done, Taken, State, Inbox, Position, Statement, Refused}

@@ -1,5 +1,5 @@
 // Replies on their way to a writer.
-ghost use Rattle.std.specs.Prelude.{◌≡◌, ◌++◌, List, ℕ, [], OnOk, OnErr, IsErrOf, vec_len};
+ghost use Rattle.std.specs.Prelude.{◌≡◌, ◌<◌, ◌||◌, ◌++◌, List, ℕ, [], false, nat_lt, length, OnOk, OnErr, IsErrOf, vec_len};
 ghost use Rattle.std.specs.Io.KnownBytes.{Appends};
 ghost use Rattle.inst_world.specs.Replies.{WritesPart, WritesFirst};
 
@@ -33,6 +33,7 @@ impl ReplyBuffer {
     pub fn write_to<W: Write>(&mut self, writer: &mut W) -> Result<(), Fault>
         ensures ok { OnOk result (Appends (W.contents writer.old) (W.contents writer.new) self.old.bytes.items) }
         ensures none { OnOk result (self.new.bytes.items ≡ []) }
+        ensures unflushed { OnOk result (self.new.is_unflushed ≡ (self.old.is_unflushed || nat_lt 0 (length self.old.bytes.items))) }
         ensures err { OnErr result (WritesPart (W.contents writer.old) (W.contents writer.new) self.old.bytes.items) }
         ensures fault { OnErr result (IsErrOf result Fault.WriteFault) }
     {
@@ -45,6 +46,7 @@ impl ReplyBuffer {
     /// Writes the replies if there are many. `WriteFault` comes as from `write_to`.
     pub fn write_if_full<W: Write>(&mut self, writer: &mut W) -> Result<(), Fault>
         ensures ok { OnOk result (WritesFirst (W.contents writer.old) (W.contents writer.new) self.old.bytes.items self.new.bytes.items) }
+        ensures short { OnOk result (length self.new.bytes.items < 65536) }
         ensures err { OnErr result (WritesPart (W.contents writer.old) (W.contents writer.new) self.old.bytes.items) }
         ensures fault { OnErr result (IsErrOf result Fault.WriteFault) }
     {
@@ -59,6 +61,7 @@ impl ReplyBuffer {
     pub fn deliver<W: Write>(&mut self, writer: &mut W) -> Result<(), Fault>
         ensures ok { OnOk result (Appends (W.contents writer.old) (W.contents writer.new) self.old.bytes.items) }
         ensures none { OnOk result (self.new.bytes.items ≡ []) }
+        ensures flushed { OnOk result (self.new.is_unflushed ≡ false) }
         ensures err { OnErr result (WritesPart (W.contents writer.old) (W.contents writer.new) self.old.bytes.items) }
         ensures fault { OnErr result (IsErrOf result Fault.WriteFault) }
     {

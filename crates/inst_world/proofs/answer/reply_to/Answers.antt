@@ -1,6 +1,5 @@
-use Rattle.std.proofs.Common.{◌≡◌, ◌≤◌, false, length, subst, sym, Bool, arith}
+use Rattle.std.proofs.Common.{◌≤◌, length, arith}
 use Rattle.std.proofs.lemmas.Result.{IfOk-weaker}
-use Rattle.inst_world.specs.World.{RepliesToLine}
 use Rattle.inst_world.proofs.WorldLemmas.{replies_whole, ok_both}
 use Rattle.inst_world.proofs.answer.reply_to.Goals as goal
 

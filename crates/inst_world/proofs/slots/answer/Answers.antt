@@ -1,7 +1,5 @@
-use Rattle.std.proofs.Common.{◌≡◌, ap, sym, ◌∙◌}
+use Rattle.std.proofs.Common.{ap, sym, ◌∙◌}
 use Rattle.inst_command.specs.Ask.{ask_fits}
-use Rattle.inst_slot.specs.Book.{Book}
-use Rattle.inst_world.specs.World.{book_at}
 use Rattle.inst_world.proofs.SlotsLemmas.{found, asker, answered, hub_stays}
 use Rattle.inst_world.proofs.slots.answer.Goals as goal
 

@@ -1,5 +1,4 @@
-use Rattle.std.proofs.Common.{◌≡◌, ◌++◌, ◌∷◌, [], List, ap, sym, ◌∙◌}
-use Rattle.inst_slot.specs.Book.{Book}
+use Rattle.std.proofs.Common.{◌≡◌, ◌++◌, ◌∷◌, []}
 use Rattle.inst_world.proofs.SlotsLemmas.{opened_push}
 use Rattle.inst_world.proofs.slots.open.Goals as goal
 

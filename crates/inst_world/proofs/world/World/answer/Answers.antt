@@ -1,8 +1,6 @@
-use Rattle.std.proofs.Common.{◌≡◌, true, ap, sym, ◌∙◌, subst}
+use Rattle.std.proofs.Common.{◌≡◌, true}
 use Rattle.std.proofs.lemmas.Result.{IfOk-weaker}
 use Rattle.inst_slot.specs.Book.{is_served}
-use Rattle.inst_world.specs.World.{Hub, reply_to_ask, after_ask}
-use Rattle.inst_world.specs.Slots.{histories}
 use Rattle.inst_world.proofs.SlotsLemmas.{served_reply, served_after}
 use Rattle.inst_world.proofs.world.World.answer.Goals as goal
 
