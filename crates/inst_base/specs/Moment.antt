@@ -1,5 +1,5 @@
--- Moments of a hub, counted in milliseconds from its base. The rulebook (EPC004-16) lets time limits
--- count from the originator's time stamp; the milliseconds and their range are this hub's own choice.
+-- Moments of a hub, counted in milliseconds from its base. The rulebook (EPC004-16, chapter 4: time cycle) lets
+-- time limits count from the originator's time stamp; the milliseconds and their range are this hub's own choice.
 use Rattle.std.specs.Prelude.{ℕ, ◌+◌, ◌-◌, Bool, ◌&&◌, nat_le, if◌then◌else◌, Result, Ok, Err}
 use Rattle.inst_base.specs.declared.moment.TheConstants.{LAST}
 use Rattle.inst_base.specs.declared.fault.Fault.{Fault}

@@ -1,4 +1,5 @@
--- How a short text lies in an array: its bytes, which are ASCII, and zeros up to the array's end.
+-- How a short text lies in an array: its bytes, which are ASCII, and zeros up to the array's end. This
+-- hub's own choice.
 use Rattle.std.specs.Prelude.{◌≡◌, ℕ, ◌-◌, ◌≤◌, ◌++◌, List, length, take, drop, replicate}
 use Rattle.std.specs.Str.{IsAscii}
 use Rattle.std.proofs.Common.{sym, ◌∙◌, ap, arith, take-append-drop, length-take-le}

@@ -1,5 +1,5 @@
 -- The texts that the hub takes: participant codes as BICs of 8 or 11 characters (ISO 9362), identifiers of at
--- most 35 characters of the scheme's basic Latin set (EPC004-16), and reasons of four characters.
+-- most 35 characters of the scheme's basic Latin set (EPC004-16, chapter 4: attributes), and reasons of four characters.
 use Rattle.std.specs.Prelude.{ℕ, Bool, ◌&&◌, ◌||◌, ◌==◌, nat_le, if◌then◌else◌, List, length, Result, Ok, Err, codes}
 use Rattle.std.specs.List.{list_all, list_any}
 use Rattle.inst_base.specs.declared.fault.Fault.{Fault}

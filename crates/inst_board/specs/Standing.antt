@@ -1,6 +1,6 @@
 -- What a place is at a moment, and what is true of it: unused, pending with the terms and the deadline of its transfer,
--- or final. A transfer is pending, accepted, rejected or timed out as in the rulebook (EPC004-16); places are this
--- hub's own choice.
+-- or final. A transfer is pending, accepted, rejected or timed out as in the rulebook (EPC004-16, chapter 4:
+-- processing flow); places are this hub's own choice.
 use Rattle.std.specs.Prelude.{◌≡◌, ℕ, ◌≤◌, IsTrue, Bool, ◌&&◌, nat_lt}
 use Rattle.inst_command.specs.declared.outcome.Outcome.{Outcome}
 use Rattle.inst_settings.specs.Settings.{HubSettings, participants}

@@ -1,6 +1,6 @@
 -- Which asks belong to a hub. The commands stand for the scheme's messages between a participant and the
--- mechanism (EPC004-16: submission, positive and negative confirmation, investigation); funding, fetching,
--- positions and statements are this hub's own.
+-- mechanism (EPC004-16, chapter 4, processing flow: submission, positive and negative confirmation, investigation);
+-- funding, fetching, positions and statements are this hub's own.
 use Rattle.std.specs.Prelude.{ℕ, ◌+◌, Bool, true, ◌&&◌, nat_lt, nat_le}
 use Rattle.inst_base.specs.Moment.{is_moment}
 use Rattle.inst_settings.specs.Settings.{HubSettings, participants}

@@ -1,5 +1,6 @@
 -- Which transfers a history has taken, forwarded and booked. A transfer is named by its originator and its
--- identifier (EPC004-16: the originator's reference); that each side books an outcome is this hub's own choice.
+-- identifier (EPC004-16, chapter 4, attributes: the originator's reference); that each side books an outcome is
+-- this hub's own choice.
 use Rattle.std.specs.Prelude.{ℕ, Bool, true, false, ◌&&◌, ◌==◌, not, if◌then◌else◌, List, [], ◌∷◌, Option, Some, None, count_by}
 use Rattle.std.specs.List.{list_any}
 use Rattle.inst_settings.specs.Settings.{same_text}

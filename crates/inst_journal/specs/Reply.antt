@@ -1,6 +1,6 @@
 -- What a participant is answered, and what its history keeps of it: the first case that holds, in the one order of
--- the refusals. Confirmations, rejections and investigations are the scheme's (EPC004-16); the order, the repeats and
--- the capacities are this hub's own choice.
+-- the refusals. Confirmations, rejections and investigations are the scheme's (EPC004-16, chapter 4: processing
+-- flow); the order, the repeats and the capacities are this hub's own choice.
 use Rattle.std.specs.Prelude.{ℕ, ◌+◌, ◌==◌, nat_lt, nat_le, if◌then◌else◌, List, [], ◌∷◌, ◌++◌, length, take, drop, sum_by, Option, Some, None, Result, Ok, Err}
 use Rattle.std.specs.List.{filter_map}
 use Rattle.inst_base.specs.declared.fault.Fault.{Fault}

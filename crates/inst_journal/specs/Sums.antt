@@ -1,5 +1,6 @@
 -- The plain sums over a participant's history, in cents. Funding in advance is this hub's own choice;
--- a transfer counts for either side once that side has booked it accepted (EPC004-16: settlement).
+-- a transfer counts for either side once that side has booked it accepted (EPC004-16, chapter 4: settlement
+-- in the processing flow).
 use Rattle.std.specs.Prelude.{ℕ, ℤ, pos, ◌-ℤ◌, List, Option, Some, None, sum_by}
 use Rattle.inst_command.specs.declared.outcome.Outcome.{Outcome}
 use Rattle.inst_command.specs.declared.outcome.Outcome.TheVariants.{Accepted, Rejected, TimedOut}

@@ -1,6 +1,7 @@
 -- The asks of command lines. Each command is a table of its fields, in which no order counts, and then the
 -- checks of what they hold, in the order in which refusals are told: identifier, amount, moments,
--- participants. The commands stand for the scheme's messages (EPC004-16); fields and order are this hub's own choice.
+-- participants. The commands stand for the scheme's messages (EPC004-16, chapter 4: datasets); fields and order are
+-- this hub's own choice.
 use Rattle.std.specs.Prelude.{Result, Ok, codes}
 use Rattle.serde_json.specs.Data.{Data}
 use Rattle.inst_base.specs.Text.{identifier_of}

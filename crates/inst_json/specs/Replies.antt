@@ -1,6 +1,6 @@
 -- The replies as JSON objects. Each is a table of its members, with the keys in byte order. Moments are absolute
 -- milliseconds, amounts cents, and participants codes. The replies stand for the scheme's answers and
--- confirmations (EPC004-16); their form is this hub's own choice.
+-- confirmations (EPC004-16, chapter 4: datasets); their form is this hub's own choice.
 use Rattle.std.specs.Prelude.{ℕ, ◌+◌, ◌&&◌, Bool, true, false, List, [], ◌∷◌, map, codes}
 use Rattle.std.specs.List.{list_all, list_any}
 use Rattle.serde_json.specs.Data.{Data, object, array, string, boolean, number, unsigned, Items, no_items, item, Members, no_members, member}

@@ -1,4 +1,4 @@
--- The commands by the names that lines give them.
+-- The commands by the names that lines give them. The names are this hub's own choice.
 use Rattle.std.specs.Prelude.{ℕ, List, Result, Ok, Err, if◌then◌else◌, codes}
 use Rattle.inst_base.specs.declared.fault.Fault.{Fault}
 use Rattle.inst_base.specs.declared.fault.Fault.TheVariants.{BadField}

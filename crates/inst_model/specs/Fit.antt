@@ -1,6 +1,6 @@
 -- When the books of all participants agree with one another: what is forwarded was taken, both sides book the same, and
--- nobody pays what wasn't received (EPC004-16: both participants are told one outcome). They are closed once all that is
--- decided is booked by both sides. This hub's own choice.
+-- nobody pays what wasn't received (EPC004-16, chapter 4: both participants are told one outcome). They are closed
+-- once all that is decided is booked by both sides. This hub's own choice.
 use Rattle.std.specs.Prelude.{◌≡◌, ℕ, ◌+◌, List, Contains}
 use Rattle.inst_settings.specs.Settings.{HubSettings}
 use Rattle.inst_command.specs.declared.outcome.Outcome.{Outcome}

@@ -1,5 +1,6 @@
 -- What an ask finds of a transfer: the outcome after the ask, for a confirmation or rejection of a transfer that was
--- forwarded to the asker, and for an investigation of one that the asker has taken (EPC004-16). Else it finds none.
+-- forwarded to the asker, and for an investigation of one that the asker has taken (EPC004-16, chapter 4: processing
+-- flow). Else it finds none.
 use Rattle.std.specs.Prelude.{ℕ, if◌then◌else◌, List, Option, None}
 use Rattle.inst_command.specs.declared.command.Command.{Command}
 use Rattle.inst_command.specs.declared.command.Command.TheVariants.{Fund, Defund, Submit, Confirm, Reject, Investigate, Fetch, Position, Statement}

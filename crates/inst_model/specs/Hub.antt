@@ -1,6 +1,6 @@
 -- The whole hub over a list of steps, the newest in front: what each participant sees, its history, and the outcome of
 -- each transfer, which is what the first step wants that wants something. One outcome for both sides is the scheme's
--- (EPC004-16); the steps, and that the first one decides, are this hub's own choice.
+-- (EPC004-16, chapters 3 and 4); the steps, and that the first one decides, are this hub's own choice.
 use Rattle.std.specs.Prelude.{ℕ, List, [], ◌∷◌, ◌++◌, Option, Some, None}
 use Rattle.inst_settings.specs.Settings.{HubSettings}
 use Rattle.inst_command.specs.declared.outcome.Outcome.{Outcome}

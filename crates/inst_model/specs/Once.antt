@@ -1,6 +1,6 @@
--- Money is settled or released at most once (EPC004-16: one settlement a transfer): no history books a transfer twice;
--- the originator's amount is reserved until it has booked, then debited or free; the beneficiary is credited exactly if
--- it has booked accepted.
+-- Money is settled or released at most once (EPC004-16, chapter 4: one settlement a transfer): no history books a
+-- transfer twice; the originator's amount is reserved until it has booked, then debited or free; the beneficiary is
+-- credited exactly if it has booked accepted.
 use Rattle.std.specs.Prelude.{◌≡◌, ◌≢◌, ℕ, ◌≤◌, List, Some, count_by, is_some, Contains}
 use Rattle.inst_settings.specs.Settings.{HubSettings}
 use Rattle.inst_command.specs.declared.outcome.Outcome.TheVariants.{Accepted}

@@ -1,4 +1,5 @@
--- A transfer has at most one outcome, for both sides and for good (EPC004-16: a confirmation or rejection is final).
+-- A transfer has at most one outcome, for both sides and for good (EPC004-16, chapter 4: a confirmation or
+-- rejection is final).
 use Rattle.std.specs.Prelude.{◌≡◌, ℕ, List, ◌∷◌, ◌++◌, Some, Contains}
 use Rattle.inst_settings.specs.Settings.{HubSettings}
 use Rattle.inst_command.specs.declared.ask.Ask.{Ask as AskValue}

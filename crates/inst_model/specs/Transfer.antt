@@ -1,6 +1,7 @@
--- A transfer between two participants, as its originator's history has taken it (EPC004-16: the originator's reference,
--- the amount, and the time stamp from which the time limit counts). A transfer is named by its originator and its
--- identifier; its place, counted from 0 over the originator's submissions, names it too: this hub's own choice.
+-- A transfer between two participants, as its originator's history has taken it (EPC004-16, chapter 4, attributes: the
+-- originator's reference, the amount, and the time stamp from which the time limit counts). A transfer is named by its
+-- originator and its identifier; its place, counted from 0 over the originator's submissions, names it too: this hub's
+-- own choice.
 use Rattle.std.specs.Prelude.{ℕ, ◌+◌, Bool, false, if◌then◌else◌, List, Option, Some, None, slice_get}
 use Rattle.std.specs.List.{filter_map}
 use Rattle.inst_settings.specs.Settings.{HubSettings, same_text}

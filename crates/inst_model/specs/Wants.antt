@@ -1,6 +1,6 @@
 -- What a step wants for a transfer that was taken before it. Until its deadline the beneficiary's confirmation or
--- rejection decides a transfer; from the deadline on, whoever asks after it finds it timed out (EPC004-16: time-out
--- deadline, positive and negative confirmation, investigation). Expiry as a step is this hub's own choice.
+-- rejection decides a transfer; from the deadline on, whoever asks after it finds it timed out (EPC004-16, chapter 4:
+-- time-out deadline, positive and negative confirmation, investigation). Expiry as a step is this hub's own choice.
 use Rattle.std.specs.Prelude.{ℕ, Bool, ◌&&◌, ◌==◌, nat_lt, if◌then◌else◌, List, Option, Some, None}
 use Rattle.inst_settings.specs.Settings.{HubSettings}
 use Rattle.inst_command.specs.declared.command.Command.{Command}

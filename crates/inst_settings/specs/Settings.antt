@@ -1,6 +1,6 @@
 -- The settings of a hub. Participants are named by codes (BICs, ISO 9362) and numbered from 0 as given. The time
--- limit counts from the originator's time stamp, as in the rulebook (EPC004-16); its length in milliseconds,
--- the capacities and the ceiling are this hub's own choice.
+-- limit counts from the originator's time stamp, as in the rulebook (EPC004-16, chapter 4: time cycle); its
+-- length in milliseconds, the capacities and the ceiling are this hub's own choice.
 use Rattle.std.specs.Prelude.{◌≡◌, ℕ, ◌≤◌, Bool, true, ◌&&◌, not, nat_eq, List, [], ◌∷◌, length, position, Option}
 use Rattle.std.specs.List.{list_any}
 use Rattle.std.specs.Cmp.Lexicographic.{pointwise}

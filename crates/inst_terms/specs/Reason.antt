@@ -1,5 +1,6 @@
 -- A rejection reason as a number: its four characters in base 36, the first highest, `0-9` as 0 to 9 and `A-Z` as 10
--- to 35. The reason's form is the scheme's (EPC004-16, ISO reason codes); its number is this hub's own choice.
+-- to 35. The reason's form is the scheme's (EPC004-16, chapter 4: attributes; ISO reason codes); its number is this
+-- hub's own choice.
 use Rattle.std.specs.Prelude.{ℕ, ◌+◌, ◌-◌, ◌*◌, ◌^◌, List, get_or, nat_lt, if◌then◌else◌}
 
 -- the value of a character of `0-9 A-Z`

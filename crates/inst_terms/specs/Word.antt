@@ -1,6 +1,6 @@
 -- The outcome word of a place: 0 while nothing is opened, else a moment in milliseconds past the base, a reason and a
--- kind. Pending, accepted and rejected are the scheme's states of a transfer (EPC004-16); that they and the time-out
--- stand in one number is this hub's own choice.
+-- kind. Pending, accepted and rejected are the scheme's states of a transfer (EPC004-16, chapter 4: processing
+-- flow); that they and the time-out stand in one number is this hub's own choice.
 use Rattle.std.specs.Prelude.{ℕ, ◌+◌, ◌*◌, ◌^◌, ◌≤◌, IsTrue}
 use Rattle.inst_base.specs.Moment.{is_moment}
 use Rattle.inst_base.specs.Text.{is_reason}

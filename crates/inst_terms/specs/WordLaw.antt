@@ -1,6 +1,6 @@
 -- How the outcome word of a place may change: from unused to pending once, then once to a final word, which stays. A
--- transfer is accepted or rejected before its deadline and timed out from it on, as in the rulebook (EPC004-16); that
--- one word decides is this hub's own choice.
+-- transfer is accepted or rejected before its deadline and timed out from it on, as in the rulebook
+-- (EPC004-16, chapter 4: time cycle); that one word decides is this hub's own choice.
 use Rattle.std.specs.Prelude.{◌≡◌, ◌⊎◌, ℕ, ◌<◌, ◌≤◌, List, [], ◌∷◌}
 use Rattle.inst_command.specs.declared.outcome.Outcome.{Outcome}
 use Rattle.inst_command.specs.declared.outcome.Outcome.TheVariants.{Accepted, Rejected, TimedOut}

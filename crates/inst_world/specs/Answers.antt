@@ -1,4 +1,4 @@
--- What is answered to lines, at any world.
+-- What is answered to lines, at any world. This hub's own choice.
 use Rattle.std.specs.Prelude.{◌≡◌, ℕ, ◌+◌, ◌<◌, Bool, true, false, List, [], ◌∷◌, ◌++◌, length, nat_lt, if◌then◌else◌}
 use Rattle.inst_world.specs.Lines.{newline, NoNewline}
 

@@ -1,4 +1,4 @@
--- The lines of a text of bytes.
+-- The lines of a text of bytes, and how many a run may have. This hub's own choice.
 use Rattle.std.specs.Prelude.{◌≡◌, ◌≢◌, ℕ, ◌+◌, ◌<◌, ◌≤◌, List, [], ◌∷◌, ◌++◌, length, take, drop, ◌==◌, if◌then◌else◌}
 
 -- the byte that ends a line

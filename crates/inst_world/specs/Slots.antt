@@ -1,4 +1,5 @@
--- How a hub's slots lie in a list: each has the hub's settings and stands at its participant's number.
+-- How a hub's slots lie in a list: each has the hub's settings and stands at its participant's number. This hub's own
+-- choice.
 use Rattle.std.specs.Prelude.{◌≡◌, ℕ, ◌+◌, List, [], ◌∷◌, length, map}
 use Rattle.inst_settings.specs.Settings.{HubSettings, IsSettings, participants}
 use Rattle.inst_journal.specs.declared.event.Event.{Event}
