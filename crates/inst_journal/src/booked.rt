@@ -11,25 +11,16 @@ use inst_command::Outcome;
 pub(crate) fn is_taken(events: &[Event], id: &Ident) -> bool
     ensures { result ≡ is_taken id.now events.now }
 {
-    for event in events {
-        if matches!(event, Event::Taken { id: other, .. } if other == id) {
-            return true;
-        }
-    }
-    false
+    events.iter().any(|event| matches!(event, Event::Taken { id: other, .. } if other == id))
 }
 
 /// Whether this transfer was forwarded to the participant.
 pub(crate) fn is_forwarded(events: &[Event], from: u8, id: &Ident) -> bool
     ensures { result ≡ is_forwarded from id.now events.now }
 {
-    for event in events {
-        if matches!(event, Event::Forwarded { from: originator, id: other, .. } if *originator == from && other == id)
-        {
-            return true;
-        }
-    }
-    false
+    events.iter().any(
+        |event| matches!(event, Event::Forwarded { from: originator, id: other, .. } if *originator == from && other == id),
+    )
 }
 
 /// The outcome that the event books for this transfer.

@@ -9,26 +9,18 @@ use inst_base::{Cents, Ident, Moment};
 pub(crate) fn is_fund_repeat(events: &[Event], reference: &Ident, cents: Cents) -> bool
     ensures { result ≡ is_fund_repeat reference.now cents events.now }
 {
-    for event in events {
-        if matches!(event, Event::Funded { reference: other, cents: amount } if other == reference && *amount == cents)
-        {
-            return true;
-        }
-    }
-    false
+    events.iter().any(
+        |event| matches!(event, Event::Funded { reference: other, cents: amount } if other == reference && *amount == cents),
+    )
 }
 
 /// Whether the history has this very defunding.
 pub(crate) fn is_defund_repeat(events: &[Event], reference: &Ident, cents: Cents) -> bool
     ensures { result ≡ is_defund_repeat reference.now cents events.now }
 {
-    for event in events {
-        if matches!(event, Event::Defunded { reference: other, cents: amount } if other == reference && *amount == cents)
-        {
-            return true;
-        }
-    }
-    false
+    events.iter().any(
+        |event| matches!(event, Event::Defunded { reference: other, cents: amount } if other == reference && *amount == cents),
+    )
 }
 
 /// Whether the history has this very submission.
@@ -41,12 +33,9 @@ pub(crate) fn is_submission_repeat(
 ) -> bool
     ensures { result ≡ is_submission_repeat id.now to cents stamp events.now }
 {
-    for event in events {
-        if is_this_submission(event, id, to, cents, stamp) {
-            return true;
-        }
-    }
-    false
+    events
+        .iter()
+        .any(|event| is_this_submission(event, id, to, cents, stamp))
 }
 
 /// Whether the event is this very submission.
@@ -68,12 +57,7 @@ fn is_this_submission(event: &Event, id: &Ident, to: u8, cents: Cents, stamp: Mo
 pub(crate) fn has_reference(events: &[Event], reference: &Ident) -> bool
     ensures { result ≡ has_reference reference.now events.now }
 {
-    for event in events {
-        if refers(event, reference) {
-            return true;
-        }
-    }
-    false
+    events.iter().any(|event| refers(event, reference))
 }
 
 /// Whether the event keeps this funding reference.

@@ -1,4 +1,6 @@
 // Worked rows on one slot: the participant 0 of three, with 2 places and 4 fundings.
+ghost use Rattle.std.specs.Prelude.{◌≡◌};
+
 use crate::Slot;
 use inst_base::{Cents, Code, Fault, Ident, Moment};
 use inst_command::{Ask, Command, Outcome, Reply};
@@ -19,7 +21,7 @@ fn hub(alloc: Global) -> Result<Settings, Fail> {
 }
 
 /// What is asked, by short texts and plain numbers.
-#[derive(Clone, Copy)]
+#[derive(Clone, Copy, Debug)]
 enum Says {
     Fund(&'static str, u64),
     Defund(&'static str, u64),
@@ -28,22 +30,16 @@ enum Says {
 }
 
 /// What is answered, likewise.
-#[derive(Clone, Copy, Debug, PartialEq, Eq)]
+#[derive(Clone, Copy, Debug)]
 enum Told {
-    Done(Ident),
-    Taken(Ident, u64),
+    Done(&'static str),
+    Taken(&'static str, u64),
     Position(u64, u64, u64),
     Refused(Fault),
-    Other,
 }
 
-fn done(reference: &str) -> Result<Told, Fault> {
-    Ok(Told::Done(Ident::new(reference)?))
-}
-
-fn taken(id: &str, deadline: u64) -> Result<Told, Fault> {
-    Ok(Told::Taken(Ident::new(id)?, deadline))
-}
+/// What is asked, when, and what is answered.
+type Row = (Says, u64, Told);
 
 fn command(says: &Says) -> Result<Command, Fault> {
     match says {
@@ -65,51 +61,51 @@ fn command(says: &Says) -> Result<Command, Fault> {
     }
 }
 
-fn shortened(reply: &Reply) -> Told {
-    match reply {
-        Reply::Done { reference } => Told::Done(*reference),
-        Reply::Taken { id, deadline } => Told::Taken(*id, deadline.past_base()),
-        Reply::Position {
-            position,
-            reserved,
-            available,
-        } => Told::Position(*position, *reserved, *available),
-        _ => Told::Other,
+/// Whether this is what is told.
+fn tells(answer: &Result<Reply, Fault>, told: &Told) -> bool {
+    match (answer, told) {
+        (Ok(Reply::Done { reference }), Told::Done(wanted)) => reference.text() == *wanted,
+        (Ok(Reply::Taken { id, deadline }), Told::Taken(wanted, end)) => {
+            id.text() == *wanted && deadline.past_base() == *end
+        }
+        (
+            Ok(
+                Reply::Position {
+                    position,
+                    reserved,
+                    available,
+                },
+            ),
+            Told::Position(all, held, free),
+        ) => position == all && reserved == held && available == free,
+        (Err(fault), Told::Refused(wanted)) => fault == wanted,
+        _ => false,
     }
 }
 
 /// Compares what the slot of the participant 0 answers; after `Memory`, what it then answers.
-fn answers(
-    rt: &impl Abort,
-    settings: &Settings,
-    slot: &mut Slot,
-    says: Says,
-    at: u64,
-    wanted: Result<Told, Fault>,
-) -> Result<(), Fail>
+fn answers(rt: &impl Abort, settings: &Settings, slot: &mut Slot, rows: &[Row]) -> Result<(), Fail>
     requires own { slot.old.who ≡ 0 }
     requires hub { slot.old.settings ≡ settings.now }
     ensures own { slot.new.who ≡ 0 }
     ensures hub { slot.new.settings ≡ settings.now }
 {
-    let ask = Ask {
-        who: 0,
-        command: command(&says)?,
-        at: Moment::new(0, at)?,
-    };
-    assert!(rt; ask.fits(settings));
-    assert!(rt; Slot::serves(&ask.command));
-    // An ask that an allocation failed is answered as if it had never been asked before.
-    let answer = match slot.apply(&ask) {
-        Err(Fault::Memory) => slot.apply(&ask),
-        answer => answer,
-    };
-    let answer = match answer {
-        Ok(reply) => shortened(&reply),
-        Err(fault) => Told::Refused(fault),
-    };
-    let wanted = wanted?;
-    assert_eq!(rt; answer, wanted, "{ask:?}");
+    for (says, at, told) in rows {
+        let ask = Ask {
+            who: 0,
+            command: command(says)?,
+            at: Moment::new(0, *at)?,
+        };
+        assert!(rt; ask.fits(settings));
+        assert!(rt; Slot::serves(&ask.command));
+        // An ask that an allocation failed is answered as if it had never been asked before.
+        let answer = match slot.apply(&ask) {
+            Err(Fault::Memory) => slot.apply(&ask),
+            answer => answer,
+        };
+        let is_told = tells(&answer, told);
+        assert!(rt; is_told, "{says:?} at {at}");
+    }
     Ok(())
 }
 
@@ -117,70 +113,33 @@ fn answers(
 fn fund_reserve_repeat_and_duplicate(rt: HostRuntime) -> Result<(), Fail> {
     let settings = hub(rt.alloc())?;
     let mut slot = Slot::open(rt.alloc(), &settings, 0)?;
-    answers(
-        &rt,
-        &settings,
-        &mut slot,
-        Says::Fund("F1", 50_000),
-        0,
-        done("F1"),
-    )?;
-    answers(
-        &rt,
-        &settings,
-        &mut slot,
-        Says::Position,
-        0,
-        Ok(Told::Position(50_000, 0, 50_000)),
-    )?;
-    answers(
-        &rt,
-        &settings,
-        &mut slot,
-        Says::Submit("T1", 1, 50_000, 1000),
-        1000,
-        taken("T1", 11_000),
-    )?;
-    answers(
-        &rt,
-        &settings,
-        &mut slot,
-        Says::Position,
-        1000,
-        Ok(Told::Position(50_000, 50_000, 0)),
-    )?;
-    answers(
-        &rt,
-        &settings,
-        &mut slot,
-        Says::Submit("T2", 1, 1, 1000),
-        1001,
-        Ok(Told::Refused(Fault::Shortage)),
-    )?;
-    answers(
-        &rt,
-        &settings,
-        &mut slot,
-        Says::Position,
-        1001,
-        Ok(Told::Position(50_000, 50_000, 0)),
-    )?;
-    answers(
-        &rt,
-        &settings,
-        &mut slot,
-        Says::Submit("T1", 1, 50_000, 1000),
-        1002,
-        taken("T1", 11_000),
-    )?;
-    answers(
-        &rt,
-        &settings,
-        &mut slot,
-        Says::Submit("T1", 1, 49_999, 1000),
-        1002,
-        Ok(Told::Refused(Fault::Duplicate)),
-    )?;
+    let rows = [
+        (Says::Fund("F1", 50_000), 0, Told::Done("F1")),
+        (Says::Position, 0, Told::Position(50_000, 0, 50_000)),
+        (
+            Says::Submit("T1", 1, 50_000, 1000),
+            1000,
+            Told::Taken("T1", 11_000),
+        ),
+        (Says::Position, 1000, Told::Position(50_000, 50_000, 0)),
+        (
+            Says::Submit("T2", 1, 1, 1000),
+            1001,
+            Told::Refused(Fault::Shortage),
+        ),
+        (Says::Position, 1001, Told::Position(50_000, 50_000, 0)),
+        (
+            Says::Submit("T1", 1, 50_000, 1000),
+            1002,
+            Told::Taken("T1", 11_000),
+        ),
+        (
+            Says::Submit("T1", 1, 49_999, 1000),
+            1002,
+            Told::Refused(Fault::Duplicate),
+        ),
+    ];
+    answers(&rt, &settings, &mut slot, &rows)?;
     // The check is told of a type of another crate inside an event only where a function names it.
     let _: Option<Outcome> = None;
     let kept = [
@@ -203,86 +162,31 @@ fn fund_reserve_repeat_and_duplicate(rt: HostRuntime) -> Result<(), Fail> {
 fn defund_and_full_fundings(rt: HostRuntime) -> Result<(), Fail> {
     let settings = hub(rt.alloc())?;
     let mut slot = Slot::open(rt.alloc(), &settings, 0)?;
-    answers(
-        &rt,
-        &settings,
-        &mut slot,
-        Says::Fund("F1", 50_000),
-        0,
-        done("F1"),
-    )?;
-    answers(
-        &rt,
-        &settings,
-        &mut slot,
-        Says::Submit("T1", 1, 20_000, 1000),
-        1000,
-        taken("T1", 11_000),
-    )?;
-    answers(
-        &rt,
-        &settings,
-        &mut slot,
-        Says::Defund("D1", 30_001),
-        1000,
-        Ok(Told::Refused(Fault::Shortage)),
-    )?;
-    answers(
-        &rt,
-        &settings,
-        &mut slot,
-        Says::Defund("D1", 30_000),
-        1000,
-        done("D1"),
-    )?;
-    answers(
-        &rt,
-        &settings,
-        &mut slot,
-        Says::Defund("D1", 30_000),
-        1000,
-        done("D1"),
-    )?;
-    answers(
-        &rt,
-        &settings,
-        &mut slot,
-        Says::Fund("D1", 30_000),
-        1000,
-        Ok(Told::Refused(Fault::Duplicate)),
-    )?;
-    answers(
-        &rt,
-        &settings,
-        &mut slot,
-        Says::Position,
-        1000,
-        Ok(Told::Position(20_000, 20_000, 0)),
-    )?;
-    answers(
-        &rt,
-        &settings,
-        &mut slot,
-        Says::Fund("F2", 1),
-        1000,
-        done("F2"),
-    )?;
-    answers(
-        &rt,
-        &settings,
-        &mut slot,
-        Says::Fund("F3", 1),
-        1000,
-        done("F3"),
-    )?;
-    answers(
-        &rt,
-        &settings,
-        &mut slot,
-        Says::Defund("D2", 99_999),
-        1000,
-        Ok(Told::Refused(Fault::Full)),
-    )?;
+    let rows = [
+        (Says::Fund("F1", 50_000), 0, Told::Done("F1")),
+        (
+            Says::Submit("T1", 1, 20_000, 1000),
+            1000,
+            Told::Taken("T1", 11_000),
+        ),
+        (
+            Says::Defund("D1", 30_001),
+            1000,
+            Told::Refused(Fault::Shortage),
+        ),
+        (Says::Defund("D1", 30_000), 1000, Told::Done("D1")),
+        (Says::Defund("D1", 30_000), 1000, Told::Done("D1")),
+        (
+            Says::Fund("D1", 30_000),
+            1000,
+            Told::Refused(Fault::Duplicate),
+        ),
+        (Says::Position, 1000, Told::Position(20_000, 20_000, 0)),
+        (Says::Fund("F2", 1), 1000, Told::Done("F2")),
+        (Says::Fund("F3", 1), 1000, Told::Done("F3")),
+        (Says::Defund("D2", 99_999), 1000, Told::Refused(Fault::Full)),
+    ];
+    answers(&rt, &settings, &mut slot, &rows)?;
     let journal = slot.journal();
     assert_eq!(rt; journal.events().len(), 5);
     assert_eq!(rt; journal.net(), 20_002);
@@ -297,126 +201,76 @@ fn defund_and_full_fundings(rt: HostRuntime) -> Result<(), Fail> {
 fn submissions_meet_the_first_refusal(rt: HostRuntime) -> Result<(), Fail> {
     let settings = hub(rt.alloc())?;
     let mut slot = Slot::open(rt.alloc(), &settings, 0)?;
-    answers(
-        &rt,
-        &settings,
-        &mut slot,
-        Says::Fund("F1", 1000),
-        0,
-        done("F1"),
-    )?;
-    answers(
-        &rt,
-        &settings,
-        &mut slot,
-        Says::Submit("T1", 1, 400, 1000),
-        1000,
-        taken("T1", 11_000),
-    )?;
-    answers(
-        &rt,
-        &settings,
-        &mut slot,
-        Says::Submit("T2", 2, 400, 1000),
-        1000,
-        taken("T2", 11_000),
-    )?;
-    answers(
-        &rt,
-        &settings,
-        &mut slot,
-        Says::Submit("T1", 0, 401, 2001),
-        1000,
-        Ok(Told::Refused(Fault::SelfTransfer)),
-    )?;
-    answers(
-        &rt,
-        &settings,
-        &mut slot,
-        Says::Submit("T1", 0, 401, 1000),
-        11_000,
-        Ok(Told::Refused(Fault::SelfTransfer)),
-    )?;
-    answers(
-        &rt,
-        &settings,
-        &mut slot,
-        Says::Submit("T1", 1, 400, 1000),
-        11_000,
-        taken("T1", 11_000),
-    )?;
-    answers(
-        &rt,
-        &settings,
-        &mut slot,
-        Says::Submit("T1", 2, 400, 1000),
-        11_000,
-        Ok(Told::Refused(Fault::Duplicate)),
-    )?;
-    answers(
-        &rt,
-        &settings,
-        &mut slot,
-        Says::Submit("T1", 1, 401, 1000),
-        11_000,
-        Ok(Told::Refused(Fault::Duplicate)),
-    )?;
-    answers(
-        &rt,
-        &settings,
-        &mut slot,
-        Says::Submit("T1", 1, 400, 2001),
-        1000,
-        Ok(Told::Refused(Fault::Duplicate)),
-    )?;
-    answers(
-        &rt,
-        &settings,
-        &mut slot,
-        Says::Submit("T3", 1, 401, 2001),
-        1000,
-        Ok(Told::Refused(Fault::StampAhead)),
-    )?;
-    answers(
-        &rt,
-        &settings,
-        &mut slot,
-        Says::Submit("T3", 1, 401, 2000),
-        1000,
-        Ok(Told::Refused(Fault::Full)),
-    )?;
-    answers(
-        &rt,
-        &settings,
-        &mut slot,
-        Says::Submit("T3", 1, 401, 1000),
-        11_000,
-        Ok(Told::Refused(Fault::Expired)),
-    )?;
-    answers(
-        &rt,
-        &settings,
-        &mut slot,
-        Says::Submit("T3", 1, 401, 1000),
-        10_999,
-        Ok(Told::Refused(Fault::Full)),
-    )?;
-    answers(
-        &rt,
-        &settings,
-        &mut slot,
-        Says::Submit("T3", 1, 1, 1000),
-        10_999,
-        Ok(Told::Refused(Fault::Full)),
-    )?;
-    answers(
-        &rt,
-        &settings,
-        &mut slot,
-        Says::Position,
-        0,
-        Ok(Told::Position(1000, 800, 200)),
-    )?;
+    let rows = [
+        (Says::Fund("F1", 1000), 0, Told::Done("F1")),
+        (
+            Says::Submit("T1", 1, 400, 1000),
+            1000,
+            Told::Taken("T1", 11_000),
+        ),
+        (
+            Says::Submit("T2", 2, 400, 1000),
+            1000,
+            Told::Taken("T2", 11_000),
+        ),
+        (
+            Says::Submit("T1", 0, 401, 2001),
+            1000,
+            Told::Refused(Fault::SelfTransfer),
+        ),
+        (
+            Says::Submit("T1", 0, 401, 1000),
+            11_000,
+            Told::Refused(Fault::SelfTransfer),
+        ),
+        (
+            Says::Submit("T1", 1, 400, 1000),
+            11_000,
+            Told::Taken("T1", 11_000),
+        ),
+        (
+            Says::Submit("T1", 2, 400, 1000),
+            11_000,
+            Told::Refused(Fault::Duplicate),
+        ),
+        (
+            Says::Submit("T1", 1, 401, 1000),
+            11_000,
+            Told::Refused(Fault::Duplicate),
+        ),
+        (
+            Says::Submit("T1", 1, 400, 2001),
+            1000,
+            Told::Refused(Fault::Duplicate),
+        ),
+        (
+            Says::Submit("T3", 1, 401, 2001),
+            1000,
+            Told::Refused(Fault::StampAhead),
+        ),
+        (
+            Says::Submit("T3", 1, 401, 2000),
+            1000,
+            Told::Refused(Fault::Full),
+        ),
+        (
+            Says::Submit("T3", 1, 401, 1000),
+            11_000,
+            Told::Refused(Fault::Expired),
+        ),
+        (
+            Says::Submit("T3", 1, 401, 1000),
+            10_999,
+            Told::Refused(Fault::Full),
+        ),
+        (
+            Says::Submit("T3", 1, 1, 1000),
+            10_999,
+            Told::Refused(Fault::Full),
+        ),
+        (Says::Position, 0, Told::Position(1000, 800, 200)),
+    ];
+    answers(&rt, &settings, &mut slot, &rows)?;
     assert_eq!(rt; slot.journal().events().len(), 3);
     Ok(())
 }
@@ -425,38 +279,25 @@ fn submissions_meet_the_first_refusal(rt: HostRuntime) -> Result<(), Fail> {
 fn refusals_leave_no_event(rt: HostRuntime) -> Result<(), Fail> {
     let settings = hub(rt.alloc())?;
     let mut slot = Slot::open(rt.alloc(), &settings, 0)?;
-    answers(
-        &rt,
-        &settings,
-        &mut slot,
-        Says::Submit("T1", 1, 1, 2001),
-        1000,
-        Ok(Told::Refused(Fault::StampAhead)),
-    )?;
-    answers(
-        &rt,
-        &settings,
-        &mut slot,
-        Says::Submit("T1", 1, 1, 1000),
-        11_000,
-        Ok(Told::Refused(Fault::Expired)),
-    )?;
-    answers(
-        &rt,
-        &settings,
-        &mut slot,
-        Says::Submit("T1", 1, 1, 1000),
-        10_999,
-        Ok(Told::Refused(Fault::Shortage)),
-    )?;
-    answers(
-        &rt,
-        &settings,
-        &mut slot,
-        Says::Defund("D1", 1),
-        0,
-        Ok(Told::Refused(Fault::Shortage)),
-    )?;
+    let rows = [
+        (
+            Says::Submit("T1", 1, 1, 2001),
+            1000,
+            Told::Refused(Fault::StampAhead),
+        ),
+        (
+            Says::Submit("T1", 1, 1, 1000),
+            11_000,
+            Told::Refused(Fault::Expired),
+        ),
+        (
+            Says::Submit("T1", 1, 1, 1000),
+            10_999,
+            Told::Refused(Fault::Shortage),
+        ),
+        (Says::Defund("D1", 1), 0, Told::Refused(Fault::Shortage)),
+    ];
+    answers(&rt, &settings, &mut slot, &rows)?;
     assert!(rt; slot.journal().events().is_empty());
     Ok(())
 }
@@ -466,54 +307,19 @@ fn refusals_leave_no_event(rt: HostRuntime) -> Result<(), Fail> {
 fn a_submission_takes_memory(rt: HostRuntime) -> Result<(), Fail> {
     let settings = hub(rt.alloc())?;
     let mut slot = Slot::open(rt.alloc(), &settings, 0)?;
-    answers(
-        &rt,
-        &settings,
-        &mut slot,
-        Says::Fund("F1", 10),
-        0,
-        done("F1"),
-    )?;
-    answers(
-        &rt,
-        &settings,
-        &mut slot,
-        Says::Fund("F2", 20),
-        0,
-        done("F2"),
-    )?;
-    answers(
-        &rt,
-        &settings,
-        &mut slot,
-        Says::Fund("F3", 30),
-        0,
-        done("F3"),
-    )?;
-    answers(
-        &rt,
-        &settings,
-        &mut slot,
-        Says::Fund("F4", 40),
-        0,
-        done("F4"),
-    )?;
-    answers(
-        &rt,
-        &settings,
-        &mut slot,
-        Says::Submit("T1", 1, 60, 1000),
-        1000,
-        taken("T1", 11_000),
-    )?;
-    answers(
-        &rt,
-        &settings,
-        &mut slot,
-        Says::Position,
-        1000,
-        Ok(Told::Position(100, 60, 40)),
-    )?;
+    let rows = [
+        (Says::Fund("F1", 10), 0, Told::Done("F1")),
+        (Says::Fund("F2", 20), 0, Told::Done("F2")),
+        (Says::Fund("F3", 30), 0, Told::Done("F3")),
+        (Says::Fund("F4", 40), 0, Told::Done("F4")),
+        (
+            Says::Submit("T1", 1, 60, 1000),
+            1000,
+            Told::Taken("T1", 11_000),
+        ),
+        (Says::Position, 1000, Told::Position(100, 60, 40)),
+    ];
+    answers(&rt, &settings, &mut slot, &rows)?;
     assert_eq!(rt; slot.journal().events().len(), 5);
     Ok(())
 }
