@@ -88,6 +88,27 @@ fn answer(
     Ok(())
 }
 
+/// A command, its reading, what is found of its transfer, and what is answered.
+type Row<'a> = (&'a Command, u64, &'a Option<Outcome>, &'a Told);
+
+/// Answers the commands in order.
+fn answers(
+    rt: &(impl Abort + AllocGlobal),
+    settings: &Settings,
+    who: u8,
+    journal: &mut Journal,
+    rows: &[Row<'_>],
+) -> Result<(), Fail>
+    requires lawful { IsSettings settings.now }
+    requires sound { IsSound settings.now who journal.old.events }
+    ensures sound { IsSound settings.now who journal.new.events }
+{
+    for (command, at, found, wanted) in rows {
+        answer(rt, settings, who, journal, command, *at, found, wanted)?;
+    }
+    Ok(())
+}
+
 /// Compares the lines of a statement.
 fn shows(
     rt: &(impl Abort + AllocGlobal),
@@ -148,126 +169,46 @@ fn funds_submits_and_investigates(rt: HostRuntime) -> Result<(), Fail> {
     };
     let late = Told::State(0, t2, State::Decided(Outcome::TimedOut));
     let accepted = Told::State(0, t1, State::Decided(Outcome::Accepted));
-    answer(
-        &rt,
-        &settings,
-        0,
-        &mut journal,
-        &investigate,
-        0,
-        &Some(Outcome::Accepted),
-        &Told::Refused(Fault::UnknownTransfer),
-    )?;
-    answer(
-        &rt,
-        &settings,
-        0,
-        &mut journal,
-        &fund,
-        0,
-        &None,
-        &Told::Done(f1),
-    )?;
-    answer(
-        &rt,
-        &settings,
-        0,
-        &mut journal,
-        &submit,
-        1000,
-        &None,
-        &Told::Taken(t1, 11_000),
-    )?;
-    answer(
-        &rt,
-        &settings,
-        0,
-        &mut journal,
-        &investigate,
-        10_999,
-        &None,
-        &Told::State(0, t1, State::Pending),
-    )?;
-    answer(
-        &rt,
-        &settings,
-        0,
-        &mut journal,
-        &Command::Position,
-        10_999,
-        &None,
-        &Told::Position(50_000, 20_000, 30_000),
-    )?;
-    answer(
-        &rt,
-        &settings,
-        0,
-        &mut journal,
-        &investigate,
-        11_000,
-        &Some(Outcome::Accepted),
-        &accepted,
-    )?;
-    answer(
-        &rt,
-        &settings,
-        0,
-        &mut journal,
-        &investigate,
-        11_000,
-        &Some(Outcome::TimedOut),
-        &accepted,
-    )?;
-    answer(
-        &rt,
-        &settings,
-        0,
-        &mut journal,
-        &investigate,
-        11_000,
-        &None,
-        &accepted,
-    )?;
-    answer(
-        &rt,
-        &settings,
-        0,
-        &mut journal,
-        &again,
-        1000,
-        &None,
-        &Told::Taken(t2, 11_000),
-    )?;
-    answer(
-        &rt,
-        &settings,
-        0,
-        &mut journal,
-        &Command::Investigate { id: t2 },
-        11_000,
-        &Some(Outcome::TimedOut),
-        &late,
-    )?;
-    answer(
-        &rt,
-        &settings,
-        0,
-        &mut journal,
-        &defund,
-        3000,
-        &None,
-        &Told::Done(d1),
-    )?;
-    answer(
-        &rt,
-        &settings,
-        0,
-        &mut journal,
-        &Command::Position,
-        3000,
-        &None,
-        &Told::Position(25_000, 0, 25_000),
-    )?;
+    let rows = [
+        (
+            &investigate,
+            0,
+            &Some(Outcome::Accepted),
+            &Told::Refused(Fault::UnknownTransfer),
+        ),
+        (&fund, 0, &None, &Told::Done(f1)),
+        (&submit, 1000, &None, &Told::Taken(t1, 11_000)),
+        (
+            &investigate,
+            10_999,
+            &None,
+            &Told::State(0, t1, State::Pending),
+        ),
+        (
+            &Command::Position,
+            10_999,
+            &None,
+            &Told::Position(50_000, 20_000, 30_000),
+        ),
+        (&investigate, 11_000, &Some(Outcome::Accepted), &accepted),
+        (&investigate, 11_000, &Some(Outcome::TimedOut), &accepted),
+        (&investigate, 11_000, &None, &accepted),
+        (&again, 1000, &None, &Told::Taken(t2, 11_000)),
+        (
+            &Command::Investigate { id: t2 },
+            11_000,
+            &Some(Outcome::TimedOut),
+            &late,
+        ),
+        (&defund, 3000, &None, &Told::Done(d1)),
+        (
+            &Command::Position,
+            3000,
+            &None,
+            &Told::Position(25_000, 0, 25_000),
+        ),
+    ];
+    answers(&rt, &settings, 0, &mut journal, &rows)?;
     assert_eq!(rt; journal.events().len(), 6);
     assert_eq!(rt; journal.net(), 45_000);
     assert_eq!(rt; journal.debits(), 20_000);
@@ -411,126 +352,41 @@ fn fetches_confirms_and_rejects(rt: HostRuntime) -> Result<(), Fail> {
     let rejected = Told::State(2, id, State::Decided(Outcome::Rejected(reason)));
     let other = Command::Confirm { from: 0, id: d2 };
     let own = Command::Confirm { from: 1, id };
-    answer(
-        &rt,
-        &settings,
-        1,
-        &mut journal,
-        &other,
-        2000,
-        &Some(Outcome::Accepted),
-        &Told::Refused(Fault::UnknownTransfer),
-    )?;
-    answer(
-        &rt,
-        &settings,
-        1,
-        &mut journal,
-        &own,
-        2000,
-        &Some(Outcome::Accepted),
-        &Told::Refused(Fault::UnknownTransfer),
-    )?;
-    answer(
-        &rt,
-        &settings,
-        1,
-        &mut journal,
-        &confirm,
-        2000,
-        &None,
-        &Told::State(0, id, State::Pending),
-    )?;
-    answer(
-        &rt,
-        &settings,
-        1,
-        &mut journal,
-        &Command::Position,
-        2000,
-        &None,
-        &Told::Position(0, 0, 0),
-    )?;
-    answer(
-        &rt,
-        &settings,
-        1,
-        &mut journal,
-        &confirm,
-        2000,
-        &Some(Outcome::Accepted),
-        &accepted,
-    )?;
-    answer(
-        &rt,
-        &settings,
-        1,
-        &mut journal,
-        &confirm,
-        11_000,
-        &Some(Outcome::TimedOut),
-        &accepted,
-    )?;
-    answer(
-        &rt,
-        &settings,
-        1,
-        &mut journal,
-        &reject,
-        2000,
-        &Some(Outcome::Rejected(reason)),
-        &rejected,
-    )?;
-    answer(
-        &rt,
-        &settings,
-        1,
-        &mut journal,
-        &reject,
-        2100,
-        &None,
-        &rejected,
-    )?;
-    answer(
-        &rt,
-        &settings,
-        1,
-        &mut journal,
-        &Command::Confirm { from: 2, id },
-        2200,
-        &Some(Outcome::Accepted),
-        &rejected,
-    )?;
-    answer(
-        &rt,
-        &settings,
-        1,
-        &mut journal,
-        &Command::Position,
-        2200,
-        &None,
-        &Told::Position(20_000, 0, 20_000),
-    )?;
-    answer(
-        &rt,
-        &settings,
-        1,
-        &mut journal,
-        &defund,
-        3000,
-        &None,
-        &Told::Done(d2),
-    )?;
-    answer(
-        &rt,
-        &settings,
-        1,
-        &mut journal,
-        &Command::Position,
-        3000,
-        &None,
-        &Told::Position(0, 0, 0),
-    )?;
+    let rows = [
+        (
+            &other,
+            2000,
+            &Some(Outcome::Accepted),
+            &Told::Refused(Fault::UnknownTransfer),
+        ),
+        (
+            &own,
+            2000,
+            &Some(Outcome::Accepted),
+            &Told::Refused(Fault::UnknownTransfer),
+        ),
+        (&confirm, 2000, &None, &Told::State(0, id, State::Pending)),
+        (&Command::Position, 2000, &None, &Told::Position(0, 0, 0)),
+        (&confirm, 2000, &Some(Outcome::Accepted), &accepted),
+        (&confirm, 11_000, &Some(Outcome::TimedOut), &accepted),
+        (&reject, 2000, &Some(Outcome::Rejected(reason)), &rejected),
+        (&reject, 2100, &None, &rejected),
+        (
+            &Command::Confirm { from: 2, id },
+            2200,
+            &Some(Outcome::Accepted),
+            &rejected,
+        ),
+        (
+            &Command::Position,
+            2200,
+            &None,
+            &Told::Position(20_000, 0, 20_000),
+        ),
+        (&defund, 3000, &None, &Told::Done(d2)),
+        (&Command::Position, 3000, &None, &Told::Position(0, 0, 0)),
+    ];
+    answers(&rt, &settings, 1, &mut journal, &rows)?;
     assert_eq!(rt; journal.events().len(), 7);
     assert_eq!(rt; journal.net(), -20_000);
     assert_eq!(rt; journal.credits(), 20_000);
