@@ -1,3 +1,6 @@
+ghost use Rattle.std.specs.Prelude.{IfOk};
+ghost use Rattle.inst_settings.specs.Settings.{IsSettings};
+
 use clap::{Arg, ArgAction, ArgMatches, Command};
 use inst_base::{Code, Fault};
 use inst_settings::Settings;
@@ -69,7 +72,9 @@ fn number<'a>(alloc: Global, name: &'a str, value: &'a str, help: &'a str) -> Ar
 
 /// The settings that the options give. `BadSettings` where a code has the wrong form or a number is
 /// outside its range, the codes first.
-pub(crate) fn settings(alloc: Global, options: &ArgMatches<'_>) -> Result<Settings, Fault> {
+pub(crate) fn settings(alloc: Global, options: &ArgMatches<'_>) -> Result<Settings, Fault>
+    ensures { IfOk result (λ settings. IsSettings settings) }
+{
     let codes = codes(alloc, options.get_str("participants").unwrap_or(""))?;
     let places = small(options, "places")?;
     let fundings = small(options, "fundings")?;

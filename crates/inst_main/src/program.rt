@@ -1,7 +1,13 @@
+ghost use Rattle.std.specs.Prelude.{◌≡◌, ◌⊎◌, OnOk, IfOk, IfErr, IfSome};
+ghost use Rattle.inst_base.specs.declared.fault.Fault.{Fault as SomeFault};
+ghost use Rattle.inst_settings.specs.Settings.{IsSettings};
+ghost use Rattle.inst_main.specs.Program.{status_of, Serves, Fails, IsEnding};
+
 use crate::options::{command_line, settings};
 use clap::Error;
 use clap::error::ErrorKind;
 use inst_base::Fault;
+use inst_settings::Settings;
 use inst_world::run_lines;
 use std::alloc::Global;
 use std::io::{self, Read, Write};
@@ -16,6 +22,10 @@ enum Ending {
 }
 
 impl From<Fault> for Ending {
+    ghost use Rattle.inst_main.specs.declared.program.Ending.TheVariants as ending;
+
+    ghost from_gives = { λ fault result. result ≡ ending.Fault fault };
+
     fn from(fault: Fault) -> Ending {
         Ending::Fault(fault)
     }
@@ -32,7 +42,18 @@ pub fn program<R: Read, W: Write, E: Write>(
     reader: &mut R,
     writer: &mut W,
     errors: &mut E,
-) -> u8 {
+) -> u8
+    ensures status { (result ≡ 0) ⊎ ((result ≡ 2) ⊎ (result ≡ 3)) }
+
+    // A help text was asked for, or all the input is answered.
+    ensures served { result ≡ 0 → (reader.new ≡ reader.old) ⊎
+        Serves (R.remaining reader.old) (R.remaining reader.new) (W.contents writer.old) (W.contents writer.new) }
+
+    // The command line or the settings are wrong: nothing is read and nothing written.
+    ensures refused { result ≡ 2 → (reader.new ≡ reader.old) × (writer.new ≡ writer.old) }
+    ensures failed { result ≡ 3 → ((reader.new ≡ reader.old) × (writer.new ≡ writer.old)) ⊎ ((fault : SomeFault) ×
+        Fails (R.remaining reader.old) (R.remaining reader.new) (W.contents writer.old) (W.contents writer.new) fault) }
+{
     match serve(alloc, words, reader, writer) {
         Ok(()) => 0,
         Err(Ending::Words(error)) if error.use_stderr() => {
@@ -66,14 +87,28 @@ fn serve<R: Read, W: Write>(
     words: &[String],
     reader: &mut R,
     writer: &mut W,
-) -> Result<(), Ending> {
-    let command = command_line(alloc).map_err(|_| Ending::Fault(Fault::Memory))?;
-    let matches = command.try_get_matches_from(words).map_err(ending_of)?;
-    if let Some((_, options)) = matches.subcommand() {
-        let settings = settings(alloc, options)?;
+) -> Result<(), Ending>
+    ensures ok { OnOk result (((reader.new ≡ reader.old) × (writer.new ≡ writer.old)) ⊎
+        Serves (R.remaining reader.old) (R.remaining reader.new) (W.contents writer.old) (W.contents writer.new)) }
+    ensures err { IfErr result (IsEnding ((reader.new ≡ reader.old) × (writer.new ≡ writer.old))
+        (Fails (R.remaining reader.old) (R.remaining reader.new) (W.contents writer.old) (W.contents writer.new))) }
+{
+    if let Some(settings) = chosen(alloc, words)? {
         run_lines(alloc, &settings, reader, writer)?;
     }
     Ok(())
+}
+
+/// The settings that the words choose, if they ask for a run.
+fn chosen(alloc: Global, words: &[String]) -> Result<Option<Settings>, Ending>
+    ensures { IfOk result (λ chosen. IfSome chosen (λ settings. IsSettings settings)) }
+{
+    let command = command_line(alloc).map_err(|_| Ending::Fault(Fault::Memory))?;
+    let matches = command.try_get_matches_from(words).map_err(ending_of)?;
+    match matches.subcommand() {
+        Some((_, options)) => Ok(Some(settings(alloc, options)?)),
+        None => Ok(None),
+    }
 }
 
 fn ending_of(error: Error) -> Ending {
@@ -84,6 +119,8 @@ fn ending_of(error: Error) -> Ending {
 }
 
 /// The exit status of a fault.
-fn status(fault: Fault) -> u8 {
+fn status(fault: Fault) -> u8
+    ensures { result ≡ status_of fault }
+{
     if fault == Fault::BadSettings { 2 } else { 3 }
 }
