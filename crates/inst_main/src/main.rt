@@ -3,6 +3,7 @@
 
 mod options;
 mod program;
+mod rows;
 #[cfg(test)]
 mod tests;
 

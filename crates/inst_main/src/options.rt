@@ -1,4 +1,6 @@
-ghost use Rattle.std.specs.Prelude.{IfOk};
+ghost use Rattle.std.specs.Prelude.{◌≡◌, IfOk, Some, false, map};
+ghost use Rattle.clap.specs.Words.{app_of, first_of, found_of, rows_of, rule_of};
+ghost use Rattle.inst_main.specs.Options.{participants_rule, number_rule, command_line as the_command_line, Gives, Chooses, parts_of};
 ghost use Rattle.inst_settings.specs.Settings.{IsSettings};
 
 use clap::{Arg, ArgAction, ArgMatches, Command};
@@ -7,7 +9,9 @@ use inst_settings::Settings;
 use std::alloc::{AllocError, Global};
 
 /// The command line of the program.
-pub(crate) fn command_line<'a>(alloc: Global) -> Result<Command<'a>, AllocError> {
+pub(crate) fn command_line<'a>(alloc: Global) -> Result<Command<'a>, AllocError>
+    ensures { IfOk result (λ command. app_of command ≡ the_command_line) }
+{
     let run = Command::new(alloc, "run")
         .about("Answers each command line of standard input by one line on standard output")
         .arg(participants(alloc))?
@@ -53,7 +57,10 @@ pub(crate) fn command_line<'a>(alloc: Global) -> Result<Command<'a>, AllocError>
         .subcommand(run)
 }
 
-fn participants<'a>(alloc: Global) -> Arg<'a> {
+fn participants<'a>(alloc: Global) -> Arg<'a>
+    ensures rule { rule_of result ≡ participants_rule }
+    ensures local { result.global ≡ false }
+{
     Arg::new(alloc, "participants")
         .long("participants")
         .required(true)
@@ -61,7 +68,10 @@ fn participants<'a>(alloc: Global) -> Arg<'a> {
         .help("The participants' codes with commas between them, numbered from 0")
 }
 
-fn number<'a>(alloc: Global, name: &'a str, value: &'a str, help: &'a str) -> Arg<'a> {
+fn number<'a>(alloc: Global, name: &'a str, value: &'a str, help: &'a str) -> Arg<'a>
+    ensures rule { rule_of result ≡ number_rule name.now value.now }
+    ensures local { result.global ≡ false }
+{
     Arg::new(alloc, name)
         .long(name)
         .action(ArgAction::Set)
@@ -73,37 +83,67 @@ fn number<'a>(alloc: Global, name: &'a str, value: &'a str, help: &'a str) -> Ar
 /// The settings that the options give. `BadSettings` where a code has the wrong form or a number is
 /// outside its range, the codes first.
 pub(crate) fn settings(alloc: Global, options: &ArgMatches<'_>) -> Result<Settings, Fault>
-    ensures { IfOk result (λ settings. IsSettings settings) }
+    ensures lawful { IfOk result (λ settings. IsSettings settings) }
+    ensures chosen { IfOk result (λ settings. Chooses (rows_of (found_of options.now)) settings) }
 {
-    let codes = codes(alloc, options.get_str("participants").unwrap_or(""))?;
+    let participants = text(options, "participants")?;
+    let codes = codes(alloc, participants)?;
     let places = small(options, "places")?;
     let fundings = small(options, "fundings")?;
     let limit = medium(options, "limit")?;
     let ahead = medium(options, "ahead")?;
-    let ceiling = whole(options, "ceiling");
-    let base = whole(options, "base");
+    let ceiling = whole(options, "ceiling")?;
+    let base = whole(options, "base")?;
     Settings::check(codes, places, fundings, limit, ahead, ceiling, base)
 }
 
+/// The text of an option.
+fn text<'a>(options: &ArgMatches<'a>, name: &str) -> Result<&'a str, Fault>
+    ensures { IfOk result (λ text. first_of name.now (rows_of (found_of options.now)) ≡ Some text.now) }
+{
+    options.get_str(name).ok_or(Fault::BadSettings)
+}
+
 /// The codes between the commas. Nothing is trimmed.
-fn codes(alloc: Global, text: &str) -> Result<Vec<Code>, Fault> {
+fn codes(alloc: Global, text: &str) -> Result<Vec<Code>, Fault>
+    ensures { IfOk result (λ codes. codes.items ≡ parts_of text.now) }
+{
+    let parts = parts(alloc, text)?;
     let mut codes = Vec::new(alloc);
-    for part in text.split(',') {
-        let code = Code::new(part).map_err(|_| Fault::BadSettings)?;
-        codes.push(code)?;
+    for part in &parts {
+        codes.push(code(part)?)?;
     }
     Ok(codes)
 }
 
+fn code(text: &str) -> Result<Code, Fault>
+    ensures { IfOk result (λ code. code ≡ text.now) }
+{
+    Code::new(text).map_err(|_| Fault::BadSettings)
+}
+
+/// The texts between the commas.
+fn parts(alloc: Global, text: &str) -> Result<Vec<&str>, AllocError>
+    ensures { IfOk result (λ parts. map (λ part. part.now) parts.items ≡ parts_of text.now) }
+{
+    text.split(',').collect(alloc)
+}
+
 /// The number of an option. The command line has read it as a whole number.
-fn whole(options: &ArgMatches<'_>, name: &str) -> u64 {
-    options.get_one::<u64>(name).unwrap_or(0)
+fn whole(options: &ArgMatches<'_>, name: &str) -> Result<u64, Fault>
+    ensures { IfOk result (Gives (rows_of (found_of options.now)) name.now) }
+{
+    options.get_one::<u64>(name).ok_or(Fault::BadSettings)
 }
 
-fn medium(options: &ArgMatches<'_>, name: &str) -> Result<u32, Fault> {
-    u32::try_from(whole(options, name)).map_err(|_| Fault::BadSettings)
+fn medium(options: &ArgMatches<'_>, name: &str) -> Result<u32, Fault>
+    ensures { IfOk result (Gives (rows_of (found_of options.now)) name.now) }
+{
+    u32::try_from(whole(options, name)?).map_err(|_| Fault::BadSettings)
 }
 
-fn small(options: &ArgMatches<'_>, name: &str) -> Result<u16, Fault> {
-    u16::try_from(whole(options, name)).map_err(|_| Fault::BadSettings)
+fn small(options: &ArgMatches<'_>, name: &str) -> Result<u16, Fault>
+    ensures { IfOk result (Gives (rows_of (found_of options.now)) name.now) }
+{
+    u16::try_from(whole(options, name)?).map_err(|_| Fault::BadSettings)
 }

@@ -1,7 +1,9 @@
-ghost use Rattle.std.specs.Prelude.{◌≡◌, ◌⊎◌, OnOk, IfOk, IfErr, IfSome};
+ghost use Rattle.std.specs.Prelude.{◌≡◌, ◌≢◌, ◌⊎◌, map, string_bytes, OnOk, IfOk, IfErr};
+ghost use Rattle.clap.specs.Words.{kind_of};
 ghost use Rattle.inst_base.specs.declared.fault.Fault.{Fault as SomeFault};
 ghost use Rattle.inst_settings.specs.Settings.{IsSettings};
-ghost use Rattle.inst_main.specs.Program.{status_of, Serves, Fails, IsEnding};
+ghost use Rattle.inst_main.specs.Options.{AreChosen};
+ghost use Rattle.inst_main.specs.Program.{status_of, AreNoRun, Serves, Fails, IsEnding, IsWordsEnding};
 
 use crate::options::{command_line, settings};
 use clap::Error;
@@ -9,7 +11,7 @@ use clap::error::ErrorKind;
 use inst_base::Fault;
 use inst_settings::Settings;
 use inst_world::run_lines;
-use std::alloc::Global;
+use std::alloc::{AllocError, Global};
 use std::io::{self, Read, Write};
 
 /// Why the program ends without having served its input.
@@ -31,6 +33,17 @@ impl From<Fault> for Ending {
     }
 }
 
+impl From<AllocError> for Ending {
+    ghost use Rattle.inst_base.specs.declared.fault.Fault.TheVariants.{Memory};
+    ghost use Rattle.inst_main.specs.declared.program.Ending.TheVariants as ending;
+
+    ghost from_gives = { λ _ result. result ≡ ending.Fault Memory };
+
+    fn from(_error: AllocError) -> Ending {
+        Ending::Fault(Fault::Memory)
+    }
+}
+
 /// Does what the words of the command line say, the program's name first: `run` answers each line of
 /// `reader` by one line to `writer`. Answers the exit status: 0 at the end of the input and after
 /// `--help`, 2 for a command line that is wrong, with a text on `errors`, and for bad settings, 3
@@ -45,14 +58,16 @@ pub fn program<R: Read, W: Write, E: Write>(
 ) -> u8
     ensures status { (result ≡ 0) ⊎ ((result ≡ 2) ⊎ (result ≡ 3)) }
 
-    // A help text was asked for, or all the input is answered.
-    ensures served { result ≡ 0 → (reader.new ≡ reader.old) ⊎
-        Serves (R.remaining reader.old) (R.remaining reader.new) (W.contents writer.old) (W.contents writer.new) }
+    // All the input is answered, or a help text was asked for.
+    ensures served { result ≡ 0 → Serves (map string_bytes words.now)
+        (R.remaining reader.old) (R.remaining reader.new) (W.contents writer.old) (W.contents writer.new)
+        ⊎ ((reader.new ≡ reader.old) × AreNoRun (map string_bytes words.now)) }
 
     // The command line or the settings are wrong: nothing is read and nothing written.
     ensures refused { result ≡ 2 → (reader.new ≡ reader.old) × (writer.new ≡ writer.old) }
-    ensures failed { result ≡ 3 → ((reader.new ≡ reader.old) × (writer.new ≡ writer.old)) ⊎ ((fault : SomeFault) ×
-        Fails (R.remaining reader.old) (R.remaining reader.new) (W.contents writer.old) (W.contents writer.new) fault) }
+    ensures failed { result ≡ 3 → ((reader.new ≡ reader.old) × (writer.new ≡ writer.old))
+        ⊎ ((fault : SomeFault) × Fails (map string_bytes words.now)
+        (R.remaining reader.old) (R.remaining reader.new) (W.contents writer.old) (W.contents writer.new) fault) }
 {
     match serve(alloc, words, reader, writer) {
         Ok(()) => 0,
@@ -88,30 +103,38 @@ fn serve<R: Read, W: Write>(
     reader: &mut R,
     writer: &mut W,
 ) -> Result<(), Ending>
-    ensures ok { OnOk result (((reader.new ≡ reader.old) × (writer.new ≡ writer.old)) ⊎
-        Serves (R.remaining reader.old) (R.remaining reader.new) (W.contents writer.old) (W.contents writer.new)) }
-    ensures err { IfErr result (IsEnding ((reader.new ≡ reader.old) × (writer.new ≡ writer.old))
-        (Fails (R.remaining reader.old) (R.remaining reader.new) (W.contents writer.old) (W.contents writer.new))) }
+    ensures ok { OnOk result (Serves (map string_bytes words.now)
+        (R.remaining reader.old) (R.remaining reader.new) (W.contents writer.old) (W.contents writer.new)) }
+    ensures err { IfErr result (IsEnding (map string_bytes words.now)
+        ((reader.new ≡ reader.old) × (writer.new ≡ writer.old))
+        (Fails (map string_bytes words.now) (R.remaining reader.old) (R.remaining reader.new) (W.contents writer.old) (W.contents writer.new))) }
 {
-    if let Some(settings) = chosen(alloc, words)? {
-        run_lines(alloc, &settings, reader, writer)?;
-    }
+    let settings = chosen(alloc, words)?;
+    run_lines(alloc, &settings, reader, writer)?;
     Ok(())
 }
 
-/// The settings that the words choose, if they ask for a run.
-fn chosen(alloc: Global, words: &[String]) -> Result<Option<Settings>, Ending>
-    ensures { IfOk result (λ chosen. IfSome chosen (λ settings. IsSettings settings)) }
+/// The settings of the run that the words ask for.
+fn chosen(alloc: Global, words: &[String]) -> Result<Settings, Ending>
+    ensures lawful { IfOk result (λ settings. IsSettings settings) }
+    ensures chosen { IfOk result (AreChosen (map string_bytes words.now)) }
+    ensures err { IfErr result (IsWordsEnding (AreNoRun (map string_bytes words.now))) }
 {
-    let command = command_line(alloc).map_err(|_| Ending::Fault(Fault::Memory))?;
-    let matches = command.try_get_matches_from(words).map_err(ending_of)?;
+    let command = command_line(alloc)?;
+    let matches = match command.try_get_matches_from(words) {
+        Ok(matches) => matches,
+        Err(error) => return Err(ending_of(error)),
+    };
     match matches.subcommand() {
-        Some((_, options)) => Ok(Some(settings(alloc, options)?)),
-        None => Ok(None),
+        Some((_, options)) => Ok(settings(alloc, options)?),
+        // The command line has asked for a subcommand.
+        None => Err(Ending::Fault(Fault::BadSettings)),
     }
 }
 
-fn ending_of(error: Error) -> Ending {
+fn ending_of(error: Error) -> Ending
+    ensures { IsWordsEnding (kind_of error ≢ ErrorKind.OutOfMemory) result }
+{
     if error.kind() == ErrorKind::OutOfMemory {
         return Ending::Fault(Fault::Memory);
     }

@@ -1,0 +1,34 @@
+-- The text of an option, the number that it writes, and what is known of words that give none.
+use Rattle.std.proofs.Common.{◌≡◌, ℕ, Bool, true, false, List, Option, Some, None, Result, Ok, ok_or, option_map, IfOk, Bor, refl, sym, ◌∙◌}
+use Rattle.std.specs.Str.Parse.{digits_value, without_leading_plus}
+use Rattle.clap.specs.Words.{ReadsOne, first_of, first_value, one_text, rows_of}
+use Rattle.clap.specs.declared.parser.matches.Found.{Found}
+use Rattle.clap.proofs.WalkLemmas.{first_value-rows, one_text-rows}
+use Rattle.inst_base.specs.declared.fault.Fault.{Fault}
+use Rattle.inst_main.specs.Options.{Gives}
+use Rattle.inst_main.specs.Program.{IsWordsEnding}
+use Rattle.inst_main.specs.declared.program.Ending.{Ending}
+use Rattle.inst_main.specs.declared.program.Ending.TheVariants as ending
+
+pub number_given : {E : Type 0} (reads : List ℕ → Result ℕ E → Type 0) (f : Found) (name : List ℕ) (r : Option ℕ) (fault : Fault) →
+    (one_text f name ≡ None → r ≡ None) → ((text : List ℕ) → one_text f name ≡ Some text → ReadsOne reads text r) →
+    ((text : List ℕ) (n : ℕ) → reads text (Ok n) → n ≡ digits_value 10 (without_leading_plus text)) →
+    IfOk (ok_or r fault) (Gives (rows_of f) name)
+number_given reads f name None fault none value digits = tt
+number_given reads f name (Some n) fault none value digits = at_text (one_text f name) refl where
+  at_text : (o : Option (List ℕ)) → one_text f name ≡ o → Gives (rows_of f) name n
+  at_text None e = absurd (let nothing = none e in cc)
+  at_text (Some text) e = (text, sym (one_text-rows f name) ∙ e, digits text n (value text e))
+
+pub text_given : (f : Found) (name : List ℕ) (r : Option (Bor (List ℕ))) (fault : Fault) → option_map (λ s. s.now) r ≡ first_value f name →
+    IfOk (ok_or r fault) (λ text. first_of name (rows_of f) ≡ Some text.now)
+text_given f name None fault is = tt
+text_given f name (Some text) fault is = sym (first_value-rows f name) ∙ sym is
+
+pub refuted : {P : Type 0} (b : Bool) → ¬ P → (b ≡ true → P) → b ≡ false
+refuted true denied given = absurd (denied (given refl))
+refuted false denied given = refl
+
+pub words_ending : {P Q : Type 0} → (P → Q) → (e : Ending) → IsWordsEnding P e → IsWordsEnding Q e
+words_ending f (ending.Words error) h = f h
+words_ending f (ending.Fault fault) h = tt

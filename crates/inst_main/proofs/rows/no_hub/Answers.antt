@@ -1,0 +1,11 @@
+use Rattle.std.proofs.Common.{refl}
+use Rattle.clap.proofs.OnLiterals.{clap_on_literals}
+use Rattle.inst_main.specs.Rows.{NoHub}
+use Rattle.inst_main.proofs.rows.no_hub.Goals as goal
+
+row : NoHub
+unfolding clap_on_literals
+row = record { participants = refl; subcommand = refl; help = refl }
+
+pub returns : goal.returns
+returns c = row

@@ -1,0 +1,55 @@
+-- The options of the program's command line, and the settings that their values choose. They are this hub's own choice.
+use Rattle.std.specs.Prelude.{◌≡◌, ◌==◌, ◌-◌, ◌^◌, ℕ, true, List, ◌∷◌, [], Some, option_map, codes}
+use Rattle.std.specs.List.{slice_split}
+use Rattle.std.specs.Str.Parse.{digits_value, without_leading_plus}
+use Rattle.clap.specs.Words.{App, Row, Rule, Text, first_of, one_of, new_app, new_rule, subcommand_of, with_rule, with_subcommand}
+use Rattle.clap.specs.Simple.{on_top}
+use Rattle.clap.specs.declared.builder.action.ArgAction.TheVariants.{Set}
+use Rattle.clap.specs.declared.builder.value_parser.ValueParser.TheVariants.{Unsigned}
+use Rattle.inst_settings.specs.Settings.{HubSettings}
+
+-- the participants' codes, which must be given
+abbrev pub participants_rule : Rule
+participants_rule = record (new_rule (codes "participants")) { long = Some (codes "participants"); required = true; action = Some Set }
+
+-- a whole number of 64 bits, and what it is where it isn't given
+abbrev pub number_rule : List ℕ → List ℕ → Rule
+number_rule name value = record (new_rule name) { long = Some name; action = Some Set; parser = Some (Unsigned 0 (2 ^ 64 - 1)); defaults = value ∷ [] }
+
+-- `run` and its options
+abbrev pub run_command : App
+run_command =
+    with_rule (with_rule (with_rule (with_rule (with_rule (with_rule (with_rule (new_app (codes "run"))
+    participants_rule)
+    (number_rule (codes "places") (codes "256")))
+    (number_rule (codes "fundings") (codes "256")))
+    (number_rule (codes "limit") (codes "10000")))
+    (number_rule (codes "ahead") (codes "1000")))
+    (number_rule (codes "ceiling") (codes "99999999999")))
+    (number_rule (codes "base") (codes "0"))
+
+-- the whole command line, which needs a subcommand
+abbrev pub command_line : App
+command_line = with_subcommand (on_top (λ top. record top { subcommand_required = true }) (new_app (codes "inst_main"))) run_command.top
+
+-- the option of this name writes the number
+abbrev pub Gives : List Row → List ℕ → ℕ → Type 0
+Gives rows name n = (text : Text) × (one_of name rows ≡ Some text) × (n ≡ digits_value 10 (without_leading_plus text))
+
+-- the texts between commas
+abbrev pub parts_of : List ℕ → List (List ℕ)
+parts_of = slice_split (λ b. b == 44)
+
+-- the options choose these settings
+pub record Chooses (rows : List Row) (s : HubSettings) : Type 0 where
+  pub participants : (text : Text) × (first_of (codes "participants") rows ≡ Some text) × (s.codes ≡ parts_of text)
+  pub places : Gives rows (codes "places") s.places
+  pub fundings : Gives rows (codes "fundings") s.fundings
+  pub limit : Gives rows (codes "limit") s.limit
+  pub ahead : Gives rows (codes "ahead") s.ahead
+  pub ceiling : Gives rows (codes "ceiling") s.ceiling
+  pub base : Gives rows (codes "base") s.base
+
+-- the words choose these settings, as the options of the subcommand that they name
+abbrev pub AreChosen : List (List ℕ) → HubSettings → Type 0
+AreChosen words s = (rows : List Row) × (option_map (λ p. p.1) (subcommand_of command_line words) ≡ Some rows) × Chooses rows s

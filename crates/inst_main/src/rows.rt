@@ -1,0 +1,13 @@
+//! Worked command lines, computed from the definitions. Each is a function without a body whose
+//! contract is the row, so that the check computes it.
+ghost use Rattle.inst_main.specs.Rows.{SmallHub, NoHub};
+
+/// Options that are given, and those that aren't.
+pub fn small_hub()
+    ensures { SmallHub }
+{}
+
+/// Words that are no whole command line.
+pub fn no_hub()
+    ensures { NoHub }
+{}
