@@ -411,6 +411,104 @@ fn fetches_confirms_and_rejects(rt: HostRuntime) -> Result<(), Fail> {
     shows(&rt, &settings, 1, &journal, 0, 10, lines.as_slice())
 }
 
+/// Each refused command meets the refusal that it gets and all those that it can of the later ones, so
+/// that the first in order answers.
+#[test]
+fn meets_the_first_refusal(rt: HostRuntime) -> Result<(), Fail> {
+    let settings = hub(rt.alloc())?;
+    let mut journal = Journal::new(rt.alloc());
+    let t1 = Ident::new("T1")?;
+    let t2 = Ident::new("T2")?;
+    let t3 = Ident::new("T3")?;
+    let f1 = Ident::new("F1")?;
+    let in_time = Moment::new(0, 1000)?;
+    let ahead = Moment::new(0, 2001)?;
+    let all = Cents::new(1000)?;
+    let some = Cents::new(400)?;
+    let more = Cents::new(601)?;
+    let submit = |id, to, cents, stamp| Command::Submit {
+        id,
+        to,
+        cents,
+        stamp,
+    };
+    let found = Some(Outcome::Accepted);
+    let rows = [
+        (
+            &Command::Fund {
+                reference: f1,
+                cents: all,
+            },
+            0,
+            &None,
+            &Told::Done(f1),
+        ),
+        (
+            &submit(t1, 1, some, in_time),
+            1000,
+            &None,
+            &Told::Taken(t1, 11_000),
+        ),
+        (
+            &submit(t1, 0, more, ahead),
+            1000,
+            &None,
+            &Told::Refused(Fault::SelfTransfer),
+        ),
+        (
+            &Command::Investigate { id: t2 },
+            1000,
+            &found,
+            &Told::Refused(Fault::UnknownTransfer),
+        ),
+        (
+            &Command::Confirm { from: 0, id: t1 },
+            1000,
+            &found,
+            &Told::Refused(Fault::UnknownTransfer),
+        ),
+        (
+            &submit(t1, 1, more, ahead),
+            1000,
+            &None,
+            &Told::Refused(Fault::Duplicate),
+        ),
+        (
+            &submit(t2, 1, more, ahead),
+            1000,
+            &None,
+            &Told::Refused(Fault::StampAhead),
+        ),
+        (
+            &submit(t2, 1, more, in_time),
+            11_000,
+            &None,
+            &Told::Refused(Fault::Expired),
+        ),
+        (
+            &submit(t2, 1, more, in_time),
+            10_999,
+            &None,
+            &Told::Refused(Fault::Shortage),
+        ),
+        (
+            &submit(t2, 1, some, in_time),
+            10_999,
+            &None,
+            &Told::Taken(t2, 11_000),
+        ),
+        (
+            &submit(t3, 1, more, in_time),
+            10_999,
+            &None,
+            &Told::Refused(Fault::Full),
+        ),
+    ];
+    answers(&rt, &settings, 0, &mut journal, &rows)?;
+    assert_eq!(rt; journal.events().len(), 3);
+    Ok(())
+}
+
 #[test]
 fn pushes_into_the_room_that_was_made(rt: HostRuntime) -> Result<(), Fail> {
     let mut journal = Journal::new(rt.alloc());
