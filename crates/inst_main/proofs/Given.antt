@@ -1,12 +1,15 @@
 -- The text of an option, the number that it writes, and what is known of words that give none.
-use Rattle.std.proofs.Common.{◌≡◌, ℕ, Bool, true, false, List, Option, Some, None, Result, Ok, ok_or, option_map, IfOk, Bor, refl, sym, ◌∙◌}
+use Rattle.std.proofs.Common.{◌≡◌, ◌≢◌, ℕ, List, Option, Some, None, Result, Ok, Err, ok_or, option_map, IfOk, IfErr, IsErrAnd, Bor, refl, sym, subst, ◌∙◌, inl, inr}
 use Rattle.std.specs.Str.Parse.{digits_value, without_leading_plus}
 use Rattle.clap.specs.Words.{ReadsOne, first_of, first_value, one_text, rows_of}
 use Rattle.clap.specs.declared.parser.matches.Found.{Found}
 use Rattle.clap.proofs.WalkLemmas.{first_value-rows, one_text-rows}
 use Rattle.inst_base.specs.declared.fault.Fault.{Fault}
-use Rattle.inst_main.specs.Options.{Gives}
-use Rattle.inst_main.specs.Program.{IsWordsEnding}
+use Rattle.inst_main.specs.Options.{AreWhole, Gives, faults_of}
+use Rattle.clap.specs.Words.{HasKind, IsAmong, kind_of}
+use Rattle.clap.specs.declared.error.Error.{Error}
+use Rattle.clap.specs.declared.error.kind.ErrorKind.TheVariants.{OutOfMemory}
+use Rattle.inst_main.specs.Program.{IsOfKind, IsRefusal, IsUnbegun}
 use Rattle.inst_main.specs.declared.program.Ending.{Ending}
 use Rattle.inst_main.specs.declared.program.Ending.TheVariants as ending
 
@@ -25,10 +28,17 @@ pub text_given : (f : Found) (name : List ℕ) (r : Option (Bor (List ℕ))) (fa
 text_given f name None fault is = tt
 text_given f name (Some text) fault is = sym (first_value-rows f name) ∙ sym is
 
-pub refuted : {P : Type 0} (b : Bool) → ¬ P → (b ≡ true → P) → b ≡ false
-refuted true denied given = absurd (denied (given refl))
-refuted false denied given = refl
+-- an error of the words tells one of their faults
+pub unbegun : (words : List (List ℕ)) (error : Error) (e : Ending) → HasKind (faults_of words) error → IsOfKind (kind_of error) e → IsUnbegun words e
+unbegun words error (ending.Words other) (inl memory) h = absurd (h.1 memory)
+unbegun words error (ending.Words other) (inr among) h =
+    subst (λ kind. (kind ≢ OutOfMemory) × IsAmong kind (faults_of words)) (sym h.0) (h.1, among)
+unbegun words error (ending.Fault fault) has h = inl h.0
 
-pub words_ending : {P Q : Type 0} → (P → Q) → (e : Ending) → IsWordsEnding P e → IsWordsEnding Q e
-words_ending f (ending.Words error) h = f h
-words_ending f (ending.Fault fault) h = tt
+pub unsettled : (words : List (List ℕ)) (fault : Fault) → AreWhole words → IsRefusal fault → IsUnbegun words (ending.Fault fault)
+unsettled words fault whole (inl memory) = inl memory
+unsettled words fault whole (inr bad) = inr (bad, whole)
+
+pub failed : {A : Type 0} (words : List (List ℕ)) (r : Result A Ending) (fault : Fault) → IsErrAnd r (λ e. e ≡ ending.Fault fault) → IsUnbegun words (ending.Fault fault) → IfErr r (IsUnbegun words)
+failed words (Ok x) fault h unbegun = tt
+failed words (Err e) fault h unbegun = subst (IsUnbegun words) (sym h) unbegun

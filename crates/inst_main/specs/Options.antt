@@ -1,10 +1,12 @@
 -- The options of the program's command line, and the settings that their values choose. They are this hub's own choice.
-use Rattle.std.specs.Prelude.{◌≡◌, ◌==◌, ◌-◌, ◌^◌, ℕ, true, List, ◌∷◌, [], Some, option_map, codes}
+use Rattle.std.specs.Prelude.{◌≢◌, ◌⊎◌, ◌≡◌, ◌==◌, ◌-◌, ◌^◌, ℕ, true, List, ◌∷◌, [], Some, option_map, codes}
 use Rattle.std.specs.List.{slice_split}
 use Rattle.std.specs.Str.Parse.{digits_value, without_leading_plus}
-use Rattle.clap.specs.Words.{App, Row, Rule, Text, first_of, one_of, new_app, new_rule, subcommand_of, with_rule, with_subcommand}
+use Rattle.clap.specs.Words.{App, IsAmong, Kinds, fault_of, Row, Rule, Text, first_of, one_of, new_app, new_rule, subcommand_of, with_rule, with_subcommand}
 use Rattle.clap.specs.Simple.{on_top}
 use Rattle.clap.specs.declared.builder.action.ArgAction.TheVariants.{Set}
+use Rattle.clap.specs.declared.error.kind.ErrorKind.{ErrorKind}
+use Rattle.clap.specs.declared.error.kind.ErrorKind.TheVariants.{DisplayHelp, DisplayVersion}
 use Rattle.clap.specs.declared.builder.value_parser.ValueParser.TheVariants.{Unsigned}
 use Rattle.inst_settings.specs.Settings.{HubSettings}
 
@@ -32,7 +34,7 @@ run_command =
 abbrev pub command_line : App
 command_line = with_subcommand (on_top (λ top. record top { subcommand_required = true }) (new_app (codes "inst_main"))) run_command.top
 
--- the option of this name writes the number
+-- the option of this name has a text that is the number in digits, which may follow a plus
 abbrev pub Gives : List Row → List ℕ → ℕ → Type 0
 Gives rows name n = (text : Text) × (one_of name rows ≡ Some text) × (n ≡ digits_value 10 (without_leading_plus text))
 
@@ -49,6 +51,22 @@ pub record Chooses (rows : List Row) (s : HubSettings) : Type 0 where
   pub ahead : Gives rows (codes "ahead") s.ahead
   pub ceiling : Gives rows (codes "ceiling") s.ceiling
   pub base : Gives rows (codes "base") s.base
+
+-- what is wrong with the words, where they are no whole command line, or that they ask for a help text
+abbrev pub faults_of : List (List ℕ) → Kinds
+faults_of = fault_of command_line
+
+-- the words ask for a help text, or for the version
+abbrev pub AskForHelp : List (List ℕ) → Type 0
+AskForHelp words = IsAmong DisplayHelp (faults_of words) ⊎ IsAmong DisplayVersion (faults_of words)
+
+-- something else is wrong with the words
+abbrev pub AreWrong : List (List ℕ) → Type 0
+AreWrong words = (kind : ErrorKind) × IsAmong kind (faults_of words) × (kind ≢ DisplayHelp) × (kind ≢ DisplayVersion)
+
+-- the words are a whole command line
+abbrev pub AreWhole : List (List ℕ) → Type 0
+AreWhole words = faults_of words ≡ []
 
 -- the words choose these settings, as the options of the subcommand that they name
 abbrev pub AreChosen : List (List ℕ) → HubSettings → Type 0

@@ -1,15 +1,17 @@
 -- What the program leaves, by its exit status. Exit statuses are this hub's own choice.
-use Rattle.std.specs.Prelude.{◌≡◌, ◌⊎◌, ℕ, false, List, Option, IfSome}
+use Rattle.std.specs.Prelude.{◌≡◌, ◌≢◌, ◌⊎◌, ℕ, List, Option, IfSome}
 use Rattle.std.specs.Io.KnownBytes.{Appends, IsAtEnd}
-use Rattle.clap.specs.Words.{takes}
+use Rattle.clap.specs.Words.{IsAmong, kind_of}
+use Rattle.clap.specs.declared.error.kind.ErrorKind.{ErrorKind}
+use Rattle.clap.specs.declared.error.kind.ErrorKind.TheVariants.{OutOfMemory}
 use Rattle.inst_base.specs.declared.fault.Fault.{Fault}
-use Rattle.inst_base.specs.declared.fault.Fault.TheVariants.{BadSettings}
+use Rattle.inst_base.specs.declared.fault.Fault.TheVariants.{BadSettings, Memory}
 use Rattle.inst_settings.specs.Settings.{HubSettings, IsSettings}
 use Rattle.inst_world.specs.Answers.{output}
 use Rattle.inst_world.specs.Lines.{lines_of}
 use Rattle.inst_world.specs.Session.{FailsAfter}
 use Rattle.inst_world.specs.World.{answering, opened}
-use Rattle.inst_main.specs.Options.{AreChosen, command_line}
+use Rattle.inst_main.specs.Options.{AreChosen, AreWhole, faults_of}
 use Rattle.inst_main.specs.declared.program.Ending.{Ending}
 use Rattle.inst_main.specs.declared.program.Ending.TheVariants as ending
 
@@ -18,14 +20,15 @@ abbrev pub status_of : Fault → ℕ
 status_of BadSettings = 2
 status_of _ = 3
 
--- the words are no whole command line: they ask for a help text or are wrong
-abbrev pub AreNoRun : List (List ℕ) → Type 0
-AreNoRun words = takes command_line words ≡ false
+-- the faults that keep a run from beginning
+abbrev pub IsRefusal : Fault → Type 0
+IsRefusal fault = (fault ≡ Memory) ⊎ (fault ≡ BadSettings)
 
 -- a hub of the settings that the words choose answered all that the reader had left, and wrote the replies alone
 pub record Serves (words : List (List ℕ)) (left left' held held' : Option (List ℕ)) : Type 0 where
   pub settings : HubSettings
   pub lawful : IsSettings settings
+  pub whole : AreWhole words
   pub chosen : AreChosen words settings
   pub at_end : IsAtEnd left'
   pub answered : IfSome left (λ bytes. Appends held held' (output answering (opened settings) (lines_of bytes)))
@@ -34,15 +37,21 @@ pub record Serves (words : List (List ℕ)) (left left' held held' : Option (Lis
 pub record Fails (words : List (List ℕ)) (left left' held held' : Option (List ℕ)) (fault : Fault) : Type 0 where
   pub settings : HubSettings
   pub lawful : IsSettings settings
+  pub whole : AreWhole words
   pub chosen : AreChosen words settings
   pub after : FailsAfter answering (opened settings) held held' left left' fault
 
--- without a run all is untouched, or a run has failed
-abbrev pub IsEnding : List (List ℕ) → Type 0 → (Fault → Type 0) → Ending → Type 0
-IsEnding words untouched fails (ending.Words error) = untouched × AreNoRun words
-IsEnding words untouched fails (ending.Fault fault) = untouched ⊎ fails fault
+-- an error of the words of this kind, and want of memory as a fault
+abbrev pub IsOfKind : ErrorKind → Ending → Type 0
+IsOfKind kind (ending.Words error) = (kind_of error ≡ kind) × (kind ≢ OutOfMemory)
+IsOfKind kind (ending.Fault fault) = (fault ≡ Memory) × (kind ≡ OutOfMemory)
 
--- an error of the words, of which this holds, unless memory was refused
-abbrev pub IsWordsEnding : Type 0 → Ending → Type 0
-IsWordsEnding holds (ending.Words error) = holds
-IsWordsEnding holds (ending.Fault fault) = Unit {0}
+-- why no run begins: the words, memory, or settings that are refused though the words are whole
+abbrev pub IsUnbegun : List (List ℕ) → Ending → Type 0
+IsUnbegun words (ending.Words error) = (kind_of error ≢ OutOfMemory) × IsAmong (kind_of error) (faults_of words)
+IsUnbegun words (ending.Fault fault) = (fault ≡ Memory) ⊎ ((fault ≡ BadSettings) × AreWhole words)
+
+-- no run has begun and all is untouched, or a run has failed
+abbrev pub IsEnding : List (List ℕ) → Type 0 → (Fault → Type 0) → Ending → Type 0
+IsEnding words untouched fails (ending.Words error) = untouched × IsUnbegun words (ending.Words error)
+IsEnding words untouched fails (ending.Fault fault) = (untouched × IsUnbegun words (ending.Fault fault)) ⊎ fails fault

@@ -1,6 +1,7 @@
-ghost use Rattle.std.specs.Prelude.{◌≡◌, IfOk, Some, false, map};
+ghost use Rattle.std.specs.Prelude.{◌≡◌, IfOk, IfErr, IsOkUnless, Some, false, map};
 ghost use Rattle.clap.specs.Words.{app_of, first_of, found_of, rows_of, rule_of};
 ghost use Rattle.inst_main.specs.Options.{participants_rule, number_rule, command_line as the_command_line, Gives, Chooses, parts_of};
+ghost use Rattle.inst_main.specs.Program.{IsRefusal};
 ghost use Rattle.inst_settings.specs.Settings.{IsSettings};
 
 use clap::{Arg, ArgAction, ArgMatches, Command};
@@ -84,6 +85,7 @@ fn number<'a>(alloc: Global, name: &'a str, value: &'a str, help: &'a str) -> Ar
 /// outside its range, the codes first.
 pub(crate) fn settings(alloc: Global, options: &ArgMatches<'_>) -> Result<Settings, Fault>
     ensures lawful { IfOk result (λ settings. IsSettings settings) }
+    ensures fault { IfErr result IsRefusal }
     ensures chosen { IfOk result (λ settings. Chooses (rows_of (found_of options.now)) settings) }
 {
     let participants = text(options, "participants")?;
@@ -99,14 +101,16 @@ pub(crate) fn settings(alloc: Global, options: &ArgMatches<'_>) -> Result<Settin
 
 /// The text of an option.
 fn text<'a>(options: &ArgMatches<'a>, name: &str) -> Result<&'a str, Fault>
-    ensures { IfOk result (λ text. first_of name.now (rows_of (found_of options.now)) ≡ Some text.now) }
+    ensures text { IfOk result (λ text. first_of name.now (rows_of (found_of options.now)) ≡ Some text.now) }
+    ensures fault { IsOkUnless result Fault.BadSettings }
 {
     options.get_str(name).ok_or(Fault::BadSettings)
 }
 
 /// The codes between the commas. Nothing is trimmed.
 fn codes(alloc: Global, text: &str) -> Result<Vec<Code>, Fault>
-    ensures { IfOk result (λ codes. codes.items ≡ parts_of text.now) }
+    ensures codes { IfOk result (λ codes. codes.items ≡ parts_of text.now) }
+    ensures fault { IfErr result IsRefusal }
 {
     let parts = parts(alloc, text)?;
     let mut codes = Vec::new(alloc);
@@ -117,7 +121,8 @@ fn codes(alloc: Global, text: &str) -> Result<Vec<Code>, Fault>
 }
 
 fn code(text: &str) -> Result<Code, Fault>
-    ensures { IfOk result (λ code. code ≡ text.now) }
+    ensures code { IfOk result (λ code. code ≡ text.now) }
+    ensures fault { IsOkUnless result Fault.BadSettings }
 {
     Code::new(text).map_err(|_| Fault::BadSettings)
 }
@@ -131,19 +136,22 @@ fn parts(alloc: Global, text: &str) -> Result<Vec<&str>, AllocError>
 
 /// The number of an option. The command line has read it as a whole number.
 fn whole(options: &ArgMatches<'_>, name: &str) -> Result<u64, Fault>
-    ensures { IfOk result (Gives (rows_of (found_of options.now)) name.now) }
+    ensures number { IfOk result (Gives (rows_of (found_of options.now)) name.now) }
+    ensures fault { IsOkUnless result Fault.BadSettings }
 {
     options.get_one::<u64>(name).ok_or(Fault::BadSettings)
 }
 
 fn medium(options: &ArgMatches<'_>, name: &str) -> Result<u32, Fault>
-    ensures { IfOk result (Gives (rows_of (found_of options.now)) name.now) }
+    ensures number { IfOk result (Gives (rows_of (found_of options.now)) name.now) }
+    ensures fault { IsOkUnless result Fault.BadSettings }
 {
     u32::try_from(whole(options, name)?).map_err(|_| Fault::BadSettings)
 }
 
 fn small(options: &ArgMatches<'_>, name: &str) -> Result<u16, Fault>
-    ensures { IfOk result (Gives (rows_of (found_of options.now)) name.now) }
+    ensures number { IfOk result (Gives (rows_of (found_of options.now)) name.now) }
+    ensures fault { IsOkUnless result Fault.BadSettings }
 {
     u16::try_from(whole(options, name)?).map_err(|_| Fault::BadSettings)
 }

@@ -2,8 +2,8 @@ ghost use Rattle.std.specs.Prelude.{◌≡◌, ◌≢◌, ◌⊎◌, map, string
 ghost use Rattle.clap.specs.Words.{kind_of};
 ghost use Rattle.inst_base.specs.declared.fault.Fault.{Fault as SomeFault};
 ghost use Rattle.inst_settings.specs.Settings.{IsSettings};
-ghost use Rattle.inst_main.specs.Options.{AreChosen};
-ghost use Rattle.inst_main.specs.Program.{status_of, AreNoRun, Serves, Fails, IsEnding, IsWordsEnding};
+ghost use Rattle.inst_main.specs.Options.{AreChosen, AreWhole, AskForHelp, AreWrong};
+ghost use Rattle.inst_main.specs.Program.{status_of, Serves, Fails, IsEnding, IsUnbegun, IsOfKind};
 
 use crate::options::{command_line, settings};
 use clap::Error;
@@ -47,8 +47,8 @@ impl From<AllocError> for Ending {
 /// Does what the words of the command line say, the program's name first: `run` answers each line of
 /// `reader` by one line to `writer`. Answers the exit status: 0 at the end of the input and after
 /// `--help`, 2 for a command line that is wrong, with a text on `errors`, and for bad settings, 3
-/// for a run that failed. A fault is one line `fault <number> <name>` on `errors`. What `errors`
-/// doesn't take is lost.
+/// for a run that failed and where memory was wanting before it began. A fault is one line
+/// `fault <number> <name>` on `errors`. What `errors` doesn't take is lost.
 pub fn program<R: Read, W: Write, E: Write>(
     alloc: Global,
     words: &[String],
@@ -58,43 +58,54 @@ pub fn program<R: Read, W: Write, E: Write>(
 ) -> u8
     ensures status { (result ≡ 0) ⊎ ((result ≡ 2) ⊎ (result ≡ 3)) }
 
-    // All the input is answered, or a help text was asked for.
+    // All the input is answered, or the words ask for a help text.
     ensures served { result ≡ 0 → Serves (map string_bytes words.now)
         (R.remaining reader.old) (R.remaining reader.new) (W.contents writer.old) (W.contents writer.new)
-        ⊎ ((reader.new ≡ reader.old) × AreNoRun (map string_bytes words.now)) }
+        ⊎ ((reader.new ≡ reader.old) × AskForHelp (map string_bytes words.now)) }
 
-    // The command line or the settings are wrong: nothing is read and nothing written.
-    ensures refused { result ≡ 2 → (reader.new ≡ reader.old) × (writer.new ≡ writer.old) }
+    // The words are wrong, or they are whole and the settings are refused.
+    ensures refused { result ≡ 2 → (reader.new ≡ reader.old) × (writer.new ≡ writer.old)
+        × (AreWrong (map string_bytes words.now) ⊎ AreWhole (map string_bytes words.now)) }
+
+    // Memory was wanting before a run, or a run has failed.
     ensures failed { result ≡ 3 → ((reader.new ≡ reader.old) × (writer.new ≡ writer.old))
         ⊎ ((fault : SomeFault) × Fails (map string_bytes words.now)
         (R.remaining reader.old) (R.remaining reader.new) (W.contents writer.old) (W.contents writer.new) fault) }
 {
     match serve(alloc, words, reader, writer) {
         Ok(()) => 0,
-        Err(Ending::Words(error)) if error.use_stderr() => {
-            let _ = write!(errors, "{error}");
-            2
-        }
-        Err(Ending::Words(error)) => {
-            let _ = write!(writer, "{error}");
-            0
-        }
-        Err(Ending::Fault(fault)) => {
-            let _ = writeln!(errors, "fault {} {}", fault.number(), fault.name());
-            status(fault)
-        }
+        Err(Ending::Words(error)) => match error.kind() {
+            ErrorKind::DisplayHelp | ErrorKind::DisplayVersion => {
+                let _ = write!(writer, "{error}");
+                0
+            }
+            _ => {
+                let _ = write!(errors, "{error}");
+                2
+            }
+        },
+        Err(Ending::Fault(fault)) => tell(fault, errors),
     }
 }
 
-/// Tells that the words of the command line can't be read, and answers the exit status.
-pub fn words_failed<E: Write>(error: &io::Error, errors: &mut E) -> u8 {
-    let fault = Fault::Memory;
+/// Tells that the words of the command line can't be read, and answers the exit status: 3 where memory
+/// was wanting, and 2 for a word that is no text.
+pub fn words_failed<E: Write>(error: &io::Error, errors: &mut E) -> u8
+    ensures { (result ≡ 2) ⊎ (result ≡ 3) }
+{
     if error.kind() == io::ErrorKind::OutOfMemory {
-        let _ = writeln!(errors, "fault {} {}", fault.number(), fault.name());
-        return status(fault);
+        return tell(Fault::Memory, errors);
     }
     let _ = writeln!(errors, "error: a word of the command line is no text");
     2
+}
+
+/// Writes the line of a fault, and answers its exit status.
+fn tell<E: Write>(fault: Fault, errors: &mut E) -> u8
+    ensures { result ≡ status_of fault }
+{
+    let _ = writeln!(errors, "fault {} {}", fault.number(), fault.name());
+    if fault == Fault::BadSettings { 2 } else { 3 }
 }
 
 fn serve<R: Read, W: Write>(
@@ -118,7 +129,8 @@ fn serve<R: Read, W: Write>(
 fn chosen(alloc: Global, words: &[String]) -> Result<Settings, Ending>
     ensures lawful { IfOk result (λ settings. IsSettings settings) }
     ensures chosen { IfOk result (AreChosen (map string_bytes words.now)) }
-    ensures err { IfErr result (IsWordsEnding (AreNoRun (map string_bytes words.now))) }
+    ensures whole { OnOk result (AreWhole (map string_bytes words.now)) }
+    ensures err { IfErr result (IsUnbegun (map string_bytes words.now)) }
 {
     let command = command_line(alloc)?;
     let matches = match command.try_get_matches_from(words) {
@@ -127,23 +139,16 @@ fn chosen(alloc: Global, words: &[String]) -> Result<Settings, Ending>
     };
     match matches.subcommand() {
         Some((_, options)) => Ok(settings(alloc, options)?),
-        // The command line has asked for a subcommand.
+        // A whole command line has a subcommand: this is never reached.
         None => Err(Ending::Fault(Fault::BadSettings)),
     }
 }
 
 fn ending_of(error: Error) -> Ending
-    ensures { IsWordsEnding (kind_of error ≢ ErrorKind.OutOfMemory) result }
+    ensures { IsOfKind (kind_of error) result }
 {
     if error.kind() == ErrorKind::OutOfMemory {
         return Ending::Fault(Fault::Memory);
     }
     Ending::Words(error)
-}
-
-/// The exit status of a fault.
-fn status(fault: Fault) -> u8
-    ensures { result ≡ status_of fault }
-{
-    if fault == Fault::BadSettings { 2 } else { 3 }
 }

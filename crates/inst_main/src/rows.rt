@@ -2,12 +2,12 @@
 //! contract is the row, so that the check computes it.
 ghost use Rattle.inst_main.specs.Rows.{SmallHub, NoHub};
 
-/// Options that are given, and those that aren't.
+/// Options that are given and options that aren't, and the settings that they choose.
 pub fn small_hub()
     ensures { SmallHub }
 {}
 
-/// Words that are no whole command line.
+/// Words that are no whole command line, and what is wrong with them.
 pub fn no_hub()
     ensures { NoHub }
 {}

@@ -1,5 +1,6 @@
 // Exit statuses, and what stands on standard error.
-use crate::program::program;
+use crate::program::{program, words_failed};
+use std::io::{self, ErrorKind};
 use std::process::Abort;
 use std::test::Fail;
 
@@ -103,7 +104,27 @@ fn ends_a_failed_run(rt: HostRuntime) -> Result<(), Fail> {
     let mut told = Vec::new(rt.alloc());
     let answer = program(rt.alloc(), &all, &mut reader, &mut writer, &mut told);
     assert_eq!(rt; answer, 3);
+    assert!(rt; writer.is_empty());
+    assert_eq!(rt; &room, b"{\"fault\"");
     let fault = "fault 18 WriteFault\n";
     assert_eq!(rt; told.as_slice(), fault.as_bytes());
+    Ok(())
+}
+
+#[test]
+fn tells_of_words_that_are_no_text(rt: HostRuntime) -> Result<(), Fail> {
+    for (kind, status, text) in [
+        (
+            ErrorKind::InvalidData,
+            2,
+            "error: a word of the command line is no text\n",
+        ),
+        (ErrorKind::OutOfMemory, 3, "fault 14 Memory\n"),
+    ] {
+        let mut errors = Vec::new(rt.alloc());
+        let answer = words_failed(&io::Error::from(kind), &mut errors);
+        assert_eq!(rt; answer, status);
+        assert_eq!(rt; errors.as_slice(), text.as_bytes());
+    }
     Ok(())
 }

@@ -15,7 +15,7 @@ returns-clause-chosen c =
     let ceiling : Gives rows (codes "ceiling") c.in_ok-ceiling.ceiling = search rules in
     let base : Gives rows (codes "base") c.in_ok-base.base = search rules in
     IfOk-weaker c.check.result _ _ (λ settings is. subst (Chooses rows) (sym is.1) (record {
-      participants = (_, text, c.in_ok-codes.ensures);
+      participants = (_, text, c.in_ok-codes.ensures.codes);
       places = places;
       fundings = fundings;
       limit = limit;

@@ -5,8 +5,8 @@ use Rattle.inst_main.specs.Options.{Gives}
 use Rattle.inst_main.proofs.Given.{number_given}
 use Rattle.inst_main.proofs.options.whole.Goals as goal
 
-pub returns : goal.returns
-returns c =
+pub returns-clause-number : goal.returns-clause-number
+returns-clause-number c =
     let options = found_of c.args.options.now in
     subst (λ result. IfOk result (Gives (rows_of options) c.args.name.now)) (sym c.ok_or.ensures.value)
     (number_given (λ text n. ParsesUnsigned 64 10 text n × ExplainsUnsignedError 10 text n × HasUnsignedDigitsIfOk text n) options c.args.name.now c.get_one.result _ c.get_one.ensures.none c.get_one.ensures.value (λ text n h. h.0.1))

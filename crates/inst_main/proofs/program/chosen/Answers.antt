@@ -1,21 +1,23 @@
-use Rattle.std.proofs.Common.{◌≡◌, ◌∙◌, true, map, option_map, string_bytes, refl, sym, ap, subst}
+use Rattle.std.proofs.Common.{◌≡◌, ◌∙◌, [], true, map, option_map, string_bytes, refl, sym, ap, subst}
 use Rattle.clap.proofs.OnLiterals.{clap_on_literals}
-use Rattle.clap.specs.Words.{HasMatchesOf, found_of, is_simple, kind_of, rows_of, subcommand_of, subcommand_rows_of, takes}
-use Rattle.clap.specs.declared.error.kind.ErrorKind.TheVariants.{OutOfMemory}
-use Rattle.inst_main.specs.Options.{command_line}
-use Rattle.inst_main.proofs.Given.{refuted, words_ending}
+use Rattle.clap.specs.Words.{HasKind, HasMatchesOf, fault_of, found_of, is_simple, is_simple_and_free, rows_of, subcommand_of, subcommand_rows_of}
+use Rattle.inst_main.specs.Options.{AreWhole, command_line}
+use Rattle.inst_main.proofs.Given.{failed, unbegun, unsettled}
 use Rattle.inst_main.proofs.program.chosen.Goals as goal
 
 simple : is_simple command_line ≡ true
 unfolding clap_on_literals
 simple = refl
 
+free : is_simple_and_free command_line ≡ true
+unfolding clap_on_literals
+free = refl
+
 pub returns-in-Err-clause-err : goal.returns-in-Err-clause-err
 returns-in-Err-clause-err c =
     let words = map string_bytes c.args.words.now in
-    let passes : takes command_line words ≡ true → kind_of c.in-Err.error ≡ OutOfMemory =
-    subst (λ app. takes app words ≡ true → kind_of c.in-Err.error ≡ OutOfMemory) c.in_ok-command.ensures c.in-Err.ensures.passes in
-    words_ending (λ other. refuted (takes command_line words) other passes) c.ending_of.result c.ending_of.ensures
+    let kinds = subst (λ app. is_simple_and_free app ≡ true → HasKind (fault_of app words) c.in-Err.error) c.in_ok-command.ensures c.in-Err.ensures.kinds in
+    unbegun words c.in-Err.error c.ending_of.result (kinds free) c.ending_of.ensures
 
 pub returns-in-Some-clause-chosen : goal.returns-in-Some-clause-chosen
 returns-in-Some-clause-chosen c =
@@ -26,3 +28,15 @@ returns-in-Some-clause-chosen c =
       sym (ap (option_map (λ p. p.1)) rows) ∙ sym c.subcommand.ensures.rows ∙ ap (option_map (λ p. rows_of (found_of p.1.now))) c.in-Some.is,
       c.in_ok-settings-in-Some.ensures.chosen,
     )
+
+pub returns-in-Some-clause-whole : goal.returns-in-Some-clause-whole
+returns-in-Some-clause-whole c =
+    let words = map string_bytes c.args.words.now in
+    (subst (λ app. is_simple_and_free app ≡ true → fault_of app words ≡ []) c.in_ok-command.ensures c.in-Ok.ensures.kinds) free
+
+pub returns-in_err-settings-in-Some-clause-err : goal.returns-in_err-settings-in-Some-clause-err
+returns-in_err-settings-in-Some-clause-err c =
+    let words = map string_bytes c.args.words.now in
+    let whole : AreWhole words = (subst (λ app. is_simple_and_free app ≡ true → fault_of app words ≡ []) c.in_ok-command.ensures c.in-Ok.ensures.kinds) free in
+    failed words c.from_residual-in_err-settings-in-Some.result c.in_err-settings-in-Some.field-0.0 c.from_residual-in_err-settings-in-Some.ensures.1
+    (unsettled words _ whole c.in_err-settings-in-Some.ensures.fault)
