@@ -7,7 +7,7 @@ use crate::handle::Handled;
 use crate::keys::{fundings, has_reference, is_defund_repeat, is_fund_repeat};
 use crate::sums::available;
 use inst_base::{Cents, Fault, Ident};
-use inst_command::{Outcome, Reply};
+use inst_command::Reply;
 use inst_settings::Settings;
 
 /// Raises the net funding: `Duplicate` where the reference is kept with other contents, `Full` where

@@ -9,7 +9,7 @@ ghost use Rattle.inst_journal.specs.Handling.{AnswersUnlessMemory};
 use crate::handle::Handled;
 use crate::{Event, sums};
 use inst_base::Fault;
-use inst_command::{Entries, Entry, Outcome, Reply};
+use inst_command::{Entries, Entry, Reply};
 use inst_settings::Settings;
 use std::alloc::{AllocError, Global};
 

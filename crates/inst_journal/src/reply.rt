@@ -71,7 +71,8 @@ pub fn handle_command(
     }
 }
 
-/// The reply to a command, as `handle_command` gives it. It keeps nothing.
+/// The reply to a command, as `handle_command` gives it. It keeps nothing. Only a fetch and a statement
+/// may answer `Memory`.
 pub fn reply_of(
     alloc: Global,
     settings: &Settings,
@@ -84,7 +85,8 @@ pub fn reply_of(
     requires lawful { IsSettings settings.now }
     requires sound { IsSound settings.now who journal.now.events }
     requires fits { command_fits settings.now command.now ≡ true }
-    ensures { IsUnlessMemory result (reply settings.now who journal.now.events command.now at found) }
+    ensures reply { IsUnlessMemory result (reply settings.now who journal.now.events command.now at found) }
+    ensures no_memory { copies command.now ≡ false → result ≡ reply settings.now who journal.now.events command.now at found }
 {
     let events = journal.events();
     Ok(handle_command(alloc, settings, who, events, command, at, found)?.reply)

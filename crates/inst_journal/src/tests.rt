@@ -411,8 +411,8 @@ fn fetches_confirms_and_rejects(rt: HostRuntime) -> Result<(), Fail> {
     shows(&rt, &settings, 1, &journal, 0, 10, lines.as_slice())
 }
 
-/// Each refused command meets the refusal that it gets and all those that it can of the later ones, so
-/// that the first in order answers.
+/// Each refused command meets the refusal that it gets and some of the later ones, so that the first in
+/// order answers: all seven that a journal can give, by number.
 #[test]
 fn meets_the_first_refusal(rt: HostRuntime) -> Result<(), Fail> {
     let settings = hub(rt.alloc())?;
@@ -510,7 +510,7 @@ fn meets_the_first_refusal(rt: HostRuntime) -> Result<(), Fail> {
 }
 
 #[test]
-fn pushes_into_the_room_that_was_made(rt: HostRuntime) -> Result<(), Fail> {
+fn reserves_and_pushes(rt: HostRuntime) -> Result<(), Fail> {
     let mut journal = Journal::new(rt.alloc());
     assert!(rt; journal.events().is_empty());
     journal.reserve()?;

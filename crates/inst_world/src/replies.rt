@@ -1,5 +1,5 @@
 // Replies on their way to a writer.
-ghost use Rattle.std.specs.Prelude.{◌≡◌, ◌<◌, ◌||◌, ◌++◌, List, ℕ, [], false, nat_lt, length, OnOk, OnErr, IsErrOf, vec_len};
+ghost use Rattle.std.specs.Prelude.{◌≡◌, ◌<◌, ◌||◌, [], true, false, nat_lt, length, OnOk, OnErr, IsErrOf};
 ghost use Rattle.std.specs.Io.KnownBytes.{Appends};
 ghost use Rattle.inst_world.specs.Replies.{WritesPart, WritesFirst};
 
@@ -47,6 +47,7 @@ impl ReplyBuffer {
     pub fn write_if_full<W: Write>(&mut self, writer: &mut W) -> Result<(), Fault>
         ensures ok { OnOk result (WritesFirst (W.contents writer.old) (W.contents writer.new) self.old.bytes.items self.new.bytes.items) }
         ensures short { OnOk result (length self.new.bytes.items < 65536) }
+        ensures unflushed { OnOk result (self.old.is_unflushed ≡ true → self.new.is_unflushed ≡ true) }
         ensures err { OnErr result (WritesPart (W.contents writer.old) (W.contents writer.new) self.old.bytes.items) }
         ensures fault { OnErr result (IsErrOf result Fault.WriteFault) }
     {

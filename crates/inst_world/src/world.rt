@@ -5,7 +5,6 @@ ghost use Rattle.inst_world.specs.World.{opened, reply_to_ask, after_ask};
 use crate::slots;
 use inst_base::Fault;
 use inst_command::{Ask, Reply};
-use inst_journal::Journal;
 use inst_settings::Settings;
 use inst_slot::Slot;
 use std::alloc::Global;
