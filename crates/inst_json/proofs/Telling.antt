@@ -20,7 +20,7 @@ use Rattle.inst_command.specs.declared.line.Line.{Line}
 use Rattle.inst_command.specs.declared.reply.Reply.{Reply}
 use Rattle.inst_command.specs.declared.reply.Reply.TheVariants as reply
 use Rattle.inst_json.specs.Replies.{items, entry_data, reply_data, reply_can_be_written, state_of, is_used}
-use Rattle.inst_json.specs.Laws.{IsReplyOf, Told, the_reply, the_lines, told}
+use Rattle.inst_json.specs.Laws.{IsReplyOf, Content, the_reply, the_lines, content_of}
 use Rattle.inst_json.proofs.Reading.{reads_back}
 
 code_numbered-number : (s : HubSettings) (i : ℕ) → IsSettings s → is_participant s i ≡ true → number_of_code s.codes (code_numbered s i) ≡ i
@@ -128,8 +128,8 @@ fault_numbered-number LineTooLong = refl
 fault_numbered-number ReadFault = refl
 fault_numbered-number WriteFault = refl
 
-abbrev told_in : HubSettings → Data → Told
-told_in s d =
+abbrev content_in : HubSettings → Data → Content
+content_in s d =
     cond (begins_by (codes "ref") d) (the_reply (reply.Done (text_in (row 0 d))))
     (cond (begins_by (codes "deadline") d) (the_reply (reply.Taken (text_in (row 1 d)) (word_in (row 0 d) - s.base)))
     (cond (begins_by (codes "from") d) (the_reply (reply.State (number_of_code s.codes (text_in (row 0 d))) (text_in (row 1 d)) (state_in d)))
@@ -153,25 +153,25 @@ texts_again : (s : HubSettings) (lines : List Line) → texts_in (items (map (λ
 texts_again s [] = refl
 texts_again s (line ∷ lines) = ap (λ texts. line_text s line ∷ texts) (texts_again s lines)
 
-state_told : (s : HubSettings) (code id : List ℕ) (from : ℕ) (state : State) → number_of_code s.codes code ≡ from → is_used state ≡ true → told_in s (state_of code id state) ≡ the_reply (reply.State from id state)
-state_told s code id from state.Unused named used = absurd (true≢false (sym used))
-state_told s code id from state.Pending named used = ap (λ n. the_reply (reply.State n id state.Pending)) named
-state_told s code id from (state.Decided Accepted) named used = ap (λ n. the_reply (reply.State n id (state.Decided Accepted))) named
-state_told s code id from (state.Decided (Rejected reason)) named used = ap (λ n. the_reply (reply.State n id (state.Decided (Rejected reason)))) named
-state_told s code id from (state.Decided TimedOut) named used = ap (λ n. the_reply (reply.State n id (state.Decided TimedOut))) named
+state_again : (s : HubSettings) (code id : List ℕ) (from : ℕ) (state : State) → number_of_code s.codes code ≡ from → is_used state ≡ true → content_in s (state_of code id state) ≡ the_reply (reply.State from id state)
+state_again s code id from state.Unused named used = absurd (true≢false (sym used))
+state_again s code id from state.Pending named used = ap (λ n. the_reply (reply.State n id state.Pending)) named
+state_again s code id from (state.Decided Accepted) named used = ap (λ n. the_reply (reply.State n id (state.Decided Accepted))) named
+state_again s code id from (state.Decided (Rejected reason)) named used = ap (λ n. the_reply (reply.State n id (state.Decided (Rejected reason)))) named
+state_again s code id from (state.Decided TimedOut) named used = ap (λ n. the_reply (reply.State n id (state.Decided TimedOut))) named
 
-data_tells : (s : HubSettings) (r : Reply) → IsSettings s → reply_can_be_written s r ≡ true → told_in s (reply_data s r) ≡ told s r
+data_tells : (s : HubSettings) (r : Reply) → IsSettings s → reply_can_be_written s r ≡ true → content_in s (reply_data s r) ≡ content_of s r
 data_tells s (reply.Done reference) lawful written = refl
 data_tells s (reply.Taken id deadline) lawful written = ap (λ n. the_reply (reply.Taken id n)) (past_base s.base deadline)
 data_tells s (reply.State from id state) lawful written =
     let parts = and_parts (is_participant s from) (is_used state) written in
-    state_told s (code_numbered s from) id from state (code_numbered-number s from lawful parts.0) parts.1
+    state_again s (code_numbered s from) id from state (code_numbered-number s from lawful parts.0) parts.1
 data_tells s (reply.Inbox entries) lawful written = ap (λ es. the_reply (reply.Inbox es)) (entries_again s entries lawful written)
 data_tells s (reply.Position position reserved available) lawful written = refl
 data_tells s (reply.Statement lines) lawful written = ap the_lines (texts_again s lines)
 data_tells s (reply.Refused fault) lawful written = ap (λ f. the_reply (reply.Refused f)) (fault_numbered-number fault)
 
-pub text_tells : (s : HubSettings) (a b : Reply) → IsReplyOf s a → IsReplyOf s b → compact_text (reply_data s a) ≡ compact_text (reply_data s b) → told s a ≡ told s b
+pub text_tells : (s : HubSettings) (a b : Reply) → IsReplyOf s a → IsReplyOf s b → compact_text (reply_data s a) ≡ compact_text (reply_data s b) → content_of s a ≡ content_of s b
 text_tells s a b of_a of_b same =
     let objects : reply_data s a ≡ reply_data s b = ap (λ o. unwrap_or o null) (sym (reads_back s a of_a) ∙ ap read same ∙ reads_back s b of_b) in
-    sym (data_tells s a of_a.settings of_a.writable) ∙ ap (told_in s) objects ∙ data_tells s b of_b.settings of_b.writable
+    sym (data_tells s a of_a.settings of_a.writable) ∙ ap (content_in s) objects ∙ data_tells s b of_b.settings of_b.writable

@@ -19,7 +19,7 @@ is_word n = nat_lt n (2 ^ 64)
 abbrev pub entry_has_words : HubSettings → Entry → Bool
 entry_has_words s entry = is_word entry.cents && is_word (s.base + entry.deadline)
 
--- whether the numbers of the reply have 64 bits, as those of every reply do
+-- whether the numbers of the reply have 64 bits, as the numbers of the program do
 abbrev pub has_words : HubSettings → Reply → Bool
 has_words s (reply.Done reference) = true
 has_words s (reply.Taken id deadline) = is_word (s.base + deadline)
@@ -35,19 +35,20 @@ pub record IsReplyOf (s : HubSettings) (r : Reply) : Type 0 where
   pub writable : reply_can_be_written s r ≡ true
   pub words : has_words s r ≡ true
 
--- what a reply tells: a statement the texts of its lines, any other reply itself
-pub data Told : Type 0 where
-  the_reply : Reply → Told
-  the_lines : List (List ℕ) → Told
+-- what a text can tell: a reply, or the texts of a statement's lines
+pub data Content : Type 0 where
+  the_reply : Reply → Content
+  the_lines : List (List ℕ) → Content
 
-abbrev pub told : HubSettings → Reply → Told
-told s (reply.Done reference) = the_reply (reply.Done reference)
-told s (reply.Taken id deadline) = the_reply (reply.Taken id deadline)
-told s (reply.State from id state) = the_reply (reply.State from id state)
-told s (reply.Inbox entries) = the_reply (reply.Inbox entries)
-told s (reply.Position position reserved available) = the_reply (reply.Position position reserved available)
-told s (reply.Statement lines) = the_lines (map (line_text s) lines)
-told s (reply.Refused fault) = the_reply (reply.Refused fault)
+-- what the text of a reply tells
+abbrev pub content_of : HubSettings → Reply → Content
+content_of s (reply.Done reference) = the_reply (reply.Done reference)
+content_of s (reply.Taken id deadline) = the_reply (reply.Taken id deadline)
+content_of s (reply.State from id state) = the_reply (reply.State from id state)
+content_of s (reply.Inbox entries) = the_reply (reply.Inbox entries)
+content_of s (reply.Position position reserved available) = the_reply (reply.Position position reserved available)
+content_of s (reply.Statement lines) = the_lines (map (line_text s) lines)
+content_of s (reply.Refused fault) = the_reply (reply.Refused fault)
 
 -- what is written of a reply reads back as its object
 abbrev pub WhatIsWrittenReadsBack : Type 0
@@ -56,4 +57,4 @@ WhatIsWrittenReadsBack = (s : HubSettings) (r : Reply) → IsReplyOf s r → rea
 -- two replies with the same text tell the same
 abbrev pub ATextTellsItsReply : Type 0
 ATextTellsItsReply = (s : HubSettings) (a b : Reply) → IsReplyOf s a → IsReplyOf s b →
-    compact_text (reply_data s a) ≡ compact_text (reply_data s b) → told s a ≡ told s b
+    compact_text (reply_data s a) ≡ compact_text (reply_data s b) → content_of s a ≡ content_of s b
