@@ -28,10 +28,10 @@ columns_apart xs ys us vs width e = (
   sym (drop-append_seam xs us) ∙ ap (drop (length xs)) e ∙ ap (λ n. drop n (ys ++ vs)) width ∙ drop-append_seam ys vs,
 )
 
-left_width : (width : ℕ) (text : List ℕ) → length text ≤ width → length (left_in width text) ≡ width
+pub left_width : (width : ℕ) (text : List ℕ) → length text ≤ width → length (left_in width text) ≡ width
 left_width width text fits = omega (arith, length-append text (replicate (width - length text) 32), length-replicate {A = ℕ} (width - length text) 32)
 
-right_width : (width : ℕ) (text : List ℕ) → length text ≤ width → length (right_in width text) ≡ width
+pub right_width : (width : ℕ) (text : List ℕ) → length text ≤ width → length (right_in width text) ≡ width
 right_width width text fits = omega (arith, length-append (replicate (width - length text) 32) text, length-replicate {A = ℕ} (width - length text) 32)
 
 -- ---- numbers at the right of a column
@@ -135,30 +135,33 @@ other_again s Paid (Some n) lawful all fits = ap Some (known_again s n lawful al
 -- ---- lines
 
 -- what the proof needs of a line
-record HasColumns (s : HubSettings) (line : Line) : Type 0 where
-  number_word : line.number < 2 ^ 64
-  number_width : length (right_in 6 (decimal line.number)) ≡ 6
-  other_fits : other_fits s line.kind line.other ≡ true
-  other_width : length (left_in 11 (other_code s line.other)) ≡ 11
-  id_width : length (left_in 35 line.id) ≡ 35
-  cents_word : line.cents < 2 ^ 64
-  cents_width : length (right_in 11 (decimal line.cents)) ≡ 11
-  position_width : length (right_in 20 (decimal line.position)) ≡ 20
+pub record HasColumns (s : HubSettings) (line : Line) : Type 0 where
+  pub number_word : line.number < 2 ^ 64
+  pub number_width : length (right_in 6 (decimal line.number)) ≡ 6
+  pub other_fits : other_fits s line.kind line.other ≡ true
+  pub other_width : length (left_in 11 (other_code s line.other)) ≡ 11
+  pub id_width : length (left_in 35 line.id) ≡ 35
+  pub cents_word : line.cents < 2 ^ 64
+  pub cents_width : length (right_in 11 (decimal line.cents)) ≡ 11
+  pub position_width : length (right_in 20 (decimal line.position)) ≡ 20
+
+pub columns_from : (s : HubSettings) (line : Line) → line.number ≤ last_number → other_fits s line.kind line.other ≡ true → length (other_code s line.other) ≤ 11 → length line.id ≤ 35 → line.cents ≤ 99999999999 → line.position < 2 ^ 64 → HasColumns s line
+columns_from s line small fits other short amount word = record {
+  number_word = omega (arith, small);
+  number_width = right_width 6 _ (length-decimal-le 6 line.number (omega arith) (omega (arith, small)) (omega (arith, small)));
+  other_fits = fits;
+  other_width = left_width 11 _ other;
+  id_width = left_width 35 line.id short;
+  cents_word = omega (arith, amount);
+  cents_width = right_width 11 _ (length-decimal-le 11 line.cents (omega arith) (omega (arith, amount)) (omega (arith, amount)));
+  position_width = right_width 20 _ (length-decimal-le 20 line.position (omega arith) (omega (arith, word)) word);
+}
 
 has_columns : (s : HubSettings) (line : Line) → IsLineOf s line → HasColumns s line
 has_columns s line given =
     let parts = and_parts (nat_le line.number last_number) (other_fits s line.kind line.other) given.fits in
     let small : line.number ≤ last_number = let h = parts.0 in grind (arith, nat_tests) in
-    let amount : line.cents ≤ 99999999999 = given.amount in record {
-      number_word = omega (arith, small);
-      number_width = right_width 6 _ (length-decimal-le 6 line.number (omega arith) (omega (arith, small)) (omega (arith, small)));
-      other_fits = parts.1;
-      other_width = left_width 11 _ (other_width s line.kind line.other given.codes parts.1);
-      id_width = left_width 35 line.id (identifier_form line.id given.identifier).1;
-      cents_word = omega (arith, amount);
-      cents_width = right_width 11 _ (length-decimal-le 11 line.cents (omega arith) (omega (arith, amount)) (omega (arith, amount)));
-      position_width = right_width 20 _ (length-decimal-le 20 line.position (omega arith) (omega (arith, given.position)) given.position);
-    }
+    columns_from s line small parts.1 (other_width s line.kind line.other given.codes parts.1) (identifier_form line.id given.identifier).1 given.amount given.position
 
 abbrev columns : HubSettings → Line → List ℕ
 columns s line =
@@ -172,9 +175,8 @@ columns_text s line = columns_are _ _ _ _ _ _ refl refl refl refl refl refl
 followed : (column rest : List ℕ) → length (column ++ (32 ∷ rest)) ≡ length column + (1 + length rest)
 followed column rest = omega (arith, length-append column (32 ∷ rest))
 
-pub line_length : (s : HubSettings) (line : Line) → IsLineOf s line → length (line_text s line) ≡ 91
-line_length s line given =
-    let c = has_columns s line given in
+pub columns_length : (s : HubSettings) (line : Line) → HasColumns s line → length (line_text s line) ≡ 91
+columns_length s line c =
     let position = right_in 20 (decimal line.position) in
     let cents = right_in 11 (decimal line.cents) ++ (32 ∷ position) in
     let id = left_in 35 line.id ++ (32 ∷ cents) in
@@ -185,6 +187,9 @@ line_length s line given =
     let e3 : length other ≡ 80 = followed (left_in 11 (other_code s line.other)) id ∙ omega (arith, c.other_width, e4) in
     let e2 : length kind ≡ 84 = followed (left_in 3 (kind_name line.kind)) other ∙ omega (arith, kind_width line.kind, e3) in
     sym (ap length (columns_text s line)) ∙ followed (right_in 6 (decimal line.number)) kind ∙ omega (arith, c.number_width, e2)
+
+pub line_length : (s : HubSettings) (line : Line) → IsLineOf s line → length (line_text s line) ≡ 91
+line_length s line given = columns_length s line (has_columns s line given)
 
 pub line_tells : (s : HubSettings) (a b : Line) → IsLineOf s a → IsLineOf s b → line_text s a ≡ line_text s b → IsSameButForSpaces a b
 line_tells s a b of_a of_b e =

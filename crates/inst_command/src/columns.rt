@@ -15,6 +15,7 @@ use std::alloc::{AllocError, Global};
 pub fn line_text(alloc: Global, settings: &Settings, line: &Line) -> Result<String, Fault>
     requires { line_fits settings.now line.now ≡ true }
     ensures text { IfOk result (λ text. string_bytes text ≡ line_text settings.now line.now) }
+    ensures len { IfOk result (λ text. length (string_bytes text) ≡ 91) }
     ensures latin { IfOk result (λ text. list_all is_latin (string_bytes text) ≡ true) }
     ensures err { IfErr result (λ fault. fault ≡ Fault.Memory) }
 {
@@ -24,6 +25,7 @@ pub fn line_text(alloc: Global, settings: &Settings, line: &Line) -> Result<Stri
 fn aligned(alloc: Global, settings: &Settings, line: &Line) -> Result<String, AllocError>
     requires { line_fits settings.now line.now ≡ true }
     ensures text { IfOk result (λ text. string_bytes text ≡ line_text settings.now line.now) }
+    ensures len { IfOk result (λ text. length (string_bytes text) ≡ 91) }
     ensures latin { IfOk result (λ text. list_all is_latin (string_bytes text) ≡ true) }
 {
     let number = line.number;

@@ -1,5 +1,5 @@
 -- What is written of a reply reads back as the reply's object.
-use Rattle.std.proofs.Common.{◌≡◌, ℕ, ◌+◌, ◌<◌, ◌≤◌, ◌^◌, true, ◌&&◌, List, [], ◌∷◌, map, Some, option_and_then, decimal, refl, sym, ap, ◌∙◌, append-nil, arith}
+use Rattle.std.proofs.Common.{◌≡◌, Bool, ℕ, ◌+◌, ◌<◌, ◌≤◌, ◌^◌, true, ◌&&◌, List, [], ◌∷◌, map, Some, option_and_then, decimal, refl, sym, ap, ◌∙◌, append-nil, arith}
 use Rattle.std.proofs.lemmas.Bool.{and_parts}
 use Rattle.std.proofs.lemmas.Bool.Decides.{nat_tests}
 use Rattle.std.specs.List.{list_all}
@@ -27,7 +27,7 @@ use Rattle.inst_command.specs.declared.entry.Entry.{Entry}
 use Rattle.inst_command.specs.declared.line.Line.{Line}
 use Rattle.inst_command.specs.declared.reply.Reply.{Reply}
 use Rattle.inst_command.specs.declared.reply.Reply.TheVariants as reply
-use Rattle.inst_json.specs.Replies.{items, entry_data, reply_data, state_of}
+use Rattle.inst_json.specs.Replies.{items, entry_data, new_data, reply_data, state_of}
 use Rattle.inst_json.specs.Laws.{is_word, entry_has_words, has_words, IsReplyOf}
 
 -- what a value needs for its text to be read back as it
@@ -146,5 +146,15 @@ reply_reads s (reply.Refused fault) h = record {
   shallow = omega arith;
 }
 
+pub words_read_back : (s : HubSettings) (r : Reply) → has_words s r ≡ true → read (compact_text (reply_data s r)) ≡ Some (reply_data s r)
+words_read_back s r words = from_parts (reply_data s r) (reply_reads s r words)
+
 pub reads_back : (s : HubSettings) (r : Reply) → IsReplyOf s r → read (compact_text (reply_data s r)) ≡ Some (reply_data s r)
-reads_back s r given = from_parts (reply_data s r) (reply_reads s r given.words)
+reads_back s r given = words_read_back s r given.words
+
+new_reads : (new : Bool) → ReadsBack (new_data new)
+unfolding serde_json_on_literals
+new_reads new = record { numbers = (tt, (tt, tt)); again = refl; shallow = omega arith }
+
+pub new_reads_back : (new : Bool) → read (compact_text (new_data new)) ≡ Some (new_data new)
+new_reads_back new = from_parts (new_data new) (new_reads new)

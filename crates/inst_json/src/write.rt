@@ -1,11 +1,13 @@
 //! From a reply to its line.
-ghost use Rattle.std.specs.Prelude.{◌≡◌, ◌⊎◌, ◌++◌, true, IsTrue, IfOk, IfErr, OnOk, string_bytes};
+ghost use Rattle.std.specs.Prelude.{◌≡◌, ◌⊎◌, ◌++◌, Some, true, IsTrue, IfOk, IfErr, OnOk, string_bytes};
 ghost use Rattle.std.specs.List.{list_all};
 ghost use Rattle.serde_json.specs.Data.{string};
 ghost use Rattle.serde_json.specs.Written.{compact_text};
 ghost use Rattle.inst_base.specs.Text.{is_code};
 ghost use Rattle.inst_command.specs.Ask.{is_participant};
 ghost use Rattle.inst_command.specs.LineText.{code_numbered, line_fits, line_text};
+ghost use Rattle.serde_json.specs.Read.{read};
+ghost use Rattle.inst_json.specs.Laws.{entry_has_words, has_words};
 ghost use Rattle.inst_json.specs.Replies.{done_data, taken_data, state_data, rejected_data, state_of, is_used, is_state_name, position_data, refused_data, entry_data, inbox_data, statement_data, reply_data, reply_can_be_written, answer_data, new_data, answer_can_be_written};
 
 use inst_base::{Fault, Ident, Reason};
@@ -119,8 +121,9 @@ fn rejected_text(
 /// Puts an entry of an inbox at the end of the text.
 fn push_entry(text: &mut String, settings: &Settings, entry: &Entry) -> Result<(), AllocError>
     requires { is_participant settings.now entry.now.from ≡ true }
-    ensures { OnOk result (string_bytes text.new
+    ensures text { OnOk result (string_bytes text.new
         ≡ string_bytes text.old ++ compact_text (entry_data settings.now entry.now)) }
+    ensures words { OnOk result (entry_has_words settings.now entry.now ≡ true) }
 {
     let cents = entry.cents.get();
     let deadline = entry.deadline.millis(settings.base());
@@ -134,8 +137,9 @@ fn push_entry(text: &mut String, settings: &Settings, entry: &Entry) -> Result<(
 
 fn inbox_text(alloc: Global, settings: &Settings, entries: &[Entry]) -> Result<String, AllocError>
     requires { list_all (λ entry. is_participant settings.now entry.from) entries.now ≡ true }
-    ensures { IfOk result (λ text. string_bytes text
+    ensures text { IfOk result (λ text. string_bytes text
         ≡ compact_text (inbox_data settings.now entries.now)) }
+    ensures words { OnOk result (list_all (entry_has_words settings.now) entries.now ≡ true) }
 {
     let mut text = String::from_str(alloc, "{\"entries\":[")?;
     for (index, entry) in entries.iter().enumerate() {
@@ -148,12 +152,15 @@ fn inbox_text(alloc: Global, settings: &Settings, entries: &[Entry]) -> Result<S
     Ok(text)
 }
 
-/// The line of a reply, without its newline: compact JSON with the keys in byte order. Moments are
+/// The line of a reply, without its newline: compact JSON with the keys in byte order, which reads back
+/// as the reply's object. Moments are
 /// absolute milliseconds, and amounts are cents. `Memory` is the only fault.
 pub fn write_reply(alloc: Global, settings: &Settings, reply: &Reply) -> Result<Vec<u8>, Fault>
     requires { reply_can_be_written settings.now reply.now ≡ true }
     ensures text { IfOk result (λ bytes. bytes.items
         ≡ compact_text (reply_data settings.now reply.now)) }
+    ensures reads_back { IfOk result (λ bytes. read bytes.items
+        ≡ Some (reply_data settings.now reply.now)) }
     ensures err { IfErr result (λ fault. fault ≡ Fault.Memory) }
 {
     Ok(reply_text(alloc, settings, reply)?.into_bytes())
@@ -165,6 +172,8 @@ pub fn write_answer(alloc: Global, settings: &Settings, answer: &Answer) -> Resu
     requires { answer_can_be_written settings.now answer.now ≡ true }
     ensures text { IfOk result (λ bytes. bytes.items
         ≡ compact_text (answer_data settings.now answer.now)) }
+    ensures reads_back { IfOk result (λ bytes. read bytes.items
+        ≡ Some (answer_data settings.now answer.now)) }
     ensures err { IfErr result (λ fault. fault ≡ Fault.Memory) }
 {
     match answer {
@@ -181,8 +190,9 @@ fn new_text(alloc: Global, new: bool) -> Result<String, AllocError>
 
 fn reply_text(alloc: Global, settings: &Settings, reply: &Reply) -> Result<String, AllocError>
     requires { reply_can_be_written settings.now reply.now ≡ true }
-    ensures { IfOk result (λ text. string_bytes text
+    ensures text { IfOk result (λ text. string_bytes text
         ≡ compact_text (reply_data settings.now reply.now)) }
+    ensures words { OnOk result (has_words settings.now reply.now ≡ true) }
 {
     match reply {
         Reply::Done { reference } => done_text(alloc, reference),

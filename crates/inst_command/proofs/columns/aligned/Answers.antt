@@ -1,10 +1,13 @@
 use Rattle.std.proofs.lemmas.Result.{IfOk-weaker}
-use Rattle.std.proofs.Common.{◌≡◌, ◌∙◌, ap, arith, decimal}
+use Rattle.std.proofs.Common.{rules, ◌≡◌, ◌≤◌, ◌<◌, ◌^◌, ◌∙◌, ap, arith, decimal, length, nat_le}
+use Rattle.std.proofs.lemmas.Bool.{and_parts}
+use Rattle.std.proofs.lemmas.Bool.Decides.{nat_tests}
 use Rattle.std.specs.Fmt.{styled_text, styled_decimal}
 use Rattle.inst_base.specs.Text.{is_latin, is_code_character}
 use Rattle.inst_base.proofs.Ascii.{is_latin-below, is_code_character-below}
-use Rattle.inst_command.specs.LineText.{line_text, left_in, right_in, kind_name, other_code}
+use Rattle.inst_command.specs.LineText.{line_text, last_number, left_in, right_in, kind_name, other_code, other_fits}
 use Rattle.std.specs.List.{list_all}
+use Rattle.inst_command.proofs.Telling.{columns_from, columns_length}
 use Rattle.inst_command.proofs.Latin.{line_text-latin, latin-code}
 use Rattle.inst_command.proofs.Widths.{left_column, right_column, columns_are, identifier_form}
 use Rattle.inst_command.proofs.columns.aligned.Goals as goal
@@ -32,3 +35,15 @@ returns-clause-latin c =
     let id = (identifier_form c.text-id.result.now c.text-id.ensures.form).0 in
     let latin = line_text-latin c.args.settings.now c.args.line.now (rw (← c.other_code-other.ensures.value) (latin-code c.other_code-other.result.now c.other_code-other.ensures.form)) (rw (← c.text-id.ensures.value) id) in
     IfOk-weaker c.format.result _ _ (λ text is. ap (list_all is_latin) is ∙ latin) (returns-clause-text c)
+
+pub returns-clause-len : goal.returns-clause-len
+returns-clause-len c =
+    let line = c.args.line.now in
+    let parts = and_parts (nat_le line.number last_number) (other_fits c.args.settings.now line.kind line.other) c.requires in
+    let small : line.number ≤ last_number = let h = parts.0 in grind (arith, nat_tests) in
+    let amount : line.cents ≤ 99999999999 = rw (← c.get-cents.ensures.value) c.get-cents.ensures.within in
+    let short : length line.id ≤ 35 = rw (← c.text-id.ensures.value) (identifier_form c.text-id.result.now c.text-id.ensures.form).1 in
+    let other : length (other_code c.args.settings.now line.other) ≤ 11 = rw (← c.other_code-other.ensures.value) c.other_code-other.ensures.short in
+    let word : line.position < 2 ^ 64 = search rules in
+    let fits : length (line_text c.args.settings.now line) ≡ 91 = columns_length c.args.settings.now line (columns_from c.args.settings.now line small parts.1 other short amount word) in
+    IfOk-weaker c.format.result _ _ (λ text is. ap length is ∙ fits) (returns-clause-text c)

@@ -6,8 +6,8 @@ use Rattle.inst_json.proofs.Plain.{escape-code, escape-identifier}
 use Rattle.inst_json.proofs.Texts.{entry_line, entry_text}
 use Rattle.inst_json.proofs.write.push_entry.Goals as goal
 
-pub returns : goal.returns
-returns c =
+pub returns-clause-text : goal.returns-clause-text
+returns-clause-text c =
     let from = c.code_text-from.result.now in
     let id = c.text-id.result.now in
     let line = entry_line c.get-cents.result c.millis-deadline.result from id (escape-code from c.code_text-from.ensures.form) (escape-identifier id c.text-id.ensures.form) in
