@@ -1,4 +1,5 @@
-ghost use Rattle.std.specs.Prelude.{◌≡◌, IfOk, IfErr, IsOkUnless, Some, false, map};
+ghost use Rattle.std.specs.Prelude.{◌≡◌, OkIff, true, IfOk, IfErr, IsOkUnless, Some, false, map};
+ghost use Rattle.inst_base.specs.Text.{is_code};
 ghost use Rattle.clap.specs.Words.{app_of, first_of, found_of, rows_of, rule_of};
 ghost use Rattle.inst_main.specs.Options.{participants_rule, number_rule, command_line as the_command_line, Gives, Chooses, parts_of};
 ghost use Rattle.inst_main.specs.Program.{IsRefusal};
@@ -121,7 +122,7 @@ fn codes(alloc: Global, text: &str) -> Result<Vec<Code>, Fault>
 }
 
 fn code(text: &str) -> Result<Code, Fault>
-    ensures code { IfOk result (λ code. code ≡ text.now) }
+    ensures code { OkIff result (is_code text.now ≡ true) text.now }
     ensures fault { IsOkUnless result Fault.BadSettings }
 {
     Code::new(text).map_err(|_| Fault::BadSettings)
