@@ -56,10 +56,7 @@ impl<const N: usize> ShortText<N> {
         ensures value { result.now ≡ self.now }
         ensures fits { length result.now ≤ N }
     {
-        match str::from_utf8(&self.bytes[..self.len]) {
-            Ok(text) => text,
-            Err(_) => unreachable!(),
-        }
+        unsafe { str::from_utf8_unchecked(&self.bytes[..self.len]) }
     }
 }
 

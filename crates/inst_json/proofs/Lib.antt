@@ -3,3 +3,5 @@ pub mod Plain
 pub mod Texts
 pub mod Reading
 pub mod Telling
+pub mod Alike
+pub mod Pieces

@@ -6,4 +6,5 @@ pub mod Commands
 pub mod Replies
 pub mod Steps
 pub mod Lines
+pub mod Shown
 pub mod Laws

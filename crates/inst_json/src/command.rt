@@ -1,27 +1,28 @@
 //! The asks of the nine commands: each reads all its fields, and then checks what they hold.
 ghost use Rattle.std.specs.Prelude.{◌≡◌, true, IfOk};
-ghost use Rattle.serde_json.specs.View.{view};
+ghost use Rattle.inst_scan.specs.Scanned.{seen};
 ghost use Rattle.inst_command.specs.Ask.{ask_fits, is_participant};
 ghost use Rattle.inst_json.specs.Commands.{submit_of, confirm_of, reject_of, investigate_of, fetch_of, position_of, statement_of, fund_of, defund_of, ask_of};
 
 use crate::checks::{amount, moment, participant, time_stamp};
 use crate::fields::{code_at, count_at, reason_at, text_at, whole_at};
+use crate::names::{AT, CENTS, CMD, COUNT, FROM, ID, MAX, REASON, REF, SKIP, STAMP, TO, WHO};
 use crate::verb::{Verb, verb_of};
 use inst_base::{Fault, Ident};
 use inst_command::{Ask, Command};
+use inst_scan::Scanned;
 use inst_settings::Settings;
-use serde_json::Value;
 
 /// A fund command, or the first refusal of its line.
 #[tactic(auto, unfolding(crate::specs::Commands::fund_of))]
-fn fund(settings: &Settings, line: &Value) -> Result<Ask, Fault>
-    ensures value { result ≡ fund_of settings.now (view line.now) }
+fn fund(settings: &Settings, line: &Scanned<'_>) -> Result<Ask, Fault>
+    ensures value { result ≡ fund_of settings.now (seen line.now) }
     ensures fits { IfOk result (λ ask. ask_fits settings.now ask ≡ true) }
 {
-    let who = code_at(line, "who")?;
-    let at = whole_at(line, "at")?;
-    let reference = text_at(line, "ref")?;
-    let cents = whole_at(line, "cents")?;
+    let who = code_at(line, WHO)?;
+    let at = whole_at(line, AT)?;
+    let reference = text_at(line, REF)?;
+    let cents = whole_at(line, CENTS)?;
     let reference = Ident::new(reference)?;
     let cents = amount(settings, cents)?;
     let at = moment(settings, at)?;
@@ -35,14 +36,14 @@ fn fund(settings: &Settings, line: &Value) -> Result<Ask, Fault>
 
 /// A defund command, or the first refusal of its line.
 #[tactic(auto, unfolding(crate::specs::Commands::defund_of))]
-fn defund(settings: &Settings, line: &Value) -> Result<Ask, Fault>
-    ensures value { result ≡ defund_of settings.now (view line.now) }
+fn defund(settings: &Settings, line: &Scanned<'_>) -> Result<Ask, Fault>
+    ensures value { result ≡ defund_of settings.now (seen line.now) }
     ensures fits { IfOk result (λ ask. ask_fits settings.now ask ≡ true) }
 {
-    let who = code_at(line, "who")?;
-    let at = whole_at(line, "at")?;
-    let reference = text_at(line, "ref")?;
-    let cents = whole_at(line, "cents")?;
+    let who = code_at(line, WHO)?;
+    let at = whole_at(line, AT)?;
+    let reference = text_at(line, REF)?;
+    let cents = whole_at(line, CENTS)?;
     let reference = Ident::new(reference)?;
     let cents = amount(settings, cents)?;
     let at = moment(settings, at)?;
@@ -56,16 +57,16 @@ fn defund(settings: &Settings, line: &Value) -> Result<Ask, Fault>
 
 /// A submission, or the first refusal of its line.
 #[tactic(auto, unfolding(crate::specs::Commands::submit_of))]
-fn submit(settings: &Settings, line: &Value) -> Result<Ask, Fault>
-    ensures value { result ≡ submit_of settings.now (view line.now) }
+fn submit(settings: &Settings, line: &Scanned<'_>) -> Result<Ask, Fault>
+    ensures value { result ≡ submit_of settings.now (seen line.now) }
     ensures fits { IfOk result (λ ask. ask_fits settings.now ask ≡ true) }
 {
-    let who = code_at(line, "who")?;
-    let at = whole_at(line, "at")?;
-    let id = text_at(line, "id")?;
-    let to = code_at(line, "to")?;
-    let cents = whole_at(line, "cents")?;
-    let stamp = whole_at(line, "stamp")?;
+    let who = code_at(line, WHO)?;
+    let at = whole_at(line, AT)?;
+    let id = text_at(line, ID)?;
+    let to = code_at(line, TO)?;
+    let cents = whole_at(line, CENTS)?;
+    let stamp = whole_at(line, STAMP)?;
     let id = Ident::new(id)?;
     let cents = amount(settings, cents)?;
     let at = moment(settings, at)?;
@@ -86,14 +87,14 @@ fn submit(settings: &Settings, line: &Value) -> Result<Ask, Fault>
 
 /// A confirmation, or the first refusal of its line.
 #[tactic(auto, unfolding(crate::specs::Commands::confirm_of))]
-fn confirm(settings: &Settings, line: &Value) -> Result<Ask, Fault>
-    ensures value { result ≡ confirm_of settings.now (view line.now) }
+fn confirm(settings: &Settings, line: &Scanned<'_>) -> Result<Ask, Fault>
+    ensures value { result ≡ confirm_of settings.now (seen line.now) }
     ensures fits { IfOk result (λ ask. ask_fits settings.now ask ≡ true) }
 {
-    let who = code_at(line, "who")?;
-    let at = whole_at(line, "at")?;
-    let from = code_at(line, "from")?;
-    let id = text_at(line, "id")?;
+    let who = code_at(line, WHO)?;
+    let at = whole_at(line, AT)?;
+    let from = code_at(line, FROM)?;
+    let id = text_at(line, ID)?;
     let id = Ident::new(id)?;
     let at = moment(settings, at)?;
     let who = participant(settings, &who)?;
@@ -107,15 +108,15 @@ fn confirm(settings: &Settings, line: &Value) -> Result<Ask, Fault>
 
 /// A rejection, or the first refusal of its line.
 #[tactic(auto, unfolding(crate::specs::Commands::reject_of))]
-fn reject(settings: &Settings, line: &Value) -> Result<Ask, Fault>
-    ensures value { result ≡ reject_of settings.now (view line.now) }
+fn reject(settings: &Settings, line: &Scanned<'_>) -> Result<Ask, Fault>
+    ensures value { result ≡ reject_of settings.now (seen line.now) }
     ensures fits { IfOk result (λ ask. ask_fits settings.now ask ≡ true) }
 {
-    let who = code_at(line, "who")?;
-    let at = whole_at(line, "at")?;
-    let from = code_at(line, "from")?;
-    let id = text_at(line, "id")?;
-    let reason = reason_at(line, "reason")?;
+    let who = code_at(line, WHO)?;
+    let at = whole_at(line, AT)?;
+    let from = code_at(line, FROM)?;
+    let id = text_at(line, ID)?;
+    let reason = reason_at(line, REASON)?;
     let id = Ident::new(id)?;
     let at = moment(settings, at)?;
     let who = participant(settings, &who)?;
@@ -129,13 +130,13 @@ fn reject(settings: &Settings, line: &Value) -> Result<Ask, Fault>
 
 /// An investigation, or the first refusal of its line.
 #[tactic(auto, unfolding(crate::specs::Commands::investigate_of))]
-fn investigate(settings: &Settings, line: &Value) -> Result<Ask, Fault>
-    ensures value { result ≡ investigate_of settings.now (view line.now) }
+fn investigate(settings: &Settings, line: &Scanned<'_>) -> Result<Ask, Fault>
+    ensures value { result ≡ investigate_of settings.now (seen line.now) }
     ensures fits { IfOk result (λ ask. ask_fits settings.now ask ≡ true) }
 {
-    let who = code_at(line, "who")?;
-    let at = whole_at(line, "at")?;
-    let id = text_at(line, "id")?;
+    let who = code_at(line, WHO)?;
+    let at = whole_at(line, AT)?;
+    let id = text_at(line, ID)?;
     let id = Ident::new(id)?;
     let at = moment(settings, at)?;
     let who = participant(settings, &who)?;
@@ -148,13 +149,13 @@ fn investigate(settings: &Settings, line: &Value) -> Result<Ask, Fault>
 
 /// A fetch of forwarded transfers, or the first refusal of its line.
 #[tactic(auto, unfolding(crate::specs::Commands::fetch_of))]
-fn fetch(settings: &Settings, line: &Value) -> Result<Ask, Fault>
-    ensures value { result ≡ fetch_of settings.now (view line.now) }
+fn fetch(settings: &Settings, line: &Scanned<'_>) -> Result<Ask, Fault>
+    ensures value { result ≡ fetch_of settings.now (seen line.now) }
     ensures fits { IfOk result (λ ask. ask_fits settings.now ask ≡ true) }
 {
-    let who = code_at(line, "who")?;
-    let at = whole_at(line, "at")?;
-    let max = count_at(line, "max")?;
+    let who = code_at(line, WHO)?;
+    let at = whole_at(line, AT)?;
+    let max = count_at(line, MAX)?;
     let at = moment(settings, at)?;
     let who = participant(settings, &who)?;
     Ok(Ask {
@@ -166,12 +167,12 @@ fn fetch(settings: &Settings, line: &Value) -> Result<Ask, Fault>
 
 /// A question for the position, or the first refusal of its line.
 #[tactic(auto, unfolding(crate::specs::Commands::position_of))]
-fn position(settings: &Settings, line: &Value) -> Result<Ask, Fault>
-    ensures value { result ≡ position_of settings.now (view line.now) }
+fn position(settings: &Settings, line: &Scanned<'_>) -> Result<Ask, Fault>
+    ensures value { result ≡ position_of settings.now (seen line.now) }
     ensures fits { IfOk result (λ ask. ask_fits settings.now ask ≡ true) }
 {
-    let who = code_at(line, "who")?;
-    let at = whole_at(line, "at")?;
+    let who = code_at(line, WHO)?;
+    let at = whole_at(line, AT)?;
     let at = moment(settings, at)?;
     let who = participant(settings, &who)?;
     Ok(Ask {
@@ -183,14 +184,14 @@ fn position(settings: &Settings, line: &Value) -> Result<Ask, Fault>
 
 /// A question for statement lines, or the first refusal of its line.
 #[tactic(auto, unfolding(crate::specs::Commands::statement_of))]
-fn statement(settings: &Settings, line: &Value) -> Result<Ask, Fault>
-    ensures value { result ≡ statement_of settings.now (view line.now) }
+fn statement(settings: &Settings, line: &Scanned<'_>) -> Result<Ask, Fault>
+    ensures value { result ≡ statement_of settings.now (seen line.now) }
     ensures fits { IfOk result (λ ask. ask_fits settings.now ask ≡ true) }
 {
-    let who = code_at(line, "who")?;
-    let at = whole_at(line, "at")?;
-    let skip = whole_at(line, "skip")?;
-    let count = count_at(line, "count")?;
+    let who = code_at(line, WHO)?;
+    let at = whole_at(line, AT)?;
+    let skip = whole_at(line, SKIP)?;
+    let count = count_at(line, COUNT)?;
     let at = moment(settings, at)?;
     let who = participant(settings, &who)?;
     Ok(Ask {
@@ -202,11 +203,11 @@ fn statement(settings: &Settings, line: &Value) -> Result<Ask, Fault>
 
 /// The ask of a command line's value, or the first refusal of the line.
 #[tactic(auto, unfolding(crate::specs::Commands::ask_of, crate::specs::Commands::command_of))]
-pub(crate) fn ask_of(settings: &Settings, line: &Value) -> Result<Ask, Fault>
-    ensures value { result ≡ ask_of settings.now (view line.now) }
+pub(crate) fn ask_of(settings: &Settings, line: &Scanned<'_>) -> Result<Ask, Fault>
+    ensures value { result ≡ ask_of settings.now (seen line.now) }
     ensures fits { IfOk result (λ ask. ask_fits settings.now ask ≡ true) }
 {
-    match verb_of(text_at(line, "cmd")?)? {
+    match verb_of(text_at(line, CMD)?)? {
         Verb::Fund => fund(settings, line),
         Verb::Defund => defund(settings, line),
         Verb::Submit => submit(settings, line),

@@ -7,9 +7,11 @@ ghost use Rattle.inst_json.specs.Outcome.{GivesUnlessMemory, IsUnlessMemory};
 ghost use Rattle.inst_json.specs.Lines.{json_of, command_of_line, step_of_line};
 
 use crate::command::ask_of;
+use crate::shown::{fields_of, scan_line};
 use crate::step::step_of;
 use inst_base::Fault;
 use inst_command::{Ask, Step};
+use inst_scan::{Field, Scanned};
 use inst_settings::Settings;
 use serde_json::Value;
 use std::alloc::Global;
@@ -24,8 +26,14 @@ pub fn read_command(alloc: Global, settings: &Settings, line: &[u8]) -> Result<A
     ensures value { IsUnlessMemory result (command_of_line settings.now line.now) }
     ensures fits { IfOk result (λ ask. ask_fits settings.now ask ≡ true) }
 {
+    let mut fields = Scanned {
+        fields: [Field::Missing; 16],
+    };
+    if let Some(()) = scan_line(line, &mut fields) {
+        return ask_of(settings, &fields);
+    }
     let value = json_of(alloc, line)?;
-    ask_of(settings, &value)
+    ask_of(settings, &fields_of(&value))
 }
 
 /// The step of a script line, or the first of its refusals, in the order of `read_command`. An object
@@ -36,13 +44,20 @@ pub fn read_step(alloc: Global, settings: &Settings, line: &[u8]) -> Result<Step
     ensures value { IsUnlessMemory result (step_of_line settings.now line.now) }
     ensures fits { IfOk result (λ step. step_fits settings.now step ≡ true) }
 {
+    let mut fields = Scanned {
+        fields: [Field::Missing; 16],
+    };
+    if let Some(()) = scan_line(line, &mut fields) {
+        return step_of(settings, &fields);
+    }
     let value = json_of(alloc, line)?;
-    step_of(settings, &value)
+    step_of(settings, &fields_of(&value))
 }
 
 /// The JSON value of a line, or `NotJson` where it is no JSON text in UTF-8 that nests at most 127
 /// deep.
 #[tactic(auto, unfolding(crate::specs::Lines::json_of))]
+#[inline(never)]
 fn json_of(alloc: Global, line: &[u8]) -> Result<Value, Fault>
     ensures { GivesUnlessMemory view result (json_of line.now) }
 {

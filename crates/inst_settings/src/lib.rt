@@ -2,6 +2,7 @@
 #![tactic(auto)]
 
 mod codes;
+mod finder;
 mod ranges;
 mod settings;
 #[cfg(test)]

@@ -1,7 +1,8 @@
-ghost use Rattle.std.specs.Prelude.{◌≡◌, ◌≤◌, slice_get, IfOk, OnErr, IsOkUnless};
+ghost use Rattle.std.specs.Prelude.{◌≡◌, ◌≤◌, Some, true, slice_get, IfOk, OnErr, IsOkUnless};
 ghost use Rattle.std.specs.Option.{option_copied};
 
 use crate::codes::{are_different, index_of};
+use crate::finder::Finder;
 use crate::ranges::{
     MOST_AHEAD, MOST_BASE, MOST_CEILING, MOST_FUNDINGS, MOST_LIMIT, MOST_PARTICIPANTS, MOST_PLACES,
 };
@@ -12,6 +13,7 @@ use std::marker::Model;
 #[derive(Debug, Drop)]
 pub struct Settings {
     codes: Vec<Code>,
+    finder: Finder,
     places: u16,
     fundings: u16,
     limit: u32,
@@ -80,8 +82,10 @@ impl Settings {
         if ceiling == 0 || ceiling > MOST_CEILING || base > MOST_BASE {
             return Err(Fault::BadSettings);
         }
+        let finder = Finder::new(&codes);
         Ok(Settings {
             codes,
+            finder,
             places,
             fundings,
             limit,
@@ -99,6 +103,7 @@ impl Settings {
     {
         Ok(Settings {
             codes: self.codes.clone()?,
+            finder: self.finder,
             places: self.places,
             fundings: self.fundings,
             limit: self.limit,
@@ -112,7 +117,20 @@ impl Settings {
     pub fn index_of(&self, code: &Code) -> Option<u8>
         ensures { result ≡ index_of code.now self.now.codes }
     {
+        let guess = self.finder.guess(code);
+        if self.has_at(guess, code) {
+            return Some(guess);
+        }
         index_of(&self.codes, code).map(|index| index as u8)
+    }
+
+    /// Whether this number has this code.
+    #[inline(always)]
+    fn has_at(&self, number: u8, code: &Code) -> bool
+        ensures { result ≡ true → Some number ≡ index_of code.now self.now.codes }
+    {
+        let number = usize::from(number);
+        number < self.codes.len() && self.codes[number] == *code
     }
 
     /// The code of the participant with this number, or `None` where there is none.

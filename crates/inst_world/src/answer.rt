@@ -11,7 +11,7 @@ use crate::slots::refusals_told;
 use crate::world::World;
 use inst_base::Fault;
 use inst_command::Reply;
-use inst_json::{read_command, write_reply};
+use inst_json::read_command;
 use inst_settings::Settings;
 use std::alloc::Global;
 
@@ -54,8 +54,7 @@ fn append_reply(
     ensures refusal { IfOk result (λ refused. refused ≡ is_refusal reply.now) }
     ensures fault { OnErr result (IsErrOf result Fault.Memory) }
 {
-    let text = write_reply(alloc, settings, reply)?;
-    out.extend_from_slice(&text)?;
+    inst_json::append_reply(alloc, settings, reply, out)?;
     out.push(b'\n')?;
     Ok(matches!(reply, Reply::Refused(_)))
 }

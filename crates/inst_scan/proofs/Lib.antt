@@ -1,0 +1,4 @@
+pub mod Reading
+pub mod Lexing
+pub mod Members
+pub mod Seen

@@ -1,0 +1,14 @@
+use Rattle.std.proofs.Common.{◌≡◌, ◌-◌, ◌≤◌, length, drop}
+use Rattle.json.specs.Lex.{lex, between, tokens}
+use Rattle.inst_scan.proofs.Members.{Reading}
+use Rattle.inst_scan.proofs.line.scan.Given as goal
+
+abbrev pub invariant-loop-at : goal.invariant-loop-at
+invariant-loop-at l = record {
+  within : l.at ≤ length l.text;
+  fields : length l.found.fields ≡ 16;
+  reading : Reading (tokens l.text) (lex between (drop l.at l.text)) l.found.fields;
+}
+
+abbrev pub decreases-loop-at : goal.decreases-loop-at
+decreases-loop-at l = length l.text - l.at

@@ -1,0 +1,7 @@
+use Rattle.inst_scan.proofs.Lexing.{lex_whole}
+use Rattle.inst_scan.proofs.parts.whole.Goals as goal
+
+pub returns-then-ends_number-clause-lexed : goal.returns-then-ends_number-clause-lexed
+returns-then-ends_number-clause-lexed c =
+    let read = c.in_ok-value.ensures in
+    lex_whole c.args.text.now c.args.from c.in_ok-value.end c.in_ok-value.value read.small read.value c.if-end-text.true (c.ends_number.ensures c.if-ends_number.true)
