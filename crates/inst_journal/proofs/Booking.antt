@@ -7,7 +7,7 @@ use Rattle.std.proofs.lemmas.List.Sums.{sum_by-cons, sum_by-le-sum_by}
 use Rattle.inst_settings.specs.Settings.{HubSettings, same_text}
 use Rattle.inst_command.specs.declared.outcome.Outcome.{Outcome}
 use Rattle.inst_journal.specs.declared.event.Event.{Event}
-use Rattle.inst_journal.specs.declared.event.Event.TheVariants.{Funded, Defunded, Taken, Forwarded, Booked, Fetched}
+use Rattle.inst_journal.specs.declared.event.Event.TheVariants.{Funded, Defunded, Taken, Forwarded, Booked, Fetched, Opened}
 use Rattle.inst_journal.specs.Booked.{or_else, takes, is_taken, forwards, books, booked, own_booked, is_submission, submissions, is_forwarding}
 use Rattle.inst_journal.specs.Sums.{if_unbooked}
 use Rattle.inst_journal.specs.Sound.{Fits, IsSound}
@@ -30,6 +30,7 @@ open_at J (Funded reference cents) = 0
 open_at J (Defunded reference cents) = 0
 open_at J (Booked from id outcome) = 0
 open_at J (Fetched count) = 0
+open_at J Opened = 0
 
 unbooked_le : (o : Option Outcome) → if_unbooked o 1 ≤ 1
 unbooked_le None = omega arith
@@ -48,6 +49,7 @@ open_push s who J new sound fits (Funded reference cents) = omega arith
 open_push s who J new sound fits (Defunded reference cents) = omega arith
 open_push s who J new sound fits (Booked from id outcome) = omega arith
 open_push s who J new sound fits (Fetched count) = omega arith
+open_push s who J new sound fits Opened = omega arith
 
 -- a sum that is smaller at some element that passes a test
 smaller : (f g : Event → ℕ) (p : Event → Bool) (xs : List Event) → ((x : Event) → f x ≤ g x) → ((x : Event) → p x ≡ true → f x + 1 ≤ g x) → list_any p xs ≡ true → sum_by f xs + 1 ≤ sum_by g xs
@@ -81,6 +83,7 @@ taken_closed s who J id outcome sound fits (Funded reference cents) same = absur
 taken_closed s who J id outcome sound fits (Defunded reference cents) same = absurd (false≢true same)
 taken_closed s who J id outcome sound fits (Booked from other o) same = absurd (false≢true same)
 taken_closed s who J id outcome sound fits (Fetched count) same = absurd (false≢true same)
+taken_closed s who J id outcome sound fits Opened same = absurd (false≢true same)
 
 -- a booking closes the forwarded transfer that it is of
 forwarded_closed : (s : HubSettings) (who : ℕ) (J : List Event) (from : ℕ) (id : List ℕ) (outcome : Outcome) → Fits s who J (Booked from id outcome)
@@ -99,6 +102,7 @@ forwarded_closed s who J from id outcome fits (Funded reference cents) same = ab
 forwarded_closed s who J from id outcome fits (Defunded reference cents) same = absurd (false≢true same)
 forwarded_closed s who J from id outcome fits (Booked other_from other o) same = absurd (false≢true same)
 forwarded_closed s who J from id outcome fits (Fetched count) same = absurd (false≢true same)
+forwarded_closed s who J from id outcome fits Opened same = absurd (false≢true same)
 
 own_closes : (s : HubSettings) (who : ℕ) (J : List Event) (from : ℕ) (id : List ℕ) (outcome : Outcome) → IsSound s who J → Fits s who J (Booked from id outcome) → from ≡ who → is_taken id J ≡ true
     → sum_by (open_at (J ++ Booked from id outcome ∷ [])) J + 1 ≤ sum_by (open_at J) J
@@ -130,6 +134,7 @@ counted_new s who J (Forwarded from id cents deadline) sound fits =
 counted_new s who J (Funded reference cents) sound fits = omega (arith, sum_by-le-sum_by _ _ J (open_push s who J (Funded reference cents) sound fits))
 counted_new s who J (Defunded reference cents) sound fits = omega (arith, sum_by-le-sum_by _ _ J (open_push s who J (Defunded reference cents) sound fits))
 counted_new s who J (Fetched count) sound fits = omega (arith, sum_by-le-sum_by _ _ J (open_push s who J (Fetched count) sound fits))
+counted_new s who J Opened sound fits = omega (arith, sum_by-le-sum_by _ _ J (open_push s who J Opened sound fits))
 
 -- no more bookings than taken and forwarded transfers
 pub bookings_within : (s : HubSettings) (who : ℕ) (J : List Event) → IsSound s who J → IsCounted J

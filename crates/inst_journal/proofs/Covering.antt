@@ -5,7 +5,7 @@ use Rattle.inst_settings.specs.Settings.{HubSettings}
 use Rattle.inst_command.specs.declared.outcome.Outcome.{Outcome}
 use Rattle.inst_command.specs.declared.outcome.Outcome.TheVariants.{Accepted, Rejected, TimedOut}
 use Rattle.inst_journal.specs.declared.event.Event.{Event}
-use Rattle.inst_journal.specs.declared.event.Event.TheVariants.{Funded, Defunded, Taken, Forwarded, Booked, Fetched}
+use Rattle.inst_journal.specs.declared.event.Event.TheVariants.{Funded, Defunded, Taken, Forwarded, Booked, Fetched, Opened}
 use Rattle.inst_journal.specs.Booked.{or_else, books, booked, own_booked}
 use Rattle.inst_journal.specs.Sums.{funding, defunding, funded, defunded, if_accepted, if_unbooked, credit, debit, reservation, credits, debits}
 use Rattle.inst_journal.specs.Money.{reserved, available}
@@ -46,6 +46,7 @@ held_le s who J new sound fits (Defunded reference cents) = omega arith
 held_le s who J new sound fits (Forwarded from id cents deadline) = omega arith
 held_le s who J new sound fits (Booked from id outcome) = omega arith
 held_le s who J new sound fits (Fetched count) = omega arith
+held_le s who J new sound fits Opened = omega arith
 
 held_new : (J : List Event) (event : Event) → debit J event + reservation J event ≤ taking event
 held_new J (Taken id to cents stamp) = accepted_le (own_booked id J) cents
@@ -54,6 +55,7 @@ held_new J (Defunded reference cents) = omega arith
 held_new J (Forwarded from id cents deadline) = omega arith
 held_new J (Booked from id outcome) = omega arith
 held_new J (Fetched count) = omega arith
+held_new J Opened = omega arith
 
 credit_le : (J : List Event) (new : Event) (event : Event) → credit J event ≤ credit (J ++ new ∷ []) event
 credit_le J new (Forwarded from id cents deadline) =
@@ -64,6 +66,7 @@ credit_le J new (Funded reference cents) = omega arith
 credit_le J new (Defunded reference cents) = omega arith
 credit_le J new (Booked from id outcome) = omega arith
 credit_le J new (Fetched count) = omega arith
+credit_le J new Opened = omega arith
 
 -- what an event takes is available before it
 within : (s : HubSettings) (who : ℕ) (J : List Event) (event : Event) → Fits s who J event → defunding event + taking event ≤ available J
@@ -73,6 +76,7 @@ within s who J (Funded reference cents) fits = omega arith
 within s who J (Forwarded from id cents deadline) fits = omega arith
 within s who J (Booked from id outcome) fits = omega arith
 within s who J (Fetched count) fits = omega arith
+within s who J Opened fits = omega arith
 
 -- what was paid out and what is reserved
 abbrev pub IsCovered : List Event → Type 0

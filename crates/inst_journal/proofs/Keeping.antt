@@ -10,7 +10,8 @@ use Rattle.inst_command.specs.declared.command.Command.TheVariants.{Fund, Defund
 use Rattle.inst_command.specs.declared.entry.Entry.{Entry}
 use Rattle.inst_command.specs.declared.outcome.Outcome.{Outcome}
 use Rattle.inst_journal.specs.declared.event.Event.{Event}
-use Rattle.inst_journal.specs.Booked.{is_taken, is_forwarded, booked, submissions}
+use Rattle.inst_journal.specs.Booked.{is_taken, is_forwarded, booked}
+use Rattle.inst_journal.specs.Opened.{live_submissions}
 use Rattle.inst_journal.specs.Money.{available}
 use Rattle.inst_journal.specs.Keys.{is_fund_repeat, is_defund_repeat, is_submission_repeat, has_reference, fundings}
 use Rattle.inst_journal.specs.Reply.{Handled, fund, defund, submit, standing, confirm, investigate, unread, hand_out, handle, history_after}
@@ -60,14 +61,14 @@ submit_kept s who J at id to cents stamp h =
     chosen s who J (is_taken id J) _ _ (λ _. tt) (λ new.
     chosen s who J (nat_lt (at + s.ahead) stamp) _ _ (λ _. tt) (λ _.
     chosen s who J (nat_le (stamp + s.limit) at) _ _ (λ _. tt) (λ _.
-    chosen s who J (nat_le s.places (submissions J)) _ _ (λ _. tt) (λ room.
+    chosen s who J (nat_le s.places (live_submissions who J)) _ _ (λ _. tt) (λ room.
     chosen s who J (nat_lt (available J) cents) _ _ (λ _. tt) (λ cover. (
       record {
         beneficiary = ltb-true to (participants s) first.0;
         another = eqb-false to who another;
         deadline = last.1;
         new = new;
-        place = leb-false s.places (submissions J) room;
+        place = leb-false s.places (live_submissions who J) room;
         amount = ceiling_parts s cents first.1;
         cover = ltb-false (available J) cents cover;
       },

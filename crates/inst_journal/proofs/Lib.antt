@@ -9,3 +9,4 @@ pub mod Keeping
 pub mod Places
 pub mod Reading
 pub mod Walking
+pub mod Carrying

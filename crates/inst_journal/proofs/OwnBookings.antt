@@ -4,7 +4,7 @@ use Rattle.std.specs.List.{AllByRecursion}
 use Rattle.std.proofs.lemmas.Bool.{eq-eqb, ne_eqb, true≢false, or_left, or_from}
 use Rattle.inst_settings.specs.Settings.{HubSettings, same_text}
 use Rattle.inst_journal.specs.declared.event.Event.{Event}
-use Rattle.inst_journal.specs.declared.event.Event.TheVariants.{Funded, Defunded, Taken, Forwarded, Booked, Fetched}
+use Rattle.inst_journal.specs.declared.event.Event.TheVariants.{Funded, Defunded, Taken, Forwarded, Booked, Fetched, Opened}
 use Rattle.inst_journal.specs.Booked.{is_forwarded, forwards, books, booked, books_own, own_booked}
 use Rattle.inst_journal.specs.Sound.{Fits, IsSound}
 use Rattle.inst_journal.proofs.Pushing.{list_any_push, first_some-same, all_push, all_weaker}
@@ -18,6 +18,7 @@ unforwarded s who J id (Taken other to cents stamp) fits = refl
 unforwarded s who J id (Forwarded from other cents deadline) fits = ap (λ b. b && same_text other id) (ne_eqb from who fits.another)
 unforwarded s who J id (Booked from other outcome) fits = refl
 unforwarded s who J id (Fetched count) fits = refl
+unforwarded s who J id Opened fits = refl
 
 -- no transfer of the participant's own is forwarded to it
 pub own_unforwarded : (s : HubSettings) (who : ℕ) (id : List ℕ) (J : List Event) → IsSound s who J → is_forwarded who id J ≡ false
@@ -32,6 +33,7 @@ IsKnown who J (Defunded reference cents) = Unit {0}
 IsKnown who J (Taken id to cents stamp) = Unit {0}
 IsKnown who J (Forwarded from id cents deadline) = Unit {0}
 IsKnown who J (Fetched count) = Unit {0}
+IsKnown who J Opened = Unit {0}
 
 -- what was forwarded stays so
 pub forwarded_push : (from : ℕ) (id : List ℕ) (J : List Event) (event : Event) → is_forwarded from id J ≡ true → is_forwarded from id (J ++ event ∷ []) ≡ true
@@ -44,6 +46,7 @@ known_later who J new (Defunded reference cents) known = tt
 known_later who J new (Taken id to cents stamp) known = tt
 known_later who J new (Forwarded from id cents deadline) known = tt
 known_later who J new (Fetched count) known = tt
+known_later who J new Opened known = tt
 
 known_new : (s : HubSettings) (who : ℕ) (J : List Event) (event : Event) → Fits s who J event → IsKnown who (J ++ event ∷ []) event
 known_new s who J (Booked from id outcome) fits = elim fits.party [ inl own ↦ inl own.0 | inr forwarded ↦ inr (forwarded_push from id J (Booked from id outcome) forwarded) ]
@@ -52,6 +55,7 @@ known_new s who J (Defunded reference cents) fits = tt
 known_new s who J (Taken id to cents stamp) fits = tt
 known_new s who J (Forwarded from id cents deadline) fits = tt
 known_new s who J (Fetched count) fits = tt
+known_new s who J Opened fits = tt
 
 all_known : (s : HubSettings) (who : ℕ) (J : List Event) → IsSound s who J → AllByRecursion (IsKnown who J) J
 all_known s who = sound_induction s who (λ J. AllByRecursion (IsKnown who J) J) tt
@@ -86,6 +90,7 @@ own_same who J unforwarded id (Defunded reference cents) known = refl
 own_same who J unforwarded id (Taken other to cents stamp) known = refl
 own_same who J unforwarded id (Forwarded from other cents deadline) known = refl
 own_same who J unforwarded id (Fetched count) known = refl
+own_same who J unforwarded id Opened known = refl
 
 -- a participant's own booking is the one of a transfer whose originator it is
 pub own_booked-booked : (s : HubSettings) (who : ℕ) (J : List Event) (id : List ℕ) → IsSound s who J → own_booked id J ≡ booked who id J

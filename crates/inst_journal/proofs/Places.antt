@@ -5,7 +5,7 @@ use Rattle.inst_settings.specs.Settings.{HubSettings}
 use Rattle.inst_command.specs.declared.outcome.Outcome.{Outcome}
 use Rattle.inst_command.specs.declared.outcome.Outcome.TheVariants.{Accepted, Rejected, TimedOut}
 use Rattle.inst_journal.specs.declared.event.Event.{Event}
-use Rattle.inst_journal.specs.declared.event.Event.TheVariants.{Funded, Defunded, Taken, Forwarded, Booked, Fetched}
+use Rattle.inst_journal.specs.declared.event.Event.TheVariants.{Funded, Defunded, Taken, Forwarded, Booked, Fetched, Opened}
 use Rattle.inst_journal.specs.Booked.{own_booked}
 use Rattle.inst_journal.specs.Sums.{funded, defunded, credits, debits, debit, reservation, if_accepted, if_unbooked}
 use Rattle.inst_journal.specs.Money.{reserved, position}
@@ -43,6 +43,7 @@ places_of J (Defunded reference cents) = refl
 places_of J (Forwarded from id cents deadline) = refl
 places_of J (Booked from id outcome) = refl
 places_of J (Fetched count) = refl
+places_of J Opened = refl
 
 sum_same : (f g : Event → ℕ) (xs : List Event) → ((x : Event) → f x ≡ g x) → sum_by f xs ≡ sum_by g xs
 sum_same f g [] same = refl

@@ -2,7 +2,7 @@
 use Rattle.std.proofs.Common.{◌≡◌, ℕ, ◌+◌, ◌-◌, ◌≤◌, List, [], ◌∷◌, ◌++◌, length, sum_by, arith, length-drop}
 use Rattle.inst_settings.specs.Settings.{HubSettings}
 use Rattle.inst_journal.specs.declared.event.Event.{Event}
-use Rattle.inst_journal.specs.declared.event.Event.TheVariants.{Funded, Defunded, Taken, Forwarded, Booked, Fetched}
+use Rattle.inst_journal.specs.declared.event.Event.TheVariants.{Funded, Defunded, Taken, Forwarded, Booked, Fetched, Opened}
 use Rattle.inst_journal.specs.Reply.{inbox, handed_out, unread}
 use Rattle.inst_journal.specs.Sound.{Fits, IsSound}
 use Rattle.inst_journal.proofs.Pushing.{sum_by_push}
@@ -17,6 +17,7 @@ inbox_longer (Funded reference cents ∷ events) event = inbox_longer events eve
 inbox_longer (Defunded reference cents ∷ events) event = inbox_longer events event
 inbox_longer (Booked from id outcome ∷ events) event = inbox_longer events event
 inbox_longer (Fetched count ∷ events) event = inbox_longer events event
+inbox_longer (Opened ∷ events) event = inbox_longer events event
 
 handed_new : (s : HubSettings) (who : ℕ) (J : List Event) (event : Event) → Fits s who J event → sum_by handed_out J ≤ length (inbox J) → sum_by handed_out J + handed_out event ≤ length (inbox J)
 handed_new s who J (Fetched count) fits before =
@@ -27,6 +28,7 @@ handed_new s who J (Funded reference cents) fits before = omega arith
 handed_new s who J (Defunded reference cents) fits before = omega arith
 handed_new s who J (Booked from id outcome) fits before = omega arith
 handed_new s who J (Forwarded from id cents deadline) fits before = omega arith
+handed_new s who J Opened fits before = omega arith
 
 -- no more is handed out than was forwarded
 pub handed_within : (s : HubSettings) (who : ℕ) (J : List Event) → IsSound s who J → sum_by handed_out J ≤ length (inbox J)
@@ -42,3 +44,4 @@ inbox_short (Funded reference cents ∷ events) = omega (arith, inbox_short even
 inbox_short (Defunded reference cents ∷ events) = omega (arith, inbox_short events)
 inbox_short (Booked from id outcome ∷ events) = omega (arith, inbox_short events)
 inbox_short (Fetched count ∷ events) = omega (arith, inbox_short events)
+inbox_short (Opened ∷ events) = omega (arith, inbox_short events)

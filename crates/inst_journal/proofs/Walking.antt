@@ -6,13 +6,13 @@ use Rattle.std.proofs.Math.Nat.{mul-le-mul}
 use Rattle.inst_settings.specs.Settings.{HubSettings, IsSettings, participants}
 use Rattle.inst_command.specs.declared.line.Line.{Line}
 use Rattle.inst_journal.specs.declared.event.Event.{Event}
-use Rattle.inst_journal.specs.declared.event.Event.TheVariants.{Funded, Defunded, Taken, Forwarded, Booked, Fetched}
+use Rattle.inst_journal.specs.declared.event.Event.TheVariants.{Funded, Defunded, Taken, Forwarded, Booked, Fetched, Opened}
 use Rattle.inst_journal.specs.Keys.{is_funding, fundings}
 use Rattle.inst_journal.specs.Money.{position}
 use Rattle.inst_journal.specs.Statement.{line_of, with_line, lines_after}
 use Rattle.inst_journal.specs.Sound.{FitAfter, IsSound}
 use Rattle.inst_journal.proofs.Pushing.{sum_by_push, sum_by-both}
-use Rattle.inst_journal.proofs.Counting.{fundings_within, submissions_within, forwardings_within}
+use Rattle.inst_journal.proofs.Counting.{fundings_at_most, submissions_at_most, forwardings_within}
 use Rattle.inst_journal.proofs.Booking.{is_booking, bookings_within}
 
 -- the step of a walk at an event
@@ -48,6 +48,7 @@ lined J number after (Booked from id outcome) line some = refl
 lined J number after (Taken id to cents stamp) line some = absurd (cc)
 lined J number after (Forwarded from id cents deadline) line some = absurd (cc)
 lined J number after (Fetched count) line some = absurd (cc)
+lined J number after Opened line some = absurd (cc)
 
 line_le : (event : Event) → cond (may_have_line event) 1 0 ≤ cond (is_funding event) 1 0 + cond (is_booking event) 1 0
 line_le (Funded reference cents) = omega arith
@@ -56,22 +57,24 @@ line_le (Booked from id outcome) = omega arith
 line_le (Taken id to cents stamp) = omega arith
 line_le (Forwarded from id cents deadline) = omega arith
 line_le (Fetched count) = omega arith
+line_le Opened = omega arith
 
 -- no front of a sound history has as many lines as 20 bits can number
-pub lines_few : (s : HubSettings) (who : ℕ) (J : List Event) (i : ℕ) → IsSettings s → IsSound s who J → count_by may_have_line (take i J) ≤ 68000
+pub lines_few : (s : HubSettings) (who : ℕ) (J : List Event) (i : ℕ) → IsSettings s → IsSound s who J → count_by may_have_line (take i J) ≤ 36000000
 lines_few s who J i lawful sound =
     let front : count_by may_have_line (take i J) ≤ count_by may_have_line J = sum_by-take-le (λ e. cond (may_have_line e) 1 0) J i in
     let both : count_by may_have_line J ≤ sum_by (λ e. cond (is_funding e) 1 0 + cond (is_booking e) 1 0) J = sum_by-le-sum_by _ _ J line_le in
-    let parts : sum_by (λ e. cond (is_funding e) 1 0 + cond (is_booking e) 1 0) J ≡ fundings J + count_by is_booking J = sum_by-both (λ e. cond (is_funding e) 1 0) (λ e. cond (is_booking e) 1 0) J in
-    let places : participants s * s.places ≤ 64 * 1024 = mul-le-mul lawful.participants_most lawful.places_most in
+    let parts : sum_by (λ e. cond (is_funding e) 1 0 + cond (is_booking e) 1 0) J ≡ count_by is_funding J + count_by is_booking J = sum_by-both (λ e. cond (is_funding e) 1 0) (λ e. cond (is_booking e) 1 0) J in
+    let most : 501 * s.places ≤ 513024 = omega (arith, lawful.places_most) in
+    let places : participants s * (501 * s.places) ≤ 64 * 513024 = mul-le-mul lawful.participants_most most in
     omega (
       arith,
       front,
       both,
       parts,
       places,
-      fundings_within s who J sound,
-      submissions_within s who J sound,
+      fundings_at_most s who J sound,
+      submissions_at_most s who J sound,
       forwardings_within s who J sound,
       bookings_within s who J sound,
       lawful.fundings_most,

@@ -4,6 +4,7 @@ use Rattle.std.specs.Prelude.{ℕ, Bool, true, false, ◌&&◌, ◌==◌, List, 
 use Rattle.std.specs.List.{list_any}
 use Rattle.inst_settings.specs.Settings.{same_text}
 use Rattle.inst_journal.specs.declared.event.Event.{Event}
+use Rattle.inst_journal.specs.Opened.{current}
 use Rattle.inst_journal.specs.declared.event.Event.TheVariants.{Funded, Defunded, Taken}
 
 -- whether the event is this funding
@@ -48,6 +49,6 @@ is_submission_repeat id to cents stamp J = list_any (is_this_submission id to ce
 abbrev pub has_reference : List ℕ → List Event → Bool
 has_reference reference J = list_any (refers reference) J
 
--- how many fund and defund commands are kept
+-- how many fund and defund commands are kept since the last Opened
 abbrev pub fundings : List Event → ℕ
-fundings J = count_by is_funding J
+fundings J = count_by is_funding (current J)

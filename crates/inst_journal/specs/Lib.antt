@@ -1,5 +1,6 @@
 pub mod History
 pub mod Booked
+pub mod Opened
 pub mod Sums
 pub mod Money
 pub mod Keys

@@ -14,9 +14,10 @@ use Rattle.inst_command.specs.declared.outcome.State.TheVariants.{Pending, Decid
 use Rattle.inst_command.specs.declared.reply.Reply.{Reply}
 use Rattle.inst_command.specs.declared.reply.Reply.TheVariants.{Done, Taken as TakenReply, State, Inbox, Position, Statement}
 use Rattle.inst_journal.specs.declared.event.Event.{Event}
-use Rattle.inst_journal.specs.declared.event.Event.TheVariants.{Funded, Defunded, Taken, Forwarded, Booked, Fetched}
-use Rattle.inst_journal.specs.Booked.{is_taken, is_forwarded, booked, submissions}
+use Rattle.inst_journal.specs.declared.event.Event.TheVariants.{Funded, Defunded, Taken, Forwarded, Booked, Fetched, Opened}
+use Rattle.inst_journal.specs.Booked.{is_taken, is_forwarded, booked}
 use Rattle.inst_journal.specs.Money.{reserved, position, available}
+use Rattle.inst_journal.specs.Opened.{live_submissions}
 use Rattle.inst_journal.specs.Keys.{is_fund_repeat, is_defund_repeat, is_submission_repeat, has_reference, fundings}
 use Rattle.inst_journal.specs.Statement.{statement_part}
 
@@ -59,7 +60,7 @@ submit s who J at id to cents stamp =
     else (if is_taken id J then refused Duplicate
     else (if nat_lt (at + s.ahead) stamp then refused StampAhead
     else (if nat_le (stamp + s.limit) at then refused Expired
-    else (if nat_le s.places (submissions J) then refused Full
+    else (if nat_le s.places (live_submissions who J) then refused Full
     else (if nat_lt (available J) cents then refused Shortage
     else keeping (Taken id to cents stamp) (TakenReply id (stamp + s.limit))))))))
 

@@ -4,9 +4,10 @@ use Rattle.std.specs.Prelude.{◌≡◌, ◌≢◌, ℕ, ◌+◌, ◌<◌, ◌�
 use Rattle.inst_base.specs.Moment.{is_moment}
 use Rattle.inst_settings.specs.Settings.{HubSettings, participants}
 use Rattle.inst_journal.specs.declared.event.Event.{Event}
-use Rattle.inst_journal.specs.declared.event.Event.TheVariants.{Funded, Defunded, Taken, Forwarded, Booked, Fetched}
-use Rattle.inst_journal.specs.Booked.{is_taken, is_forwarded, booked, submissions, forwarded_from}
+use Rattle.inst_journal.specs.declared.event.Event.TheVariants.{Funded, Defunded, Taken, Forwarded, Booked, Fetched, Opened}
+use Rattle.inst_journal.specs.Booked.{is_taken, is_forwarded, booked}
 use Rattle.inst_journal.specs.Money.{available}
+use Rattle.inst_journal.specs.Opened.{openings, live_submissions, live_forwarded}
 use Rattle.inst_journal.specs.Keys.{has_reference, fundings}
 use Rattle.inst_journal.specs.Reply.{unread}
 
@@ -29,7 +30,7 @@ pub record TakenFits (s : HubSettings) (who : ℕ) (J : List Event) (id : List �
   pub another : to ≢ who
   pub deadline : is_moment (stamp + s.limit) ≡ true
   pub new : is_taken id J ≡ false
-  pub place : submissions J < s.places
+  pub place : live_submissions who J < s.places
   pub amount : IsWithinCeiling s cents
   pub cover : cents ≤ available J
 
@@ -37,7 +38,7 @@ pub record ForwardedFits (s : HubSettings) (who : ℕ) (J : List Event) (from : 
   pub originator : from < participants s
   pub another : from ≢ who
   pub new : is_forwarded from id J ≡ false
-  pub place : forwarded_from from J < s.places
+  pub place : live_forwarded from J < s.places
 
 pub record BookedFits (who : ℕ) (J : List Event) (from : ℕ) (id : List ℕ) : Type 0 where
   pub party : ((from ≡ who) × (is_taken id J ≡ true)) ⊎ (is_forwarded from id J ≡ true)
@@ -48,6 +49,9 @@ pub record FetchedFits (J : List Event) (count : ℕ) : Type 0 where
   pub most : count ≤ 100
   pub there : count ≤ length (unread J)
 
+pub record OpenedFits (J : List Event) : Type 0 where
+  pub few : openings J < 500
+
 -- the event may come after these events
 abbrev pub Fits : HubSettings → ℕ → List Event → Event → Type 0
 Fits s who J (Funded reference cents) = FundedFits s J reference cents
@@ -56,6 +60,7 @@ Fits s who J (Taken id to cents stamp) = TakenFits s who J id to cents stamp
 Fits s who J (Forwarded from id cents deadline) = ForwardedFits s who J from id
 Fits s who J (Booked from id outcome) = BookedFits who J from id
 Fits s who J (Fetched count) = FetchedFits J count
+Fits s who J Opened = OpenedFits J
 
 -- each of the events fits the front and those before it
 abbrev pub FitAfter : HubSettings → ℕ → List Event → List Event → Type 0

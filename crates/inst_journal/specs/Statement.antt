@@ -5,8 +5,9 @@ use Rattle.inst_command.specs.declared.outcome.Outcome.TheVariants.{Accepted, Re
 use Rattle.inst_command.specs.declared.line.Line.{Line}
 use Rattle.inst_command.specs.declared.line.LineKind.TheVariants.{Funded as FundedKind, Defunded as DefundedKind, Received, Paid}
 use Rattle.inst_journal.specs.declared.event.Event.{Event}
-use Rattle.inst_journal.specs.declared.event.Event.TheVariants.{Funded, Defunded, Taken, Forwarded, Booked, Fetched}
+use Rattle.inst_journal.specs.declared.event.Event.TheVariants.{Funded, Defunded, Taken, Forwarded, Booked, Fetched, Opened}
 use Rattle.inst_journal.specs.Booked.{first_some, takes, forwards, is_forwarded}
+use Rattle.inst_journal.specs.Opened.{carried, current}
 use Rattle.inst_journal.specs.Money.{position}
 
 -- the line of a forwarded transfer that was accepted
@@ -42,6 +43,7 @@ line_of J number after (Booked from id TimedOut) = None
 line_of J number after (Taken id to cents stamp) = None
 line_of J number after (Forwarded from id cents deadline) = None
 line_of J number after (Fetched count) = None
+line_of J number after Opened = None
 
 -- a line, where there is one, before the others
 abbrev pub with_line : Option Line → List Line → List Line → List Line
@@ -57,9 +59,9 @@ lines_after J front number (event ∷ events) =
     (lines_after J (front ++ event ∷ []) number events)
     (lines_after J (front ++ event ∷ []) (number + 1) events)
 
--- all lines, numbered from 1
+-- the lines of the events after the last Opened, numbered from 1
 abbrev pub statement : List Event → List Line
-statement J = lines_after J [] 1 J
+statement J = lines_after J (carried J) 1 (current J)
 
 -- at most `count` lines after the first `skip`
 abbrev pub statement_part : List Event → ℕ → ℕ → List Line

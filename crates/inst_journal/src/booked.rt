@@ -1,9 +1,11 @@
 //! Which transfers a history has taken, forwarded and booked.
 ghost use Rattle.std.specs.Prelude.{◌≡◌, ◌&&◌, not};
 ghost use Rattle.inst_settings.specs.Settings.{same_text};
-ghost use Rattle.inst_journal.specs.Booked.{is_taken, is_forwarded, books, booked, books_own, own_booked, submissions};
+ghost use Rattle.inst_journal.specs.Booked.{is_taken, is_forwarded, books, booked, books_own, own_booked};
+ghost use Rattle.inst_journal.specs.Opened.{takes_live, live_submissions};
 
 use crate::Event;
+use crate::opening::carried;
 use inst_base::Ident;
 use inst_command::Outcome;
 
@@ -84,12 +86,23 @@ pub(crate) fn own_booked(events: &[Event], id: &Ident) -> Option<Outcome>
     None
 }
 
-/// How many submissions are taken.
-pub(crate) fn submissions(events: &[Event]) -> usize
-    ensures { result ≡ submissions events.now }
+/// Whether the event takes a transfer that these events haven't booked.
+fn takes_live(event: &Event, who: u8, booking: &[Event]) -> bool
+    ensures { result ≡ takes_live who booking.now event.now }
 {
+    match event {
+        Event::Taken { id, .. } => booked(booking, who, id).is_none(),
+        _ => false,
+    }
+}
+
+/// How many of the participant's own transfers are live.
+pub(crate) fn live_submissions(events: &[Event], who: u8) -> usize
+    ensures { result ≡ live_submissions who events.now }
+{
+    let booking = carried(events);
     events
         .iter()
-        .filter(|event| matches!(event, Event::Taken { .. }))
+        .filter(|event| takes_live(event, who, booking))
         .count()
 }

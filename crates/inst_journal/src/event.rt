@@ -39,4 +39,6 @@ pub enum Event {
     Fetched {
         count: u32,
     },
+    /// The hub was opened again from the books.
+    Opened,
 }

@@ -3,6 +3,7 @@ ghost use Rattle.std.specs.Prelude.{◌≡◌};
 ghost use Rattle.inst_journal.specs.Keys.{is_fund_repeat, is_defund_repeat, is_this_submission, is_submission_repeat, refers, has_reference, fundings};
 
 use crate::Event;
+use crate::opening::current;
 use inst_base::{Cents, Ident, Moment};
 
 /// Whether the history has this very funding.
@@ -77,11 +78,11 @@ fn refers(event: &Event, reference: &Ident) -> bool
     }
 }
 
-/// How many fund and defund commands are kept.
+/// How many fund and defund commands are kept since the last opening.
 pub(crate) fn fundings(events: &[Event]) -> usize
     ensures { result ≡ fundings events.now }
 {
-    events
+    current(events)
         .iter()
         .filter(|event| matches!(event, Event::Funded { .. } | Event::Defunded { .. }))
         .count()

@@ -9,6 +9,7 @@ mod journal;
 mod keys;
 pub mod laws;
 mod money;
+mod opening;
 mod queries;
 mod reply;
 mod statement;

@@ -10,6 +10,7 @@ ghost use Rattle.inst_journal.specs.Statement.{received, paid, accepted, line_of
 
 use crate::booked::is_forwarded;
 use crate::handle::Handled;
+use crate::opening::carried_length;
 use crate::{Event, sums};
 use inst_base::{Cents, Fault, Ident};
 use inst_command::{Line, LineKind, Lines, Outcome, Reply};
@@ -155,7 +156,7 @@ fn position_after(settings: &Settings, who: u8, front: &[Event]) -> u64
     sums::position(front) as u64
 }
 
-/// All lines of the history, numbered from 1.
+/// All lines since the last opening, numbered from 1.
 fn all_lines(
     alloc: Global,
     settings: &Settings,
@@ -169,7 +170,8 @@ fn all_lines(
     // The check is told of a type of another crate inside a line only where a function names it.
     let _: Option<LineKind> = None;
     let mut lines = Vec::new(alloc);
-    for (index, event) in events.iter().enumerate() {
+    for index in carried_length(events)..events.len() {
+        let event = &events[index];
         let position = position_after(settings, who, &events[..index + 1]);
         let number = lines.len() as u32 + 1;
         if let Some(line) = line_of(events, number, position, event) {

@@ -5,7 +5,7 @@ ghost use Rattle.inst_journal.specs.Reply.{submit, standing, confirm, investigat
 ghost use Rattle.inst_journal.specs.Handling.{Answers};
 
 use crate::Event;
-use crate::booked::{booked, is_forwarded, is_taken, submissions};
+use crate::booked::{booked, is_forwarded, is_taken, live_submissions};
 use crate::handle::Handled;
 use crate::keys::is_submission_repeat;
 use crate::sums::available;
@@ -58,7 +58,7 @@ pub(crate) fn submit(
     if at >= deadline {
         return Err(Fault::Expired);
     }
-    if submissions(events) >= usize::from(settings.places()) {
+    if live_submissions(events, who) >= usize::from(settings.places()) {
         return Err(Fault::Full);
     }
     if u128::from(cents.get()) > available(events) {

@@ -1,7 +1,8 @@
 -- An accepted transfer is booked by its beneficiary in the step that accepts it.
 use Rattle.std.proofs.Common.{◌≡◌, ℕ, Bool, true, false, ◌&&◌, cond, eqb, ltb, List, [], ◌∷◌, ◌++◌, Option, Some, None, refl, sym, ap, subst, ◌∙◌, inl, inr, ◌⊎◌}
-use Rattle.std.proofs.lemmas.Bool.{and_parts, eqb-true, eq-eqb, cond-true, or_left}
+use Rattle.std.proofs.lemmas.Bool.{and_parts, eqb-true, eq-eqb, cond-true}
 use Rattle.std.proofs.lemmas.Option.{same_Some}
+use Rattle.inst_model.specs.Opening.{Opening, IsOpening}
 use Rattle.inst_settings.specs.Settings.{HubSettings}
 use Rattle.inst_command.specs.declared.ask.Ask.{Ask as AskValue}
 use Rattle.inst_command.specs.declared.command.Command.{Command}
@@ -12,18 +13,19 @@ use Rattle.inst_command.specs.declared.step.Step.{Step}
 use Rattle.inst_command.specs.declared.step.Step.TheVariants.{Ask, Deliver, Learn, Expire}
 use Rattle.inst_journal.specs.declared.event.Event.{Event}
 use Rattle.inst_journal.specs.declared.event.Event.TheVariants.{Booked}
-use Rattle.inst_journal.specs.Booked.{or_else, is_forwarded, forwards, books, booked, same_transfer}
+use Rattle.inst_journal.specs.Booked.{is_forwarded, booked, same_transfer}
 use Rattle.inst_journal.specs.Reply.{handle}
-use Rattle.inst_journal.proofs.Pushing.{list_any_push, first_some_push}
 use Rattle.inst_model.specs.Transfer.{Transfer, at_place, transfer, deadline, is_named}
 use Rattle.inst_model.specs.Wants.{in_time, is_addressed, ask_wants, step_wants, taken_wants, wants}
 use Rattle.inst_model.specs.Found.{found}
 use Rattle.inst_model.specs.View.Seen.{Asked}
 use Rattle.inst_model.specs.Kept.{with_entries}
 use Rattle.inst_model.specs.Hub.{decided, outcome, history}
-use Rattle.inst_model.proofs.Basics.{or_else_kept, or_else_cases, same_transfer-true, same_transfer_refl}
+use Rattle.inst_model.proofs.Basics.{or_else_cases, same_transfer-true}
 use Rattle.inst_model.proofs.Histories.{next, history_step, persists_step}
+use Rattle.inst_model.proofs.Beginning.{beginning_accepted}
 use Rattle.inst_model.proofs.Outcomes.{booked_outcome}
+use Rattle.inst_model.proofs.Growing.{booked_kept, forwarded_kept, booked_new, is_none_of}
 use Rattle.inst_model.proofs.Transfers.{transfer_kept}
 
 -- what a participant's own ask leaves in its history
@@ -93,59 +95,44 @@ pub accepts : (s : HubSettings) (J : ℕ → List Event) (step : Step) (p : ℕ)
 accepts s J (Ask ask) p id x e = by_command s J ask.who ask.at p id x ask.command e
 accepts s J (Deliver from place to) p id x e = absurd cc
 accepts s J (Learn who from place) p id x e = absurd cc
-accepts s J (Expire who place at) p id x e = never_accepted s x at (eqb who p && is_named id (at_place (J p) place)) None (λ f. absurd cc) e
+accepts s J (Expire who place at) p id x e = never_accepted s x at (eqb who p && is_named id (at_place p (J p) place)) None (λ f. absurd cc) e
 
 -- a confirmation that finds an outcome books it
 confirmed : (s : HubSettings) (who : ℕ) (J : List Event) (from : ℕ) (id : List ℕ) (at : ℕ) (o : Option Outcome) (outcome : Outcome) → is_forwarded from id J ≡ true → booked from id J ≡ None → o ≡ Some outcome → (handle s who J (Confirm from id) at o).kept ≡ Booked from id outcome ∷ []
 confirmed s who J from id at o outcome there none some = rw (there, none, some) refl
 
-pub booked_kept : (from : ℕ) (id : List ℕ) (o : Outcome) (K : List Event) (event : Event) → booked from id K ≡ Some o → booked from id (K ++ event ∷ []) ≡ Some o
-booked_kept from id o K event e = first_some_push (books from id) K event ∙ or_else_kept (booked from id K) (books from id event) o e
-
-pub forwarded_kept : (from : ℕ) (id : List ℕ) (K : List Event) (event : Event) → is_forwarded from id K ≡ true → is_forwarded from id (K ++ event ∷ []) ≡ true
-forwarded_kept from id K event e = list_any_push (forwards from id) K event ∙ or_left (is_forwarded from id K) (forwards from id event) e
-
-pub booked_new : (from : ℕ) (id : List ℕ) (o : Outcome) (K : List Event) → booked from id K ≡ None → booked from id (K ++ Booked from id o ∷ []) ≡ Some o
-booked_new from id o K none =
-    first_some_push (books from id) K (Booked from id o) ∙ ap (λ b. or_else b (books from id (Booked from id o))) none
-    ∙ cond-true (same_transfer from id from id) (Some o) None (same_transfer_refl from id)
-
-is_none_of : (o : Option Outcome) → ((x : Outcome) → o ≡ Some x → ⊥) → o ≡ None
-is_none_of None never = refl
-is_none_of (Some x) never = absurd (never x refl)
-
 -- what the beneficiary of an accepted transfer has booked
-pub accepted_booked : (s : HubSettings) (L : List Step) (p : ℕ) (id : List ℕ) → outcome s L p id ≡ Some Accepted → (x : Transfer) × (transfer id (history s L p) ≡ Some x) × (booked p id (history s L x.to) ≡ Some Accepted) × (is_forwarded p id (history s L x.to) ≡ true)
-accepted_booked s [] p id e = absurd cc
-accepted_booked s (step ∷ past) p id e =
-    elim (or_else_cases (outcome s past p id) (wants s (history s past) step p id) Accepted e) [
+pub accepted_booked : (s : HubSettings) (O : Opening) → IsOpening s O → (L : List Step) (p : ℕ) (id : List ℕ) → outcome s O L p id ≡ Some Accepted → (x : Transfer) × (transfer id (history s O L p) ≡ Some x) × (booked p id (history s O L x.to) ≡ Some Accepted) × (is_forwarded p id (history s O L x.to) ≡ true)
+accepted_booked s O opened [] p id e = beginning_accepted s O opened p id e
+accepted_booked s O opened (step ∷ past) p id e =
+    elim (or_else_cases (outcome s O past p id) (wants s (history s O past) step p id) Accepted e) [
       | inl old ↦
-          let was = accepted_booked s past p id old in (
+          let was = accepted_booked s O opened past p id old in (
             was.0,
-            persists_step s step past p (λ K. transfer id K ≡ Some was.0) (λ K event. transfer_kept id K event was.0) was.1,
-            persists_step s step past was.0.to (λ K. booked p id K ≡ Some Accepted) (booked_kept p id Accepted) was.2,
-            persists_step s step past was.0.to (λ K. is_forwarded p id K ≡ true) (forwarded_kept p id) was.3,
+            persists_step s O step past p (λ K. transfer id K ≡ Some was.0) (λ K event. transfer_kept id K event was.0) was.1,
+            persists_step s O step past was.0.to (λ K. booked p id K ≡ Some Accepted) (booked_kept p id Accepted) was.2,
+            persists_step s O step past was.0.to (λ K. is_forwarded p id K ≡ true) (forwarded_kept p id) was.3,
           )
       | inr new ↦
-          let wanted = wants_taken s (history s past) step p id Accepted new.1 in
+          let wanted = wants_taken s (history s O past) step p id Accepted new.1 in
           let x : Transfer = wanted.0 in
-          let a : Accepts (history s past) step p id x = accepts s (history s past) step p id x wanted.2 in
-          let unbooked : booked p id (history s past a.ask.who) ≡ None =
-          is_none_of (booked p id (history s past a.ask.who)) (λ o some. let was : outcome s past p id ≡ Some o = booked_outcome s past a.ask.who p id o some in cc) in
-          let J : ℕ → List Event = history s past in
-          let after : ℕ → List ℕ → Option Outcome = decided s J (outcome s past) (Ask a.ask) in
+          let a : Accepts (history s O past) step p id x = accepts s (history s O past) step p id x wanted.2 in
+          let unbooked : booked p id (history s O past a.ask.who) ≡ None =
+          is_none_of (booked p id (history s O past a.ask.who)) (λ o some. let was : outcome s O past p id ≡ Some o = booked_outcome s O opened past a.ask.who p id o some in cc) in
+          let J : ℕ → List Event = history s O past in
+          let after : ℕ → List ℕ → Option Outcome = decided s J (outcome s O past) (Ask a.ask) in
           let found_is : found after a.ask.who (J a.ask.who) a.ask.command ≡ Some Accepted =
           ap (found after a.ask.who (J a.ask.who)) a.command ∙ cond-true (is_forwarded p id (J a.ask.who)) (after p id) None a.forwarded
-          ∙ (ap (λ (t : Step). decided s J (outcome s past) t p id) (sym a.is_ask) ∙ e) in
+          ∙ (ap (λ (t : Step). decided s J (outcome s O past) t p id) (sym a.is_ask) ∙ e) in
           let kept_is : (handle s a.ask.who (J a.ask.who) a.ask.command a.ask.at (found after a.ask.who (J a.ask.who) a.ask.command)).kept ≡ Booked p id Accepted ∷ [] =
           ap (λ (c : Command). (handle s a.ask.who (J a.ask.who) c a.ask.at (found after a.ask.who (J a.ask.who) a.ask.command)).kept) a.command
           ∙ confirmed s a.ask.who (J a.ask.who) p id a.ask.at _ Accepted a.forwarded unbooked found_is in
-          let grown : history s (step ∷ past) a.ask.who ≡ J a.ask.who ++ Booked p id Accepted ∷ [] =
-          history_step s step past a.ask.who ∙ ap (λ (t : Step). next s J (outcome s past) t a.ask.who) a.is_ask
-          ∙ asked_next s J (outcome s past) a.ask ∙ ap (λ events. J a.ask.who ++ events) kept_is in (
+          let grown : history s O (step ∷ past) a.ask.who ≡ J a.ask.who ++ Booked p id Accepted ∷ [] =
+          history_step s O step past a.ask.who ∙ ap (λ (t : Step). next s J (outcome s O past) t a.ask.who) a.is_ask
+          ∙ asked_next s J (outcome s O past) a.ask ∙ ap (λ events. J a.ask.who ++ events) kept_is in (
             x,
-            persists_step s step past p (λ K. transfer id K ≡ Some x) (λ K event. transfer_kept id K event x) wanted.1,
-            ap (λ q. booked p id (history s (step ∷ past) q)) (sym a.beneficiary) ∙ ap (booked p id) grown ∙ booked_new p id Accepted (J a.ask.who) unbooked,
-            subst (λ (q : ℕ). is_forwarded p id (history s (step ∷ past) q) ≡ true) a.beneficiary (persists_step s step past a.ask.who (λ K. is_forwarded p id K ≡ true) (forwarded_kept p id) a.forwarded),
+            persists_step s O step past p (λ K. transfer id K ≡ Some x) (λ K event. transfer_kept id K event x) wanted.1,
+            ap (λ q. booked p id (history s O (step ∷ past) q)) (sym a.beneficiary) ∙ ap (booked p id) grown ∙ booked_new p id Accepted (J a.ask.who) unbooked,
+            subst (λ (q : ℕ). is_forwarded p id (history s O (step ∷ past) q) ≡ true) a.beneficiary (persists_step s O step past a.ask.who (λ K. is_forwarded p id K ≡ true) (forwarded_kept p id) a.forwarded),
           )
     ]

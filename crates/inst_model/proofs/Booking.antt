@@ -5,12 +5,12 @@ use Rattle.std.proofs.lemmas.Option.{cond_some}
 use Rattle.inst_settings.specs.Settings.{HubSettings}
 use Rattle.inst_command.specs.declared.outcome.Outcome.{Outcome}
 use Rattle.inst_journal.specs.declared.event.Event.{Event}
-use Rattle.inst_journal.specs.declared.event.Event.TheVariants.{Funded, Defunded, Taken, Forwarded, Booked, Fetched}
+use Rattle.inst_journal.specs.declared.event.Event.TheVariants.{Funded, Defunded, Taken, Forwarded, Booked, Fetched, Opened}
 use Rattle.inst_journal.specs.Booked.{is_taken, is_forwarded, takes, books, booked, same_transfer}
 use Rattle.inst_journal.specs.Sound.{Fits, IsSound}
 use Rattle.inst_journal.proofs.Soundness.{sound_induction}
 use Rattle.inst_model.proofs.Basics.{Each, Each_push, Each_weaker, Each_contains, same_transfer-true, or_else_cases}
-use Rattle.inst_model.proofs.Accepting.{booked_kept, booked_new, forwarded_kept}
+use Rattle.inst_model.proofs.Growing.{booked_kept, booked_new, forwarded_kept}
 use Rattle.inst_journal.proofs.Pushing.{list_any_push, first_some_push}
 
 -- a side that booked is a party
@@ -33,6 +33,7 @@ party_new s who from id o K (Defunded reference cents) fits e = absurd cc
 party_new s who from id o K (Taken other to cents stamp) fits e = absurd cc
 party_new s who from id o K (Forwarded other_from other cents d) fits e = absurd cc
 party_new s who from id o K (Fetched count) fits e = absurd cc
+party_new s who from id o K Opened fits e = absurd cc
 
 pub booked_party : (s : HubSettings) (who from : ℕ) (id : List ℕ) (o : Outcome) (J : List Event) → IsSound s who J → booked from id J ≡ Some o → IsParty who from id J
 booked_party s who from id o = sound_induction s who (λ K. booked from id K ≡ Some o → IsParty who from id K) (λ e. absurd cc)
@@ -51,6 +52,7 @@ IsFoundBooked J (Defunded reference cents) = Unit {0}
 IsFoundBooked J (Taken id to cents stamp) = Unit {0}
 IsFoundBooked J (Forwarded from id cents d) = Unit {0}
 IsFoundBooked J (Fetched count) = Unit {0}
+IsFoundBooked J Opened = Unit {0}
 
 found_later : (J : List Event) (new event : Event) → IsFoundBooked J event → IsFoundBooked (J ++ new ∷ []) event
 found_later J new (Booked from id o) is = booked_kept from id o J new is
@@ -59,6 +61,7 @@ found_later J new (Defunded reference cents) is = tt
 found_later J new (Taken id to cents stamp) is = tt
 found_later J new (Forwarded from id cents d) is = tt
 found_later J new (Fetched count) is = tt
+found_later J new Opened is = tt
 
 found_new : (s : HubSettings) (who : ℕ) (J : List Event) (event : Event) → Fits s who J event → IsFoundBooked (J ++ event ∷ []) event
 found_new s who J (Booked from id o) fits = booked_new from id o J fits.new
@@ -67,6 +70,7 @@ found_new s who J (Defunded reference cents) fits = tt
 found_new s who J (Taken id to cents stamp) fits = tt
 found_new s who J (Forwarded from id cents d) fits = tt
 found_new s who J (Fetched count) fits = tt
+found_new s who J Opened fits = tt
 
 pub booked_found : (s : HubSettings) (who : ℕ) (J : List Event) (from : ℕ) (id : List ℕ) (o : Outcome) → IsSound s who J → Contains J (Booked from id o) → booked from id J ≡ Some o
 booked_found s who J from id o sound there =

@@ -3,7 +3,7 @@ use Rattle.std.proofs.Common.{◌≡◌, ℕ, List, [], ◌∷◌, refl, ap, ◌
 use Rattle.std.proofs.lemmas.List.Sums.{sum_by-cons}
 use Rattle.inst_settings.specs.Settings.{HubSettings}
 use Rattle.inst_journal.specs.declared.event.Event.{Event}
-use Rattle.inst_journal.specs.declared.event.Event.TheVariants.{Funded, Defunded, Taken, Forwarded, Booked, Fetched}
+use Rattle.inst_journal.specs.declared.event.Event.TheVariants.{Funded, Defunded, Taken, Forwarded, Booked, Fetched, Opened}
 use Rattle.inst_journal.specs.Booked.{booked, own_booked}
 use Rattle.inst_journal.specs.Money.{reserved}
 use Rattle.inst_journal.specs.Sound.{IsSound}
@@ -21,6 +21,7 @@ at_taken h (Defunded reference cents) = 0
 at_taken h (Forwarded from id cents d) = 0
 at_taken h (Booked from id o) = 0
 at_taken h (Fetched count) = 0
+at_taken h Opened = 0
 
 -- the taken events measure as the transfers
 sum_taken : (h : Transfer → ℕ) (J : List Event) → sum_by (at_taken h) J ≡ sum_by h (transfers J)
@@ -31,6 +32,7 @@ sum_taken h (Defunded reference cents ∷ J) = omega (arith, sum_by-cons (at_tak
 sum_taken h (Forwarded from id cents d ∷ J) = omega (arith, sum_by-cons (at_taken h) (Forwarded from id cents d) J, sum_taken h J)
 sum_taken h (Booked from id o ∷ J) = omega (arith, sum_by-cons (at_taken h) (Booked from id o) J, sum_taken h J)
 sum_taken h (Fetched count ∷ J) = omega (arith, sum_by-cons (at_taken h) (Fetched count) J, sum_taken h J)
+sum_taken h (Opened ∷ J) = omega (arith, sum_by-cons (at_taken h) Opened J, sum_taken h J)
 
 debit_taken : (p : ℕ) (J : List Event) → ((id : List ℕ) → own_booked id J ≡ booked p id J) → (event : Event) → debit J event ≡ at_taken (λ x. if_accepted (booked p x.id J) x.cents) event
 debit_taken p J own (Taken id to cents stamp) = ap (λ o. if_accepted o cents) (own id)
@@ -39,6 +41,7 @@ debit_taken p J own (Defunded reference cents) = refl
 debit_taken p J own (Forwarded from id cents d) = refl
 debit_taken p J own (Booked from id o) = refl
 debit_taken p J own (Fetched count) = refl
+debit_taken p J own Opened = refl
 
 reservation_taken : (p : ℕ) (J : List Event) → ((id : List ℕ) → own_booked id J ≡ booked p id J) → (event : Event) → reservation J event ≡ at_taken (λ x. if_unbooked (booked p x.id J) x.cents) event
 reservation_taken p J own (Taken id to cents stamp) = ap (λ o. if_unbooked o cents) (own id)
@@ -47,6 +50,7 @@ reservation_taken p J own (Defunded reference cents) = refl
 reservation_taken p J own (Forwarded from id cents d) = refl
 reservation_taken p J own (Booked from id o) = refl
 reservation_taken p J own (Fetched count) = refl
+reservation_taken p J own Opened = refl
 
 -- debits and reservations by transfer
 pub debits_by_transfer : (s : HubSettings) (p : ℕ) (J : List Event) → IsSound s p J → debits J ≡ sum_by (λ (x : Transfer). if_accepted (booked p x.id J) x.cents) (transfers J)

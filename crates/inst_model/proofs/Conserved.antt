@@ -1,6 +1,7 @@
 -- Positions sum to the net funding and what is untold.
 use Rattle.std.proofs.Common.{◌≡◌, ℕ, ◌+◌, ◌-◌, ◌≤◌, ℤ, pos, ◌+ℤ◌, ◌-ℤ◌, List, Option, sym, ap, ◌∙◌, arith}
 use Rattle.std.proofs.lemmas.Int.{ints}
+use Rattle.inst_model.specs.Opening.{Opening, IsOpening}
 use Rattle.inst_settings.specs.Settings.{HubSettings, participants}
 use Rattle.inst_command.specs.declared.outcome.Outcome.{Outcome}
 use Rattle.inst_command.specs.declared.step.Step.{Step}
@@ -57,20 +58,20 @@ pub all_told_conserved : (s : HubSettings) (J : ℕ → List Event) (out : ℕ �
 all_told_conserved s J out agree none =
     signed_conserved s J out agree ∙ plus_nothing (signed_total s (λ p. net (J p))) (total s (untold_in J out)) (sum_below_zero (participants s) (untold_in J out) (λ p below. none p))
 
-agree : (s : HubSettings) (L : List Step) → IsInterleaving s L → Agree s (history s L) (outcome s L)
-agree s L steps = record {
-  all = together s L steps;
-  booked_is = λ q from id o e. booked_outcome s L q from id o e;
-  accepted_is_booked = λ from id e. accepted_booked s L from id e;
+agree : (s : HubSettings) (O : Opening) → IsOpening s O → (L : List Step) → IsInterleaving s L → Agree s (history s O L) (outcome s O L)
+agree s O opened L steps = record {
+  all = together s O opened L steps;
+  booked_is = λ q from id o e. booked_outcome s O opened L q from id o e;
+  accepted_is_booked = λ from id e. accepted_booked s O opened L from id e;
 }
 
 pub money_is_conserved : MoneyIsConserved
-money_is_conserved s L steps =
-    let a : Agree s (history s L) (outcome s L) = agree s L steps in
+money_is_conserved s O opened L steps =
+    let a : Agree s (history s O L) (outcome s O L) = agree s O opened L steps in
     record {
-      sum = conserved s (history s L) (outcome s L) a;
-      signed_sum = signed_conserved s (history s L) (outcome s L) a;
-      all_told = λ told. all_told_conserved s (history s L) (outcome s L) a (λ p. nothing_untold (history s L) (outcome s L) p (told p));
-      untold_is_reserved = λ p. untold_reserved s (history s L) (outcome s L) p (a.all.sound p);
-      never_overdrawn = λ p. never_overdrawn s p (history s L p) (a.all.sound p);
+      sum = conserved s (history s O L) (outcome s O L) a;
+      signed_sum = signed_conserved s (history s O L) (outcome s O L) a;
+      all_told = λ told. all_told_conserved s (history s O L) (outcome s O L) a (λ p. nothing_untold (history s O L) (outcome s O L) p (told p));
+      untold_is_reserved = λ p. untold_reserved s (history s O L) (outcome s O L) p (a.all.sound p);
+      never_overdrawn = λ p. never_overdrawn s p (history s O L p) (a.all.sound p);
     }

@@ -6,7 +6,7 @@ use Rattle.inst_settings.specs.Settings.{HubSettings, participants}
 use Rattle.inst_command.specs.declared.outcome.Outcome.{Outcome}
 use Rattle.inst_command.specs.declared.outcome.Outcome.TheVariants.{Accepted, Rejected, TimedOut}
 use Rattle.inst_journal.specs.declared.event.Event.{Event}
-use Rattle.inst_journal.specs.declared.event.Event.TheVariants.{Funded, Defunded, Taken, Forwarded, Booked, Fetched}
+use Rattle.inst_journal.specs.declared.event.Event.TheVariants.{Funded, Defunded, Taken, Forwarded, Booked, Fetched, Opened}
 use Rattle.inst_journal.specs.Booked.{is_forwarded, booked}
 use Rattle.inst_journal.specs.Sound.{Fits, IsSound}
 use Rattle.inst_journal.specs.Sums.{if_accepted, credit, credits}
@@ -32,6 +32,7 @@ IsFromParticipant s (Defunded reference cents) = Unit {0}
 IsFromParticipant s (Taken id to cents stamp) = Unit {0}
 IsFromParticipant s (Booked from id o) = Unit {0}
 IsFromParticipant s (Fetched count) = Unit {0}
+IsFromParticipant s Opened = Unit {0}
 
 from_new : (s : HubSettings) (who : ℕ) (J : List Event) (event : Event) → Fits s who J event → IsFromParticipant s event
 from_new s who J (Forwarded from id cents d) fits = fits.originator
@@ -40,6 +41,7 @@ from_new s who J (Defunded reference cents) fits = tt
 from_new s who J (Taken id to cents stamp) fits = tt
 from_new s who J (Booked from id o) fits = tt
 from_new s who J (Fetched count) fits = tt
+from_new s who J Opened fits = tt
 
 each_from : (s : HubSettings) (who : ℕ) (J : List Event) → IsSound s who J → Each (IsFromParticipant s) J
 each_from s who = sound_induction s who (λ J. Each (IsFromParticipant s) J) tt
@@ -58,6 +60,7 @@ credit_split s J (Defunded reference cents) below = sym (zeros (participants s))
 credit_split s J (Taken id to cents stamp) below = sym (zeros (participants s))
 credit_split s J (Booked from id o) below = sym (zeros (participants s))
 credit_split s J (Fetched count) below = sym (zeros (participants s))
+credit_split s J Opened below = sym (zeros (participants s))
 
 -- credits by originator
 credits_split : (s : HubSettings) (who : ℕ) (J : List Event) → IsSound s who J → credits J ≡ sum_below (participants s) (λ from. sum_by (weighed (credit_of J from) from) J)

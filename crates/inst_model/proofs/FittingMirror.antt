@@ -4,7 +4,7 @@ use Rattle.std.proofs.lemmas.Bool.{cases_eq, or_cases, ne_eqb, false≢true}
 use Rattle.std.proofs.lemmas.List.Elements.{Contains-append_left, Contains-append_right, Contains-push}
 use Rattle.inst_settings.specs.Settings.{HubSettings, same_text}
 use Rattle.inst_journal.specs.declared.event.Event.{Event}
-use Rattle.inst_journal.specs.declared.event.Event.TheVariants.{Funded, Defunded, Taken, Forwarded, Booked, Fetched}
+use Rattle.inst_journal.specs.declared.event.Event.TheVariants.{Funded, Defunded, Taken, Forwarded, Booked, Fetched, Opened}
 use Rattle.inst_journal.specs.Booked.{is_forwarded, forwards}
 use Rattle.inst_journal.specs.Sound.{Fits, IsSound}
 use Rattle.inst_journal.proofs.Soundness.{sound_induction}
@@ -14,7 +14,7 @@ use Rattle.inst_model.proofs.Basics.{Each, same_transfer-true}
 use Rattle.inst_model.proofs.Transfers.{as_transfer}
 use Rattle.inst_model.proofs.Mirror.{Mirrors, Together, mirrors_other, mirrors_coming, measure_of, single, weighed_there}
 use Rattle.inst_model.proofs.Sums.{sum_by_zeros, each_of}
-use Rattle.inst_model.proofs.Fitting.{taken_found}
+use Rattle.inst_model.proofs.Events.{taken_found}
 
 -- a forwarding event of this transfer
 pub forwarding_there : (from : ℕ) (id : List ℕ) (J : List Event) → is_forwarded from id J ≡ true → (cents : ℕ) × (d : ℕ) × Contains J (Forwarded from id cents d)
@@ -34,6 +34,7 @@ forwarding_there from id (event ∷ J) e = elim (or_cases (forwards from id even
     at_head (Taken other to cents stamp) e = absurd (false≢true e)
     at_head (Booked other_from other o) e = absurd (false≢true e)
     at_head (Fetched count) e = absurd (false≢true e)
+    at_head Opened e = absurd (false≢true e)
 
 -- a forwarding event is of a transfer that its originator has taken
 abbrev IsOf : (ℕ → List Event) → ℕ → Event → Type 0
@@ -43,6 +44,7 @@ IsOf J q (Defunded reference cents) = Unit {0}
 IsOf J q (Taken id to cents stamp) = Unit {0}
 IsOf J q (Booked from id o) = Unit {0}
 IsOf J q (Fetched count) = Unit {0}
+IsOf J q Opened = Unit {0}
 
 -- one more event of q mirrors
 mirror_push : (s : HubSettings) (J : ℕ → List Event) (q from : ℕ) → IsSound s from (J from) → (K : List Event) (event : Event) → Fits s q K event → IsOf J q event → Mirrors from K (transfers (J from)) → Mirrors from (K ++ event ∷ []) (transfers (J from))
@@ -62,6 +64,7 @@ mirror_push s J q from sound K (Defunded reference cents) fits of m = mirrors_ot
 mirror_push s J q from sound K (Taken id to cents stamp) fits of m = mirrors_other from K (transfers (J from)) (Taken id to cents stamp) (λ i. refl) (λ g. refl) m
 mirror_push s J q from sound K (Booked o id outcome) fits of m = mirrors_other from K (transfers (J from)) (Booked o id outcome) (λ i. refl) (λ g. refl) m
 mirror_push s J q from sound K (Fetched count) fits of m = mirrors_other from K (transfers (J from)) (Fetched count) (λ i. refl) (λ g. refl) m
+mirror_push s J q from sound K Opened fits of m = mirrors_other from K (transfers (J from)) Opened (λ i. refl) (λ g. refl) m
 
 last_of : {A : Type 0} (P : A → Type 0) (K : List A) (x : A) → Each P (K ++ x ∷ []) → Each P K × P x
 last_of P [] x each = (tt, each.0)
@@ -78,7 +81,7 @@ mirrored s J q from sound_from =
 head_there : {A : Type 0} (x : A) (xs : List A) → Contains (x ∷ xs) x
 head_there x xs = Contains-append_left (x ∷ []) xs x (Contains-push [] x)
 
-each_contained : {A : Type 0} (P : A → Type 0) (xs : List A) → ((x : A) → Contains xs x → P x) → Each P xs
+pub each_contained : {A : Type 0} (P : A → Type 0) (xs : List A) → ((x : A) → Contains xs x → P x) → Each P xs
 each_contained P [] all = tt
 each_contained P (x ∷ xs) all = (all x (head_there x xs), each_contained P xs (λ y there. all y (Contains-append_right (x ∷ []) xs y there)))
 
@@ -91,6 +94,7 @@ all_of s J sound fit q (Defunded reference cents) there = tt
 all_of s J sound fit q (Taken id to cents stamp) there = tt
 all_of s J sound fit q (Booked from id o) there = tt
 all_of s J sound fit q (Fetched count) there = tt
+all_of s J sound fit q Opened there = tt
 
 pub fitting_together : (s : HubSettings) (J : ℕ → List Event) → ((p : ℕ) → IsSound s p (J p)) → BooksFit s J → Together s J
 fitting_together s J sound fit = record {

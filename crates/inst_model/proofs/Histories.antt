@@ -1,6 +1,7 @@
 -- A history grows by at most one event a step; which, and why.
 use Rattle.std.proofs.Common.{◌≡◌, ℕ, true, false, ltb, List, [], ◌∷◌, ◌++◌, length, take, Option, Some, None, refl, sym, subst, ◌∙◌, inl, inr, ◌⊎◌, append-nil}
 use Rattle.std.proofs.lemmas.Bool.{or_left, or_right}
+use Rattle.inst_model.specs.Opening.{Opening, beginning}
 use Rattle.inst_settings.specs.Settings.{HubSettings, same_text}
 use Rattle.inst_command.specs.declared.ask.Ask.{Ask as AskValue}
 use Rattle.inst_command.specs.declared.command.Command.TheVariants.{Fund, Defund, Submit, Fetch}
@@ -9,9 +10,10 @@ use Rattle.inst_command.specs.declared.outcome.Outcome.{Outcome}
 use Rattle.inst_command.specs.declared.step.Step.{Step}
 use Rattle.inst_command.specs.declared.step.Step.TheVariants.{Ask, Deliver}
 use Rattle.inst_journal.specs.declared.event.Event.{Event}
-use Rattle.inst_journal.specs.declared.event.Event.TheVariants.{Funded, Defunded, Taken, Forwarded, Booked, Fetched}
+use Rattle.inst_journal.specs.declared.event.Event.TheVariants.{Funded, Defunded, Taken, Forwarded, Booked, Fetched, Opened}
 use Rattle.inst_journal.specs.Booked.{is_taken, is_forwarded, booked}
 use Rattle.inst_journal.specs.Money.{available}
+use Rattle.inst_journal.specs.Opened.{is_opening}
 use Rattle.inst_journal.specs.Reply.{unread}
 use Rattle.inst_model.specs.Transfer.{Transfer, transfers, at_place, deadline}
 use Rattle.inst_model.specs.Found.{found}
@@ -20,6 +22,7 @@ use Rattle.inst_model.specs.Kept.{kept, with_entries}
 use Rattle.inst_model.specs.Hub.{decided, view, outcome, history}
 use Rattle.inst_model.proofs.Basics.{Each, Each_weaker, Each_at, same_text_refl}
 use Rattle.inst_model.proofs.KeptCases.{FundKept, TakenKept, kept_cases}
+use Rattle.inst_model.proofs.Transfers.{place_there}
 use Rattle.inst_model.proofs.Steps.{Comes, sees_cases}
 
 pub with_entries-append : (s : HubSettings) (p : ℕ) (J : List Event) (v w : List Seen) → with_entries s p J (v ++ w) ≡ with_entries s p (with_entries s p J v) w
@@ -38,10 +41,11 @@ each_taken (Defunded reference cents ∷ J) = each_taken J
 each_taken (Forwarded from id cents deadline ∷ J) = each_taken J
 each_taken (Booked from id o ∷ J) = each_taken J
 each_taken (Fetched count ∷ J) = each_taken J
+each_taken (Opened ∷ J) = each_taken J
 
 -- what stands at a place is taken
-pub at_place_taken : (J : List Event) (k : ℕ) (x : Transfer) → at_place J k ≡ Some x → is_taken x.id J ≡ true
-at_place_taken J k x e = Each_at (λ (x : Transfer). is_taken x.id J ≡ true) (transfers J) k x (each_taken J) e
+pub at_place_taken : (who : ℕ) (J : List Event) (k : ℕ) (x : Transfer) → at_place who J k ≡ Some x → is_taken x.id J ≡ true
+at_place_taken who J k x e = let there = place_there who J k x e in Each_at (λ (x : Transfer). is_taken x.id J ≡ true) (transfers J) there.0 x (each_taken J) there.1
 
 -- why an outcome is booked
 pub record Books (s : HubSettings) (J : ℕ → List Event) (before : ℕ → List ℕ → Option Outcome) (step : Step) (p from : ℕ) (id : List ℕ) (o : Outcome) : Type 0 where
@@ -85,18 +89,18 @@ grows s J before step p Q c =
         outcome_is = why.outcome;
         new = why.new;
         party = elim why.party [
-          | inl same ↦ inl (sym same, at_place_taken (J p) place x (subst (λ (q : ℕ). at_place (J q) place ≡ Some x) (sym same) why.there))
+          | inl same ↦ inl (sym same, at_place_taken p (J p) place x (subst (λ (q : ℕ). at_place q (J q) place ≡ Some x) (sym same) why.there))
           | inr there ↦ inr there
         ];
       });
     })
 
-pub history_step : (s : HubSettings) (step : Step) (past : List Step) (p : ℕ) → history s (step ∷ past) p ≡ next s (history s past) (outcome s past) step p
-history_step s step past p = with_entries-append s p [] (view s past p) (sees s (history s past) (outcome s past) (decided s (history s past) (outcome s past) step) step p)
+pub history_step : (s : HubSettings) (O : Opening) (step : Step) (past : List Step) (p : ℕ) → history s O (step ∷ past) p ≡ next s (history s O past) (outcome s O past) step p
+history_step s O step past p = with_entries-append s p (beginning O p) (view s O past p) (sees s (history s O past) (outcome s O past) (decided s (history s O past) (outcome s O past) step) step p)
 
 -- what holds after a step, case by case
-pub by_step : (s : HubSettings) (step : Step) (past : List Step) (p : ℕ) (Q : List Event → Type 0) → Grows s (history s past) (outcome s past) step p Q → Q (history s (step ∷ past) p)
-by_step s step past p Q c = subst Q (sym (history_step s step past p)) (grows s (history s past) (outcome s past) step p Q c)
+pub by_step : (s : HubSettings) (O : Opening) (step : Step) (past : List Step) (p : ℕ) (Q : List Event → Type 0) → Grows s (history s O past) (outcome s O past) step p Q → Q (history s O (step ∷ past) p)
+by_step s O step past p Q c = subst Q (sym (history_step s O step past p)) (grows s (history s O past) (outcome s O past) step p Q c)
 
 -- what one more event leaves true, a step leaves true
 pub persists : (s : HubSettings) (J : ℕ → List Event) (before : ℕ → List ℕ → Option Outcome) (step : Step) (p : ℕ) (P : List Event → Type 0) → ((K : List Event) (event : Event) → P K → P (K ++ event ∷ [])) → P (J p) → P (next s J before step p)
@@ -111,5 +115,21 @@ persists s J before step p P more here =
       hands_out = λ ask max entry entries is command some. more (J p) (Fetched (length (entry ∷ entries))) here;
     })
 
-pub persists_step : (s : HubSettings) (step : Step) (past : List Step) (p : ℕ) (P : List Event → Type 0) → ((K : List Event) (event : Event) → P K → P (K ++ event ∷ [])) → P (history s past p) → P (history s (step ∷ past) p)
-persists_step s step past p P more here = subst P (sym (history_step s step past p)) (persists s (history s past) (outcome s past) step p P more here)
+-- the same of an event that is no opening, as no step leaves one
+pub persists_within : (s : HubSettings) (J : ℕ → List Event) (before : ℕ → List ℕ → Option Outcome) (step : Step) (p : ℕ) (P : List Event → Type 0) → ((K : List Event) (event : Event) → is_opening event ≡ false → P K → P (K ++ event ∷ [])) → P (J p) → P (next s J before step p)
+persists_within s J before step p P more here =
+    grows s J before step p P (record {
+      nothing = here;
+      funds = λ ask reference cents is command why. more (J p) (Funded reference cents) refl here;
+      defunds = λ ask reference cents is command why cover. more (J p) (Defunded reference cents) refl here;
+      takes = λ ask id to cents stamp is command why. more (J p) (Taken id to cents stamp) refl here;
+      forwards = λ from place x is why. more (J p) (Forwarded from x.id x.cents (deadline s x)) refl here;
+      books = λ from id o why. more (J p) (Booked from id o) refl here;
+      hands_out = λ ask max entry entries is command some. more (J p) (Fetched (length (entry ∷ entries))) refl here;
+    })
+
+pub persists_step_within : (s : HubSettings) (O : Opening) (step : Step) (past : List Step) (p : ℕ) (P : List Event → Type 0) → ((K : List Event) (event : Event) → is_opening event ≡ false → P K → P (K ++ event ∷ [])) → P (history s O past p) → P (history s O (step ∷ past) p)
+persists_step_within s O step past p P more here = subst P (sym (history_step s O step past p)) (persists_within s (history s O past) (outcome s O past) step p P more here)
+
+pub persists_step : (s : HubSettings) (O : Opening) (step : Step) (past : List Step) (p : ℕ) (P : List Event → Type 0) → ((K : List Event) (event : Event) → P K → P (K ++ event ∷ [])) → P (history s O past p) → P (history s O (step ∷ past) p)
+persists_step s O step past p P more here = subst P (sym (history_step s O step past p)) (persists s (history s O past) (outcome s O past) step p P more here)

@@ -1,6 +1,7 @@
 -- The replies to a participant are made from its view alone.
 use Rattle.std.proofs.Common.{◌≡◌, ℕ, Bool, true, false, cond, eqb, List, [], ◌∷◌, ◌++◌, Option, refl, sym, ap, ◌∙◌}
 use Rattle.std.proofs.lemmas.Bool.{eqb-true}
+use Rattle.inst_model.specs.Opening.{Opening, beginning}
 use Rattle.inst_settings.specs.Settings.{HubSettings}
 use Rattle.inst_command.specs.declared.ask.Ask.{Ask as AskValue}
 use Rattle.inst_command.specs.declared.outcome.Outcome.{Outcome}
@@ -15,7 +16,7 @@ use Rattle.inst_journal.specs.Statement.{statement}
 use Rattle.inst_model.specs.Found.{found}
 use Rattle.inst_model.specs.View.{Seen, sees}
 use Rattle.inst_model.specs.View.Seen.{Asked, Came, Told}
-use Rattle.inst_model.specs.Kept.{kept, with_entries, history_of}
+use Rattle.inst_model.specs.Kept.{kept, with_entries}
 use Rattle.inst_model.specs.Hub.{decided, view, outcome, history}
 use Rattle.inst_model.specs.Trace.{as_reply, answer, own_answer, replies}
 use Rattle.inst_model.specs.Isolation.{EqualViewsGiveEqualReplies}
@@ -40,39 +41,45 @@ replies_on-append s p J (Told from id o ∷ v) w = replies_on-append s p (J ++ k
 answer_to : HubSettings → (ℕ → List Event) → (ℕ → List ℕ → Option Outcome) → AskValue → ℕ → Answer
 answer_to s J after ask p = Reply (as_reply (reply s p (J p) ask.command ask.at (found after p (J p) ask.command)))
 
-own_is : (s : HubSettings) (past : List Step) (step : Step) (p : ℕ) → own_answer s past step p ≡ replies_on s p (history s past p) (sees s (history s past) (outcome s past) (decided s (history s past) (outcome s past) step) step p)
-own_is s past (Ask ask) p = at_ask (eqb ask.who p) refl
+own_is : (s : HubSettings) (O : Opening) (past : List Step) (step : Step) (p : ℕ) → own_answer s O past step p ≡ replies_on s p (history s O past p) (sees s (history s O past) (outcome s O past) (decided s (history s O past) (outcome s O past) step) step p)
+own_is s O past (Ask ask) p = at_ask (eqb ask.who p) refl
   where
     at_ask : (b : Bool) → eqb ask.who p ≡ b →
-        cond b (answer s past (Ask ask) ∷ []) []
-        ≡ replies_on s p (history s past p) (cond b (Asked ask.command ask.at (found (outcome s (Ask ask ∷ past)) p (history s past p) ask.command) ∷ []) [])
+        cond b (answer s O past (Ask ask) ∷ []) []
+        ≡ replies_on s p (history s O past p) (cond b (Asked ask.command ask.at (found (outcome s O (Ask ask ∷ past)) p (history s O past p) ask.command) ∷ []) [])
     at_ask false e = refl
     at_ask true e =
-        ap (λ (q : ℕ). Reply (as_reply (reply s q (history s past q) ask.command ask.at (found (outcome s (Ask ask ∷ past)) q (history s past q) ask.command))) ∷ [])
+        ap (λ (q : ℕ). Reply (as_reply (reply s q (history s O past q) ask.command ask.at (found (outcome s O (Ask ask ∷ past)) q (history s O past q) ask.command))) ∷ [])
         (eqb-true ask.who p e)
-own_is s past (Deliver from place to) p =
-    sees_cases s (history s past) (outcome s past) (Deliver from place to) p (λ v. [] ≡ replies_on s p (history s past p) v)
+own_is s O past (Deliver from place to) p =
+    sees_cases s (history s O past) (outcome s O past) (Deliver from place to) p (λ v. [] ≡ replies_on s p (history s O past p) v)
     (record { nothing = refl; asked = λ ask is who. cc; came = λ from place x is why. refl; told = λ from place x o why. refl })
-own_is s past (Learn who from place) p =
-    sees_cases s (history s past) (outcome s past) (Learn who from place) p (λ v. [] ≡ replies_on s p (history s past p) v)
+own_is s O past (Learn who from place) p =
+    sees_cases s (history s O past) (outcome s O past) (Learn who from place) p (λ v. [] ≡ replies_on s p (history s O past p) v)
     (record { nothing = refl; asked = λ ask is who. cc; came = λ from place x is why. refl; told = λ from place x o why. refl })
-own_is s past (Expire who place at) p =
-    sees_cases s (history s past) (outcome s past) (Expire who place at) p (λ v. [] ≡ replies_on s p (history s past p) v)
+own_is s O past (Expire who place at) p =
+    sees_cases s (history s O past) (outcome s O past) (Expire who place at) p (λ v. [] ≡ replies_on s p (history s O past p) v)
     (record { nothing = refl; asked = λ ask is who. cc; came = λ from place x is why. refl; told = λ from place x o why. refl })
 
-replies_from_view : (s : HubSettings) (L : List Step) (p : ℕ) → replies s L p ≡ replies_on s p [] (view s L p)
-replies_from_view s [] p = refl
-replies_from_view s (step ∷ past) p =
-    ap (λ front. front ++ own_answer s past step p) (replies_from_view s past p)
-    ∙ ap (λ last. replies_on s p [] (view s past p) ++ last) (own_is s past step p)
-    ∙ sym (replies_on-append s p [] (view s past p) (sees s (history s past) (outcome s past) (decided s (history s past) (outcome s past) step) step p))
+replies_from_view : (s : HubSettings) (O : Opening) (L : List Step) (p : ℕ) → replies s O L p ≡ replies_on s p (beginning O p) (view s O L p)
+replies_from_view s O [] p = refl
+replies_from_view s O (step ∷ past) p =
+    ap (λ front. front ++ own_answer s O past step p) (replies_from_view s O past p)
+    ∙ ap (λ last. replies_on s p (beginning O p) (view s O past p) ++ last) (own_is s O past step p)
+    ∙ sym (replies_on-append s p (beginning O p) (view s O past p) (sees s (history s O past) (outcome s O past) (decided s (history s O past) (outcome s O past) step) step p))
+
+same_from : {A : Type 0} (f : List Event → List Seen → A) (J K : List Event) (v w : List Seen) → J ≡ K → v ≡ w → f J v ≡ f K w
+same_from f J K v w e same = ap (λ H. f H v) e ∙ ap (f K) same
 
 pub isolated : EqualViewsGiveEqualReplies
-isolated s L M p same = record {
-  same_replies = replies_from_view s L p ∙ ap (λ v. replies_on s p [] v) same ∙ sym (replies_from_view s M p);
-  same_history = ap (λ v. history_of s p v) same;
-  same_position = ap (λ v. position (history_of s p v)) same;
-  same_reserved = ap (λ v. reserved (history_of s p v)) same;
-  same_available = ap (λ v. available (history_of s p v)) same;
-  same_statement = ap (λ v. statement (history_of s p v)) same;
+isolated s O P L M p begun same = record {
+  same_replies = replies_from_view s O L p ∙ same_from (replies_on s p) (beginning O p) (beginning P p) (view s O L p) (view s P M p) begun same ∙ sym (replies_from_view s P M p);
+  same_history = whole;
+  same_position = ap position whole;
+  same_reserved = ap reserved whole;
+  same_available = ap available whole;
+  same_statement = ap statement whole;
 }
+  where
+    whole : history s O L p ≡ history s P M p
+    whole = same_from (with_entries s p) (beginning O p) (beginning P p) (view s O L p) (view s P M p) begun same

@@ -12,8 +12,9 @@ use Rattle.inst_command.specs.declared.reply.Reply.{Reply}
 use Rattle.inst_command.specs.declared.reply.Reply.TheVariants.{Done, Taken as TakenReply}
 use Rattle.inst_journal.specs.declared.event.Event.{Event}
 use Rattle.inst_journal.specs.declared.event.Event.TheVariants.{Funded, Defunded, Taken, Booked, Fetched}
-use Rattle.inst_journal.specs.Booked.{is_taken, is_forwarded, booked, submissions}
+use Rattle.inst_journal.specs.Booked.{is_taken, is_forwarded, booked}
 use Rattle.inst_journal.specs.Money.{available}
+use Rattle.inst_journal.specs.Opened.{live_submissions}
 use Rattle.inst_journal.specs.Keys.{is_fund_repeat, is_defund_repeat, is_submission_repeat, has_reference, fundings}
 use Rattle.inst_journal.specs.Reply.{Handled, answered, keeping, refused, handle, standing, hand_out, unread}
 use Rattle.inst_model.specs.Found.{found}
@@ -27,7 +28,7 @@ pub record FundKept (s : HubSettings) (J : List Event) (reference : List ℕ) : 
 pub record TakenKept (s : HubSettings) (who : ℕ) (J : List Event) (id : List ℕ) (to cents : ℕ) : Type 0 where
   pub another : eqb to who ≡ false
   pub new : is_taken id J ≡ false
-  pub place : leb s.places (submissions J) ≡ false
+  pub place : leb s.places (live_submissions who J) ≡ false
   pub cover : ltb (available J) cents ≡ false
 
 -- why an outcome is booked
@@ -100,7 +101,7 @@ kept_cases s who J (Defund reference cents) at o P c =
     (λ new place cover. c.defunds reference cents refl (record { new = new; place = place }) cover)
 kept_cases s who J (Submit id to cents stamp) at o P c =
     submit_shape (eqb to who) (is_submission_repeat id to cents stamp J) (is_taken id J) (ltb (at + s.ahead) stamp) (leb (stamp + s.limit) at)
-    (leb s.places (submissions J)) (ltb (available J) cents) (TakenReply id (stamp + s.limit)) (Taken id to cents stamp) P c.nothing
+    (leb s.places (live_submissions who J)) (ltb (available J) cents) (TakenReply id (stamp + s.limit)) (Taken id to cents stamp) P c.nothing
     (λ another new place cover. c.takes id to cents stamp refl (record { another = another; new = new; place = place; cover = cover }))
 kept_cases s who J (Confirm from id) at o P c =
     decide_shape (is_forwarded from id J) (standing from id (booked from id J) o) P c.nothing

@@ -2,11 +2,16 @@ pub mod Basics
 pub mod Steps
 pub mod KeptCases
 pub mod Histories
+pub mod Growing
+pub mod Events
+pub mod Owning
+pub mod Beginning
 pub mod Isolated
 pub mod Outcomes
 pub mod Transfers
 pub mod Sums
 pub mod Mirror
+pub mod Living
 pub mod Together
 pub mod Accepting
 pub mod Fitting

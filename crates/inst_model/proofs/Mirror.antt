@@ -7,7 +7,7 @@ use Rattle.inst_settings.specs.Settings.{HubSettings, same_text}
 use Rattle.inst_command.specs.declared.outcome.Outcome.{Outcome}
 use Rattle.inst_command.specs.declared.step.Step.{Step}
 use Rattle.inst_journal.specs.declared.event.Event.{Event}
-use Rattle.inst_journal.specs.declared.event.Event.TheVariants.{Funded, Defunded, Taken, Forwarded, Booked, Fetched}
+use Rattle.inst_journal.specs.declared.event.Event.TheVariants.{Funded, Defunded, Taken, Forwarded, Booked, Fetched, Opened}
 use Rattle.inst_journal.specs.Booked.{or_else, is_taken, is_forwarded, forwards, same_transfer}
 use Rattle.inst_journal.specs.Sound.{Fits, IsSound}
 use Rattle.inst_journal.proofs.Pushing.{list_any_push, sum_by-both}
@@ -79,6 +79,7 @@ single_push s who h id J (Defunded reference cents) fits before = same_or_none h
 single_push s who h id J (Forwarded from other cents deadline) fits before = same_or_none h id J (Forwarded from other cents deadline) refl refl before
 single_push s who h id J (Booked from other o) fits before = same_or_none h id J (Booked from other o) refl refl before
 single_push s who h id J (Fetched count) fits before = same_or_none h id J (Fetched count) refl refl before
+single_push s who h id J Opened fits before = same_or_none h id J Opened refl refl before
 
 pub single : (s : HubSettings) (who : ℕ) (h : Transfer → ℕ) (id : List ℕ) (J : List Event) → IsSound s who J → sum_by (measure_named h id) (transfers J) ≡ measure_of h (transfer id J)
 single s who h id = sound_induction s who (λ J. sum_by (measure_named h id) (transfers J) ≡ measure_of h (transfer id J)) refl
@@ -92,6 +93,7 @@ weighed g from (Defunded reference cents) = 0
 weighed g from (Taken id to cents stamp) = 0
 weighed g from (Booked other id o) = 0
 weighed g from (Fetched count) = 0
+weighed g from Opened = 0
 
 -- the measure of a taken transfer of this originator, where it is forwarded in J
 abbrev pub weighed_there : (List ℕ → ℕ → ℕ) → ℕ → List Event → Transfer → ℕ

@@ -1,7 +1,8 @@
 -- What is answered and what is booked is the outcome, which stays.
-use Rattle.std.proofs.Common.{◌≡◌, ℕ, Bool, true, false, cond, eqb, ltb, leb, List, [], ◌∷◌, ◌++◌, ◌+◌, take, Option, Some, None, refl, sym, subst}
+use Rattle.std.proofs.Common.{◌≡◌, ℕ, Bool, true, false, cond, eqb, ltb, leb, List, [], ◌∷◌, ◌++◌, ◌+◌, take, Option, Some, None, refl, sym, subst, Contains}
 use Rattle.std.proofs.lemmas.Bool.{cond-true}
 use Rattle.std.proofs.lemmas.Option.{cond_some}
+use Rattle.inst_model.specs.Opening.{Opening, IsOpening, beginning}
 use Rattle.inst_settings.specs.Settings.{HubSettings}
 use Rattle.inst_command.specs.declared.command.Command.{Command}
 use Rattle.inst_command.specs.declared.command.Command.TheVariants.{Fund, Defund, Submit, Confirm, Reject, Investigate, Fetch, Position, Statement}
@@ -15,9 +16,10 @@ use Rattle.inst_command.specs.declared.reply.Answer.TheVariants.{Reply, New}
 use Rattle.inst_command.specs.declared.reply.Reply.{Reply as ReplyValue}
 use Rattle.inst_command.specs.declared.reply.Reply.TheVariants.{Done, Taken as TakenReply, State, Inbox, Position as PositionReply, Statement as StatementReply, Refused}
 use Rattle.inst_journal.specs.declared.event.Event.{Event}
-use Rattle.inst_journal.specs.declared.event.Event.TheVariants.{Funded, Defunded, Taken, Forwarded, Booked, Fetched}
-use Rattle.inst_journal.specs.Booked.{is_taken, is_forwarded, books, booked, same_transfer, submissions}
+use Rattle.inst_journal.specs.declared.event.Event.TheVariants.{Funded, Defunded, Taken, Forwarded, Booked, Fetched, Opened}
+use Rattle.inst_journal.specs.Booked.{is_taken, is_forwarded, books, booked, same_transfer}
 use Rattle.inst_journal.specs.Money.{available}
+use Rattle.inst_journal.specs.Opened.{live_submissions}
 use Rattle.inst_journal.specs.Keys.{is_fund_repeat, is_defund_repeat, is_submission_repeat, has_reference, fundings}
 use Rattle.inst_journal.specs.Reply.{Handled, handle, standing, hand_out, unread}
 use Rattle.inst_model.specs.Wants.{wants}
@@ -27,14 +29,17 @@ use Rattle.inst_model.specs.Trace.{as_reply}
 use Rattle.inst_model.specs.OneOutcome.{AnsweredIsTheOutcome, BookedIsTheOutcome, OutcomeStays}
 use Rattle.inst_model.proofs.Basics.{or_else_kept, Each, Each_push, Each_weaker, Each_contains, first_some_each, same_transfer-true}
 use Rattle.inst_model.proofs.Histories.{by_step}
+use Rattle.inst_model.proofs.FittingMirror.{each_contained}
+use Rattle.inst_model.proofs.Booking.{booked_found}
+use Rattle.inst_model.proofs.Beginning.{beginning_sound, beginning_booked}
 
 -- an outcome stays through a step
-pub outcome_later : (s : HubSettings) (step : Step) (past : List Step) (from : ℕ) (id : List ℕ) (o : Outcome) → outcome s past from id ≡ Some o → outcome s (step ∷ past) from id ≡ Some o
-outcome_later s step past from id o e = or_else_kept (outcome s past from id) (wants s (history s past) step from id) o e
+pub outcome_later : (s : HubSettings) (O : Opening) (step : Step) (past : List Step) (from : ℕ) (id : List ℕ) (o : Outcome) → outcome s O past from id ≡ Some o → outcome s O (step ∷ past) from id ≡ Some o
+outcome_later s O step past from id o e = or_else_kept (outcome s O past from id) (wants s (history s O past) step from id) o e
 
 pub outcome_stays : OutcomeStays
-outcome_stays s [] past from id o e = e
-outcome_stays s (step ∷ later) past from id o e = outcome_later s step (later ++ past) from id o (outcome_stays s later past from id o e)
+outcome_stays s O [] past from id o e = e
+outcome_stays s O (step ∷ later) past from id o e = outcome_later s O step (later ++ past) from id o (outcome_stays s O later past from id o e)
 
 -- what is booked is the outcome
 abbrev pub BookedIs : (ℕ → List ℕ → Option Outcome) → Event → Type 0
@@ -44,32 +49,43 @@ BookedIs outcomes (Defunded reference cents) = Unit {0}
 BookedIs outcomes (Taken id to cents stamp) = Unit {0}
 BookedIs outcomes (Forwarded from id cents deadline) = Unit {0}
 BookedIs outcomes (Fetched count) = Unit {0}
+BookedIs outcomes Opened = Unit {0}
 
-booked_later : (s : HubSettings) (step : Step) (past : List Step) (event : Event) → BookedIs (outcome s past) event → BookedIs (outcome s (step ∷ past)) event
-booked_later s step past (Booked from id o) e = outcome_later s step past from id o e
-booked_later s step past (Funded reference cents) e = tt
-booked_later s step past (Defunded reference cents) e = tt
-booked_later s step past (Taken id to cents stamp) e = tt
-booked_later s step past (Forwarded from id cents deadline) e = tt
-booked_later s step past (Fetched count) e = tt
+booked_later : (s : HubSettings) (O : Opening) (step : Step) (past : List Step) (event : Event) → BookedIs (outcome s O past) event → BookedIs (outcome s O (step ∷ past)) event
+booked_later s O step past (Booked from id o) e = outcome_later s O step past from id o e
+booked_later s O step past (Funded reference cents) e = tt
+booked_later s O step past (Defunded reference cents) e = tt
+booked_later s O step past (Taken id to cents stamp) e = tt
+booked_later s O step past (Forwarded from id cents deadline) e = tt
+booked_later s O step past (Fetched count) e = tt
+booked_later s O step past Opened e = tt
 
-pub all_booked : (s : HubSettings) (L : List Step) (p : ℕ) → Each (BookedIs (outcome s L)) (history s L p)
-all_booked s [] p = tt
-all_booked s (step ∷ past) p =
-    let P : Event → Type 0 = BookedIs (outcome s (step ∷ past)) in
-    let before : Each P (history s past p) = Each_weaker (BookedIs (outcome s past)) P (history s past p) (booked_later s step past) (all_booked s past p) in
-    by_step s step past p (λ J. Each P J) (record {
+begun : (s : HubSettings) (O : Opening) → IsOpening s O → (p : ℕ) (event : Event) → Contains (beginning O p) event → BookedIs (outcome s O []) event
+begun s O opened p (Booked from id o) there = beginning_booked s O opened p from id o (booked_found s p (beginning O p) from id o (beginning_sound s O opened p) there)
+begun s O opened p (Funded reference cents) there = tt
+begun s O opened p (Defunded reference cents) there = tt
+begun s O opened p (Taken id to cents stamp) there = tt
+begun s O opened p (Forwarded from id cents deadline) there = tt
+begun s O opened p (Fetched count) there = tt
+begun s O opened p Opened there = tt
+
+pub all_booked : (s : HubSettings) (O : Opening) → IsOpening s O → (L : List Step) (p : ℕ) → Each (BookedIs (outcome s O L)) (history s O L p)
+all_booked s O opened [] p = each_contained (BookedIs (outcome s O [])) (beginning O p) (begun s O opened p)
+all_booked s O opened (step ∷ past) p =
+    let P : Event → Type 0 = BookedIs (outcome s O (step ∷ past)) in
+    let before : Each P (history s O past p) = Each_weaker (BookedIs (outcome s O past)) P (history s O past p) (booked_later s O step past) (all_booked s O opened past p) in
+    by_step s O step past p (λ J. Each P J) (record {
       nothing = before;
-      funds = λ ask reference cents is command why. Each_push P (history s past p) (Funded reference cents) before tt;
-      defunds = λ ask reference cents is command why cover. Each_push P (history s past p) (Defunded reference cents) before tt;
-      takes = λ ask id to cents stamp is command why. Each_push P (history s past p) (Taken id to cents stamp) before tt;
-      forwards = λ from place x is why. Each_push P (history s past p) _ before tt;
-      books = λ from id o why. Each_push P (history s past p) (Booked from id o) before why.outcome_is;
-      hands_out = λ ask max entry entries is command some. Each_push P (history s past p) _ before tt;
+      funds = λ ask reference cents is command why. Each_push P (history s O past p) (Funded reference cents) before tt;
+      defunds = λ ask reference cents is command why cover. Each_push P (history s O past p) (Defunded reference cents) before tt;
+      takes = λ ask id to cents stamp is command why. Each_push P (history s O past p) (Taken id to cents stamp) before tt;
+      forwards = λ from place x is why. Each_push P (history s O past p) _ before tt;
+      books = λ from id o why. Each_push P (history s O past p) (Booked from id o) before why.outcome_is;
+      hands_out = λ ask max entry entries is command some. Each_push P (history s O past p) _ before tt;
     })
 
 pub booked_is_the_outcome : BookedIsTheOutcome
-booked_is_the_outcome s L p from id o there = Each_contains (BookedIs (outcome s L)) (history s L p) (Booked from id o) (all_booked s L p) there
+booked_is_the_outcome s O opened L p from id o there = Each_contains (BookedIs (outcome s O L)) (history s O L p) (Booked from id o) (all_booked s O opened L p) there
 
 books_is : (outcomes : ℕ → List ℕ → Option Outcome) (from : ℕ) (id : List ℕ) (o : Outcome) (event : Event) → BookedIs outcomes event → books from id event ≡ Some o → outcomes from id ≡ Some o
 books_is outcomes from id o (Booked other_from other p) is e =
@@ -81,12 +97,13 @@ books_is outcomes from id o (Defunded reference cents) is e = cc
 books_is outcomes from id o (Taken other to cents stamp) is e = cc
 books_is outcomes from id o (Forwarded other_from other cents deadline) is e = cc
 books_is outcomes from id o (Fetched count) is e = cc
+books_is outcomes from id o Opened is e = cc
 
 -- what a side has booked for a transfer is its outcome
-pub booked_outcome : (s : HubSettings) (L : List Step) (p from : ℕ) (id : List ℕ) (o : Outcome) → booked from id (history s L p) ≡ Some o → outcome s L from id ≡ Some o
-booked_outcome s L p from id o e =
-    first_some_each (books from id) (BookedIs (outcome s L)) (λ q. outcome s L from id ≡ Some q) (history s L p) o
-    (λ event is here. books_is (outcome s L) from id o event is here) (all_booked s L p) e
+pub booked_outcome : (s : HubSettings) (O : Opening) → IsOpening s O → (L : List Step) (p from : ℕ) (id : List ℕ) (o : Outcome) → booked from id (history s O L p) ≡ Some o → outcome s O L from id ≡ Some o
+booked_outcome s O opened L p from id o e =
+    first_some_each (books from id) (BookedIs (outcome s O L)) (λ q. outcome s O L from id ≡ Some q) (history s O L p) o
+    (λ event is here. books_is (outcome s O L) from id o event is here) (all_booked s O opened L p) e
 
 -- a decided state in the reply is the outcome
 abbrev IsRight : (ℕ → List ℕ → Option Outcome) → ReplyValue → Type 0
@@ -138,7 +155,7 @@ handled_right s who J (Submit id to cents stamp) at outcomes known =
     chosen outcomes (is_taken id J) _ _ (λ _. tt) (λ _.
     chosen outcomes (ltb (at + s.ahead) stamp) _ _ (λ _. tt) (λ _.
     chosen outcomes (leb (stamp + s.limit) at) _ _ (λ _. tt) (λ _.
-    chosen outcomes (leb s.places (submissions J)) _ _ (λ _. tt) (λ _.
+    chosen outcomes (leb s.places (live_submissions who J)) _ _ (λ _. tt) (λ _.
     chosen outcomes (ltb (available J) cents) _ _ (λ _. tt) (λ _. tt)))))))
 handled_right s who J (Confirm from id) at outcomes known =
     chosen outcomes (is_forwarded from id J) _ _
@@ -154,8 +171,8 @@ handled_right s who J Position at outcomes known = tt
 handled_right s who J (Statement skip count) at outcomes known = tt
 
 pub answered_is_the_outcome : AnsweredIsTheOutcome
-answered_is_the_outcome s past ask from id o e =
-    let after : ℕ → List ℕ → Option Outcome = outcome s (Ask ask ∷ past) in
+answered_is_the_outcome s O opened past ask from id o e =
+    let after : ℕ → List ℕ → Option Outcome = outcome s O (Ask ask ∷ past) in
     subst (AnswerRight after) e
-    (handled_right s ask.who (history s past ask.who) ask.command ask.at after
-    (λ other_from other p known. outcome_later s (Ask ask) past other_from other p (booked_outcome s past ask.who other_from other p known)))
+    (handled_right s ask.who (history s O past ask.who) ask.command ask.at after
+    (λ other_from other p known. outcome_later s O (Ask ask) past other_from other p (booked_outcome s O opened past ask.who other_from other p known)))

@@ -32,4 +32,4 @@ settled_once s p J sound = record {
 }
 
 pub money_is_settled_once : MoneyIsSettledOnce
-money_is_settled_once s L steps p = settled_once s p (history s L p) (histories_are_sound s L steps p)
+money_is_settled_once s O opened L steps p = settled_once s p (history s O L p) (histories_are_sound s O opened L steps p)

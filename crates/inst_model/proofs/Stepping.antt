@@ -1,6 +1,7 @@
 -- At most one entry is seen of a step, and the replies are in the trace.
 use Rattle.std.proofs.Common.{◌≡◌, ℕ, ◌≤◌, Bool, true, false, cond, eqb, List, [], ◌∷◌, ◌++◌, length, reverse, refl, sym, ap, ◌∙◌, arith, length-append}
 use Rattle.std.proofs.lemmas.List.{reverse-append, length-reverse}
+use Rattle.inst_model.specs.Opening.{Opening}
 use Rattle.inst_settings.specs.Settings.{HubSettings}
 use Rattle.inst_command.specs.declared.reply.Answer.{Answer}
 use Rattle.inst_command.specs.declared.step.Step.{Step}
@@ -11,7 +12,7 @@ use Rattle.inst_model.specs.StepByStep.{AtMostOneEntryIsSeen, RepliesAreInTheTra
 use Rattle.inst_model.proofs.Steps.{sees_cases}
 
 pub at_most_one_entry_is_seen : AtMostOneEntryIsSeen
-at_most_one_entry_is_seen s step past p = sees_cases s (history s past) (outcome s past) step p (λ v. length v ≤ 1) (record {
+at_most_one_entry_is_seen s O step past p = sees_cases s (history s O past) (outcome s O past) step p (λ v. length v ≤ 1) (record {
   nothing = omega arith;
   asked = λ ask is who. omega arith;
   came = λ from place x is why. omega arith;
@@ -33,23 +34,23 @@ own_answers-append p (Deliver from place to ∷ steps) more (a ∷ answers) late
 own_answers-append p (Learn who from place ∷ steps) more (a ∷ answers) later same = own_answers-append p steps more answers later (omega arith)
 own_answers-append p (Expire who place at ∷ steps) more (a ∷ answers) later same = own_answers-append p steps more answers later (omega arith)
 
-own_one : (s : HubSettings) (past : List Step) (step : Step) (p : ℕ) → own_answers p (step ∷ []) (answer s past step ∷ []) ≡ own_answer s past step p
-own_one s past (Ask ask) p = refl
-own_one s past (Deliver from place to) p = refl
-own_one s past (Learn who from place) p = refl
-own_one s past (Expire who place at) p = refl
+own_one : (s : HubSettings) (O : Opening) (past : List Step) (step : Step) (p : ℕ) → own_answers p (step ∷ []) (answer s O past step ∷ []) ≡ own_answer s O past step p
+own_one s O past (Ask ask) p = refl
+own_one s O past (Deliver from place to) p = refl
+own_one s O past (Learn who from place) p = refl
+own_one s O past (Expire who place at) p = refl
 
-trace-length : (s : HubSettings) (L : List Step) → length (trace s L) ≡ length L
-trace-length s [] = refl
-trace-length s (step ∷ past) = omega (arith, length-append (trace s past) (answer s past step ∷ []), trace-length s past)
+trace-length : (s : HubSettings) (O : Opening) (L : List Step) → length (trace s O L) ≡ length L
+trace-length s O [] = refl
+trace-length s O (step ∷ past) = omega (arith, length-append (trace s O past) (answer s O past step ∷ []), trace-length s O past)
 
-own_trace : (s : HubSettings) (L : List Step) (p : ℕ) → own_answers p (reverse L) (trace s L) ≡ replies s L p
-own_trace s [] p = refl
-own_trace s (step ∷ past) p =
-    ap (λ steps. own_answers p steps (trace s past ++ answer s past step ∷ [])) (reverse-append (step ∷ []) past)
-    ∙ own_answers-append p (reverse past) (step ∷ []) (trace s past) (answer s past step ∷ []) (trace-length s past ∙ sym (length-reverse past))
-    ∙ ap (λ front. front ++ own_answers p (step ∷ []) (answer s past step ∷ [])) (own_trace s past p)
-    ∙ ap (λ last. replies s past p ++ last) (own_one s past step p)
+own_trace : (s : HubSettings) (O : Opening) (L : List Step) (p : ℕ) → own_answers p (reverse L) (trace s O L) ≡ replies s O L p
+own_trace s O [] p = refl
+own_trace s O (step ∷ past) p =
+    ap (λ steps. own_answers p steps (trace s O past ++ answer s O past step ∷ [])) (reverse-append (step ∷ []) past)
+    ∙ own_answers-append p (reverse past) (step ∷ []) (trace s O past) (answer s O past step ∷ []) (trace-length s O past ∙ sym (length-reverse past))
+    ∙ ap (λ front. front ++ own_answers p (step ∷ []) (answer s O past step ∷ [])) (own_trace s O past p)
+    ∙ ap (λ last. replies s O past p ++ last) (own_one s O past step p)
 
 pub replies_are_in_the_trace : RepliesAreInTheTrace
-replies_are_in_the_trace s L p = (trace-length s L, own_trace s L p)
+replies_are_in_the_trace s O L p = (trace-length s O L, own_trace s O L p)

@@ -22,19 +22,19 @@ is_none-true (Some x) e = cc
 
 -- a transfer comes
 pub record Comes (s : HubSettings) (before : ℕ → List ℕ → Option Outcome) (from p : ℕ) (Jfrom J : List Event) (place : ℕ) (x : Transfer) : Type 0 where
-  pub there : at_place Jfrom place ≡ Some x
+  pub there : at_place from Jfrom place ≡ Some x
   pub addressed : x.to ≡ p
   pub undecided : before from x.id ≡ None
   pub new : is_forwarded from x.id J ≡ false
 
 -- an outcome is told
 pub record Tells (outcomes : ℕ → List ℕ → Option Outcome) (from p : ℕ) (Jfrom J : List Event) (place : ℕ) (x : Transfer) (o : Outcome) : Type 0 where
-  pub there : at_place Jfrom place ≡ Some x
+  pub there : at_place from Jfrom place ≡ Some x
   pub party : (p ≡ from) ⊎ (is_forwarded from x.id J ≡ true)
   pub outcome : outcomes from x.id ≡ Some o
   pub new : booked from x.id J ≡ None
 
-comes_cases : (s : HubSettings) (before : ℕ → List ℕ → Option Outcome) (from p : ℕ) (Jfrom J : List Event) (place : ℕ) (found : Option Transfer) → at_place Jfrom place ≡ found → (P : List Seen → Type 0) → P [] → ((x : Transfer) → Comes s before from p Jfrom J place x → P (Came from x.id x.cents (deadline s x) ∷ [])) → P (comes s before from p J found)
+comes_cases : (s : HubSettings) (before : ℕ → List ℕ → Option Outcome) (from p : ℕ) (Jfrom J : List Event) (place : ℕ) (found : Option Transfer) → at_place from Jfrom place ≡ found → (P : List Seen → Type 0) → P [] → ((x : Transfer) → Comes s before from p Jfrom J place x → P (Came from x.id x.cents (deadline s x) ∷ [])) → P (comes s before from p J found)
 comes_cases s before from p Jfrom J place None is P nothing come = nothing
 comes_cases s before from p Jfrom J place (Some x) is P nothing come =
     cond_both _ _ _ P
@@ -54,7 +54,7 @@ news_cases from id (Some o) None P nothing tell = tell o refl refl
 news_cases from id (Some o) (Some before) P nothing tell = nothing
 news_cases from id None before P nothing tell = nothing
 
-tells_cases : (outcomes : ℕ → List ℕ → Option Outcome) (from p : ℕ) (Jfrom J : List Event) (place : ℕ) (found : Option Transfer) → at_place Jfrom place ≡ found → (P : List Seen → Type 0) → P [] → ((x : Transfer) (o : Outcome) → Tells outcomes from p Jfrom J place x o → P (Told from x.id o ∷ [])) → P (tells outcomes from p J found)
+tells_cases : (outcomes : ℕ → List ℕ → Option Outcome) (from p : ℕ) (Jfrom J : List Event) (place : ℕ) (found : Option Transfer) → at_place from Jfrom place ≡ found → (P : List Seen → Type 0) → P [] → ((x : Transfer) (o : Outcome) → Tells outcomes from p Jfrom J place x o → P (Told from x.id o ∷ [])) → P (tells outcomes from p J found)
 tells_cases outcomes from p Jfrom J place None is P nothing tell = nothing
 tells_cases outcomes from p Jfrom J place (Some x) is P nothing tell =
     cond_both _ _ _ P
@@ -80,12 +80,12 @@ sees_cases s J before (Ask ask) p P c =
     cond_both _ _ _ P (λ e. c.asked ask refl (eqb-true ask.who p e)) (λ e. c.nothing)
 sees_cases s J before (Deliver from place to) p P c =
     cond_both _ _ _ P
-    (λ e. comes_cases s before from p (J from) (J p) place (at_place (J from) place) refl P c.nothing
+    (λ e. comes_cases s before from p (J from) (J p) place (at_place from (J from) place) refl P c.nothing
     (λ x h. c.came from place x (ap (λ q. Deliver from place q) (eqb-true to p e)) h))
     (λ e. c.nothing)
 sees_cases s J before (Learn who from place) p P c =
     cond_both _ _ _ P
-    (λ e. tells_cases before from p (J from) (J p) place (at_place (J from) place) refl P c.nothing
+    (λ e. tells_cases before from p (J from) (J p) place (at_place from (J from) place) refl P c.nothing
     (λ x o h. c.told from place x o (record {
       there = h.there;
       party = h.party;
@@ -95,6 +95,6 @@ sees_cases s J before (Learn who from place) p P c =
     (λ e. c.nothing)
 sees_cases s J before (Expire who place at) p P c =
     cond_both _ _ _ P
-    (λ e. tells_cases (decided s J before (Expire who place at)) p p (J p) (J p) place (at_place (J p) place) refl P c.nothing
+    (λ e. tells_cases (decided s J before (Expire who place at)) p p (J p) (J p) place (at_place p (J p) place) refl P c.nothing
     (λ x o h. c.told p place x o h))
     (λ e. c.nothing)

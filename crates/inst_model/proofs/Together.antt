@@ -1,8 +1,9 @@
 -- What is known of all histories together, kept through every step.
-use Rattle.std.proofs.Common.{◌≡◌, ℕ, ◌<◌, zero, true, false, ◌&&◌, cond, List, [], ◌∷◌, ◌++◌, length, Option, Some, None, refl, sym, ap, subst, ◌∙◌, inl, inr, append-nil, arith, sum_by, count_by}
+use Rattle.std.proofs.Common.{◌≡◌, ℕ, zero, true, false, ◌&&◌, cond, List, [], ◌∷◌, ◌++◌, Option, Some, None, is_none, refl, sym, ap, subst, ◌∙◌, inl, inr, append-nil, arith, sum_by}
 use Rattle.std.specs.List.{cons_option}
 use Rattle.std.proofs.lemmas.List.Sums.{sum_by_push}
 use Rattle.std.proofs.lemmas.Bool.{cases_Bool, cases_eq, and_parts, ne_eqb, true≢false, ltb-true}
+use Rattle.inst_model.specs.Opening.{Opening, IsOpening}
 use Rattle.inst_settings.specs.Settings.{HubSettings, same_text, participants}
 use Rattle.inst_command.specs.Ask.{is_participant, command_fits}
 use Rattle.inst_command.specs.Step.{step_fits}
@@ -10,9 +11,9 @@ use Rattle.inst_command.specs.declared.outcome.Outcome.{Outcome}
 use Rattle.inst_command.specs.declared.step.Step.{Step}
 use Rattle.inst_journal.specs.declared.event.Event.{Event}
 use Rattle.inst_journal.specs.declared.event.Event.TheVariants.{Funded, Defunded, Taken, Forwarded, Booked, Fetched}
-use Rattle.inst_journal.specs.Booked.{is_forwarded, forwards_from, forwarded_from}
+use Rattle.inst_journal.specs.Booked.{booked, is_forwarded}
+use Rattle.inst_journal.specs.Opened.{carried}
 use Rattle.inst_journal.specs.Sound.{IsSound}
-use Rattle.inst_journal.proofs.Counting.{submissions_within}
 use Rattle.inst_journal.proofs.Keeping.{history_after_sound}
 use Rattle.inst_journal.proofs.Soundness.{sound_push}
 use Rattle.inst_model.specs.Transfer.{Transfer, terms, transfers, at_place, transfer, deadline}
@@ -20,10 +21,11 @@ use Rattle.inst_model.specs.Found.{found}
 use Rattle.inst_model.specs.Kept.{with_entries}
 use Rattle.inst_model.specs.Hub.{decided, outcome, history}
 use Rattle.inst_model.specs.Interleaving.{IsInterleaving}
-use Rattle.inst_model.proofs.Sums.{sum_by_same, each_of, count_below}
 use Rattle.inst_model.proofs.Steps.{sees_cases}
 use Rattle.inst_model.proofs.Histories.{next, grows, persists, history_step, at_place_taken}
-use Rattle.inst_model.proofs.Transfers.{as_transfer, transfers_push, transfer_kept, transfer_taken, place_found, place_to_another, length-transfers}
+use Rattle.inst_model.proofs.Transfers.{as_transfer, transfers_push, transfer_kept, transfer_taken, place_found, place_to_another}
+use Rattle.inst_model.proofs.Beginning.{beginning_together, beginning_living}
+use Rattle.inst_model.proofs.Living.{Living, place_left, living_next}
 use Rattle.inst_model.proofs.Mirror.{Mirrors, Together, weighed, weighed_there, mirrors_other, mirrors_coming, measure_of, single, taken_before}
 
 -- the forwarded transfers of q after a step measure as the transfers taken before it
@@ -84,27 +86,8 @@ mirrors_after s J before step t q from =
 pub transfer_next : (s : HubSettings) (J : ℕ → List Event) (before : ℕ → List ℕ → Option Outcome) (step : Step) (p : ℕ) (id : List ℕ) (x : Transfer) → transfer id (J p) ≡ Some x → transfer id (next s J before step p) ≡ Some x
 transfer_next s J before step p id x e = persists s J before step p (λ K. transfer id K ≡ Some x) (λ K event. transfer_kept id K event x) e
 
-one_each : (from : ℕ) (event : Event) → cond (forwards_from from event) 1 0 ≡ weighed (λ id cents. 1) from event
-one_each from (Funded reference cents) = refl
-one_each from (Defunded reference cents) = refl
-one_each from (Taken id to cents stamp) = refl
-one_each from (Forwarded other id cents deadline) = refl
-one_each from (Booked other id o) = refl
-one_each from (Fetched count) = refl
-
--- there is a place for a transfer that comes
-place_left : (s : HubSettings) (J : ℕ → List Event) (p from k : ℕ) (x : Transfer) → Together s J → at_place (J from) k ≡ Some x → is_forwarded from x.id (J p) ≡ false → forwarded_from from (J p) < s.places
-place_left s J p from k x t there new =
-    let T : List Transfer = transfers (J from) in
-    let g : List ℕ → ℕ → ℕ = λ id cents. 1 in
-    let counted : forwarded_from from (J p) ≡ sum_by (weighed g from) (J p) =
-    sum_by_same (λ event. cond (forwards_from from event) 1 0) (weighed g from) (J p) (each_of (λ event. cond (forwards_from from event) 1 0 ≡ weighed g from event) (J p) (one_each from)) in
-    let mirrored : sum_by (weighed g from) (J p) ≡ count_by (λ (y : Transfer). is_forwarded from y.id (J p)) T = t.mirror p from g in
-    let fewer : count_by (λ (y : Transfer). is_forwarded from y.id (J p)) T < length T = count_below (λ (y : Transfer). is_forwarded from y.id (J p)) T k x there new in
-    omega (arith, counted, mirrored, fewer, length-transfers (J from), submissions_within s from (J from) (t.sound from))
-
-sound_next : (s : HubSettings) (J : ℕ → List Event) (before : ℕ → List ℕ → Option Outcome) (step : Step) → Together s J → step_fits s step ≡ true → (p : ℕ) → IsSound s p (next s J before step p)
-sound_next s J before step t fits p =
+sound_next : (s : HubSettings) (J : ℕ → List Event) (before : ℕ → List ℕ → Option Outcome) (step : Step) → Together s J → Living J → step_fits s step ≡ true → (p : ℕ) → IsSound s p (next s J before step p)
+sound_next s J before step t living fits p =
     sees_cases s J before step p (λ v. IsSound s p (with_entries s p (J p) v)) (record {
       nothing = t.sound p;
       asked = λ ask is who.
@@ -116,38 +99,51 @@ sound_next s J before step t fits p =
             originator = ltb-true from (participants s) parts.0;
             another = λ same. place_to_another s from (J from) place x (t.sound from) why.there (why.addressed ∙ sym same);
             new = why.new;
-            place = place_left s J p from place x t why.there why.new;
+            place = place_left s J p from place x t living why.there why.new;
           });
       told = λ from place x o why.
           sound_push s p (J p) (Booked from x.id o) (t.sound p) (record {
             party = elim why.party [
-              | inl same ↦ inl (sym same, at_place_taken (J p) place x (subst (λ (q : ℕ). at_place (J q) place ≡ Some x) (sym same) why.there))
+              | inl same ↦ inl (sym same, at_place_taken p (J p) place x (subst (λ (q : ℕ). at_place q (J q) place ≡ Some x) (sym same) why.there))
               | inr there ↦ inr there
             ];
             new = why.new;
           });
     })
 
-together_next : (s : HubSettings) (J : ℕ → List Event) (before : ℕ → List ℕ → Option Outcome) (step : Step) → Together s J → step_fits s step ≡ true → Together s (next s J before step)
-together_next s J before step t fits = record {
-  sound = sound_next s J before step t fits;
+together_next : (s : HubSettings) (J : ℕ → List Event) (before : ℕ → List ℕ → Option Outcome) (step : Step) → Together s J → Living J → step_fits s step ≡ true → Together s (next s J before step)
+together_next s J before step t living fits = record {
+  sound = sound_next s J before step t living fits;
   taken = λ q from id e.
       let was = taken_before s J before step t q from id e in
       (was.0, transfer_next s J before step from id was.0 was.1, was.2);
   mirror = mirrors_after s J before step t;
 }
 
-pub together : (s : HubSettings) (L : List Step) → IsInterleaving s L → Together s (history s L)
-together s [] steps = record { sound = λ p. tt; taken = λ q from id e. absurd cc; mirror = λ q from g. refl }
-together s (step ∷ past) steps =
-    let t : Together s (next s (history s past) (outcome s past) step) = together_next s (history s past) (outcome s past) step (together s past steps.1) steps.0 in
+pub living : (s : HubSettings) (O : Opening) → IsOpening s O → (L : List Step) → Together s (history s O L) → Living (history s O L) → (step : Step) → Living (history s O (step ∷ L))
+living s O opened past t now step q from id e =
+    let next_is : Living (next s (history s O past) (outcome s O past) step) = living_next s (history s O past) (outcome s O past) step t now in
+    ap (λ K. is_none (booked from id (carried K))) (history_step s O step past q)
+    ∙ next_is q from id (sym (ap (is_forwarded from id) (history_step s O step past q)) ∙ e)
+    ∙ sym (ap (λ K. is_none (booked from id (carried K))) (history_step s O step past from))
+
+both : (s : HubSettings) (O : Opening) → IsOpening s O → (L : List Step) → IsInterleaving s L → Together s (history s O L) × Living (history s O L)
+both s O opened [] steps = (beginning_together s O opened, beginning_living s O opened)
+both s O opened (step ∷ past) steps =
+    let earlier = both s O opened past steps.1 in
+    let t : Together s (next s (history s O past) (outcome s O past) step) = together_next s (history s O past) (outcome s O past) step earlier.0 earlier.1 steps.0 in (
     record {
-      sound = λ p. subst (IsSound s p) (sym (history_step s step past p)) (t.sound p);
+      sound = λ p. subst (IsSound s p) (sym (history_step s O step past p)) (t.sound p);
       taken = λ q from id e.
-          let was = t.taken q from id (sym (ap (is_forwarded from id) (history_step s step past q)) ∙ e) in
-          (was.0, ap (transfer id) (history_step s step past from) ∙ was.1, was.2);
+          let was = t.taken q from id (sym (ap (is_forwarded from id) (history_step s O step past q)) ∙ e) in
+          (was.0, ap (transfer id) (history_step s O step past from) ∙ was.1, was.2);
       mirror = λ q from g.
-          ap (sum_by (weighed g from)) (history_step s step past q) ∙ t.mirror q from g
-          ∙ sym (ap (λ K. sum_by (weighed_there g from K) (transfers (history s (step ∷ past) from))) (history_step s step past q)
-          ∙ ap (λ K. sum_by (weighed_there g from (next s (history s past) (outcome s past) step q)) (transfers K)) (history_step s step past from));
-    }
+          ap (sum_by (weighed g from)) (history_step s O step past q) ∙ t.mirror q from g
+          ∙ sym (ap (λ K. sum_by (weighed_there g from K) (transfers (history s O (step ∷ past) from))) (history_step s O step past q)
+          ∙ ap (λ K. sum_by (weighed_there g from (next s (history s O past) (outcome s O past) step q)) (transfers K)) (history_step s O step past from));
+    },
+    living s O opened past earlier.0 earlier.1 step,
+    )
+
+pub together : (s : HubSettings) (O : Opening) → IsOpening s O → (L : List Step) → IsInterleaving s L → Together s (history s O L)
+together s O opened L steps = (both s O opened L steps).0

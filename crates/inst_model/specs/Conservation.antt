@@ -10,20 +10,21 @@ use Rattle.inst_journal.specs.Sums.{net, funded, defunded}
 use Rattle.inst_journal.specs.Money.{reserved, position}
 use Rattle.inst_journal.specs.Laws.{IsNeverOverdrawn}
 use Rattle.inst_model.specs.Interleaving.{IsInterleaving}
+use Rattle.inst_model.specs.Opening.{Opening, IsOpening}
 use Rattle.inst_model.specs.Hub.{outcome, history}
 use Rattle.inst_model.specs.Untold.{total, signed_total, untold_by, untold}
 
 -- the originator of each decided transfer has booked it
-abbrev pub AllTold : HubSettings → List Step → Type 0
-AllTold s L = (p : ℕ) (id : List ℕ) (o : Outcome) → outcome s L p id ≡ Some o → is_some (booked p id (history s L p)) ≡ true
+abbrev pub AllTold : HubSettings → Opening → List Step → Type 0
+AllTold s O L = (p : ℕ) (id : List ℕ) (o : Outcome) → outcome s O L p id ≡ Some o → is_some (booked p id (history s O L p)) ≡ true
 
-pub record IsConserved (s : HubSettings) (L : List Step) : Type 0 where
+pub record IsConserved (s : HubSettings) (O : Opening) (L : List Step) : Type 0 where
   -- without a subtraction
-  pub sum : total s (λ p. position (history s L p)) + total s (λ p. defunded (history s L p)) ≡ total s (λ p. funded (history s L p)) + untold s L
-  pub signed_sum : pos (total s (λ p. position (history s L p))) ≡ (signed_total s (λ p. net (history s L p)) +ℤ pos (untold s L))
-  pub all_told : AllTold s L → pos (total s (λ p. position (history s L p))) ≡ signed_total s (λ p. net (history s L p))
-  pub untold_is_reserved : (p : ℕ) → untold_by s L p ≤ reserved (history s L p)
-  pub never_overdrawn : (p : ℕ) → IsNeverOverdrawn (history s L p)
+  pub sum : total s (λ p. position (history s O L p)) + total s (λ p. defunded (history s O L p)) ≡ total s (λ p. funded (history s O L p)) + untold s O L
+  pub signed_sum : pos (total s (λ p. position (history s O L p))) ≡ (signed_total s (λ p. net (history s O L p)) +ℤ pos (untold s O L))
+  pub all_told : AllTold s O L → pos (total s (λ p. position (history s O L p))) ≡ signed_total s (λ p. net (history s O L p))
+  pub untold_is_reserved : (p : ℕ) → untold_by s O L p ≤ reserved (history s O L p)
+  pub never_overdrawn : (p : ℕ) → IsNeverOverdrawn (history s O L p)
 
 abbrev pub MoneyIsConserved : Type 0
-MoneyIsConserved = (s : HubSettings) (L : List Step) → IsInterleaving s L → IsConserved s L
+MoneyIsConserved = (s : HubSettings) (O : Opening) → IsOpening s O → (L : List Step) → IsInterleaving s L → IsConserved s O L

@@ -6,7 +6,8 @@ use Rattle.inst_settings.specs.Settings.{HubSettings}
 use Rattle.inst_command.specs.declared.outcome.Outcome.{Outcome}
 use Rattle.inst_command.specs.declared.step.Step.{Step}
 use Rattle.inst_journal.specs.declared.event.Event.{Event}
-use Rattle.inst_journal.specs.Booked.{or_else}
+use Rattle.inst_journal.specs.Booked.{or_else, booked}
+use Rattle.inst_model.specs.Opening.{Opening, beginning}
 use Rattle.inst_model.specs.Transfer.{Transfer, at_place}
 use Rattle.inst_model.specs.Wants.{wants}
 use Rattle.inst_model.specs.View.{Seen, sees}
@@ -18,26 +19,26 @@ decided s J before step p id = or_else (before p id) (wants s J step p id)
 
 abbrev mutual
   -- what the participant p sees
-  pub view : HubSettings → List Step → ℕ → List Seen
-  view s [] p = []
-  view s (step ∷ past) p =
-      view s past p
-      ++ sees s (λ q. history_of s q (view s past q)) (outcome s past)
-      (decided s (λ q. history_of s q (view s past q)) (outcome s past) step) step p
+  pub view : HubSettings → Opening → List Step → ℕ → List Seen
+  view s O [] p = []
+  view s O (step ∷ past) p =
+      view s O past p
+      ++ sees s (λ q. history_of s O q (view s O past q)) (outcome s O past)
+      (decided s (λ q. history_of s O q (view s O past q)) (outcome s O past) step) step p
 
   -- the outcome of the transfer with this identifier of the originator p
-  pub outcome : HubSettings → List Step → ℕ → List ℕ → Option Outcome
-  outcome s [] p id = None
-  outcome s (step ∷ past) p id = decided s (λ q. history_of s q (view s past q)) (outcome s past) step p id
+  pub outcome : HubSettings → Opening → List Step → ℕ → List ℕ → Option Outcome
+  outcome s O [] p id = booked p id (beginning O p)
+  outcome s O (step ∷ past) p id = decided s (λ q. history_of s O q (view s O past q)) (outcome s O past) step p id
 
 -- the history of the participant p
-abbrev pub history : HubSettings → List Step → ℕ → List Event
-history s L p = history_of s p (view s L p)
+abbrev pub history : HubSettings → Opening → List Step → ℕ → List Event
+history s O L p = history_of s O p (view s O L p)
 
-abbrev pub outcome_of : HubSettings → List Step → ℕ → Option Transfer → Option Outcome
-outcome_of s L p None = None
-outcome_of s L p (Some x) = outcome s L p x.id
+abbrev pub outcome_of : HubSettings → Opening → List Step → ℕ → Option Transfer → Option Outcome
+outcome_of s O L p None = None
+outcome_of s O L p (Some x) = outcome s O L p x.id
 
 -- the outcome of the transfer at this place of the originator p
-abbrev pub outcome_at : HubSettings → List Step → ℕ → ℕ → Option Outcome
-outcome_at s L p place = outcome_of s L p (at_place (history s L p) place)
+abbrev pub outcome_at : HubSettings → Opening → List Step → ℕ → ℕ → Option Outcome
+outcome_at s O L p place = outcome_of s O L p (at_place p (history s O L p) place)

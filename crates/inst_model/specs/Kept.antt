@@ -1,6 +1,7 @@
 -- A participant's history, made from its view alone, entry by entry: a transfer that comes is forwarded, an outcome that
 -- is told is booked, and an ask leaves the event of its reply, if any. This hub's own choice.
 use Rattle.std.specs.Prelude.{ℕ, List, [], ◌∷◌, ◌++◌}
+use Rattle.inst_model.specs.Opening.{Opening, beginning}
 use Rattle.inst_settings.specs.Settings.{HubSettings}
 use Rattle.inst_journal.specs.declared.event.Event.{Event}
 use Rattle.inst_journal.specs.declared.event.Event.TheVariants.{Forwarded, Booked}
@@ -19,6 +20,6 @@ abbrev pub with_entries : HubSettings → ℕ → List Event → List Seen → L
 with_entries s p J [] = J
 with_entries s p J (seen ∷ view) = with_entries s p (J ++ kept s p J seen) view
 
--- the history that a view makes
-abbrev pub history_of : HubSettings → ℕ → List Seen → List Event
-history_of s p view = with_entries s p [] view
+-- the history that a view makes, from what it begins with
+abbrev pub history_of : HubSettings → Opening → ℕ → List Seen → List Event
+history_of s O p view = with_entries s p (beginning O p) view

@@ -10,6 +10,7 @@ pub mod Isolation
 pub mod OneOutcome
 pub mod Interleaving
 pub mod Fit
+pub mod Opening
 pub mod SoundAndFit
 pub mod Once
 pub mod Untold

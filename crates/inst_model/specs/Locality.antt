@@ -9,9 +9,10 @@ use Rattle.inst_command.specs.declared.command.Command.TheVariants.{Fund, Defund
 use Rattle.inst_command.specs.declared.step.Step.{Step}
 use Rattle.inst_command.specs.declared.step.Step.TheVariants.{Ask, Deliver, Learn, Expire}
 use Rattle.inst_journal.specs.declared.event.Event.{Event}
-use Rattle.inst_journal.specs.Booked.{same_transfer}
+use Rattle.inst_journal.specs.Booked.{same_transfer, booked, is_taken}
 use Rattle.inst_model.specs.Transfer.{Transfer, transfer, at_place, is_named}
 use Rattle.inst_model.specs.Interleaving.{IsInterleaving}
+use Rattle.inst_model.specs.Opening.{Opening, IsOpening, beginning}
 use Rattle.inst_model.specs.Hub.{outcome, history}
 
 -- a step on a transfer, by whatever name or place
@@ -39,21 +40,39 @@ ask_on who (Statement skip count) at p id x = []
 abbrev pub step_on : (ℕ → List Event) → Step → ℕ → List ℕ → Transfer → List Touch
 step_on J (Ask ask) p id x = ask_on ask.who ask.command ask.at p id x
 step_on J (Deliver from place to) p id x =
-    if (from == p) && (to == x.to) && is_named id (at_place (J p) place) then Delivers ∷ [] else []
+    if (from == p) && (to == x.to) && is_named id (at_place p (J p) place) then Delivers ∷ [] else []
 step_on J (Learn who from place) p id x = []
-step_on J (Expire who place at) p id x = if (who == p) && is_named id (at_place (J p) place) then Expires at ∷ [] else []
+step_on J (Expire who place at) p id x = if (who == p) && is_named id (at_place p (J p) place) then Expires at ∷ [] else []
 
 abbrev pub taken_on : (ℕ → List Event) → Step → ℕ → List ℕ → Option Transfer → List Touch
 taken_on J step p id None = []
 taken_on J step p id (Some x) = step_on J step p id x
 
 -- the steps on the transfer with this identifier of the originator p after it was taken, the oldest first
-abbrev pub steps_on : HubSettings → List Step → ℕ → List ℕ → List Touch
-steps_on s [] p id = []
-steps_on s (step ∷ past) p id = steps_on s past p id ++ taken_on (history s past) step p id (transfer id (history s past p))
+abbrev pub steps_on : HubSettings → Opening → List Step → ℕ → List ℕ → List Touch
+steps_on s O [] p id = []
+steps_on s O (step ∷ past) p id = steps_on s O past p id ++ taken_on (history s O past) step p id (transfer id (history s O past p))
+
+-- the transfer is in the books of neither run, or in those of both with the same terms and the same booked outcome or none
+pub record BeginsAlike (O P : Opening) (p : ℕ) (id : List ℕ) : Type 0 where
+  pub terms : transfer id (beginning O p) ≡ transfer id (beginning P p)
+  pub outcome : booked p id (beginning O p) ≡ booked p id (beginning P p)
+
+abbrev pub undelivered : List Touch → List Touch
+undelivered [] = []
+undelivered (Delivers ∷ touches) = undelivered touches
+undelivered (Confirms at ∷ touches) = Confirms at ∷ undelivered touches
+undelivered (Rejects reason at ∷ touches) = Rejects reason at ∷ undelivered touches
+undelivered (Investigates at ∷ touches) = Investigates at ∷ undelivered touches
+undelivered (Expires at ∷ touches) = Expires at ∷ undelivered touches
+
+-- of a transfer of the books, which is forwarded or decided, the deliveries add nothing
+abbrev pub decisive : Opening → ℕ → List ℕ → List Touch → List Touch
+decisive O p id touches = if is_taken id (beginning O p) then undelivered touches else touches
 
 abbrev pub OutcomeIsLocal : Type 0
 OutcomeIsLocal =
-    (s : HubSettings) (L M : List Step) (p : ℕ) (id : List ℕ) (x : Transfer) → IsInterleaving s L → IsInterleaving s M →
-    transfer id (history s L p) ≡ Some x → transfer id (history s M p) ≡ Some x →
-    steps_on s L p id ≡ steps_on s M p id → outcome s L p id ≡ outcome s M p id
+    (s : HubSettings) (O P : Opening) (L M : List Step) (p : ℕ) (id : List ℕ) (x : Transfer) →
+    IsOpening s O → IsOpening s P → IsInterleaving s L → IsInterleaving s M → BeginsAlike O P p id →
+    transfer id (history s O L p) ≡ Some x → transfer id (history s P M p) ≡ Some x →
+    decisive O p id (steps_on s O L p id) ≡ decisive P p id (steps_on s P M p id) → outcome s O L p id ≡ outcome s P M p id

@@ -11,6 +11,7 @@ use Rattle.inst_journal.specs.Booked.{books, booked}
 use Rattle.inst_journal.specs.Sums.{credit, debit, reservation}
 use Rattle.inst_journal.specs.Laws.{if_released, IsOneOf}
 use Rattle.inst_model.specs.Interleaving.{IsInterleaving}
+use Rattle.inst_model.specs.Opening.{Opening, IsOpening}
 use Rattle.inst_model.specs.Hub.{history}
 
 -- J is the history of p
@@ -24,4 +25,4 @@ pub record IsSettledOnce (p : ℕ) (J : List Event) : Type 0 where
       booked from id J ≢ Some Accepted → credit J (Forwarded from id cents deadline) ≡ 0
 
 abbrev pub MoneyIsSettledOnce : Type 0
-MoneyIsSettledOnce = (s : HubSettings) (L : List Step) → IsInterleaving s L → (p : ℕ) → IsSettledOnce p (history s L p)
+MoneyIsSettledOnce = (s : HubSettings) (O : Opening) → IsOpening s O → (L : List Step) → IsInterleaving s L → (p : ℕ) → IsSettledOnce p (history s O L p)

@@ -2,6 +2,7 @@
 -- rejection is final).
 use Rattle.std.specs.Prelude.{◌≡◌, ℕ, List, ◌∷◌, ◌++◌, Some, Contains}
 use Rattle.inst_settings.specs.Settings.{HubSettings}
+use Rattle.inst_model.specs.Opening.{Opening, IsOpening}
 use Rattle.inst_command.specs.declared.ask.Ask.{Ask as AskValue}
 use Rattle.inst_command.specs.declared.outcome.Outcome.{Outcome}
 use Rattle.inst_command.specs.declared.outcome.State.TheVariants.{Decided}
@@ -16,17 +17,17 @@ use Rattle.inst_model.specs.Trace.{answer}
 -- an ask that is answered an outcome is answered the transfer's
 abbrev pub AnsweredIsTheOutcome : Type 0
 AnsweredIsTheOutcome =
-    (s : HubSettings) (past : List Step) (ask : AskValue) (from : ℕ) (id : List ℕ) (o : Outcome) →
-    answer s past (Ask ask) ≡ Reply (State from id (Decided o)) → outcome s (Ask ask ∷ past) from id ≡ Some o
+    (s : HubSettings) (O : Opening) → IsOpening s O → (past : List Step) (ask : AskValue) (from : ℕ) (id : List ℕ) (o : Outcome) →
+    answer s O past (Ask ask) ≡ Reply (State from id (Decided o)) → outcome s O (Ask ask ∷ past) from id ≡ Some o
 
 -- each outcome that a side has booked is the transfer's
 abbrev pub BookedIsTheOutcome : Type 0
 BookedIsTheOutcome =
-    (s : HubSettings) (L : List Step) (p from : ℕ) (id : List ℕ) (o : Outcome) →
-    Contains (history s L p) (Booked from id o) → outcome s L from id ≡ Some o
+    (s : HubSettings) (O : Opening) → IsOpening s O → (L : List Step) (p from : ℕ) (id : List ℕ) (o : Outcome) →
+    Contains (history s O L p) (Booked from id o) → outcome s O L from id ≡ Some o
 
 -- an outcome is the same after every longer list of steps, the newest in front
 abbrev pub OutcomeStays : Type 0
 OutcomeStays =
-    (s : HubSettings) (later past : List Step) (from : ℕ) (id : List ℕ) (o : Outcome) →
-    outcome s past from id ≡ Some o → outcome s (later ++ past) from id ≡ Some o
+    (s : HubSettings) (O : Opening) (later past : List Step) (from : ℕ) (id : List ℕ) (o : Outcome) →
+    outcome s O past from id ≡ Some o → outcome s O (later ++ past) from id ≡ Some o

@@ -1,24 +1,26 @@
 -- A place and an identifier name a transfer of an originator alike, and for good: this hub's own choice.
-use Rattle.std.specs.Prelude.{◌≡◌, ℕ, List, ◌++◌, Some}
+use Rattle.std.specs.Prelude.{◌≡◌, ℕ, true, List, ◌++◌, Some}
 use Rattle.inst_settings.specs.Settings.{HubSettings}
+use Rattle.inst_journal.specs.Opened.{is_live}
 use Rattle.inst_command.specs.declared.step.Step.{Step}
 use Rattle.inst_model.specs.Interleaving.{IsInterleaving}
+use Rattle.inst_model.specs.Opening.{Opening, IsOpening}
 use Rattle.inst_model.specs.Transfer.{Transfer, transfer, at_place}
 use Rattle.inst_model.specs.Hub.{history, outcome, outcome_at}
 
 -- what stands at a place is found by its identifier, and the place has its outcome
-pub record IsNamedByPlace (s : HubSettings) (L : List Step) (p place : ℕ) (x : Transfer) : Type 0 where
-  pub by_identifier : transfer x.id (history s L p) ≡ Some x
-  pub outcome_is : outcome_at s L p place ≡ outcome s L p x.id
-  pub for_good : (later : List Step) → at_place (history s (later ++ L) p) place ≡ Some x
+pub record IsNamedByPlace (s : HubSettings) (O : Opening) (L : List Step) (p place : ℕ) (x : Transfer) : Type 0 where
+  pub by_identifier : transfer x.id (history s O L p) ≡ Some x
+  pub outcome_is : outcome_at s O L p place ≡ outcome s O L p x.id
+  pub for_good : (later : List Step) → at_place p (history s O (later ++ L) p) place ≡ Some x
 
 abbrev pub PlacesName : Type 0
 PlacesName =
-    (s : HubSettings) (L : List Step) (p place : ℕ) (x : Transfer) → IsInterleaving s L →
-    at_place (history s L p) place ≡ Some x → IsNamedByPlace s L p place x
+    (s : HubSettings) (O : Opening) → IsOpening s O → (L : List Step) (p place : ℕ) (x : Transfer) → IsInterleaving s L →
+    at_place p (history s O L p) place ≡ Some x → IsNamedByPlace s O L p place x
 
--- what is found by its identifier stands at a place
+-- what is found by its identifier and is live stands at a place
 abbrev pub IdentifiersName : Type 0
 IdentifiersName =
-    (s : HubSettings) (L : List Step) (p : ℕ) (id : List ℕ) (x : Transfer) →
-    transfer id (history s L p) ≡ Some x → (place : ℕ) × (at_place (history s L p) place ≡ Some x) × (x.id ≡ id)
+    (s : HubSettings) (O : Opening) (L : List Step) (p : ℕ) (id : List ℕ) (x : Transfer) →
+    transfer id (history s O L p) ≡ Some x → is_live p id (history s O L p) ≡ true → (place : ℕ) × (at_place p (history s O L p) place ≡ Some x) × (x.id ≡ id)

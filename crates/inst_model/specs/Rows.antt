@@ -13,6 +13,7 @@ use Rattle.inst_command.specs.declared.reply.Reply.TheVariants.{Done, Taken, Sta
 use Rattle.inst_command.specs.declared.reply.Answer.{Answer}
 use Rattle.inst_command.specs.declared.reply.Answer.TheVariants.{Reply, New}
 use Rattle.inst_model.specs.Trace.{trace}
+use Rattle.inst_model.specs.Opening.Opening.{First}
 
 abbrev pub settings : HubSettings
 settings = record {
@@ -86,7 +87,7 @@ is_new new = New new
 
 -- the answers to a script
 abbrev pub answers : List Step → List Answer
-answers script = trace settings (reverse script)
+answers script = trace settings First (reverse script)
 
 -- A is funded and submits a transfer to B
 abbrev pub submitted : List Step

@@ -2,6 +2,7 @@
 -- step, made of what was before it and of the outcomes after it. This hub's own choice.
 use Rattle.std.specs.Prelude.{◌≡◌, ℕ, ◌≤◌, List, ◌∷◌, ◌++◌, length, reverse}
 use Rattle.inst_settings.specs.Settings.{HubSettings}
+use Rattle.inst_model.specs.Opening.{Opening}
 use Rattle.inst_command.specs.declared.step.Step.{Step}
 use Rattle.inst_journal.specs.Booked.{or_else}
 use Rattle.inst_model.specs.Wants.{wants}
@@ -10,18 +11,18 @@ use Rattle.inst_model.specs.Hub.{view, outcome, history}
 use Rattle.inst_model.specs.Trace.{trace, replies, own_answers}
 
 abbrev pub TheFirstThatWantsDecides : Type 0
-TheFirstThatWantsDecides = (s : HubSettings) (step : Step) (past : List Step) (p : ℕ) (id : List ℕ) →
-    outcome s (step ∷ past) p id ≡ or_else (outcome s past p id) (wants s (history s past) step p id)
+TheFirstThatWantsDecides = (s : HubSettings) (O : Opening) (step : Step) (past : List Step) (p : ℕ) (id : List ℕ) →
+    outcome s O (step ∷ past) p id ≡ or_else (outcome s O past p id) (wants s (history s O past) step p id)
 
 abbrev pub AViewGrowsByWhatIsSeen : Type 0
-AViewGrowsByWhatIsSeen = (s : HubSettings) (step : Step) (past : List Step) (p : ℕ) →
-    view s (step ∷ past) p ≡ view s past p ++ sees s (history s past) (outcome s past) (outcome s (step ∷ past)) step p
+AViewGrowsByWhatIsSeen = (s : HubSettings) (O : Opening) (step : Step) (past : List Step) (p : ℕ) →
+    view s O (step ∷ past) p ≡ view s O past p ++ sees s (history s O past) (outcome s O past) (outcome s O (step ∷ past)) step p
 
 abbrev pub AtMostOneEntryIsSeen : Type 0
-AtMostOneEntryIsSeen = (s : HubSettings) (step : Step) (past : List Step) (p : ℕ) →
-    length (sees s (history s past) (outcome s past) (outcome s (step ∷ past)) step p) ≤ 1
+AtMostOneEntryIsSeen = (s : HubSettings) (O : Opening) (step : Step) (past : List Step) (p : ℕ) →
+    length (sees s (history s O past) (outcome s O past) (outcome s O (step ∷ past)) step p) ≤ 1
 
 -- each step has one answer, and the replies to p are those to its asks
 abbrev pub RepliesAreInTheTrace : Type 0
-RepliesAreInTheTrace = (s : HubSettings) (L : List Step) (p : ℕ) →
-    (length (trace s L) ≡ length L) × (own_answers p (reverse L) (trace s L) ≡ replies s L p)
+RepliesAreInTheTrace = (s : HubSettings) (O : Opening) (L : List Step) (p : ℕ) →
+    (length (trace s O L) ≡ length L) × (own_answers p (reverse L) (trace s O L) ≡ replies s O L p)

@@ -3,6 +3,7 @@
 use Rattle.std.specs.Prelude.{ℕ, Bool, true, false, ◌==◌, if◌then◌else◌, List, [], ◌∷◌, ◌++◌, Result, Ok, Err}
 use Rattle.inst_base.specs.declared.fault.Fault.{Fault}
 use Rattle.inst_settings.specs.Settings.{HubSettings}
+use Rattle.inst_model.specs.Opening.{Opening}
 use Rattle.inst_command.specs.declared.step.Step.{Step}
 use Rattle.inst_command.specs.declared.step.Step.TheVariants.{Ask, Deliver, Learn, Expire}
 use Rattle.inst_command.specs.declared.reply.Reply.{Reply as ReplyValue}
@@ -24,34 +25,34 @@ is_some_entry [] = false
 is_some_entry (seen ∷ view) = true
 
 -- whether p sees anything of the step after these steps
-abbrev pub is_seen : HubSettings → List Step → Step → ℕ → Bool
-is_seen s past step p = is_some_entry (sees s (history s past) (outcome s past) (outcome s (step ∷ past)) step p)
+abbrev pub is_seen : HubSettings → Opening → List Step → Step → ℕ → Bool
+is_seen s O past step p = is_some_entry (sees s (history s O past) (outcome s O past) (outcome s O (step ∷ past)) step p)
 
 -- what the step is answered after these steps
-abbrev pub answer : HubSettings → List Step → Step → Answer
-answer s past (Ask ask) =
-    Reply (as_reply (reply s ask.who (history s past ask.who) ask.command ask.at
-    (found (outcome s (Ask ask ∷ past)) ask.who (history s past ask.who) ask.command)))
-answer s past (Deliver from place to) = New (is_seen s past (Deliver from place to) to)
-answer s past (Learn who from place) = New (is_seen s past (Learn who from place) who)
-answer s past (Expire who place at) = New (is_seen s past (Expire who place at) who)
+abbrev pub answer : HubSettings → Opening → List Step → Step → Answer
+answer s O past (Ask ask) =
+    Reply (as_reply (reply s ask.who (history s O past ask.who) ask.command ask.at
+    (found (outcome s O (Ask ask ∷ past)) ask.who (history s O past ask.who) ask.command)))
+answer s O past (Deliver from place to) = New (is_seen s O past (Deliver from place to) to)
+answer s O past (Learn who from place) = New (is_seen s O past (Learn who from place) who)
+answer s O past (Expire who place at) = New (is_seen s O past (Expire who place at) who)
 
 -- the answers to all steps, the oldest first
-abbrev pub trace : HubSettings → List Step → List Answer
-trace s [] = []
-trace s (step ∷ past) = trace s past ++ answer s past step ∷ []
+abbrev pub trace : HubSettings → Opening → List Step → List Answer
+trace s O [] = []
+trace s O (step ∷ past) = trace s O past ++ answer s O past step ∷ []
 
 -- the answer to a step where it is an ask by p
-abbrev pub own_answer : HubSettings → List Step → Step → ℕ → List Answer
-own_answer s past (Ask ask) p = if ask.who == p then answer s past (Ask ask) ∷ [] else []
-own_answer s past (Deliver from place to) p = []
-own_answer s past (Learn who from place) p = []
-own_answer s past (Expire who place at) p = []
+abbrev pub own_answer : HubSettings → Opening → List Step → Step → ℕ → List Answer
+own_answer s O past (Ask ask) p = if ask.who == p then answer s O past (Ask ask) ∷ [] else []
+own_answer s O past (Deliver from place to) p = []
+own_answer s O past (Learn who from place) p = []
+own_answer s O past (Expire who place at) p = []
 
 -- the answers to the asks of p, the oldest first
-abbrev pub replies : HubSettings → List Step → ℕ → List Answer
-replies s [] p = []
-replies s (step ∷ past) p = replies s past p ++ own_answer s past step p
+abbrev pub replies : HubSettings → Opening → List Step → ℕ → List Answer
+replies s O [] p = []
+replies s O (step ∷ past) p = replies s O past p ++ own_answer s O past step p
 
 -- the answers to the asks of p, among the answers to these steps, the oldest first
 abbrev pub own_answers : ℕ → List Step → List Answer → List Answer

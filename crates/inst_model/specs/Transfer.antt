@@ -1,13 +1,14 @@
 -- A transfer between two participants, as its originator's history has taken it (EPC004-16, chapter 4, attributes: the
 -- originator's reference, the amount, and the time stamp from which the time limit counts). A transfer is named by its
--- originator and its identifier; its place, counted from 0 over the originator's submissions, names it too: this hub's
+-- originator and its identifier; its place, counted from 0 over the originator's live submissions, names it too: this hub's
 -- own choice.
 use Rattle.std.specs.Prelude.{ℕ, ◌+◌, Bool, false, if◌then◌else◌, List, Option, Some, None, slice_get}
-use Rattle.std.specs.List.{filter_map}
+use Rattle.std.specs.List.{filter, filter_map}
 use Rattle.inst_settings.specs.Settings.{HubSettings, same_text}
 use Rattle.inst_journal.specs.declared.event.Event.{Event}
 use Rattle.inst_journal.specs.declared.event.Event.TheVariants.{Taken}
 use Rattle.inst_journal.specs.Booked.{first_some}
+use Rattle.inst_journal.specs.Opened.{is_live}
 
 pub record Transfer : Type 0 where
   pub id : List ℕ
@@ -30,9 +31,13 @@ terms_named id _ = None
 abbrev pub transfers : List Event → List Transfer
 transfers J = filter_map terms J
 
--- the transfer at this place of an originator's history
-abbrev pub at_place : List Event → ℕ → Option Transfer
-at_place J place = slice_get (transfers J) place
+-- those that the originator `who` hadn't booked before the last Opened
+abbrev pub live_transfers : ℕ → List Event → List Transfer
+live_transfers who J = filter (λ x. is_live who x.id J) (transfers J)
+
+-- the live transfer at this place of the originator `who`
+abbrev pub at_place : ℕ → List Event → ℕ → Option Transfer
+at_place who J place = slice_get (live_transfers who J) place
 
 -- the transfer with this identifier in an originator's history
 abbrev pub transfer : List ℕ → List Event → Option Transfer

@@ -5,6 +5,7 @@ use Rattle.inst_settings.specs.Settings.{HubSettings, participants}
 use Rattle.inst_command.specs.declared.outcome.Outcome.{Outcome}
 use Rattle.inst_command.specs.declared.step.Step.{Step}
 use Rattle.inst_journal.specs.Booked.{booked}
+use Rattle.inst_model.specs.Opening.{Opening}
 use Rattle.inst_journal.specs.Sums.{if_accepted}
 use Rattle.inst_model.specs.Transfer.{transfers}
 use Rattle.inst_model.specs.Hub.{outcome, history}
@@ -32,9 +33,9 @@ if_untold outcome None cents = if_accepted outcome cents
 if_untold outcome (Some before) cents = 0
 
 -- the accepted transfers of the originator p that it hasn't booked
-abbrev pub untold_by : HubSettings → List Step → ℕ → ℕ
-untold_by s L p =
-    sum_by (λ x. if_untold (outcome s L p x.id) (booked p x.id (history s L p)) x.cents) (transfers (history s L p))
+abbrev pub untold_by : HubSettings → Opening → List Step → ℕ → ℕ
+untold_by s O L p =
+    sum_by (λ x. if_untold (outcome s O L p x.id) (booked p x.id (history s O L p)) x.cents) (transfers (history s O L p))
 
-abbrev pub untold : HubSettings → List Step → ℕ
-untold s L = total s (untold_by s L)
+abbrev pub untold : HubSettings → Opening → List Step → ℕ
+untold s O L = total s (untold_by s O L)

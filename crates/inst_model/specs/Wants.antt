@@ -41,7 +41,7 @@ step_wants s J (Ask ask) p id x = ask_wants s J ask.who ask.command ask.at p id 
 step_wants s J (Deliver from place to) p id x = None
 step_wants s J (Learn who from place) p id x = None
 step_wants s J (Expire who place at) p id x =
-    if (who == p) && is_named id (at_place (J p) place) then in_time s x at None else None
+    if (who == p) && is_named id (at_place p (J p) place) then in_time s x at None else None
 
 abbrev pub taken_wants : HubSettings → (ℕ → List Event) → Step → ℕ → List ℕ → Option Transfer → Option Outcome
 taken_wants s J step p id None = None

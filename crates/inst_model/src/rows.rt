@@ -12,6 +12,7 @@ ghost use Rattle.inst_journal.specs.declared.event.Event.{Event};
 ghost use Rattle.inst_journal.specs.Money.{position};
 ghost use Rattle.inst_journal.specs.Sums.{net};
 ghost use Rattle.inst_model.specs.Hub.{history};
+ghost use Rattle.inst_model.specs.Opening.Opening.{First};
 ghost use Rattle.inst_model.specs.Untold.{total, signed_total, untold};
 ghost use Rattle.inst_model.specs.Trace.{replies};
 ghost use Rattle.inst_model.specs.Rows.{A, B, settings, answers, is_done, is_taken, is_state, is_position, is_refused, is_new, confirm_before_expire, expire_before_confirm, untold_yet, untold_then_learnt, alone, among_others, confirmed_late, confirmed_before_delivery, expired_before_taken, one_of_two_expired, wrong_deliveries_and_stamp_ahead, expired_before_delivery, rejected_with_reason, investigate_at_the_deadline, confirmed_by_another, learnt_twice};
@@ -30,7 +31,7 @@ pub fn expire_before_confirm()
         is_done (codes "F1") ∷ is_taken (codes "T1") 11000 ∷ is_new true ∷ is_new true
         ∷ is_state A (codes "T1") (State.Decided Outcome.TimedOut)
         ∷ is_position 50000 0 50000 ∷ is_position 0 0 0 ∷ [] }
-    ensures history { history settings (reverse expire_before_confirm) B ≡
+    ensures history { history settings First (reverse expire_before_confirm) B ≡
         Event.Forwarded A (codes "T1") 20000 11000 ∷ Event.Booked A (codes "T1") Outcome.TimedOut ∷ [] }
 {}
 
@@ -42,15 +43,15 @@ pub fn untold_then_learnt()
         ∷ is_state A (codes "T1") (State.Decided Outcome.Accepted)
         ∷ is_position 50000 20000 30000 ∷ is_position 20000 0 20000 ∷ is_new true
         ∷ is_position 30000 0 30000 ∷ [] }
-    ensures positions { total settings (λ p. position (history settings (reverse untold_yet) p)) ≡ 70000 }
-    ensures net { signed_total settings (λ p. net (history settings (reverse untold_yet) p)) ≡ pos 50000 }
-    ensures untold { untold settings (reverse untold_yet) ≡ 20000 }
-    ensures learnt { untold settings (reverse untold_then_learnt) ≡ 0 }
+    ensures positions { total settings (λ p. position (history settings First (reverse untold_yet) p)) ≡ 70000 }
+    ensures net { signed_total settings (λ p. net (history settings First (reverse untold_yet) p)) ≡ pos 50000 }
+    ensures untold { untold settings First (reverse untold_yet) ≡ 20000 }
+    ensures learnt { untold settings First (reverse untold_then_learnt) ≡ 0 }
 {}
 
 /// What B is answered is the same beside the traffic of others.
 pub fn other_traffic_unseen()
-    ensures alone { replies settings (reverse alone) B ≡
+    ensures alone { replies settings First (reverse alone) B ≡
         Answer.Reply (Reply.Inbox (record { from = A; id = codes "T1"; cents = 20000; deadline = 11000 } ∷ []))
         ∷ is_state A (codes "T1") (State.Decided Outcome.Accepted)
         ∷ Answer.Reply (Reply.Statement (record {
@@ -62,7 +63,7 @@ pub fn other_traffic_unseen()
           position = 20000;
         } ∷ []))
         ∷ is_position 20000 0 20000 ∷ [] }
-    ensures same { replies settings (reverse among_others) B ≡ replies settings (reverse alone) B }
+    ensures same { replies settings First (reverse among_others) B ≡ replies settings First (reverse alone) B }
 {}
 
 /// A transfer comes once, to its beneficiary; a time stamp may lie one second after the reading and no more.
@@ -117,7 +118,7 @@ pub fn rejected_with_reason()
         ∷ is_state A (codes "T1") (State.Decided (Outcome.Rejected (codes "AC04")))
         ∷ is_state A (codes "T1") (State.Decided (Outcome.Rejected (codes "AC04")))
         ∷ is_position 50000 0 50000 ∷ [] }
-    ensures history { history settings (reverse rejected_with_reason) B ≡
+    ensures history { history settings First (reverse rejected_with_reason) B ≡
         Event.Forwarded A (codes "T1") 20000 11000
         ∷ Event.Booked A (codes "T1") (Outcome.Rejected (codes "AC04")) ∷ [] }
 {}
@@ -145,7 +146,7 @@ pub fn learnt_twice()
         is_done (codes "F1") ∷ is_taken (codes "T1") 11000 ∷ is_new true
         ∷ is_state A (codes "T1") (State.Decided Outcome.Accepted)
         ∷ is_new true ∷ is_new false ∷ is_new false ∷ is_position 30000 0 30000 ∷ [] }
-    ensures history { history settings (reverse learnt_twice) A ≡
+    ensures history { history settings First (reverse learnt_twice) A ≡
         Event.Funded (codes "F1") 50000 ∷ Event.Taken (codes "T1") B 20000 1000
         ∷ Event.Booked A (codes "T1") Outcome.Accepted ∷ [] }
 {}

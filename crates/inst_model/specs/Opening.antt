@@ -1,0 +1,27 @@
+-- How a hub begins: for the first time, with nothing, or from books, one history for each participant, that are sound and
+-- closed. This hub's own choice.
+use Rattle.std.specs.Prelude.{ℕ, ◌<◌, List, [], ◌∷◌, ◌++◌}
+use Rattle.inst_settings.specs.Settings.{HubSettings}
+use Rattle.inst_journal.specs.declared.event.Event.{Event}
+use Rattle.inst_journal.specs.declared.event.Event.TheVariants.{Opened}
+use Rattle.inst_journal.specs.Opened.{openings}
+use Rattle.inst_journal.specs.Sound.{IsSound}
+use Rattle.inst_model.specs.Fit.{BooksAreClosed}
+
+pub data Opening : Type 0 where
+  First : Opening
+  FromBooks : (books : ℕ → List Event) → Opening
+
+-- what the history of p begins with
+abbrev pub beginning : Opening → ℕ → List Event
+beginning First p = []
+beginning (FromBooks books) p = books p ++ Opened ∷ []
+
+pub record BooksCanOpen (s : HubSettings) (books : ℕ → List Event) : Type 0 where
+  pub sound : (p : ℕ) → IsSound s p (books p)
+  pub closed : BooksAreClosed s books
+  pub few : (p : ℕ) → openings (books p) < 500
+
+abbrev pub IsOpening : HubSettings → Opening → Type 0
+IsOpening s First = Unit {0}
+IsOpening s (FromBooks books) = BooksCanOpen s books
