@@ -9,58 +9,58 @@ use thiserror::Error;
 #[derive(Clone, Copy, Debug, PartialEq, Eq, Hash, Error)]
 pub enum Fault {
     /// The line is no JSON text.
-    #[error("NotJson")]
+    #[error("the line is no JSON text")]
     NotJson,
     /// No object, an unknown command, or a field that is missing or of another form.
-    #[error("BadField")]
+    #[error("the line is no object, its command is unknown, or a field is missing or of another form")]
     BadField,
     /// An identifier or a funding reference that isn't 1 to 35 characters of the basic Latin set.
-    #[error("BadIdentifier")]
+    #[error("an identifier or a reference isn't 1 to 35 characters of the basic Latin set")]
     BadIdentifier,
     /// An amount outside 1 cent to the ceiling.
-    #[error("BadAmount")]
+    #[error("the amount isn't 1 cent to the ceiling")]
     BadAmount,
     /// A moment outside the moments of the hub, or a deadline past the last one.
-    #[error("BadMoment")]
+    #[error("a moment is outside those of the hub, or the deadline is past the last one")]
     BadMoment,
     /// A well-formed code that no participant has.
-    #[error("UnknownParticipant")]
+    #[error("no participant has the code")]
     UnknownParticipant,
     /// A submission to its own originator.
-    #[error("SelfTransfer")]
+    #[error("a transfer may not go to its own originator")]
     SelfTransfer,
     /// A transfer that the asker has no part in.
-    #[error("UnknownTransfer")]
+    #[error("the asker has no part in the transfer")]
     UnknownTransfer,
     /// The key is kept with other contents.
-    #[error("Duplicate")]
+    #[error("the key is kept with other contents")]
     Duplicate,
     /// A time stamp too far ahead of the reading.
-    #[error("StampAhead")]
+    #[error("the time stamp lies too far ahead of the reading")]
     StampAhead,
-    /// A submission read at or after its deadline.
-    #[error("Expired")]
+    /// A submission read at or after its deadline, or a confirmation read in the margin before it.
+    #[error("the reading is too late")]
     Expired,
     /// All places, or all fundings, are used.
-    #[error("Full")]
+    #[error("all places or all fundings are used")]
     Full,
     /// The amount is above what is available.
-    #[error("Shortage")]
+    #[error("the amount is above what is available")]
     Shortage,
     /// A growth was refused.
-    #[error("Memory")]
+    #[error("memory was refused")]
     Memory,
     /// Settings outside their ranges.
-    #[error("BadSettings")]
+    #[error("the settings are outside their ranges")]
     BadSettings,
     /// A line of more than 4,096 bytes.
-    #[error("LineTooLong")]
+    #[error("the line has more than 4,096 bytes")]
     LineTooLong,
     /// The input failed, or went past the limits of a run.
-    #[error("ReadFault")]
+    #[error("the input failed, or went past the limits of a run")]
     ReadFault,
     /// The output failed, or took no byte.
-    #[error("WriteFault")]
+    #[error("the output failed, or took no byte")]
     WriteFault,
 }
 
@@ -71,26 +71,7 @@ impl Fault {
     pub fn number(self) -> u8
         ensures { result ≡ number_of self }
     {
-        match self {
-            Fault::NotJson => 1,
-            Fault::BadField => 2,
-            Fault::BadIdentifier => 3,
-            Fault::BadAmount => 4,
-            Fault::BadMoment => 5,
-            Fault::UnknownParticipant => 6,
-            Fault::SelfTransfer => 7,
-            Fault::UnknownTransfer => 8,
-            Fault::Duplicate => 9,
-            Fault::StampAhead => 10,
-            Fault::Expired => 11,
-            Fault::Full => 12,
-            Fault::Shortage => 13,
-            Fault::Memory => 14,
-            Fault::BadSettings => 15,
-            Fault::LineTooLong => 16,
-            Fault::ReadFault => 17,
-            Fault::WriteFault => 18,
-        }
+        self as u8 + 1
     }
 
     /// The name that a reply or the program's fault line shows.

@@ -1,5 +1,6 @@
-ghost use Rattle.std.specs.Prelude.{◌≡◌, ℕ, ◌+◌, ◌≤◌, ◌^◌};
-ghost use Rattle.inst_base.specs.Moment.{moment_of, later_of};
+ghost use Rattle.std.specs.Prelude.{◌≡◌, ℕ, ◌+◌, ◌≤◌, ◌^◌, true};
+ghost use Rattle.inst_base.specs.Moment.{is_moment, moment_of};
+ghost use Rattle.inst_base.specs.TimeLimit.{deadline_of, is_in_time, is_due, is_in_time_to_accept, is_ahead};
 ghost use Rattle.inst_base.specs.declared.moment.TheConstants.{LAST};
 
 use crate::Fault;
@@ -54,14 +55,50 @@ impl Moment {
         self.past_base
     }
 
-    /// The moment `millis` milliseconds later, or `BadMoment` past the last one.
-    pub fn later(self, millis: u32) -> Result<Moment, Fault>
-        ensures { result ≡ later_of self millis }
+    /// Whether a transfer with this time stamp has a deadline: it isn't past the last moment. `limit`
+    /// is in milliseconds.
+    pub fn has_deadline(self, limit: u32) -> bool
+        ensures { result ≡ is_moment (deadline_of limit self) }
     {
-        let past_base = self.past_base + u64::from(millis);
-        if past_base > LAST {
-            return Err(Fault::BadMoment);
+        self.past_base + u64::from(limit) <= LAST
+    }
+
+    /// The deadline of a transfer with this time stamp, `limit` milliseconds later.
+    pub fn deadline(self, limit: u32) -> Moment
+        requires { is_moment (deadline_of limit self) ≡ true }
+        ensures { result ≡ deadline_of limit self }
+    {
+        Moment {
+            past_base: self.past_base + u64::from(limit),
         }
-        Ok(Moment { past_base })
+    }
+
+    /// Whether what is read at this moment is in time for the deadline: before it.
+    pub fn is_in_time(self, deadline: Moment) -> bool
+        ensures { result ≡ is_in_time deadline self }
+    {
+        self.past_base < deadline.past_base
+    }
+
+    /// Whether a transfer with this deadline is due at this moment, so that it can only time out.
+    pub fn is_due(self, deadline: Moment) -> bool
+        ensures { result ≡ is_due deadline self }
+    {
+        !self.is_in_time(deadline)
+    }
+
+    /// Whether a confirmation that is read at this moment is in time: before the deadline by more than
+    /// `margin` milliseconds.
+    pub fn is_in_time_to_accept(self, margin: u32, deadline: Moment) -> bool
+        ensures { result ≡ is_in_time_to_accept margin deadline self }
+    {
+        self.past_base + u64::from(margin) < deadline.past_base
+    }
+
+    /// Whether this time stamp lies more than `ahead` milliseconds after the reading `at`.
+    pub fn is_ahead(self, ahead: u32, at: Moment) -> bool
+        ensures { result ≡ is_ahead ahead self at }
+    {
+        self.past_base > at.past_base + u64::from(ahead)
     }
 }

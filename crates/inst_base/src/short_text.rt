@@ -19,8 +19,9 @@ pub(crate) struct ShortText<const N: usize> {
 }
 
 impl<const N: usize> Model for ShortText<N> {
-    ghost use Rattle.std.specs.Prelude.{ℕ, List, ◌++◌, ◌-◌, length, take, replicate};
-    ghost use Rattle.inst_base.specs.ShortText.{IsKept, whole_again};
+    ghost use Rattle.std.specs.Prelude.{ℕ, List, ◌++◌, ◌-◌, ◌≤◌, length, take, replicate};
+    ghost use Rattle.std.proofs.Common.{sym, ap, subst, ◌∙◌, take-append-drop, length-take-le};
+    ghost use Rattle.inst_base.specs.ShortText.{IsKept};
 
     ghost Value = { List ℕ };
 
@@ -30,10 +31,16 @@ impl<const N: usize> Model for ShortText<N> {
 
     ghost inverse = { λ xs. record { bytes = xs ++ replicate (N - length xs) 0; len = length xs } };
 
-    ghost inverse_ok = { λ text kept i. record {
-      bytes = (whole_again N text.bytes text.len kept).0 i;
-      len = (whole_again N text.bytes text.len kept).1 i;
-    } };
+    // The text has `len` bytes, and filled up with zeros it is the array again.
+    ghost inverse_ok = { λ text kept i.
+        let within = subst (λ (n : ℕ). text.len ≤ n) (sym kept.room_is) kept.within in
+        let same = length-take-le text.len text.bytes within in
+        let filled = ap (λ (n : ℕ). take text.len text.bytes ++ replicate (N - n) 0) same in
+        let zeros = ap (λ (rest : List ℕ). take text.len text.bytes ++ rest) (sym kept.zeros) in
+        record {
+          bytes = (filled ∙ zeros ∙ take-append-drop text.len text.bytes) i;
+          len = same i;
+        } };
 }
 
 impl<const N: usize> ShortText<N> {

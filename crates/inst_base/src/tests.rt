@@ -41,18 +41,57 @@ fn moments_to_their_bounds(rt: HostRuntime) -> Result<(), Fail> {
     let last = Moment::new(BASE, BASE + PAST_BASE)?;
     assert_eq!(rt; last.millis(BASE), 4_611_688_217_450_643_455);
     assert_eq!(rt; last.millis(0), 2_199_023_255_551);
-    for (ms, later, wanted) in [
-        (0, 0, Ok(0)),
-        (1000, 10_000, Ok(11_000)),
-        (0, u32::MAX, Ok(4_294_967_295)),
-        (PAST_BASE, 0, Ok(PAST_BASE)),
-        (PAST_BASE, 1, Err(Fault::BadMoment)),
-        (PAST_BASE - 10_000, 10_000, Ok(PAST_BASE)),
-        (PAST_BASE - 10_000, 10_001, Err(Fault::BadMoment)),
+    Ok(())
+}
+
+#[test]
+fn deadlines_to_the_last_moment(rt: HostRuntime) -> Result<(), Fail> {
+    for (ms, limit, wanted) in [
+        (0, 0, Some(0)),
+        (1000, 10_000, Some(11_000)),
+        (0, u32::MAX, Some(4_294_967_295)),
+        (PAST_BASE, 0, Some(PAST_BASE)),
+        (PAST_BASE, 1, None),
+        (PAST_BASE - 10_000, 10_000, Some(PAST_BASE)),
+        (PAST_BASE - 10_000, 10_001, None),
     ] {
-        let deadline = Moment::new(0, ms)?.later(later);
-        let past_base = deadline.map(|moment| moment.past_base());
-        assert_eq!(rt; past_base, wanted, "{later} after {ms}");
+        let stamp = Moment::new(0, ms)?;
+        let deadline = if stamp.has_deadline(limit) {
+            Some(stamp.deadline(limit).past_base())
+        } else {
+            None
+        };
+        assert_eq!(rt; deadline, wanted, "{limit} after {ms}");
+    }
+    Ok(())
+}
+
+/// Whether a reading is in time, in time for a confirmation with a margin of 2 seconds, and due.
+#[test]
+fn readings_on_either_side_of_a_deadline(rt: HostRuntime) -> Result<(), Fail> {
+    let deadline = Moment::new(0, 11_000)?;
+    for (ms, in_time, to_accept, due) in [
+        (0, true, true, false),
+        (8_999, true, true, false),
+        (9_000, true, false, false),
+        (10_999, true, false, false),
+        (11_000, false, false, true),
+        (11_001, false, false, true),
+    ] {
+        let at = Moment::new(0, ms)?;
+        assert_eq!(rt; at.is_in_time(deadline), in_time, "{ms}");
+        assert_eq!(rt; at.is_in_time_to_accept(2000, deadline), to_accept, "{ms}");
+        assert_eq!(rt; at.is_in_time_to_accept(0, deadline), in_time, "{ms}");
+        assert_eq!(rt; at.is_due(deadline), due, "{ms}");
+    }
+    Ok(())
+}
+
+#[test]
+fn stamps_on_either_side_of_what_is_ahead(rt: HostRuntime) -> Result<(), Fail> {
+    let at = Moment::new(0, 1000)?;
+    for (ms, is_ahead) in [(0, false), (1000, false), (2000, false), (2001, true)] {
+        assert_eq!(rt; Moment::new(0, ms)?.is_ahead(1000, at), is_ahead, "{ms}");
     }
     Ok(())
 }
@@ -126,6 +165,19 @@ fn identifiers_by_length_and_set(rt: HostRuntime) -> Result<(), Fail> {
 }
 
 #[test]
+fn faults_as_people_read_them(rt: HostRuntime) -> Result<(), Fail> {
+    for (fault, sentence) in [
+        (Fault::NotJson, "the line is no JSON text"),
+        (Fault::Expired, "the reading is too late"),
+        (Fault::Shortage, "the amount is above what is available"),
+        (Fault::WriteFault, "the output failed, or took no byte"),
+    ] {
+        assert_eq!(rt; format!(in rt.alloc(); "{fault}")?.as_str(), sentence);
+    }
+    Ok(())
+}
+
+#[test]
 fn faults_by_number_and_name(rt: HostRuntime) -> Result<(), Fail> {
     for (fault, number, name) in [
         (Fault::NotJson, 1, "NotJson"),
@@ -149,7 +201,6 @@ fn faults_by_number_and_name(rt: HostRuntime) -> Result<(), Fail> {
     ] {
         assert_eq!(rt; fault.number(), number, "{name}");
         assert_eq!(rt; fault.name(), name);
-        assert_eq!(rt; format!(in rt.alloc(); "{fault}")?.as_str(), name);
     }
     Ok(())
 }

@@ -7,8 +7,7 @@ use inst_terms::Terms;
 /// place stays true. No call takes memory.
 pub trait Board {
     ghost use Rattle.std.specs.Prelude.{◌≡◌, ◌≢◌, ◌↔◌, ◌⊎◌, ℕ, ◌≤◌, IsTrue};
-    ghost use Rattle.inst_settings.specs.Settings.{HubSettings};
-    ghost use Rattle.inst_command.specs.Ask.{is_participant};
+    ghost use Rattle.inst_settings.specs.Settings.{HubSettings, is_participant};
     ghost use Rattle.inst_command.specs.declared.outcome.Outcome.{Outcome};
     ghost use Rattle.inst_command.specs.declared.outcome.Outcome.TheVariants.{TimedOut};
     ghost use Rattle.inst_terms.specs.declared.terms.Terms.{Terms};

@@ -1,30 +1,24 @@
 -- Which asks belong to a hub. The commands stand for the scheme's messages between a participant and the
 -- mechanism (EPC004-16, chapter 4, processing flow: submission, positive and negative confirmation, investigation);
 -- funding, fetching, positions and statements are this hub's own.
-use Rattle.std.specs.Prelude.{ℕ, ◌+◌, Bool, true, ◌&&◌, nat_lt, nat_le}
+use Rattle.std.specs.Prelude.{ℕ, Bool, true, ◌&&◌, nat_le}
 use Rattle.inst_base.specs.Moment.{is_moment}
-use Rattle.inst_settings.specs.Settings.{HubSettings, participants}
+use Rattle.inst_base.specs.TimeLimit.{deadline_of}
+use Rattle.inst_settings.specs.Settings.{HubSettings, is_participant, is_within_ceiling}
 use Rattle.inst_command.specs.declared.command.Command.{Command}
 use Rattle.inst_command.specs.declared.command.Command.TheVariants.{Fund, Defund, Submit, Confirm, Reject, Investigate, Fetch, Position, Statement}
 use Rattle.inst_command.specs.declared.ask.Ask.{Ask}
-
--- whether a participant has this number
-abbrev pub is_participant : HubSettings → ℕ → Bool
-is_participant s number = nat_lt number (participants s)
 
 -- whether the number of entries or lines asked for is 1 to 100
 abbrev pub is_count : ℕ → Bool
 is_count count = nat_le 1 count && nat_le count 100
 
--- whether the amount is 1 cent to the ceiling
-abbrev pub is_within_ceiling : HubSettings → ℕ → Bool
-is_within_ceiling s cents = nat_le 1 cents && nat_le cents s.ceiling
-
 -- whether the command is one of a hub with these settings
 abbrev pub command_fits : HubSettings → Command → Bool
 command_fits s (Fund reference cents) = is_within_ceiling s cents
 command_fits s (Defund reference cents) = is_within_ceiling s cents
-command_fits s (Submit id to cents stamp) = is_participant s to && is_within_ceiling s cents && is_moment (stamp + s.limit)
+command_fits s (Submit submission) =
+    is_participant s submission.to && is_within_ceiling s submission.cents && is_moment (deadline_of s.limit submission.stamp)
 command_fits s (Confirm from id) = is_participant s from
 command_fits s (Reject from id reason) = is_participant s from
 command_fits s (Investigate id) = true

@@ -1,4 +1,5 @@
 pub mod Ask
 pub mod Step
+pub mod Deciding
 pub mod LineText
 pub mod Laws

@@ -1,7 +1,7 @@
 -- Which steps belong to a hub. A step is one event under one participant's lock: this hub's own choice.
 use Rattle.std.specs.Prelude.{Bool, ◌&&◌}
-use Rattle.inst_settings.specs.Settings.{HubSettings}
-use Rattle.inst_command.specs.Ask.{is_participant, ask_fits}
+use Rattle.inst_settings.specs.Settings.{HubSettings, is_participant}
+use Rattle.inst_command.specs.Ask.{ask_fits}
 use Rattle.inst_command.specs.declared.step.Step.{Step}
 use Rattle.inst_command.specs.declared.step.Step.TheVariants.{Ask, Deliver, Learn, Expire}
 

@@ -1,49 +1,52 @@
-use inst_base::{Cents, Ident, Moment, Reason};
+ghost use Rattle.std.specs.Prelude.{◌≡◌};
+ghost use Rattle.inst_command.specs.Ask.{command_fits};
+
+use crate::{Submission, is_count};
+use inst_base::{Cents, Ident, Reason};
+use inst_settings::Settings;
 
 /// What a participant may ask. Participants are named by their numbers.
 #[derive(Clone, Copy, Debug, PartialEq, Eq)]
 pub enum Command {
     /// Raises the asker's net funding.
-    Fund {
-        reference: Ident,
-        cents: Cents,
-    },
+    Fund { reference: Ident, cents: Cents },
     /// Lowers the asker's net funding.
-    Defund {
-        reference: Ident,
-        cents: Cents,
-    },
+    Defund { reference: Ident, cents: Cents },
     /// Submits a transfer to a beneficiary, with the originator's time stamp.
-    Submit {
-        id: Ident,
-        to: u8,
-        cents: Cents,
-        stamp: Moment,
-    },
+    Submit(Submission),
     /// Confirms a transfer of the originator `from` that was forwarded to the asker.
-    Confirm {
-        from: u8,
-        id: Ident,
-    },
+    Confirm { from: u8, id: Ident },
     /// Rejects a transfer of the originator `from` that was forwarded to the asker.
-    Reject {
-        from: u8,
-        id: Ident,
-        reason: Reason,
-    },
+    Reject { from: u8, id: Ident, reason: Reason },
     /// Asks what became of a transfer of the asker's own.
-    Investigate {
-        id: Ident,
-    },
+    Investigate { id: Ident },
     /// Hands out the next unread forwarded transfers, at most `max` of them, 1 to 100.
-    Fetch {
-        max: u32,
-    },
+    Fetch { max: u32 },
     /// Asks for the position.
     Position,
     /// Asks for at most `count` statement lines, 1 to 100, after the first `skip`.
-    Statement {
-        skip: u64,
-        count: u32,
-    },
+    Statement { skip: u64, count: u32 },
+}
+
+impl Command {
+    /// Whether the command is one of a hub with these settings: numbers below the count of
+    /// participants, cents within the ceiling, the deadline a moment, `max` and `count` 1 to 100.
+    pub fn fits(&self, settings: &Settings) -> bool
+        ensures { result ≡ command_fits settings.now self.now }
+    {
+        match self {
+            Command::Fund { cents, .. } | Command::Defund { cents, .. } => settings.allows(*cents),
+            Command::Submit(submission) => {
+                settings.has_participant(submission.to)
+                    && settings.allows(submission.cents)
+                    && submission.stamp.has_deadline(settings.limit())
+            }
+            Command::Confirm { from, .. } | Command::Reject { from, .. } => {
+                settings.has_participant(*from)
+            }
+            Command::Fetch { max } => is_count(*max),
+            Command::Statement { count, .. } => is_count(*count),
+            Command::Investigate { .. } | Command::Position => true,
+        }
+    }
 }

@@ -2,22 +2,28 @@
 #![tactic(auto)]
 
 mod ask;
-mod columns;
 mod command;
+mod count;
 mod entry;
+mod items;
 pub mod laws;
+mod layout;
 mod line;
 mod outcome;
 mod reply;
 mod step;
+mod submission;
 #[cfg(test)]
 mod tests;
 
 pub use ask::Ask;
-pub use columns::line_text;
 pub use command::Command;
+pub use count::{MOST_COUNT, is_count};
 pub use entry::{Entries, Entry};
+pub use items::Items;
+pub use layout::line_text;
 pub use line::{Line, LineKind, Lines};
 pub use outcome::{Outcome, State};
 pub use reply::{Answer, Reply};
 pub use step::Step;
+pub use submission::Submission;

@@ -1,5 +1,5 @@
+use crate::Items;
 use inst_base::{Cents, Ident};
-use std::marker::Model;
 
 /// What a statement line shows.
 #[derive(Clone, Copy, Debug, PartialEq, Eq)]
@@ -28,42 +28,4 @@ pub struct Line {
 }
 
 /// The lines of a statement, in order.
-#[derive(Debug, Drop)]
-pub struct Lines {
-    lines: Vec<Line>,
-}
-
-impl Model for Lines {
-    ghost use Rattle.std.specs.Prelude.{List};
-    ghost use Rattle.inst_command.specs.declared.line.Line.{Line};
-
-    ghost Value = { List Line };
-
-    ghost view = { λ l. l.lines.items };
-}
-
-impl Lines {
-    ghost use Rattle.std.specs.Prelude.{◌≡◌};
-
-    /// These lines, without a copy.
-    pub fn new(lines: Vec<Line>) -> Self
-        ensures { result ≡ lines.items }
-    {
-        Lines { lines }
-    }
-
-    /// The lines as a slice.
-    pub fn as_slice(&self) -> &[Line]
-        ensures { result.now ≡ self.now }
-    {
-        self.lines.as_slice()
-    }
-
-    /// The vector back, without a copy.
-    pub fn into_vec(self) -> Vec<Line>
-        ensures { result.items ≡ self }
-    {
-        let Lines { lines } = self;
-        lines
-    }
-}
+pub type Lines = Items<Line>;

@@ -24,12 +24,15 @@ impl Step {
     pub fn fits(&self, settings: &Settings) -> bool
         ensures { result ≡ step_fits settings.now self.now }
     {
-        let within = |number: u8| u16::from(number) < settings.participants();
         match self {
             Step::Ask(ask) => ask.fits(settings),
-            Step::Deliver { from, to, .. } => within(*from) && within(*to),
-            Step::Learn { who, from, .. } => within(*who) && within(*from),
-            Step::Expire { who, .. } => within(*who),
+            Step::Deliver { from, to, .. } => {
+                settings.has_participant(*from) && settings.has_participant(*to)
+            },
+            Step::Learn { who, from, .. } => {
+                settings.has_participant(*who) && settings.has_participant(*from)
+            },
+            Step::Expire { who, .. } => settings.has_participant(*who),
         }
     }
 }

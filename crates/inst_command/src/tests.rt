@@ -13,7 +13,7 @@ fn hub(alloc: Global) -> Result<Settings, Fail>
     ensures { IfOk result (λ s. participants s ≡ 2) }
 {
     let codes = [Code::new("AAAADEFF")?, Code::new("BBBBFRPP123")?];
-    Ok(Settings::check(codes.to_vec(alloc)?, 1, 1, 1, 0, 1, 0)?)
+    Ok(Settings::check(codes.to_vec(alloc)?, 1, 1, 1, 0, 0, 1, 0)?)
 }
 
 fn assert_text(

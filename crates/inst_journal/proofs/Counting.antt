@@ -354,7 +354,7 @@ below_within s who J (suc n) sound =
     omega (arith, below_within s who J n sound, forwarded_at_most s who n J sound, more, parts, suc_times n (501 * s.places))
 
 forwarding_new : (s : HubSettings) (who : ℕ) (J : List Event) (event : Event) → Fits s who J event → cond (is_forwarding event) 1 0 ≤ cond (forwards_below (participants s) event) 1 0
-forwarding_new s who J (Forwarded from id cents deadline) fits = rw (lt-ltb from (participants s) fits.originator) (omega arith)
+forwarding_new s who J (Forwarded from id cents deadline) fits = rw fits.originator (omega arith)
 forwarding_new s who J (Taken id to cents stamp) fits = omega arith
 forwarding_new s who J (Funded reference cents) fits = omega arith
 forwarding_new s who J (Defunded reference cents) fits = omega arith
@@ -430,6 +430,6 @@ pub position_fits : (s : HubSettings) (who : ℕ) (J : List Event) → IsSetting
 position_fits s who J lawful sound =
     let all_fundings : count_by is_funding J ≤ 513024 = omega (arith, fundings_at_most s who J sound, lawful.fundings_most) in
     let most : 501 * s.places ≤ 513024 = omega (arith, lawful.places_most) in
-    let places : participants s * (501 * s.places) ≤ 64 * 513024 = mul-le-mul lawful.participants_most most in
-    let all_forwardings : count_by is_forwarding J ≤ 32833536 = omega (arith, forwardings_within s who J sound, places) in
+    let places : participants s * (501 * s.places) ≤ 256 * 513024 = mul-le-mul lawful.participants_most most in
+    let all_forwardings : count_by is_forwarding J ≤ 131334144 = omega (arith, forwardings_within s who J sound, places) in
     omega (arith, most_times is_funding MOST_CENTS J, most_times is_forwarding MOST_CENTS J, all_fundings, all_forwardings)

@@ -60,13 +60,13 @@ line_le (Fetched count) = omega arith
 line_le Opened = omega arith
 
 -- no front of a sound history has as many lines as 20 bits can number
-pub lines_few : (s : HubSettings) (who : ℕ) (J : List Event) (i : ℕ) → IsSettings s → IsSound s who J → count_by may_have_line (take i J) ≤ 36000000
+pub lines_few : (s : HubSettings) (who : ℕ) (J : List Event) (i : ℕ) → IsSettings s → IsSound s who J → count_by may_have_line (take i J) ≤ 140000000
 lines_few s who J i lawful sound =
     let front : count_by may_have_line (take i J) ≤ count_by may_have_line J = sum_by-take-le (λ e. cond (may_have_line e) 1 0) J i in
     let both : count_by may_have_line J ≤ sum_by (λ e. cond (is_funding e) 1 0 + cond (is_booking e) 1 0) J = sum_by-le-sum_by _ _ J line_le in
     let parts : sum_by (λ e. cond (is_funding e) 1 0 + cond (is_booking e) 1 0) J ≡ count_by is_funding J + count_by is_booking J = sum_by-both (λ e. cond (is_funding e) 1 0) (λ e. cond (is_booking e) 1 0) J in
     let most : 501 * s.places ≤ 513024 = omega (arith, lawful.places_most) in
-    let places : participants s * (501 * s.places) ≤ 64 * 513024 = mul-le-mul lawful.participants_most most in
+    let places : participants s * (501 * s.places) ≤ 256 * 513024 = mul-le-mul lawful.participants_most most in
     omega (
       arith,
       front,

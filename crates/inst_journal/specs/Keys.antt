@@ -3,6 +3,7 @@
 use Rattle.std.specs.Prelude.{ℕ, Bool, true, false, ◌&&◌, ◌==◌, List, count_by}
 use Rattle.std.specs.List.{list_any}
 use Rattle.inst_settings.specs.Settings.{same_text}
+use Rattle.inst_command.specs.declared.submission.Submission.{Submission}
 use Rattle.inst_journal.specs.declared.event.Event.{Event}
 use Rattle.inst_journal.specs.Opened.{current}
 use Rattle.inst_journal.specs.declared.event.Event.TheVariants.{Funded, Defunded, Taken}
@@ -18,10 +19,10 @@ is_this_defund reference cents (Defunded other_reference other) = same_text othe
 is_this_defund reference cents _ = false
 
 -- whether the event is this submission
-abbrev pub is_this_submission : List ℕ → ℕ → ℕ → ℕ → Event → Bool
-is_this_submission id to cents stamp (Taken other other_to other_cents other_stamp) =
-    same_text other id && (other_to == to) && (other_cents == cents) && (other_stamp == stamp)
-is_this_submission id to cents stamp _ = false
+abbrev pub is_this_submission : Submission → Event → Bool
+is_this_submission x (Taken id to cents stamp) =
+    same_text id x.id && (to == x.to) && (cents == x.cents) && (stamp == x.stamp)
+is_this_submission x _ = false
 
 -- whether the event keeps this funding reference, of either kind
 abbrev pub refers : List ℕ → Event → Bool
@@ -42,8 +43,8 @@ is_fund_repeat reference cents J = list_any (is_this_fund reference cents) J
 abbrev pub is_defund_repeat : List ℕ → ℕ → List Event → Bool
 is_defund_repeat reference cents J = list_any (is_this_defund reference cents) J
 
-abbrev pub is_submission_repeat : List ℕ → ℕ → ℕ → ℕ → List Event → Bool
-is_submission_repeat id to cents stamp J = list_any (is_this_submission id to cents stamp) J
+abbrev pub is_submission_repeat : Submission → List Event → Bool
+is_submission_repeat x J = list_any (is_this_submission x) J
 
 -- whether a funding reference is kept
 abbrev pub has_reference : List ℕ → List Event → Bool

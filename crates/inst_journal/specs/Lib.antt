@@ -8,4 +8,3 @@ pub mod Statement
 pub mod Reply
 pub mod Sound
 pub mod Laws
-pub mod Handling

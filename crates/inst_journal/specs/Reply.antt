@@ -1,19 +1,22 @@
 -- What a participant is answered, and what its history keeps of it: the first case that holds, in the one order of
 -- the refusals. Confirmations, rejections and investigations are the scheme's (EPC004-16, chapter 4: processing
 -- flow); the order, the repeats and the capacities are this hub's own choice.
-use Rattle.std.specs.Prelude.{ℕ, ◌+◌, ◌==◌, nat_lt, nat_le, if◌then◌else◌, List, [], ◌∷◌, ◌++◌, length, take, drop, sum_by, Option, Some, None, Result, Ok, Err}
+use Rattle.std.specs.Prelude.{ℕ, Bool, true, false, ◌==◌, nat_lt, nat_le, if◌then◌else◌, List, [], ◌∷◌, ◌++◌, length, take, drop, sum_by, Option, Some, None, Result, Ok, Err}
 use Rattle.std.specs.List.{filter_map}
+use Rattle.inst_base.specs.TimeLimit.{deadline_of, is_due, is_ahead}
 use Rattle.inst_base.specs.declared.fault.Fault.{Fault}
 use Rattle.inst_base.specs.declared.fault.Fault.TheVariants.{SelfTransfer, UnknownTransfer, Duplicate, StampAhead, Expired, Full, Shortage}
 use Rattle.inst_settings.specs.Settings.{HubSettings}
 use Rattle.inst_command.specs.declared.command.Command.{Command}
 use Rattle.inst_command.specs.declared.command.Command.TheVariants.{Fund, Defund, Submit, Confirm, Reject, Investigate, Fetch, Position as AskPosition, Statement as AskStatement}
+use Rattle.inst_command.specs.declared.submission.Submission.{Submission}
 use Rattle.inst_command.specs.declared.entry.Entry.{Entry}
 use Rattle.inst_command.specs.declared.outcome.Outcome.{Outcome}
 use Rattle.inst_command.specs.declared.outcome.State.TheVariants.{Pending, Decided}
 use Rattle.inst_command.specs.declared.reply.Reply.{Reply}
 use Rattle.inst_command.specs.declared.reply.Reply.TheVariants.{Done, Taken as TakenReply, State, Inbox, Position, Statement}
 use Rattle.inst_journal.specs.declared.event.Event.{Event}
+use Rattle.inst_journal.specs.declared.handle.Handled.{Handled}
 use Rattle.inst_journal.specs.declared.event.Event.TheVariants.{Funded, Defunded, Taken, Forwarded, Booked, Fetched, Opened}
 use Rattle.inst_journal.specs.Booked.{is_taken, is_forwarded, booked}
 use Rattle.inst_journal.specs.Money.{reserved, position, available}
@@ -21,63 +24,75 @@ use Rattle.inst_journal.specs.Opened.{live_submissions}
 use Rattle.inst_journal.specs.Keys.{is_fund_repeat, is_defund_repeat, is_submission_repeat, has_reference, fundings}
 use Rattle.inst_journal.specs.Statement.{statement_part}
 
--- the reply or the refusal, and the event that the history keeps, if any
-pub record Handled : Type 0 where
-  pub reply : Result Reply Fault
-  pub kept : List Event
-
 -- a reply that leaves no event
-abbrev pub answered : Reply → Handled
-answered reply = record { reply = Ok reply; kept = [] }
+abbrev pub answered : Reply → Result Handled Fault
+answered reply = Ok (record { reply = reply; kept = None })
 
 -- a reply that leaves an event
-abbrev pub keeping : Event → Reply → Handled
-keeping event reply = record { reply = Ok reply; kept = event ∷ [] }
+abbrev pub keeping : Event → Reply → Result Handled Fault
+keeping event reply = Ok (record { reply = reply; kept = Some event })
 
--- a refusal, which leaves no event
-abbrev pub refused : Fault → Handled
-refused fault = record { reply = Err fault; kept = [] }
+-- whether a fund or defund command is new, and no repeat, or why it is refused
+abbrev pub is_new_funding : HubSettings → List Event → List ℕ → Bool → Result Bool Fault
+is_new_funding s J reference is_repeat =
+    if is_repeat then Ok false
+    else (if has_reference reference J then Err Duplicate
+    else (if nat_le s.fundings (fundings J) then Err Full
+    else Ok true))
 
-abbrev pub fund : HubSettings → List Event → List ℕ → ℕ → Handled
+-- a fund or defund command: a refusal, the kept reply, or what is done anew
+abbrev pub funding : List ℕ → Result Handled Fault → Result Bool Fault → Result Handled Fault
+funding reference new (Err fault) = Err fault
+funding reference new (Ok false) = answered (Done reference)
+funding reference new (Ok true) = new
+
+abbrev pub fund : HubSettings → List Event → List ℕ → ℕ → Result Handled Fault
 fund s J reference cents =
-    if is_fund_repeat reference cents J then answered (Done reference)
-    else (if has_reference reference J then refused Duplicate
-    else (if nat_le s.fundings (fundings J) then refused Full
-    else keeping (Funded reference cents) (Done reference)))
+    funding reference (keeping (Funded reference cents) (Done reference))
+    (is_new_funding s J reference (is_fund_repeat reference cents J))
 
-abbrev pub defund : HubSettings → List Event → List ℕ → ℕ → Handled
+abbrev pub defund : HubSettings → List Event → List ℕ → ℕ → Result Handled Fault
 defund s J reference cents =
-    if is_defund_repeat reference cents J then answered (Done reference)
-    else (if has_reference reference J then refused Duplicate
-    else (if nat_le s.fundings (fundings J) then refused Full
-    else (if nat_lt (available J) cents then refused Shortage
-    else keeping (Defunded reference cents) (Done reference))))
+    funding reference (if nat_lt (available J) cents then Err Shortage else keeping (Defunded reference cents) (Done reference))
+    (is_new_funding s J reference (is_defund_repeat reference cents J))
 
-abbrev pub submit : HubSettings → ℕ → List Event → ℕ → List ℕ → ℕ → ℕ → ℕ → Handled
-submit s who J at id to cents stamp =
-    if to == who then refused SelfTransfer
-    else (if is_submission_repeat id to cents stamp J then answered (TakenReply id (stamp + s.limit))
-    else (if is_taken id J then refused Duplicate
-    else (if nat_lt (at + s.ahead) stamp then refused StampAhead
-    else (if nat_le (stamp + s.limit) at then refused Expired
-    else (if nat_le s.places (live_submissions who J) then refused Full
-    else (if nat_lt (available J) cents then refused Shortage
-    else keeping (Taken id to cents stamp) (TakenReply id (stamp + s.limit))))))))
+abbrev pub submit : HubSettings → ℕ → List Event → ℕ → Submission → Result Handled Fault
+submit s who J at x =
+    let deadline = deadline_of s.limit x.stamp in
+    if x.to == who then Err SelfTransfer
+    else (if is_submission_repeat x J then answered (TakenReply x.id deadline)
+    else (if is_taken x.id J then Err Duplicate
+    else (if is_ahead s.ahead x.stamp at then Err StampAhead
+    else (if is_due deadline at then Err Expired
+    else (if nat_le s.places (live_submissions who J) then Err Full
+    else (if nat_lt (available J) x.cents then Err Shortage
+    else keeping (Taken x.id x.to x.cents x.stamp) (TakenReply x.id deadline)))))))
 
--- how far a transfer has come for a side that has booked this much and finds this much
-abbrev pub standing : ℕ → List ℕ → Option Outcome → Option Outcome → Handled
-standing from id (Some outcome) found = answered (State from id (Decided outcome))
-standing from id None (Some outcome) = keeping (Booked from id outcome) (State from id (Decided outcome))
-standing from id None None = answered (State from id Pending)
+-- what a side that has booked this much and finds this much is answered, and what it is while the transfer is pending
+abbrev pub standing : ℕ → List ℕ → Result Handled Fault → Option Outcome → Option Outcome → Result Handled Fault
+standing from id pending (Some outcome) found = answered (State from id (Decided outcome))
+standing from id pending None (Some outcome) = keeping (Booked from id outcome) (State from id (Decided outcome))
+standing from id pending None None = pending
 
--- a confirmation or a rejection
-abbrev pub confirm : List Event → ℕ → List ℕ → Option Outcome → Handled
-confirm J from id found =
-    if is_forwarded from id J then standing from id (booked from id J) found else refused UnknownTransfer
+-- that a transfer is pending
+abbrev pub still_pending : ℕ → List ℕ → Result Handled Fault
+still_pending from id = answered (State from id Pending)
 
-abbrev pub investigate : ℕ → List Event → List ℕ → Option Outcome → Handled
+-- an answer of the beneficiary to a transfer that was forwarded to it
+abbrev pub answer_forwarded : List Event → ℕ → List ℕ → Result Handled Fault → Option Outcome → Result Handled Fault
+answer_forwarded J from id pending found =
+    if is_forwarded from id J then standing from id pending (booked from id J) found else Err UnknownTransfer
+
+-- a confirmation, which comes too late where it leaves the transfer pending: it was read in the margin
+abbrev pub confirm : List Event → ℕ → List ℕ → Option Outcome → Result Handled Fault
+confirm J from id found = answer_forwarded J from id (Err Expired) found
+
+abbrev pub reject : List Event → ℕ → List ℕ → Option Outcome → Result Handled Fault
+reject J from id found = answer_forwarded J from id (still_pending from id) found
+
+abbrev pub investigate : ℕ → List Event → List ℕ → Option Outcome → Result Handled Fault
 investigate who J id found =
-    if is_taken id J then standing who id (booked who id J) found else refused UnknownTransfer
+    if is_taken id J then standing who id (still_pending who id) (booked who id J) found else Err UnknownTransfer
 
 -- the entry of a forwarded transfer
 abbrev pub entry_of : Event → Option Entry
@@ -98,26 +113,46 @@ abbrev pub unread : List Event → List Entry
 unread J = drop (sum_by handed_out J) (inbox J)
 
 -- hands out these entries
-abbrev pub hand_out : List Entry → Handled
+abbrev pub hand_out : List Entry → Result Handled Fault
 hand_out [] = answered (Inbox [])
 hand_out (entry ∷ entries) = keeping (Fetched (length (entry ∷ entries))) (Inbox (entry ∷ entries))
 
 -- what a command of the participant `who`, read at `at`, is answered on its history, where the asker's transfer is
 -- found to have this outcome
-abbrev pub handle : HubSettings → ℕ → List Event → Command → ℕ → Option Outcome → Handled
+abbrev pub handle : HubSettings → ℕ → List Event → Command → ℕ → Option Outcome → Result Handled Fault
 handle s who J (Fund reference cents) at found = fund s J reference cents
 handle s who J (Defund reference cents) at found = defund s J reference cents
-handle s who J (Submit id to cents stamp) at found = submit s who J at id to cents stamp
+handle s who J (Submit submission) at found = submit s who J at submission
 handle s who J (Confirm from id) at found = confirm J from id found
-handle s who J (Reject from id reason) at found = confirm J from id found
+handle s who J (Reject from id reason) at found = reject J from id found
 handle s who J (Investigate id) at found = investigate who J id found
 handle s who J (Fetch max) at found = hand_out (take max (unread J))
 handle s who J AskPosition at found = answered (Position (position J) (reserved J) (available J))
 handle s who J (AskStatement skip count) at found = answered (Statement (statement_part J skip count))
 
+-- the events that are kept of a command: one at most
+abbrev pub kept_event : Option Event → List Event
+kept_event None = []
+kept_event (Some event) = event ∷ []
+
+abbrev pub kept_events : Result Handled Fault → List Event
+kept_events (Ok handled) = kept_event handled.kept
+kept_events (Err fault) = []
+
+-- what is replied, or why the command is refused
+abbrev pub told : Result Handled Fault → Result Reply Fault
+told (Ok handled) = Ok handled.reply
+told (Err fault) = Err fault
+
 abbrev pub reply : HubSettings → ℕ → List Event → Command → ℕ → Option Outcome → Result Reply Fault
-reply s who J command at found = (handle s who J command at found).reply
+reply s who J command at found = told (handle s who J command at found)
 
 -- the history after the command
 abbrev pub history_after : HubSettings → ℕ → List Event → Command → ℕ → Option Outcome → List Event
-history_after s who J command at found = J ++ (handle s who J command at found).kept
+history_after s who J command at found = J ++ kept_events (handle s who J command at found)
+
+-- whether the reply to the command is a copy of entries or lines, which takes memory
+abbrev pub copies : Command → Bool
+copies (Fetch max) = true
+copies (AskStatement skip count) = true
+copies _ = false

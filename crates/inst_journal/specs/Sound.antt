@@ -1,8 +1,10 @@
 -- Which lists of events are a participant's history: each event fits the events before it. It says what a slot keeps
 -- true, and is this hub's own choice.
-use Rattle.std.specs.Prelude.{◌≡◌, ◌≢◌, ℕ, ◌+◌, ◌<◌, ◌≤◌, true, false, List, [], ◌∷◌, ◌++◌, length, None, ◌⊎◌}
+use Rattle.std.specs.Prelude.{◌≡◌, ◌≢◌, ℕ, ◌<◌, ◌≤◌, true, false, List, [], ◌∷◌, ◌++◌, length, None, ◌⊎◌}
 use Rattle.inst_base.specs.Moment.{is_moment}
-use Rattle.inst_settings.specs.Settings.{HubSettings, participants}
+use Rattle.inst_base.specs.TimeLimit.{deadline_of}
+use Rattle.inst_settings.specs.Settings.{HubSettings, is_participant, is_within_ceiling}
+use Rattle.inst_command.specs.Ask.{is_count}
 use Rattle.inst_journal.specs.declared.event.Event.{Event}
 use Rattle.inst_journal.specs.declared.event.Event.TheVariants.{Funded, Defunded, Taken, Forwarded, Booked, Fetched, Opened}
 use Rattle.inst_journal.specs.Booked.{is_taken, is_forwarded, booked}
@@ -11,31 +13,26 @@ use Rattle.inst_journal.specs.Opened.{openings, live_submissions, live_forwarded
 use Rattle.inst_journal.specs.Keys.{has_reference, fundings}
 use Rattle.inst_journal.specs.Reply.{unread}
 
--- cents that one command may move
-pub record IsWithinCeiling (s : HubSettings) (cents : ℕ) : Type 0 where
-  pub some : 1 ≤ cents
-  pub most : cents ≤ s.ceiling
-
 pub record FundedFits (s : HubSettings) (J : List Event) (reference : List ℕ) (cents : ℕ) : Type 0 where
   pub new : has_reference reference J ≡ false
   pub place : fundings J < s.fundings
-  pub amount : IsWithinCeiling s cents
+  pub amount : is_within_ceiling s cents ≡ true
 
 pub record DefundedFits (s : HubSettings) (J : List Event) (reference : List ℕ) (cents : ℕ) : Type 0 where
   pub funding : FundedFits s J reference cents
   pub cover : cents ≤ available J
 
 pub record TakenFits (s : HubSettings) (who : ℕ) (J : List Event) (id : List ℕ) (to cents stamp : ℕ) : Type 0 where
-  pub beneficiary : to < participants s
+  pub beneficiary : is_participant s to ≡ true
   pub another : to ≢ who
-  pub deadline : is_moment (stamp + s.limit) ≡ true
+  pub deadline : is_moment (deadline_of s.limit stamp) ≡ true
   pub new : is_taken id J ≡ false
   pub place : live_submissions who J < s.places
-  pub amount : IsWithinCeiling s cents
+  pub amount : is_within_ceiling s cents ≡ true
   pub cover : cents ≤ available J
 
 pub record ForwardedFits (s : HubSettings) (who : ℕ) (J : List Event) (from : ℕ) (id : List ℕ) : Type 0 where
-  pub originator : from < participants s
+  pub originator : is_participant s from ≡ true
   pub another : from ≢ who
   pub new : is_forwarded from id J ≡ false
   pub place : live_forwarded from J < s.places
@@ -45,8 +42,7 @@ pub record BookedFits (who : ℕ) (J : List Event) (from : ℕ) (id : List ℕ) 
   pub new : booked from id J ≡ None
 
 pub record FetchedFits (J : List Event) (count : ℕ) : Type 0 where
-  pub some : 1 ≤ count
-  pub most : count ≤ 100
+  pub number : is_count count ≡ true
   pub there : count ≤ length (unread J)
 
 pub record OpenedFits (J : List Event) : Type 0 where

@@ -1,6 +1,6 @@
 //! Fund and defund commands.
-ghost use Rattle.inst_journal.specs.Reply.{fund, defund};
-ghost use Rattle.inst_journal.specs.Handling.{Answers};
+ghost use Rattle.std.specs.Prelude.{◌≡◌};
+ghost use Rattle.inst_journal.specs.Reply.{is_new_funding, fund, defund};
 
 use crate::Event;
 use crate::handle::Handled;
@@ -18,22 +18,14 @@ pub(crate) fn fund(
     reference: Ident,
     cents: Cents,
 ) -> Result<Handled, Fault>
-    ensures { Answers result (fund settings.now events.now reference cents) }
+    ensures { result ≡ fund settings.now events.now reference cents }
 {
-    let reply = Reply::Done { reference };
-    if is_fund_repeat(events, &reference, cents) {
-        return Ok(Handled { reply, kept: None });
-    }
-    if has_reference(events, &reference) {
-        return Err(Fault::Duplicate);
-    }
-    if fundings(events) >= usize::from(settings.fundings()) {
-        return Err(Fault::Full);
-    }
+    let is_repeat = is_fund_repeat(events, &reference, cents);
+    let is_new = is_new_funding(settings, events, &reference, is_repeat)?;
     let event = Event::Funded { reference, cents };
     Ok(Handled {
-        reply,
-        kept: Some(event),
+        reply: Reply::Done { reference },
+        kept: is_new.then_some(event),
     })
 }
 
@@ -44,24 +36,37 @@ pub(crate) fn defund(
     reference: Ident,
     cents: Cents,
 ) -> Result<Handled, Fault>
-    ensures { Answers result (defund settings.now events.now reference cents) }
+    ensures { result ≡ defund settings.now events.now reference cents }
 {
-    let reply = Reply::Done { reference };
-    if is_defund_repeat(events, &reference, cents) {
-        return Ok(Handled { reply, kept: None });
+    let is_repeat = is_defund_repeat(events, &reference, cents);
+    let is_new = is_new_funding(settings, events, &reference, is_repeat)?;
+    if is_new && u128::from(cents.get()) > available(events) {
+        return Err(Fault::Shortage);
     }
-    if has_reference(events, &reference) {
+    let event = Event::Defunded { reference, cents };
+    Ok(Handled {
+        reply: Reply::Done { reference },
+        kept: is_new.then_some(event),
+    })
+}
+
+/// Whether a fund or defund command is new, and no repeat; `Duplicate` and `Full` come first.
+fn is_new_funding(
+    settings: &Settings,
+    events: &[Event],
+    reference: &Ident,
+    is_repeat: bool,
+) -> Result<bool, Fault>
+    ensures { result ≡ is_new_funding settings.now events.now reference.now is_repeat }
+{
+    if is_repeat {
+        return Ok(false);
+    }
+    if has_reference(events, reference) {
         return Err(Fault::Duplicate);
     }
     if fundings(events) >= usize::from(settings.fundings()) {
         return Err(Fault::Full);
     }
-    if u128::from(cents.get()) > available(events) {
-        return Err(Fault::Shortage);
-    }
-    let event = Event::Defunded { reference, cents };
-    Ok(Handled {
-        reply,
-        kept: Some(event),
-    })
+    Ok(true)
 }

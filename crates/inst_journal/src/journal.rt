@@ -1,4 +1,4 @@
-ghost use Rattle.std.specs.Prelude.{◌≡◌, ◌<◌, [], ◌∷◌, ◌++◌, OnOk, OnErr, IsOk, IsOkUnless};
+ghost use Rattle.std.specs.Prelude.{◌≡◌, ◌<◌, [], ◌∷◌, ◌++◌, OnOk, OnErr, IfOk, IsOk, IsOkUnless};
 
 use crate::Event;
 use inst_base::Fault;
@@ -32,6 +32,18 @@ impl Journal {
         Journal {
             events: Vec::new(alloc),
         }
+    }
+
+    /// A journal with the same events, or `Memory`. It copies each event.
+    pub fn copy(&self) -> Result<Journal, Fault>
+        ensures ok { IfOk result (λ journal. journal.events ≡ self.now.events) }
+        ensures only { IsOkUnless result Fault.Memory }
+    {
+        // The check is told of a type of another crate inside an event only where a function names it.
+        let _: Option<Outcome> = None;
+        Ok(Journal {
+            events: self.events.clone()?,
+        })
     }
 
     /// The events, the oldest first.

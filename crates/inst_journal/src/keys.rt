@@ -4,7 +4,8 @@ ghost use Rattle.inst_journal.specs.Keys.{is_fund_repeat, is_defund_repeat, is_t
 
 use crate::Event;
 use crate::opening::current;
-use inst_base::{Cents, Ident, Moment};
+use inst_base::{Cents, Ident};
+use inst_command::Submission;
 
 /// Whether the history has this very funding.
 pub(crate) fn is_fund_repeat(events: &[Event], reference: &Ident, cents: Cents) -> bool
@@ -25,31 +26,30 @@ pub(crate) fn is_defund_repeat(events: &[Event], reference: &Ident, cents: Cents
 }
 
 /// Whether the history has this very submission.
-pub(crate) fn is_submission_repeat(
-    events: &[Event],
-    id: &Ident,
-    to: u8,
-    cents: Cents,
-    stamp: Moment,
-) -> bool
-    ensures { result ≡ is_submission_repeat id.now to cents stamp events.now }
+pub(crate) fn is_submission_repeat(events: &[Event], submission: &Submission) -> bool
+    ensures { result ≡ is_submission_repeat submission.now events.now }
 {
     events
         .iter()
-        .any(|event| is_this_submission(event, id, to, cents, stamp))
+        .any(|event| is_this_submission(event, submission))
 }
 
 /// Whether the event is this very submission.
-fn is_this_submission(event: &Event, id: &Ident, to: u8, cents: Cents, stamp: Moment) -> bool
-    ensures { result ≡ is_this_submission id.now to cents stamp event.now }
+fn is_this_submission(event: &Event, submission: &Submission) -> bool
+    ensures { result ≡ is_this_submission submission.now event.now }
 {
-    match event {
+    match *event {
         Event::Taken {
-            id: other,
-            to: beneficiary,
-            cents: amount,
-            stamp: stamped,
-        } => other == id && *beneficiary == to && *amount == cents && *stamped == stamp,
+            id,
+            to,
+            cents,
+            stamp,
+        } => {
+            id == submission.id
+                && to == submission.to
+                && cents == submission.cents
+                && stamp == submission.stamp
+        }
         _ => false,
     }
 }

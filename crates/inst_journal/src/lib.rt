@@ -19,6 +19,6 @@ mod tests;
 mod transfers;
 
 pub use event::Event;
-pub use handle::Handled;
+pub use handle::{Handled, handle_command};
 pub use journal::Journal;
-pub use reply::{handle_command, reply_of};
+pub use reply::reply_of;

@@ -1,10 +1,11 @@
 //! Questions for the position, the inbox and the statement.
-ghost use Rattle.std.specs.Prelude.{◌≡◌, ◌⊎◌, ◌≤◌, take, length, sum_by, IfOk, IsOkUnless};
+ghost use Rattle.std.specs.Prelude.{◌≡◌, ◌≤◌, true, take, length, sum_by, IfOk, IsOkUnless};
+ghost use Rattle.inst_base.specs.Fault.{IsUnlessMemory};
 ghost use Rattle.inst_settings.specs.Settings.{IsSettings};
+ghost use Rattle.inst_command.specs.Ask.{is_count};
 ghost use Rattle.inst_journal.specs.Money.{reserved, position, available};
 ghost use Rattle.inst_journal.specs.Reply.{entry_of, inbox, handed_out, unread, hand_out};
 ghost use Rattle.inst_journal.specs.Sound.{IsSound};
-ghost use Rattle.inst_journal.specs.Handling.{AnswersUnlessMemory};
 
 use crate::handle::Handled;
 use crate::{Event, sums};
@@ -88,9 +89,9 @@ pub(crate) fn fetch(
     events: &[Event],
     max: u32,
 ) -> Result<Handled, Fault>
-    requires count { max ≤ 100 }
+    requires count { is_count max ≡ true }
     requires sound { IsSound settings.now who events.now }
-    ensures { AnswersUnlessMemory result (hand_out (take max (unread events.now))) }
+    ensures { IsUnlessMemory result (hand_out (take max (unread events.now))) }
 {
     let entries = unread(alloc, events, max)?;
     let count = entries.len() as u32;

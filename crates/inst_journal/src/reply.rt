@@ -1,75 +1,17 @@
-//! What a command of a participant is answered on its journal.
+//! The reply to a command of a participant, on its journal.
 ghost use Rattle.std.specs.Prelude.{◌≡◌, true, false};
 ghost use Rattle.inst_base.specs.Fault.{IsUnlessMemory};
 ghost use Rattle.inst_settings.specs.Settings.{IsSettings};
 ghost use Rattle.inst_command.specs.Ask.{command_fits};
-ghost use Rattle.inst_journal.specs.Reply.{handle, reply, history_after};
+ghost use Rattle.inst_journal.specs.Reply.{reply, copies};
 ghost use Rattle.inst_journal.specs.Sound.{IsSound};
-ghost use Rattle.inst_journal.specs.Handling.{Answers, AnswersUnlessMemory, copies};
 
-use crate::fundings::{defund, fund};
-use crate::handle::Handled;
-use crate::queries::{fetch, position};
-use crate::statement::statement;
-use crate::transfers::{Submission, confirm, investigate, submit};
-use crate::{Event, Journal};
+use crate::Journal;
+use crate::handle::handle_command;
 use inst_base::{Fault, Moment};
 use inst_command::{Command, Outcome, Reply};
 use inst_settings::Settings;
 use std::alloc::Global;
-
-/// What a command of the participant `who`, read at `at`, is answered on its events, and the event
-/// that they keep of it, where its transfer is found to have the outcome `found`. Refused by the
-/// first of `SelfTransfer` to `Shortage` that holds; only a fetch and a statement may answer
-/// `Memory`.
-pub fn handle_command(
-    alloc: Global,
-    settings: &Settings,
-    who: u8,
-    events: &[Event],
-    command: &Command,
-    at: Moment,
-    found: Option<Outcome>,
-) -> Result<Handled, Fault>
-    requires lawful { IsSettings settings.now }
-    requires sound { IsSound settings.now who events.now }
-    requires fits { command_fits settings.now command.now ≡ true }
-    ensures reply { AnswersUnlessMemory result (handle settings.now who events.now command.now at found) }
-    ensures no_memory { copies command.now ≡ false → Answers result (handle settings.now who events.now command.now at found) }
-
-    // With the kept event the history is sound again.
-    ensures sound { IsSound settings.now who (history_after settings.now who events.now command.now at found) }
-{
-    match command {
-        Command::Fund { reference, cents } => fund(settings, events, *reference, *cents),
-        Command::Defund { reference, cents } => defund(settings, events, *reference, *cents),
-        Command::Submit {
-            id,
-            to,
-            cents,
-            stamp,
-        } => {
-            let submission = Submission {
-                id: *id,
-                to: *to,
-                cents: *cents,
-                stamp: *stamp,
-            };
-            submit(settings, who, events, at, &submission)
-        }
-        Command::Confirm { from, id } => confirm(events, *from, *id, found),
-        Command::Reject { from, id, .. } => confirm(events, *from, *id, found),
-        Command::Investigate { id } => investigate(who, events, *id, found),
-        Command::Fetch { max } => fetch(alloc, settings, who, events, *max),
-        Command::Position => Ok(Handled {
-            reply: position(settings, who, events),
-            kept: None,
-        }),
-        Command::Statement { skip, count } => {
-            statement(alloc, settings, who, events, *skip, *count)
-        }
-    }
-}
 
 /// The reply to a command, as `handle_command` gives it. It keeps nothing. Only a fetch and a statement
 /// may answer `Memory`.

@@ -1,11 +1,11 @@
 //! A participant's statement, by a walk over the fronts of its history.
 ghost use Rattle.std.specs.Prelude.{◌≡◌, ◌+◌, ◌<◌, ◌≤◌, ◌^◌, length, take, drop, count_by, None, IfOk};
+ghost use Rattle.inst_base.specs.Fault.{IsUnlessMemory};
 ghost use Rattle.inst_settings.specs.Settings.{IsSettings};
 ghost use Rattle.inst_journal.specs.Booked.{first_some};
 ghost use Rattle.inst_journal.specs.Money.{position};
 ghost use Rattle.inst_journal.specs.Reply.{answered};
 ghost use Rattle.inst_journal.specs.Sound.{IsSound};
-ghost use Rattle.inst_journal.specs.Handling.{AnswersUnlessMemory};
 ghost use Rattle.inst_journal.specs.Statement.{received, paid, accepted, line_of, statement, statement_part};
 
 use crate::booked::is_forwarded;
@@ -213,7 +213,7 @@ pub(crate) fn statement(
 ) -> Result<Handled, Fault>
     requires lawful { IsSettings settings.now }
     requires sound { IsSound settings.now who events.now }
-    ensures { AnswersUnlessMemory result (answered (Reply.Statement (statement_part events.now skip count))) }
+    ensures { IsUnlessMemory result (answered (Reply.Statement (statement_part events.now skip count))) }
 {
     let lines = lines_part(alloc, settings, who, events, skip, count)?;
     let reply = Reply::Statement {

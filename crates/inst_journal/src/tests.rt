@@ -5,7 +5,7 @@ ghost use Rattle.inst_journal.specs.Sound.{IsSound};
 
 use crate::{Event, Handled, Journal, handle_command, reply_of};
 use inst_base::{Cents, Code, Fault, Ident, Moment, Reason};
-use inst_command::{Ask, Command, Entry, Line, LineKind, Outcome, Reply, State};
+use inst_command::{Ask, Command, Entry, Line, LineKind, Outcome, Reply, State, Submission};
 use inst_settings::Settings;
 use std::alloc::Global;
 use std::process::Abort;
@@ -20,7 +20,16 @@ fn hub(alloc: Global) -> Result<Settings, Fail>
         Code::new("BBBBFRPP")?,
         Code::new("CCCCITMM")?,
     ];
-    Ok(Settings::check(codes.to_vec(alloc)?, 2, 4, 10_000, 1000, 99_999_999_999, 0)?)
+    Ok(Settings::check(
+        codes.to_vec(alloc)?,
+        2,
+        4,
+        10_000,
+        0,
+        1000,
+        99_999_999_999,
+        0,
+    )?)
 }
 
 /// A reply but for an inbox and a statement, which hold lists.
@@ -147,18 +156,18 @@ fn funds_submits_and_investigates(rt: HostRuntime) -> Result<(), Fail> {
     let cents = Cents::new(20_000)?;
     let less = Cents::new(5000)?;
     let investigate = Command::Investigate { id: t1 };
-    let submit = Command::Submit {
+    let submit = Command::Submit(Submission {
         id: t1,
         to: 1,
         cents,
         stamp,
-    };
-    let again = Command::Submit {
+    });
+    let again = Command::Submit(Submission {
         id: t2,
         to: 1,
         cents,
         stamp,
-    };
+    });
     let fund = Command::Fund {
         reference: f1,
         cents: all,
@@ -426,11 +435,13 @@ fn meets_the_first_refusal(rt: HostRuntime) -> Result<(), Fail> {
     let all = Cents::new(1000)?;
     let some = Cents::new(400)?;
     let more = Cents::new(601)?;
-    let submit = |id, to, cents, stamp| Command::Submit {
-        id,
-        to,
-        cents,
-        stamp,
+    let submit = |id, to, cents, stamp| {
+        Command::Submit(Submission {
+            id,
+            to,
+            cents,
+            stamp,
+        })
     };
     let found = Some(Outcome::Accepted);
     let rows = [

@@ -1,26 +1,17 @@
 //! Submissions, confirmations, rejections and investigations.
-ghost use Rattle.std.specs.Prelude.{◌≡◌, ◌+◌, true, if◌then◌else◌};
+ghost use Rattle.std.specs.Prelude.{◌≡◌, true, if◌then◌else◌};
 ghost use Rattle.inst_base.specs.Moment.{is_moment};
-ghost use Rattle.inst_journal.specs.Reply.{submit, standing, confirm, investigate};
-ghost use Rattle.inst_journal.specs.Handling.{Answers};
+ghost use Rattle.inst_base.specs.TimeLimit.{deadline_of};
+ghost use Rattle.inst_journal.specs.Reply.{submit, standing, still_pending, answer_forwarded, confirm, reject, investigate};
 
 use crate::Event;
 use crate::booked::{booked, is_forwarded, is_taken, live_submissions};
 use crate::handle::Handled;
 use crate::keys::is_submission_repeat;
 use crate::sums::available;
-use inst_base::{Cents, Fault, Ident, Moment};
-use inst_command::{Outcome, Reply, State};
+use inst_base::{Fault, Ident, Moment};
+use inst_command::{Outcome, Reply, State, Submission};
 use inst_settings::Settings;
-
-/// What a submission asks for.
-#[derive(Clone, Copy)]
-pub(crate) struct Submission {
-    pub id: Ident,
-    pub to: u8,
-    pub cents: Cents,
-    pub stamp: Moment,
-}
 
 /// Reserves the amount: refused, in this order, by `SelfTransfer`, `Duplicate`, `StampAhead`,
 /// `Expired`, `Full` and `Shortage`.
@@ -31,31 +22,30 @@ pub(crate) fn submit(
     at: Moment,
     submission: &Submission,
 ) -> Result<Handled, Fault>
-    requires { is_moment (submission.now.stamp + settings.now.limit) ≡ true }
-    ensures { Answers result (submit settings.now who events.now at submission.now.id submission.now.to
-        submission.now.cents submission.now.stamp) }
+    requires { is_moment (deadline_of settings.now.limit submission.now.stamp) ≡ true }
+    ensures { result ≡ submit settings.now who events.now at submission.now }
 {
-    let Submission {
+    let &Submission {
         id,
         to,
         cents,
         stamp,
-    } = *submission;
-    let deadline = stamp.later(settings.limit())?;
+    } = submission;
+    let deadline = stamp.deadline(settings.limit());
     let reply = Reply::Taken { id, deadline };
     if to == who {
         return Err(Fault::SelfTransfer);
     }
-    if is_submission_repeat(events, &id, to, cents, stamp) {
+    if is_submission_repeat(events, submission) {
         return Ok(Handled { reply, kept: None });
     }
     if is_taken(events, &id) {
         return Err(Fault::Duplicate);
     }
-    if stamp.past_base() > at.past_base() + u64::from(settings.ahead()) {
+    if stamp.is_ahead(settings.ahead(), at) {
         return Err(Fault::StampAhead);
     }
-    if at >= deadline {
+    if at.is_due(deadline) {
         return Err(Fault::Expired);
     }
     if live_submissions(events, who) >= usize::from(settings.places()) {
@@ -83,17 +73,30 @@ fn told(from: u8, id: Ident, state: State) -> Reply
     Reply::State { from, id, state }
 }
 
-/// How far a transfer has come for a side that has booked `known` and finds `found`.
-fn standing(from: u8, id: Ident, known: Option<Outcome>, found: Option<Outcome>) -> Handled
-    ensures { Answers (Ok result) (standing from id known found) }
+/// That the transfer is pending.
+fn still_pending(from: u8, id: Ident) -> Result<Handled, Fault>
+    ensures { result ≡ still_pending from id }
+{
+    Ok(Handled {
+        reply: told(from, id, State::Pending),
+        kept: None,
+    })
+}
+
+/// What a side that has booked `known` and finds `found` is answered: `pending` where it is neither.
+fn standing(
+    from: u8,
+    id: Ident,
+    pending: Result<Handled, Fault>,
+    known: Option<Outcome>,
+    found: Option<Outcome>,
+) -> Result<Handled, Fault>
+    ensures { result ≡ standing from id pending known found }
 {
     let is_new = known.is_none();
     match known.or(found) {
-        None => Handled {
-            reply: told(from, id, State::Pending),
-            kept: None,
-        },
-        Some(outcome) => decided(from, id, is_new, &outcome),
+        None => pending,
+        Some(outcome) => Ok(decided(from, id, is_new, &outcome)),
     }
 }
 
@@ -117,19 +120,46 @@ fn decided(from: u8, id: Ident, is_new: bool, outcome: &Outcome) -> Handled
     }
 }
 
-/// Books what is found of a forwarded transfer, or answers `UnknownTransfer` where it wasn't forwarded.
+/// Books what is found of a forwarded transfer, and answers `pending` where it is pending. Refused by
+/// `UnknownTransfer` where it wasn't forwarded.
+fn answer_forwarded(
+    events: &[Event],
+    from: u8,
+    id: Ident,
+    pending: Result<Handled, Fault>,
+    found: Option<Outcome>,
+) -> Result<Handled, Fault>
+    ensures { result ≡ answer_forwarded events.now from id pending found }
+{
+    if !is_forwarded(events, from, &id) {
+        return Err(Fault::UnknownTransfer);
+    }
+    standing(from, id, pending, booked(events, from, &id), found)
+}
+
+/// Books what is found of a forwarded transfer. A confirmation that leaves it pending was read in the
+/// margin before the deadline: it is refused as `Expired`.
 pub(crate) fn confirm(
     events: &[Event],
     from: u8,
     id: Ident,
     found: Option<Outcome>,
 ) -> Result<Handled, Fault>
-    ensures { Answers result (confirm events.now from id found) }
+    ensures { result ≡ confirm events.now from id found }
 {
-    if !is_forwarded(events, from, &id) {
-        return Err(Fault::UnknownTransfer);
-    }
-    Ok(standing(from, id, booked(events, from, &id), found))
+    answer_forwarded(events, from, id, Err(Fault::Expired), found)
+}
+
+/// Books what is found of a forwarded transfer.
+pub(crate) fn reject(
+    events: &[Event],
+    from: u8,
+    id: Ident,
+    found: Option<Outcome>,
+) -> Result<Handled, Fault>
+    ensures { result ≡ reject events.now from id found }
+{
+    answer_forwarded(events, from, id, still_pending(from, id), found)
 }
 
 /// Books what is found of a taken transfer, or answers `UnknownTransfer` where it wasn't taken.
@@ -139,10 +169,16 @@ pub(crate) fn investigate(
     id: Ident,
     found: Option<Outcome>,
 ) -> Result<Handled, Fault>
-    ensures { Answers result (investigate who events.now id found) }
+    ensures { result ≡ investigate who events.now id found }
 {
     if !is_taken(events, &id) {
         return Err(Fault::UnknownTransfer);
     }
-    Ok(standing(who, id, booked(events, who, &id), found))
+    standing(
+        who,
+        id,
+        still_pending(who, id),
+        booked(events, who, &id),
+        found,
+    )
 }

@@ -6,8 +6,7 @@ use Rattle.std.specs.List.{list_all, list_any}
 use Rattle.serde_json.specs.Data.{Data, object, array, string, boolean, number, unsigned, Items, no_items, item, Members, no_members, member}
 use Rattle.inst_base.specs.Fault.{number_of, name_of}
 use Rattle.inst_base.specs.declared.fault.Fault.{Fault}
-use Rattle.inst_settings.specs.Settings.{HubSettings, same_text}
-use Rattle.inst_command.specs.Ask.{is_participant}
+use Rattle.inst_settings.specs.Settings.{HubSettings, same_text, is_participant}
 use Rattle.inst_command.specs.LineText.{code_numbered, line_text, line_fits}
 use Rattle.inst_command.specs.declared.outcome.Outcome.TheVariants.{Accepted, Rejected, TimedOut}
 use Rattle.inst_command.specs.declared.outcome.State.{State}

@@ -1,7 +1,7 @@
 //! The checks that come after each field is there: amount, moments, participants.
 ghost use Rattle.std.specs.Prelude.{◌≡◌, ◌+◌, true, nat_le, IfOk};
 ghost use Rattle.inst_base.specs.Moment.{is_moment, moment_of};
-ghost use Rattle.inst_command.specs.Ask.{is_participant};
+ghost use Rattle.inst_settings.specs.Settings.{is_participant};
 ghost use Rattle.inst_json.specs.Checks.{amount_of, stamp_of, participant_of};
 
 use inst_base::{Cents, Code, Fault, Moment};

@@ -1,7 +1,8 @@
 //! The asks of the nine commands: each reads all its fields, and then checks what they hold.
 ghost use Rattle.std.specs.Prelude.{◌≡◌, true, IfOk};
 ghost use Rattle.inst_scan.specs.Scanned.{seen};
-ghost use Rattle.inst_command.specs.Ask.{ask_fits, is_participant};
+ghost use Rattle.inst_command.specs.Ask.{ask_fits};
+ghost use Rattle.inst_settings.specs.Settings.{is_participant};
 ghost use Rattle.inst_json.specs.Commands.{submit_of, confirm_of, reject_of, investigate_of, fetch_of, position_of, statement_of, fund_of, defund_of, ask_of};
 
 use crate::checks::{amount, moment, participant, time_stamp};

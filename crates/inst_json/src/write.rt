@@ -4,7 +4,7 @@ ghost use Rattle.std.specs.List.{list_all};
 ghost use Rattle.serde_json.specs.Data.{string};
 ghost use Rattle.serde_json.specs.Written.{compact_text};
 ghost use Rattle.inst_base.specs.Text.{is_code};
-ghost use Rattle.inst_command.specs.Ask.{is_participant};
+ghost use Rattle.inst_settings.specs.Settings.{is_participant};
 ghost use Rattle.inst_command.specs.LineText.{code_numbered, line_fits, line_text};
 ghost use Rattle.serde_json.specs.Read.{read};
 ghost use Rattle.inst_json.specs.Laws.{entry_has_words, has_words};

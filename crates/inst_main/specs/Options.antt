@@ -21,11 +21,12 @@ number_rule name value = record (new_rule name) { long = Some name; action = Som
 -- `run` and its options
 abbrev pub run_command : App
 run_command =
-    with_rule (with_rule (with_rule (with_rule (with_rule (with_rule (with_rule (new_app (codes "run"))
+    with_rule (with_rule (with_rule (with_rule (with_rule (with_rule (with_rule (with_rule (new_app (codes "run"))
     participants_rule)
     (number_rule (codes "places") (codes "256")))
     (number_rule (codes "fundings") (codes "256")))
     (number_rule (codes "limit") (codes "10000")))
+    (number_rule (codes "margin") (codes "0")))
     (number_rule (codes "ahead") (codes "1000")))
     (number_rule (codes "ceiling") (codes "99999999999")))
     (number_rule (codes "base") (codes "0"))
@@ -48,6 +49,7 @@ pub record Chooses (rows : List Row) (s : HubSettings) : Type 0 where
   pub places : Gives rows (codes "places") s.places
   pub fundings : Gives rows (codes "fundings") s.fundings
   pub limit : Gives rows (codes "limit") s.limit
+  pub margin : Gives rows (codes "margin") s.margin
   pub ahead : Gives rows (codes "ahead") s.ahead
   pub ceiling : Gives rows (codes "ceiling") s.ceiling
   pub base : Gives rows (codes "base") s.base

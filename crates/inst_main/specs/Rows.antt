@@ -10,7 +10,7 @@ small_hub = codes "inst_main" ∷ codes "run" ∷ codes "--participants" ∷ cod
 
 -- its settings: what was given, and the others as they are where they aren't
 abbrev pub small_settings : HubSettings
-small_settings = settings_with (codes "AAAADEFF" ∷ codes "BBBBFRPP" ∷ []) 2 256 10000 1000 99999999999 0
+small_settings = settings_with (codes "AAAADEFF" ∷ codes "BBBBFRPP" ∷ []) 2 256 10000 0 1000 99999999999 0
 
 pub record SmallHub : Type 0 where
   pub whole : AreWhole small_hub

@@ -37,6 +37,12 @@ pub(crate) fn command_line<'a>(alloc: Global) -> Result<Command<'a>, AllocError>
         ))?
         .arg(number(
             alloc,
+            "margin",
+            "0",
+            "From the last acceptance to the deadline in ms, below the limit",
+        ))?
+        .arg(number(
+            alloc,
             "ahead",
             "1000",
             "From reading to time stamp in ms, at most 60000",
@@ -94,10 +100,11 @@ pub(crate) fn settings(alloc: Global, options: &ArgMatches<'_>) -> Result<Settin
     let places = small(options, "places")?;
     let fundings = small(options, "fundings")?;
     let limit = medium(options, "limit")?;
+    let margin = medium(options, "margin")?;
     let ahead = medium(options, "ahead")?;
     let ceiling = whole(options, "ceiling")?;
     let base = whole(options, "base")?;
-    Settings::check(codes, places, fundings, limit, ahead, ceiling, base)
+    Settings::check(codes, places, fundings, limit, margin, ahead, ceiling, base)
 }
 
 /// The text of an option.

@@ -14,9 +14,11 @@ use Rattle.inst_command.specs.declared.step.Step.TheVariants.{Ask, Deliver, Lear
 use Rattle.inst_journal.specs.declared.event.Event.{Event}
 use Rattle.inst_journal.specs.declared.event.Event.TheVariants.{Booked}
 use Rattle.inst_journal.specs.Booked.{is_forwarded, booked, same_transfer}
-use Rattle.inst_journal.specs.Reply.{handle}
+use Rattle.inst_journal.specs.Reply.{handle, kept_events}
 use Rattle.inst_model.specs.Transfer.{Transfer, at_place, transfer, deadline, is_named}
-use Rattle.inst_model.specs.Wants.{in_time, is_addressed, ask_wants, step_wants, taken_wants, wants}
+use Rattle.inst_command.specs.Deciding.{timed_out_or, confirmed}
+use Rattle.inst_base.specs.TimeLimit.{is_due}
+use Rattle.inst_model.specs.Wants.{is_addressed, ask_wants, step_wants, taken_wants, wants}
 use Rattle.inst_model.specs.Found.{found}
 use Rattle.inst_model.specs.View.Seen.{Asked}
 use Rattle.inst_model.specs.Kept.{with_entries}
@@ -30,7 +32,7 @@ use Rattle.inst_model.proofs.Transfers.{transfer_kept}
 
 -- what a participant's own ask leaves in its history
 pub asked_next : (s : HubSettings) (J : ℕ → List Event) (before : ℕ → List ℕ → Option Outcome) (ask : AskValue) →
-    next s J before (Ask ask) ask.who ≡ J ask.who ++ (handle s ask.who (J ask.who) ask.command ask.at (found (decided s J before (Ask ask)) ask.who (J ask.who) ask.command)).kept
+    next s J before (Ask ask) ask.who ≡ J ask.who ++ kept_events (handle s ask.who (J ask.who) ask.command ask.at (found (decided s J before (Ask ask)) ask.who (J ask.who) ask.command))
 asked_next s J before ask =
     ap (λ b. with_entries s ask.who (J ask.who) (cond b (Asked ask.command ask.at (found (decided s J before (Ask ask)) ask.who (J ask.who) ask.command) ∷ []) []))
     (eq-eqb ask.who ask.who refl)
@@ -51,27 +53,27 @@ pub record Accepts (J : ℕ → List Event) (step : Step) (p : ℕ) (id : List �
   pub beneficiary : ask.who ≡ x.to
   pub forwarded : is_forwarded p id (J ask.who) ≡ true
 
-in_time_cases : (s : HubSettings) (x : Transfer) (at : ℕ) (early : Option Outcome) (o : Outcome) → in_time s x at early ≡ Some o → (early ≡ Some o) ⊎ (TimedOut ≡ o)
-in_time_cases s x at early o e = cases (ltb at (deadline s x)) e
+timed_out_cases : (deadline at : ℕ) (early : Option Outcome) (o : Outcome) → timed_out_or deadline at early ≡ Some o → (early ≡ Some o) ⊎ (TimedOut ≡ o)
+timed_out_cases deadline at early o e = cases (is_due deadline at) e
   where
-    cases : (b : Bool) → cond b early (Some TimedOut) ≡ Some o → (early ≡ Some o) ⊎ (TimedOut ≡ o)
-    cases true e = inl e
-    cases false e = inr (same_Some TimedOut o e)
+    cases : (b : Bool) → cond b (Some TimedOut) early ≡ Some o → (early ≡ Some o) ⊎ (TimedOut ≡ o)
+    cases true e = inr (same_Some TimedOut o e)
+    cases false e = inl e
 
 when_true : (b : Bool) (o : Option Outcome) (x : Outcome) → cond b o None ≡ Some x → (b ≡ true) × (o ≡ Some x)
 when_true true o x e = (refl, e)
 when_true false o x e = absurd cc
 
-never_accepted : (s : HubSettings) (x : Transfer) (at : ℕ) (b : Bool) (early : Option Outcome) {X : Type 0} → (early ≡ Some Accepted → X) → cond b (in_time s x at early) None ≡ Some Accepted → X
-never_accepted s x at b early not_early e =
-    elim (in_time_cases s x at early Accepted (when_true b (in_time s x at early) Accepted e).1) [
+never_accepted : (deadline at : ℕ) (b : Bool) (early : Option Outcome) {X : Type 0} → (early ≡ Some Accepted → X) → cond b (timed_out_or deadline at early) None ≡ Some Accepted → X
+never_accepted deadline at b early not_early e =
+    elim (timed_out_cases deadline at early Accepted (when_true b (timed_out_or deadline at early) Accepted e).1) [
       | inl early_is ↦ not_early early_is
       | inr timed_out ↦ absurd cc
     ]
 
 by_command : (s : HubSettings) (J : ℕ → List Event) (who at p : ℕ) (id : List ℕ) (x : Transfer) (command : Command) → ask_wants s J who command at p id x ≡ Some Accepted → Accepts J (Ask (record { who = who; command = command; at = at })) p id x
 by_command s J who at p id x (Confirm from other) e =
-    let parts : (is_addressed J who from other p id x ≡ true) × (in_time s x at (Some Accepted) ≡ Some Accepted) = when_true (is_addressed J who from other p id x) (in_time s x at (Some Accepted)) Accepted e in
+    let parts : (is_addressed J who from other p id x ≡ true) × (confirmed s.margin (deadline s x) at ≡ Some Accepted) = when_true (is_addressed J who from other p id x) (confirmed s.margin (deadline s x) at) Accepted e in
     let outer : ((same_transfer p id from other && eqb who x.to) ≡ true) × (is_forwarded p id (J who) ≡ true) = and_parts (same_transfer p id from other && eqb who x.to) (is_forwarded p id (J who)) parts.0 in
     let inner : (same_transfer p id from other ≡ true) × (eqb who x.to ≡ true) = and_parts (same_transfer p id from other) (eqb who x.to) outer.0 in
     let same : (from ≡ p) × (other ≡ id) = same_transfer-true p id from other inner.0 in
@@ -82,11 +84,11 @@ by_command s J who at p id x (Confirm from other) e =
       beneficiary = eqb-true who x.to inner.1;
       forwarded = outer.1;
     }
-by_command s J who at p id x (Reject from other reason) e = never_accepted s x at (is_addressed J who from other p id x) (Some (Rejected reason)) (λ f. absurd cc) e
-by_command s J who at p id x (Investigate other) e = never_accepted s x at (same_transfer p id who other) None (λ f. absurd cc) e
+by_command s J who at p id x (Reject from other reason) e = never_accepted (deadline s x) at (is_addressed J who from other p id x) (Some (Rejected reason)) (λ f. absurd cc) e
+by_command s J who at p id x (Investigate other) e = never_accepted (deadline s x) at (same_transfer p id who other) None (λ f. absurd cc) e
 by_command s J who at p id x (Fund reference cents) e = absurd cc
 by_command s J who at p id x (Defund reference cents) e = absurd cc
-by_command s J who at p id x (Submit other to cents stamp) e = absurd cc
+by_command s J who at p id x (Submit submission) e = absurd cc
 by_command s J who at p id x (Fetch max) e = absurd cc
 by_command s J who at p id x Position e = absurd cc
 by_command s J who at p id x (Statement skip count) e = absurd cc
@@ -95,11 +97,11 @@ pub accepts : (s : HubSettings) (J : ℕ → List Event) (step : Step) (p : ℕ)
 accepts s J (Ask ask) p id x e = by_command s J ask.who ask.at p id x ask.command e
 accepts s J (Deliver from place to) p id x e = absurd cc
 accepts s J (Learn who from place) p id x e = absurd cc
-accepts s J (Expire who place at) p id x e = never_accepted s x at (eqb who p && is_named id (at_place p (J p) place)) None (λ f. absurd cc) e
+accepts s J (Expire who place at) p id x e = never_accepted (deadline s x) at (eqb who p && is_named id (at_place p (J p) place)) None (λ f. absurd cc) e
 
 -- a confirmation that finds an outcome books it
-confirmed : (s : HubSettings) (who : ℕ) (J : List Event) (from : ℕ) (id : List ℕ) (at : ℕ) (o : Option Outcome) (outcome : Outcome) → is_forwarded from id J ≡ true → booked from id J ≡ None → o ≡ Some outcome → (handle s who J (Confirm from id) at o).kept ≡ Booked from id outcome ∷ []
-confirmed s who J from id at o outcome there none some = rw (there, none, some) refl
+confirmation_books : (s : HubSettings) (who : ℕ) (J : List Event) (from : ℕ) (id : List ℕ) (at : ℕ) (o : Option Outcome) (outcome : Outcome) → is_forwarded from id J ≡ true → booked from id J ≡ None → o ≡ Some outcome → kept_events (handle s who J (Confirm from id) at o) ≡ Booked from id outcome ∷ []
+confirmation_books s who J from id at o outcome there none some = rw (there, none, some) refl
 
 -- what the beneficiary of an accepted transfer has booked
 pub accepted_booked : (s : HubSettings) (O : Opening) → IsOpening s O → (L : List Step) (p : ℕ) (id : List ℕ) → outcome s O L p id ≡ Some Accepted → (x : Transfer) × (transfer id (history s O L p) ≡ Some x) × (booked p id (history s O L x.to) ≡ Some Accepted) × (is_forwarded p id (history s O L x.to) ≡ true)
@@ -124,9 +126,9 @@ accepted_booked s O opened (step ∷ past) p id e =
           let found_is : found after a.ask.who (J a.ask.who) a.ask.command ≡ Some Accepted =
           ap (found after a.ask.who (J a.ask.who)) a.command ∙ cond-true (is_forwarded p id (J a.ask.who)) (after p id) None a.forwarded
           ∙ (ap (λ (t : Step). decided s J (outcome s O past) t p id) (sym a.is_ask) ∙ e) in
-          let kept_is : (handle s a.ask.who (J a.ask.who) a.ask.command a.ask.at (found after a.ask.who (J a.ask.who) a.ask.command)).kept ≡ Booked p id Accepted ∷ [] =
-          ap (λ (c : Command). (handle s a.ask.who (J a.ask.who) c a.ask.at (found after a.ask.who (J a.ask.who) a.ask.command)).kept) a.command
-          ∙ confirmed s a.ask.who (J a.ask.who) p id a.ask.at _ Accepted a.forwarded unbooked found_is in
+          let kept_is : kept_events (handle s a.ask.who (J a.ask.who) a.ask.command a.ask.at (found after a.ask.who (J a.ask.who) a.ask.command)) ≡ Booked p id Accepted ∷ [] =
+          ap (λ (c : Command). kept_events (handle s a.ask.who (J a.ask.who) c a.ask.at (found after a.ask.who (J a.ask.who) a.ask.command))) a.command
+          ∙ confirmation_books s a.ask.who (J a.ask.who) p id a.ask.at _ Accepted a.forwarded unbooked found_is in
           let grown : history s O (step ∷ past) a.ask.who ≡ J a.ask.who ++ Booked p id Accepted ∷ [] =
           history_step s O step past a.ask.who ∙ ap (λ (t : Step). next s J (outcome s O past) t a.ask.who) a.is_ask
           ∙ asked_next s J (outcome s O past) a.ask ∙ ap (λ events. J a.ask.who ++ events) kept_is in (

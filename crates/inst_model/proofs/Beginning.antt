@@ -1,6 +1,7 @@
 -- What histories begin with is sound and closed.
 use Rattle.std.proofs.Common.{◌≡◌, ℕ, ◌+◌, true, List, [], ◌∷◌, ◌++◌, Option, Some, None, is_none, refl, sym, ap, ◌∙◌, arith, inl, inr, Contains}
 use Rattle.std.proofs.lemmas.List.Elements.{Contains-append_left, Contains-append_cases}
+use Rattle.inst_base.specs.TimeLimit.{deadline_of}
 use Rattle.inst_settings.specs.Settings.{HubSettings}
 use Rattle.inst_command.specs.declared.outcome.Outcome.{Outcome}
 use Rattle.inst_command.specs.declared.outcome.Outcome.TheVariants.{Accepted}
@@ -68,7 +69,7 @@ beginning_closed s (FromBooks books) opened =
       beneficiary_booked = λ from id to cents d p o forwarded there.
           back (books to) (Booked from id o) (c.beneficiary_booked from id to cents d p o (front (books to) (Forwarded from id cents d) (λ e. cc) forwarded) (front (books p) (Booked from id o) (λ e. cc) there));
       pending_is_forwarded = λ from id to cents stamp taken none.
-          back (books to) (Forwarded from id cents (stamp + s.limit)) (c.pending_is_forwarded from id to cents stamp (front (books from) (Taken id to cents stamp) (λ e. cc) taken)
+          back (books to) (Forwarded from id cents (deadline_of s.limit stamp)) (c.pending_is_forwarded from id to cents stamp (front (books from) (Taken id to cents stamp) (λ e. cc) taken)
           (λ p o there. none p o (back (books p) (Booked from id o) there)));
     }
 

@@ -35,7 +35,7 @@ IsFromParticipant s (Fetched count) = Unit {0}
 IsFromParticipant s Opened = Unit {0}
 
 from_new : (s : HubSettings) (who : ℕ) (J : List Event) (event : Event) → Fits s who J event → IsFromParticipant s event
-from_new s who J (Forwarded from id cents d) fits = fits.originator
+from_new s who J (Forwarded from id cents d) fits = ltb-true from (participants s) fits.originator
 from_new s who J (Funded reference cents) fits = tt
 from_new s who J (Defunded reference cents) fits = tt
 from_new s who J (Taken id to cents stamp) fits = tt

@@ -92,7 +92,6 @@ booked_there from id o (event ∷ J) e =
       | inr rest ↦ Contains-append_right (event ∷ []) J (Booked from id o) (booked_there from id o J rest.1)
     ]
 
-
 -- a transfer that is named stands at a place, after one more event in front
 stands : (id : List ℕ) (event : Event) (J : List Event) (x : Transfer) → or_else (terms_named id event) (transfer id J) ≡ Some x → (transfer id J ≡ Some x → (k : ℕ) × (taken_at J k ≡ Some x)) → (k : ℕ) × (taken_at (event ∷ J) k ≡ Some x)
 stands id (Taken other to cents stamp) J x e later =
@@ -110,4 +109,3 @@ stands id Opened J x e later = later e
 pub stands_somewhere : (id : List ℕ) (J : List Event) (x : Transfer) → transfer id J ≡ Some x → (k : ℕ) × (taken_at J k ≡ Some x)
 stands_somewhere id [] x e = absurd cc
 stands_somewhere id (event ∷ J) x e = stands id event J x e (stands_somewhere id J x)
-

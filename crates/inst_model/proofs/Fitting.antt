@@ -3,6 +3,7 @@ use Rattle.std.proofs.Common.{◌≡◌, ℕ, ◌+◌, List, [], ◌∷◌, Some
 use Rattle.std.proofs.lemmas.List.Elements.{Contains-append_left}
 use Rattle.std.proofs.lemmas.Option.{same_Some}
 use Rattle.inst_model.specs.Opening.{Opening, IsOpening, beginning}
+use Rattle.inst_base.specs.TimeLimit.{deadline_of}
 use Rattle.inst_settings.specs.Settings.{HubSettings}
 use Rattle.inst_command.specs.declared.outcome.Outcome.TheVariants.{Accepted}
 use Rattle.inst_command.specs.declared.step.Step.{Step}
@@ -27,7 +28,7 @@ histories_are_sound s O opened L steps p = (together s O opened L steps).sound p
 
 -- a forwarding is of a taken transfer
 abbrev IsOfTaken : HubSettings → (ℕ → List Event) → ℕ → Event → Type 0
-IsOfTaken s J p (Forwarded from id cents d) = (stamp : ℕ) × Contains (J from) (Taken id p cents stamp) × (stamp + s.limit ≡ d)
+IsOfTaken s J p (Forwarded from id cents d) = (stamp : ℕ) × Contains (J from) (Taken id p cents stamp) × (deadline_of s.limit stamp ≡ d)
 IsOfTaken s J p (Funded reference cents) = Unit {0}
 IsOfTaken s J p (Defunded reference cents) = Unit {0}
 IsOfTaken s J p (Taken id to cents stamp) = Unit {0}

@@ -22,4 +22,3 @@ booked_new from id o K none =
 pub is_none_of : (o : Option Outcome) → ((x : Outcome) → o ≡ Some x → ⊥) → o ≡ None
 is_none_of None never = refl
 is_none_of (Some x) never = absurd (never x refl)
-

@@ -60,7 +60,7 @@ pub record Grows (s : HubSettings) (J : ℕ → List Event) (before : ℕ → Li
       FundKept s (J p) reference → Q (J p ++ Funded reference cents ∷ [])
   pub defunds : (ask : AskValue) (reference : List ℕ) (cents : ℕ) → step ≡ Ask ask → ask.command ≡ Defund reference cents →
       FundKept s (J p) reference → ltb (available (J p)) cents ≡ false → Q (J p ++ Defunded reference cents ∷ [])
-  pub takes : (ask : AskValue) (id : List ℕ) (to cents stamp : ℕ) → step ≡ Ask ask → ask.command ≡ Submit id to cents stamp →
+  pub takes : (ask : AskValue) (id : List ℕ) (to cents stamp : ℕ) → step ≡ Ask ask → ask.command ≡ Submit (record { id = id; to = to; cents = cents; stamp = stamp }) →
       TakenKept s p (J p) id to cents → Q (J p ++ Taken id to cents stamp ∷ [])
   pub forwards : (from place : ℕ) (x : Transfer) → step ≡ Deliver from place p → Comes s before from p (J from) (J p) place x →
       Q (J p ++ Forwarded from x.id x.cents (deadline s x) ∷ [])
@@ -80,7 +80,7 @@ grows s J before step p Q c =
         nothing = subst Q (sym (append-nil (J p))) c.nothing;
         funds = λ reference cents command why. c.funds ask reference cents is command why;
         defunds = λ reference cents command why cover. c.defunds ask reference cents is command why cover;
-        takes = λ id to cents stamp command why. c.takes ask id to cents stamp is command why;
+        takes = λ x command why. c.takes ask x.id x.to x.cents x.stamp is command why;
         books = λ from id o why. c.books from id o (record { outcome_is = sym (why.named (decided s J before step)) ∙ why.found_here; new = why.new; party = why.party });
         hands_out = λ max entry entries command some. c.hands_out ask max entry entries is command some;
       });

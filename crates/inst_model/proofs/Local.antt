@@ -2,6 +2,7 @@
 use Rattle.std.proofs.Common.{◌≡◌, ℕ, Bool, true, false, cond, ◌||◌, is_none, List, [], ◌∷◌, ◌++◌, Option, Some, None, is_some, ◌+◌, refl, sym, ap, subst, ◌∙◌, inl, inr, Contains}
 use Rattle.std.proofs.lemmas.Option.{same_Some}
 use Rattle.inst_model.specs.Opening.{Opening, IsOpening, beginning}
+use Rattle.inst_base.specs.TimeLimit.{deadline_of}
 use Rattle.inst_settings.specs.Settings.{HubSettings}
 use Rattle.inst_command.specs.declared.outcome.Outcome.{Outcome}
 use Rattle.inst_command.specs.declared.step.Step.{Step}
@@ -138,7 +139,7 @@ begun_forwarded s O opened p id x found none =
     let place = stands_somewhere id J x found in
     let event : Contains J (taken_event x) = Each_at (λ (t : Transfer). Contains J (taken_event t)) (transfers J) place.0 x (each_there J) place.1 in
     let named : Contains J (Taken id x.to x.cents x.stamp) = subst (λ (i : List ℕ). Contains J (Taken i x.to x.cents x.stamp)) (transfer_id id J x found) event in
-    forwarded_found p id (beginning O x.to) x.cents (x.stamp + s.limit)
+    forwarded_found p id (beginning O x.to) x.cents (deadline_of s.limit x.stamp)
     ((beginning_closed s O opened).pending_is_forwarded p id x.to x.cents x.stamp named
     (λ q o there.
     let e : None ≡ Some o = sym none ∙ beginning_booked s O opened q p id o (booked_found s q (beginning O q) p id o (beginning_sound s O opened q) there) in absurd cc))

@@ -1,8 +1,11 @@
 -- What is answered and what is booked is the outcome, which stays.
-use Rattle.std.proofs.Common.{◌≡◌, ℕ, Bool, true, false, cond, eqb, ltb, leb, List, [], ◌∷◌, ◌++◌, ◌+◌, take, Option, Some, None, refl, sym, subst, Contains}
+use Rattle.std.proofs.Common.{◌≡◌, ℕ, Bool, true, false, cond, eqb, ltb, leb, List, [], ◌∷◌, ◌++◌, ◌+◌, take, Option, Some, None, Result, Ok, Err, refl, sym, subst, Contains}
 use Rattle.std.proofs.lemmas.Bool.{cond-true}
 use Rattle.std.proofs.lemmas.Option.{cond_some}
 use Rattle.inst_model.specs.Opening.{Opening, IsOpening, beginning}
+use Rattle.inst_base.specs.TimeLimit.{deadline_of, is_ahead, is_due}
+use Rattle.inst_base.specs.declared.fault.Fault.{Fault}
+use Rattle.inst_base.specs.declared.fault.Fault.TheVariants.{Expired}
 use Rattle.inst_settings.specs.Settings.{HubSettings}
 use Rattle.inst_command.specs.declared.command.Command.{Command}
 use Rattle.inst_command.specs.declared.command.Command.TheVariants.{Fund, Defund, Submit, Confirm, Reject, Investigate, Fetch, Position, Statement}
@@ -16,12 +19,13 @@ use Rattle.inst_command.specs.declared.reply.Answer.TheVariants.{Reply, New}
 use Rattle.inst_command.specs.declared.reply.Reply.{Reply as ReplyValue}
 use Rattle.inst_command.specs.declared.reply.Reply.TheVariants.{Done, Taken as TakenReply, State, Inbox, Position as PositionReply, Statement as StatementReply, Refused}
 use Rattle.inst_journal.specs.declared.event.Event.{Event}
+use Rattle.inst_journal.specs.declared.handle.Handled.{Handled}
 use Rattle.inst_journal.specs.declared.event.Event.TheVariants.{Funded, Defunded, Taken, Forwarded, Booked, Fetched, Opened}
 use Rattle.inst_journal.specs.Booked.{is_taken, is_forwarded, books, booked, same_transfer}
 use Rattle.inst_journal.specs.Money.{available}
 use Rattle.inst_journal.specs.Opened.{live_submissions}
 use Rattle.inst_journal.specs.Keys.{is_fund_repeat, is_defund_repeat, is_submission_repeat, has_reference, fundings}
-use Rattle.inst_journal.specs.Reply.{Handled, handle, standing, hand_out, unread}
+use Rattle.inst_journal.specs.Reply.{told, is_new_funding, funding, handle, standing, still_pending, hand_out, unread}
 use Rattle.inst_model.specs.Wants.{wants}
 use Rattle.inst_model.specs.Found.{found}
 use Rattle.inst_model.specs.Hub.{outcome, history}
@@ -117,21 +121,27 @@ IsRight outcomes (PositionReply position reserved available) = Unit {0}
 IsRight outcomes (StatementReply lines) = Unit {0}
 IsRight outcomes (Refused fault) = Unit {0}
 
-abbrev Right : (ℕ → List ℕ → Option Outcome) → Handled → Type 0
-Right outcomes h = IsRight outcomes (as_reply h.reply)
+abbrev Right : (ℕ → List ℕ → Option Outcome) → Result Handled Fault → Type 0
+Right outcomes h = IsRight outcomes (as_reply (told h))
 
 abbrev AnswerRight : (ℕ → List ℕ → Option Outcome) → Answer → Type 0
 AnswerRight outcomes (Reply r) = IsRight outcomes r
 AnswerRight outcomes (New b) = Unit {0}
 
-chosen : (outcomes : ℕ → List ℕ → Option Outcome) (b : Bool) (x y : Handled) → (b ≡ true → Right outcomes x) → (b ≡ false → Right outcomes y) → Right outcomes (cond b x y)
+chosen : (outcomes : ℕ → List ℕ → Option Outcome) (b : Bool) (x y : Result Handled Fault) → (b ≡ true → Right outcomes x) → (b ≡ false → Right outcomes y) → Right outcomes (cond b x y)
 chosen outcomes true x y first second = first refl
 chosen outcomes false x y first second = second refl
 
-standing_right : (outcomes : ℕ → List ℕ → Option Outcome) (from : ℕ) (id : List ℕ) (before o : Option Outcome) → ((x : Outcome) → before ≡ Some x → outcomes from id ≡ Some x) → o ≡ outcomes from id → Right outcomes (standing from id before o)
-standing_right outcomes from id (Some x) o known same = known x refl
-standing_right outcomes from id None (Some x) known same = sym same
-standing_right outcomes from id None None known same = tt
+standing_right : (outcomes : ℕ → List ℕ → Option Outcome) (from : ℕ) (id : List ℕ) (pending : Result Handled Fault) (before o : Option Outcome)
+    → Right outcomes pending → ((x : Outcome) → before ≡ Some x → outcomes from id ≡ Some x) → o ≡ outcomes from id → Right outcomes (standing from id pending before o)
+standing_right outcomes from id pending (Some x) o none known same = known x refl
+standing_right outcomes from id pending None (Some x) none known same = sym same
+standing_right outcomes from id pending None None none known same = none
+
+funding_right : (outcomes : ℕ → List ℕ → Option Outcome) (reference : List ℕ) (new : Result Handled Fault) (is_new : Result Bool Fault) → Right outcomes new → Right outcomes (funding reference new is_new)
+funding_right outcomes reference new (Err fault) right = tt
+funding_right outcomes reference new (Ok false) right = tt
+funding_right outcomes reference new (Ok true) right = right
 
 hand_out_right : (outcomes : ℕ → List ℕ → Option Outcome) (entries : List Entry) → Right outcomes (hand_out entries)
 hand_out_right outcomes [] = tt
@@ -140,32 +150,26 @@ hand_out_right outcomes (entry ∷ entries) = tt
 handled_right : (s : HubSettings) (who : ℕ) (J : List Event) (command : Command) (at : ℕ) (outcomes : ℕ → List ℕ → Option Outcome)
     → ((from : ℕ) (id : List ℕ) (o : Outcome) → booked from id J ≡ Some o → outcomes from id ≡ Some o)
     → Right outcomes (handle s who J command at (found outcomes who J command))
-handled_right s who J (Fund reference cents) at outcomes known =
-    chosen outcomes (is_fund_repeat reference cents J) _ _ (λ _. tt) (λ _.
-    chosen outcomes (has_reference reference J) _ _ (λ _. tt) (λ _.
-    chosen outcomes (leb s.fundings (fundings J)) _ _ (λ _. tt) (λ _. tt)))
+handled_right s who J (Fund reference cents) at outcomes known = funding_right outcomes reference _ (is_new_funding s J reference _) tt
 handled_right s who J (Defund reference cents) at outcomes known =
-    chosen outcomes (is_defund_repeat reference cents J) _ _ (λ _. tt) (λ _.
-    chosen outcomes (has_reference reference J) _ _ (λ _. tt) (λ _.
-    chosen outcomes (leb s.fundings (fundings J)) _ _ (λ _. tt) (λ _.
-    chosen outcomes (ltb (available J) cents) _ _ (λ _. tt) (λ _. tt))))
-handled_right s who J (Submit id to cents stamp) at outcomes known =
-    chosen outcomes (eqb to who) _ _ (λ _. tt) (λ _.
-    chosen outcomes (is_submission_repeat id to cents stamp J) _ _ (λ _. tt) (λ _.
-    chosen outcomes (is_taken id J) _ _ (λ _. tt) (λ _.
-    chosen outcomes (ltb (at + s.ahead) stamp) _ _ (λ _. tt) (λ _.
-    chosen outcomes (leb (stamp + s.limit) at) _ _ (λ _. tt) (λ _.
+    funding_right outcomes reference _ (is_new_funding s J reference _) (chosen outcomes (ltb (available J) cents) _ _ (λ _. tt) (λ _. tt))
+handled_right s who J (Submit x) at outcomes known =
+    chosen outcomes (eqb x.to who) _ _ (λ _. tt) (λ _.
+    chosen outcomes (is_submission_repeat x J) _ _ (λ _. tt) (λ _.
+    chosen outcomes (is_taken x.id J) _ _ (λ _. tt) (λ _.
+    chosen outcomes (is_ahead s.ahead x.stamp at) _ _ (λ _. tt) (λ _.
+    chosen outcomes (is_due (deadline_of s.limit x.stamp) at) _ _ (λ _. tt) (λ _.
     chosen outcomes (leb s.places (live_submissions who J)) _ _ (λ _. tt) (λ _.
-    chosen outcomes (ltb (available J) cents) _ _ (λ _. tt) (λ _. tt)))))))
+    chosen outcomes (ltb (available J) x.cents) _ _ (λ _. tt) (λ _. tt)))))))
 handled_right s who J (Confirm from id) at outcomes known =
     chosen outcomes (is_forwarded from id J) _ _
-    (λ there. standing_right outcomes from id (booked from id J) _ (known from id) (cond-true (is_forwarded from id J) (outcomes from id) None there)) (λ _. tt)
+    (λ there. standing_right outcomes from id (Err Expired) (booked from id J) _ tt (known from id) (cond-true (is_forwarded from id J) (outcomes from id) None there)) (λ _. tt)
 handled_right s who J (Reject from id reason) at outcomes known =
     chosen outcomes (is_forwarded from id J) _ _
-    (λ there. standing_right outcomes from id (booked from id J) _ (known from id) (cond-true (is_forwarded from id J) (outcomes from id) None there)) (λ _. tt)
+    (λ there. standing_right outcomes from id (still_pending from id) (booked from id J) _ tt (known from id) (cond-true (is_forwarded from id J) (outcomes from id) None there)) (λ _. tt)
 handled_right s who J (Investigate id) at outcomes known =
     chosen outcomes (is_taken id J) _ _
-    (λ there. standing_right outcomes who id (booked who id J) _ (known who id) (cond-true (is_taken id J) (outcomes who id) None there)) (λ _. tt)
+    (λ there. standing_right outcomes who id (still_pending who id) (booked who id J) _ tt (known who id) (cond-true (is_taken id J) (outcomes who id) None there)) (λ _. tt)
 handled_right s who J (Fetch max) at outcomes known = hand_out_right outcomes (take max (unread J))
 handled_right s who J Position at outcomes known = tt
 handled_right s who J (Statement skip count) at outcomes known = tt

@@ -48,4 +48,3 @@ beneficiary_booked s J sound closed from id e = elim (booked_party s from from i
       ] in
       (x, found.1, received, forwarded)
 ]
-

@@ -13,7 +13,9 @@ use Rattle.inst_journal.specs.declared.event.Event.TheVariants.{Funded, Defunded
 use Rattle.inst_journal.specs.Booked.{or_else, is_forwarded, forwards, same_transfer}
 use Rattle.inst_journal.proofs.Pushing.{list_any_push}
 use Rattle.inst_model.specs.Transfer.{Transfer}
-use Rattle.inst_model.specs.Wants.{in_time, ask_wants}
+use Rattle.inst_base.specs.TimeLimit.{is_in_time_to_accept}
+use Rattle.inst_command.specs.Deciding.{timed_out_or, confirmed, rejected, expired}
+use Rattle.inst_model.specs.Wants.{ask_wants}
 use Rattle.inst_model.specs.Hub.{decided}
 use Rattle.inst_model.specs.Locality.{Touch, ask_on}
 use Rattle.inst_model.specs.Locality.Touch.{Delivers, Confirms, Rejects, Investigates, Expires}
@@ -30,10 +32,10 @@ wanting g o = record { forwarded = g.forwarded; decided = or_else g.decided o }
 
 abbrev pub after_touch : HubSettings → Transfer → Progress → Touch → Progress
 after_touch s x g Delivers = record { forwarded = g.forwarded || is_none g.decided; decided = g.decided }
-after_touch s x g (Confirms at) = wanting g (cond g.forwarded (in_time s x at (Some Accepted)) None)
-after_touch s x g (Rejects reason at) = wanting g (cond g.forwarded (in_time s x at (Some (Rejected reason))) None)
-after_touch s x g (Investigates at) = wanting g (in_time s x at None)
-after_touch s x g (Expires at) = wanting g (in_time s x at None)
+after_touch s x g (Confirms at) = wanting g (cond g.forwarded (confirmed s.margin (deadline s x) at) None)
+after_touch s x g (Rejects reason at) = wanting g (cond g.forwarded (rejected reason (deadline s x) at) None)
+after_touch s x g (Investigates at) = wanting g (timed_out_or (deadline s x) at None)
+after_touch s x g (Expires at) = wanting g (timed_out_or (deadline s x) at None)
 
 abbrev pub progress : HubSettings → Transfer → Progress → List Touch → Progress
 progress s x g [] = g
@@ -69,22 +71,22 @@ pub record Says (s : HubSettings) (forwarded : Bool) (decided : Option Outcome) 
 
 -- a confirmation or rejection
 deciding : (s : HubSettings) (x : Transfer) (early : Option Outcome) (at : ℕ) (touch : Touch) (named here there : Bool) (before : Option Outcome)
-    → ((g : Progress) → after_touch s x g touch ≡ wanting g (cond g.forwarded (in_time s x at early) None)) → (named ≡ true → here ≡ there)
-    → Says s there (or_else before (cond (named && here) (in_time s x at early) None)) (progress s x (record { forwarded = there; decided = before }) (cond named (touch ∷ []) []))
+    → ((g : Progress) → after_touch s x g touch ≡ wanting g (cond g.forwarded (timed_out_or (deadline s x) at early) None)) → (named ≡ true → here ≡ there)
+    → Says s there (or_else before (cond (named && here) (timed_out_or (deadline s x) at early) None)) (progress s x (record { forwarded = there; decided = before }) (cond named (touch ∷ []) []))
 deciding s x early at touch true here there before is same =
-    let end : progress s x (record { forwarded = there; decided = before }) (touch ∷ []) ≡ wanting (record { forwarded = there; decided = before }) (cond there (in_time s x at early) None) = is (record { forwarded = there; decided = before }) in
+    let end : progress s x (record { forwarded = there; decided = before }) (touch ∷ []) ≡ wanting (record { forwarded = there; decided = before }) (cond there (timed_out_or (deadline s x) at early) None) = is (record { forwarded = there; decided = before }) in
     record {
       forwarded_is = sym (ap (λ (g : Progress). g.forwarded) end);
-      decided_is = ap (λ b. or_else before (cond b (in_time s x at early) None)) (same refl) ∙ sym (ap (λ (g : Progress). g.decided) end);
+      decided_is = ap (λ b. or_else before (cond b (timed_out_or (deadline s x) at early) None)) (same refl) ∙ sym (ap (λ (g : Progress). g.decided) end);
     }
 deciding s x early at touch false here there before is same = record { forwarded_is = refl; decided_is = or_else_none before }
 
 -- an investigation or expiry
 pub timing : (s : HubSettings) (x : Transfer) (at : ℕ) (touch : Touch) (named there : Bool) (before : Option Outcome)
-    → ((g : Progress) → after_touch s x g touch ≡ wanting g (in_time s x at None))
-    → Says s there (or_else before (cond named (in_time s x at None) None)) (progress s x (record { forwarded = there; decided = before }) (cond named (touch ∷ []) []))
+    → ((g : Progress) → after_touch s x g touch ≡ wanting g (timed_out_or (deadline s x) at None))
+    → Says s there (or_else before (cond named (timed_out_or (deadline s x) at None) None)) (progress s x (record { forwarded = there; decided = before }) (cond named (touch ∷ []) []))
 timing s x at touch true there before is =
-    let end : progress s x (record { forwarded = there; decided = before }) (touch ∷ []) ≡ wanting (record { forwarded = there; decided = before }) (in_time s x at None) = is (record { forwarded = there; decided = before }) in
+    let end : progress s x (record { forwarded = there; decided = before }) (touch ∷ []) ≡ wanting (record { forwarded = there; decided = before }) (timed_out_or (deadline s x) at None) = is (record { forwarded = there; decided = before }) in
     record { forwarded_is = sym (ap (λ (g : Progress). g.forwarded) end); decided_is = sym (ap (λ (g : Progress). g.decided) end) }
 timing s x at touch false there before is = record { forwarded_is = refl; decided_is = or_else_none before }
 
@@ -94,7 +96,7 @@ silent s x there before = record { forwarded_is = refl; decided_is = or_else_non
 pub at_ask : (s : HubSettings) (J : ℕ → List Event) (who at p : ℕ) (id : List ℕ) (x : Transfer) (before : Option Outcome) (command : Command)
     → Says s (is_forwarded p id (J x.to)) (or_else before (ask_wants s J who command at p id x)) (progress s x (record { forwarded = is_forwarded p id (J x.to); decided = before }) (ask_on who command at p id x))
 at_ask s J who at p id x before (Confirm from other) =
-    deciding s x (Some Accepted) at (Confirms at) (same_transfer p id from other && eqb who x.to) (is_forwarded p id (J who)) (is_forwarded p id (J x.to)) before (λ g. refl)
+    deciding s x (cond (is_in_time_to_accept s.margin (deadline s x) at) (Some Accepted) None) at (Confirms at) (same_transfer p id from other && eqb who x.to) (is_forwarded p id (J who)) (is_forwarded p id (J x.to)) before (λ g. refl)
     (λ e. ap (λ q. is_forwarded p id (J q)) (eqb-true who x.to (and_parts (same_transfer p id from other) (eqb who x.to) e).1))
 at_ask s J who at p id x before (Reject from other reason) =
     deciding s x (Some (Rejected reason)) at (Rejects reason at) (same_transfer p id from other && eqb who x.to) (is_forwarded p id (J who)) (is_forwarded p id (J x.to)) before (λ g. refl)
@@ -102,7 +104,7 @@ at_ask s J who at p id x before (Reject from other reason) =
 at_ask s J who at p id x before (Investigate other) = timing s x at (Investigates at) (same_transfer p id who other) (is_forwarded p id (J x.to)) before (λ g. refl)
 at_ask s J who at p id x before (Fund reference cents) = silent s x (is_forwarded p id (J x.to)) before
 at_ask s J who at p id x before (Defund reference cents) = silent s x (is_forwarded p id (J x.to)) before
-at_ask s J who at p id x before (Submit other to cents stamp) = silent s x (is_forwarded p id (J x.to)) before
+at_ask s J who at p id x before (Submit submission) = silent s x (is_forwarded p id (J x.to)) before
 at_ask s J who at p id x before (Fetch max) = silent s x (is_forwarded p id (J x.to)) before
 at_ask s J who at p id x before Position = silent s x (is_forwarded p id (J x.to)) before
 at_ask s J who at p id x before (Statement skip count) = silent s x (is_forwarded p id (J x.to)) before

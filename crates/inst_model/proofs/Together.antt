@@ -4,8 +4,8 @@ use Rattle.std.specs.List.{cons_option}
 use Rattle.std.proofs.lemmas.List.Sums.{sum_by_push}
 use Rattle.std.proofs.lemmas.Bool.{cases_Bool, cases_eq, and_parts, ne_eqb, true≢false, ltb-true}
 use Rattle.inst_model.specs.Opening.{Opening, IsOpening}
-use Rattle.inst_settings.specs.Settings.{HubSettings, same_text, participants}
-use Rattle.inst_command.specs.Ask.{is_participant, command_fits}
+use Rattle.inst_settings.specs.Settings.{HubSettings, same_text, participants, is_participant}
+use Rattle.inst_command.specs.Ask.{command_fits}
 use Rattle.inst_command.specs.Step.{step_fits}
 use Rattle.inst_command.specs.declared.outcome.Outcome.{Outcome}
 use Rattle.inst_command.specs.declared.step.Step.{Step}
@@ -96,7 +96,7 @@ sound_next s J before step t living fits p =
       came = λ from place x is why.
           let parts : (is_participant s from ≡ true) × (is_participant s p ≡ true) = and_parts (is_participant s from) (is_participant s p) (ap (step_fits s) (sym is) ∙ fits) in
           sound_push s p (J p) (Forwarded from x.id x.cents (deadline s x)) (t.sound p) (record {
-            originator = ltb-true from (participants s) parts.0;
+            originator = parts.0;
             another = λ same. place_to_another s from (J from) place x (t.sound from) why.there (why.addressed ∙ sym same);
             new = why.new;
             place = place_left s J p from place x t living why.there why.new;
@@ -132,17 +132,17 @@ both s O opened [] steps = (beginning_together s O opened, beginning_living s O 
 both s O opened (step ∷ past) steps =
     let earlier = both s O opened past steps.1 in
     let t : Together s (next s (history s O past) (outcome s O past) step) = together_next s (history s O past) (outcome s O past) step earlier.0 earlier.1 steps.0 in (
-    record {
-      sound = λ p. subst (IsSound s p) (sym (history_step s O step past p)) (t.sound p);
-      taken = λ q from id e.
-          let was = t.taken q from id (sym (ap (is_forwarded from id) (history_step s O step past q)) ∙ e) in
-          (was.0, ap (transfer id) (history_step s O step past from) ∙ was.1, was.2);
-      mirror = λ q from g.
-          ap (sum_by (weighed g from)) (history_step s O step past q) ∙ t.mirror q from g
-          ∙ sym (ap (λ K. sum_by (weighed_there g from K) (transfers (history s O (step ∷ past) from))) (history_step s O step past q)
-          ∙ ap (λ K. sum_by (weighed_there g from (next s (history s O past) (outcome s O past) step q)) (transfers K)) (history_step s O step past from));
-    },
-    living s O opened past earlier.0 earlier.1 step,
+      record {
+        sound = λ p. subst (IsSound s p) (sym (history_step s O step past p)) (t.sound p);
+        taken = λ q from id e.
+            let was = t.taken q from id (sym (ap (is_forwarded from id) (history_step s O step past q)) ∙ e) in
+            (was.0, ap (transfer id) (history_step s O step past from) ∙ was.1, was.2);
+        mirror = λ q from g.
+            ap (sum_by (weighed g from)) (history_step s O step past q) ∙ t.mirror q from g
+            ∙ sym (ap (λ K. sum_by (weighed_there g from K) (transfers (history s O (step ∷ past) from))) (history_step s O step past q)
+            ∙ ap (λ K. sum_by (weighed_there g from (next s (history s O past) (outcome s O past) step q)) (transfers K)) (history_step s O step past from));
+      },
+      living s O opened past earlier.0 earlier.1 step,
     )
 
 pub together : (s : HubSettings) (O : Opening) → IsOpening s O → (L : List Step) → IsInterleaving s L → Together s (history s O L)

@@ -187,7 +187,7 @@ place_to_another s who J k x sound e = let there = place_there who J k x e in in
 
 to_participant : (s : HubSettings) (who : ℕ) (J : List Event) (event : Event) (x : Transfer) → Fits s who J event → terms event ≡ Some x → x.to < length s.codes
 to_participant s who J (Taken id to cents stamp) x fits is =
-    subst (λ (y : Transfer). y.to < length s.codes) (same_Some (as_transfer id to cents stamp) x is) fits.beneficiary
+    subst (λ (y : Transfer). y.to < length s.codes) (same_Some (as_transfer id to cents stamp) x is) (ltb-true to (participants s) fits.beneficiary)
 to_participant s who J (Funded reference cents) x fits is = absurd cc
 to_participant s who J (Defunded reference cents) x fits is = absurd cc
 to_participant s who J (Forwarded from id cents deadline) x fits is = absurd cc

@@ -1,7 +1,8 @@
 -- When the books of all participants agree with one another: what is forwarded was taken, both sides book the same, and
 -- nobody pays what wasn't received (EPC004-16, chapter 4: both participants are told one outcome). They are closed
 -- once all that is decided is booked by both sides. This hub's own choice.
-use Rattle.std.specs.Prelude.{◌≡◌, ℕ, ◌+◌, List, Contains}
+use Rattle.std.specs.Prelude.{◌≡◌, ℕ, List, Contains}
+use Rattle.inst_base.specs.TimeLimit.{deadline_of}
 use Rattle.inst_settings.specs.Settings.{HubSettings}
 use Rattle.inst_command.specs.declared.outcome.Outcome.{Outcome}
 use Rattle.inst_command.specs.declared.outcome.Outcome.TheVariants.{Accepted}
@@ -11,7 +12,7 @@ use Rattle.inst_journal.specs.declared.event.Event.TheVariants.{Taken, Forwarded
 -- J p is the history of p
 pub record BooksFit (s : HubSettings) (J : ℕ → List Event) : Type 0 where
   pub forwarded_is_taken : (p from : ℕ) (id : List ℕ) (cents deadline : ℕ) → Contains (J p) (Forwarded from id cents deadline) →
-      (stamp : ℕ) × Contains (J from) (Taken id p cents stamp) × (stamp + s.limit ≡ deadline)
+      (stamp : ℕ) × Contains (J from) (Taken id p cents stamp) × (deadline_of s.limit stamp ≡ deadline)
   pub both_book_the_same : (p q from : ℕ) (id : List ℕ) (one other : Outcome) →
       Contains (J p) (Booked from id one) → Contains (J q) (Booked from id other) → one ≡ other
   pub paid_is_received : (from : ℕ) (id : List ℕ) (to cents stamp : ℕ) →
@@ -25,4 +26,4 @@ pub record BooksAreClosed (s : HubSettings) (J : ℕ → List Event) : Type 0 wh
       Contains (J to) (Forwarded from id cents deadline) → Contains (J p) (Booked from id outcome) → Contains (J to) (Booked from id outcome)
   pub pending_is_forwarded : (from : ℕ) (id : List ℕ) (to cents stamp : ℕ) →
       Contains (J from) (Taken id to cents stamp) → ((p : ℕ) (outcome : Outcome) → Contains (J p) (Booked from id outcome) → ⊥) →
-      Contains (J to) (Forwarded from id cents (stamp + s.limit))
+      Contains (J to) (Forwarded from id cents (deadline_of s.limit stamp))

@@ -5,13 +5,13 @@ use Rattle.inst_model.specs.Opening.{Opening, beginning}
 use Rattle.inst_settings.specs.Settings.{HubSettings}
 use Rattle.inst_journal.specs.declared.event.Event.{Event}
 use Rattle.inst_journal.specs.declared.event.Event.TheVariants.{Forwarded, Booked}
-use Rattle.inst_journal.specs.Reply.{handle}
+use Rattle.inst_journal.specs.Reply.{handle, kept_events}
 use Rattle.inst_model.specs.View.{Seen}
 use Rattle.inst_model.specs.View.Seen.{Asked, Came, Told}
 
 -- the event that an entry leaves in the history J of p
 abbrev pub kept : HubSettings → ℕ → List Event → Seen → List Event
-kept s p J (Asked command at found) = (handle s p J command at found).kept
+kept s p J (Asked command at found) = kept_events (handle s p J command at found)
 kept s p J (Came from id cents deadline) = Forwarded from id cents deadline ∷ []
 kept s p J (Told from id outcome) = Booked from id outcome ∷ []
 

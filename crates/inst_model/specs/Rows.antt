@@ -21,6 +21,7 @@ settings = record {
   places = 2;
   fundings = 4;
   limit = 10000;
+  margin = 0;
   ahead = 1000;
   ceiling = 99999999999;
   base = 0;
@@ -43,7 +44,7 @@ abbrev pub fund : ℕ → List ℕ → ℕ → ℕ → Step
 fund who reference cents at = ask who (Fund reference cents) at
 
 abbrev pub submit : ℕ → List ℕ → ℕ → ℕ → ℕ → ℕ → Step
-submit who id to cents stamp at = ask who (Submit id to cents stamp) at
+submit who id to cents stamp at = ask who (Submit (record { id = id; to = to; cents = cents; stamp = stamp })) at
 
 abbrev pub confirm : ℕ → ℕ → List ℕ → ℕ → Step
 confirm who from id at = ask who (Confirm from id) at

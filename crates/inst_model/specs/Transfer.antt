@@ -2,8 +2,9 @@
 -- originator's reference, the amount, and the time stamp from which the time limit counts). A transfer is named by its
 -- originator and its identifier; its place, counted from 0 over the originator's live submissions, names it too: this hub's
 -- own choice.
-use Rattle.std.specs.Prelude.{ℕ, ◌+◌, Bool, false, if◌then◌else◌, List, Option, Some, None, slice_get}
+use Rattle.std.specs.Prelude.{ℕ, Bool, false, if◌then◌else◌, List, Option, Some, None, slice_get}
 use Rattle.std.specs.List.{filter, filter_map}
+use Rattle.inst_base.specs.TimeLimit.{deadline_of}
 use Rattle.inst_settings.specs.Settings.{HubSettings, same_text}
 use Rattle.inst_journal.specs.declared.event.Event.{Event}
 use Rattle.inst_journal.specs.declared.event.Event.TheVariants.{Taken}
@@ -45,7 +46,7 @@ transfer id J = first_some (terms_named id) J
 
 -- the end of the time limit
 abbrev pub deadline : HubSettings → Transfer → ℕ
-deadline s x = x.stamp + s.limit
+deadline s x = deadline_of s.limit x.stamp
 
 -- whether this transfer, if any, has this identifier
 abbrev pub is_named : List ℕ → Option Transfer → Bool

@@ -1,21 +1,18 @@
 -- What a step wants for a transfer that was taken before it. Until its deadline the beneficiary's confirmation or
 -- rejection decides a transfer; from the deadline on, whoever asks after it finds it timed out (EPC004-16, chapter 4:
--- time-out deadline, positive and negative confirmation, investigation). Expiry as a step is this hub's own choice.
-use Rattle.std.specs.Prelude.{ℕ, Bool, ◌&&◌, ◌==◌, nat_lt, if◌then◌else◌, List, Option, Some, None}
+-- time-out deadline, positive and negative confirmation, investigation). A confirmation in the margin before the deadline
+-- wants nothing, and expiry is a step of its own: this hub's own choices.
+use Rattle.std.specs.Prelude.{ℕ, Bool, ◌&&◌, ◌==◌, if◌then◌else◌, List, Option, Some, None}
 use Rattle.inst_settings.specs.Settings.{HubSettings}
 use Rattle.inst_command.specs.declared.command.Command.{Command}
 use Rattle.inst_command.specs.declared.command.Command.TheVariants.{Fund, Defund, Submit, Confirm, Reject, Investigate, Fetch, Position, Statement}
 use Rattle.inst_command.specs.declared.outcome.Outcome.{Outcome}
-use Rattle.inst_command.specs.declared.outcome.Outcome.TheVariants.{Accepted, Rejected, TimedOut}
+use Rattle.inst_command.specs.Deciding.{confirmed, rejected, expired}
 use Rattle.inst_command.specs.declared.step.Step.{Step}
 use Rattle.inst_command.specs.declared.step.Step.TheVariants.{Ask, Deliver, Learn, Expire}
 use Rattle.inst_journal.specs.declared.event.Event.{Event}
 use Rattle.inst_journal.specs.Booked.{is_forwarded, same_transfer}
 use Rattle.inst_model.specs.Transfer.{Transfer, transfer, at_place, deadline, is_named}
-
--- what is wanted at a reading: this before the deadline, timed out from the deadline on
-abbrev pub in_time : HubSettings → Transfer → ℕ → Option Outcome → Option Outcome
-in_time s x at early = if nat_lt at (deadline s x) then early else Some TimedOut
 
 -- whether the asker `who` is the beneficiary of the transfer, which it has forwarded, and names it
 abbrev pub is_addressed : (ℕ → List Event) → ℕ → ℕ → List ℕ → ℕ → List ℕ → Transfer → Bool
@@ -24,13 +21,13 @@ is_addressed J who from other p id x = same_transfer p id from other && (who == 
 -- what an ask wants for the transfer x with this identifier of the originator p
 abbrev pub ask_wants : HubSettings → (ℕ → List Event) → ℕ → Command → ℕ → ℕ → List ℕ → Transfer → Option Outcome
 ask_wants s J who (Confirm from other) at p id x =
-    if is_addressed J who from other p id x then in_time s x at (Some Accepted) else None
+    if is_addressed J who from other p id x then confirmed s.margin (deadline s x) at else None
 ask_wants s J who (Reject from other reason) at p id x =
-    if is_addressed J who from other p id x then in_time s x at (Some (Rejected reason)) else None
-ask_wants s J who (Investigate other) at p id x = if same_transfer p id who other then in_time s x at None else None
+    if is_addressed J who from other p id x then rejected reason (deadline s x) at else None
+ask_wants s J who (Investigate other) at p id x = if same_transfer p id who other then expired (deadline s x) at else None
 ask_wants s J who (Fund reference cents) at p id x = None
 ask_wants s J who (Defund reference cents) at p id x = None
-ask_wants s J who (Submit other to cents stamp) at p id x = None
+ask_wants s J who (Submit submission) at p id x = None
 ask_wants s J who (Fetch max) at p id x = None
 ask_wants s J who Position at p id x = None
 ask_wants s J who (Statement skip count) at p id x = None
@@ -41,7 +38,7 @@ step_wants s J (Ask ask) p id x = ask_wants s J ask.who ask.command ask.at p id 
 step_wants s J (Deliver from place to) p id x = None
 step_wants s J (Learn who from place) p id x = None
 step_wants s J (Expire who place at) p id x =
-    if (who == p) && is_named id (at_place p (J p) place) then in_time s x at None else None
+    if (who == p) && is_named id (at_place p (J p) place) then expired (deadline s x) at else None
 
 abbrev pub taken_wants : HubSettings → (ℕ → List Event) → Step → ℕ → List ℕ → Option Transfer → Option Outcome
 taken_wants s J step p id None = None

@@ -2,8 +2,8 @@
 
 use inst_base::MOST_CENTS;
 
-/// Participants of a hub.
-pub const MOST_PARTICIPANTS: usize = 64;
+/// Participants of a hub: each has a number of one byte.
+pub const MOST_PARTICIPANTS: usize = 256;
 /// Taken submissions of each originator.
 pub const MOST_PLACES: u16 = 1024;
 /// Kept fund and defund commands of each participant.

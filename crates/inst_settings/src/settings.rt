@@ -1,4 +1,4 @@
-ghost use Rattle.std.specs.Prelude.{◌≡◌, ◌≤◌, Some, true, slice_get, IfOk, OnErr, IsOkUnless};
+ghost use Rattle.std.specs.Prelude.{◌≡◌, ◌<◌, ◌≤◌, Some, true, slice_get, IfOk, OnErr, IsOkUnless};
 ghost use Rattle.std.specs.Option.{option_copied};
 
 use crate::codes::{are_different, index_of};
@@ -6,7 +6,7 @@ use crate::finder::Finder;
 use crate::ranges::{
     MOST_AHEAD, MOST_BASE, MOST_CEILING, MOST_FUNDINGS, MOST_LIMIT, MOST_PARTICIPANTS, MOST_PLACES,
 };
-use inst_base::{Code, Fault};
+use inst_base::{Cents, Code, Fault};
 use std::marker::Model;
 
 /// The settings of a hub, in their ranges, with different codes.
@@ -17,6 +17,7 @@ pub struct Settings {
     places: u16,
     fundings: u16,
     limit: u32,
+    margin: u32,
     ahead: u32,
     ceiling: u64,
     base: u64,
@@ -32,6 +33,7 @@ impl Model for Settings {
       places = s.places;
       fundings = s.fundings;
       limit = s.limit;
+      margin = s.margin;
       ahead = s.ahead;
       ceiling = s.ceiling;
       base = s.base;
@@ -42,6 +44,7 @@ impl Model for Settings {
       places = s.places;
       fundings = s.fundings;
       limit = s.limit;
+      margin = s.margin;
       ahead = s.ahead;
       ceiling = s.ceiling;
       base = s.base;
@@ -49,25 +52,26 @@ impl Model for Settings {
 }
 
 impl Settings {
-    ghost use Rattle.inst_settings.specs.Settings.{HubSettings, IsSettings, settings_with, participants, index_of};
+    ghost use Rattle.inst_settings.specs.Settings.{HubSettings, IsSettings, settings_with, participants, index_of, is_participant, is_within_ceiling};
 
     /// The settings with these values, or `BadSettings` where one is outside its range or a code
-    /// stands twice: 1 to 64 participants, 1 to 1,024 places and fundings, a `limit` of 1 to
-    /// 3,600,000 ms, an `ahead` of at most 60,000 ms, a `ceiling` of 1 to 99,999,999,999 cents and a
-    /// `base` of at most 2^62 ms.
+    /// stands twice: 1 to 256 participants, 1 to 1,024 places and fundings, a `limit` of 1 to
+    /// 3,600,000 ms, a `margin` below it, an `ahead` of at most 60,000 ms, a `ceiling` of 1 to
+    /// 99,999,999,999 cents and a `base` of at most 2^62 ms. The codes are compared each with each.
     pub fn check(
         codes: Vec<Code>,
         places: u16,
         fundings: u16,
         limit: u32,
+        margin: u32,
         ahead: u32,
         ceiling: u64,
         base: u64,
     ) -> Result<Settings, Fault>
         ensures ok { IfOk result (λ s. IsSettings s
-            × (s ≡ settings_with codes.items places fundings limit ahead ceiling base)) }
+            × (s ≡ settings_with codes.items places fundings limit margin ahead ceiling base)) }
         ensures err { OnErr result
-            (¬ IsSettings (settings_with codes.items places fundings limit ahead ceiling base)) }
+            (¬ IsSettings (settings_with codes.items places fundings limit margin ahead ceiling base)) }
         ensures only { IsOkUnless result Fault.BadSettings }
     {
         if codes.is_empty() || codes.len() > MOST_PARTICIPANTS || !are_different(&codes) {
@@ -76,7 +80,7 @@ impl Settings {
         if places == 0 || places > MOST_PLACES || fundings == 0 || fundings > MOST_FUNDINGS {
             return Err(Fault::BadSettings);
         }
-        if limit == 0 || limit > MOST_LIMIT || ahead > MOST_AHEAD {
+        if limit == 0 || limit > MOST_LIMIT || margin >= limit || ahead > MOST_AHEAD {
             return Err(Fault::BadSettings);
         }
         if ceiling == 0 || ceiling > MOST_CEILING || base > MOST_BASE {
@@ -89,6 +93,7 @@ impl Settings {
             places,
             fundings,
             limit,
+            margin,
             ahead,
             ceiling,
             base,
@@ -107,6 +112,7 @@ impl Settings {
             places: self.places,
             fundings: self.fundings,
             limit: self.limit,
+            margin: self.margin,
             ahead: self.ahead,
             ceiling: self.ceiling,
             base: self.base,
@@ -149,6 +155,13 @@ impl Settings {
         self.codes.len() as u16
     }
 
+    /// Whether a participant has this number.
+    pub fn has_participant(&self, number: u8) -> bool
+        ensures { result ≡ is_participant self.now number }
+    {
+        usize::from(number) < self.codes.len()
+    }
+
     /// How many submissions each originator may have taken.
     pub fn places(&self) -> u16
         ensures value { result ≡ self.now.places }
@@ -176,6 +189,14 @@ impl Settings {
         self.limit
     }
 
+    /// How long before its deadline a transfer can't be accepted any more, in milliseconds.
+    pub fn margin(&self) -> u32
+        ensures value { result ≡ self.now.margin }
+        ensures below { result < self.now.limit }
+    {
+        self.margin
+    }
+
     /// How far a time stamp may lie after the reading, in milliseconds.
     pub fn ahead(&self) -> u32
         ensures value { result ≡ self.now.ahead }
@@ -191,6 +212,13 @@ impl Settings {
         ensures most { result ≤ MOST_CEILING }
     {
         self.ceiling
+    }
+
+    /// Whether one command may move this amount.
+    pub fn allows(&self, cents: Cents) -> bool
+        ensures { result ≡ is_within_ceiling self.now cents }
+    {
+        cents.get() <= self.ceiling
     }
 
     /// The absolute milliseconds from which moments are counted.

@@ -3,12 +3,14 @@ use inst_base::{Code, Fault};
 use std::alloc::Global;
 use std::test::Fail;
 
-/// The numbers of a setting: places, fundings, limit, ahead, ceiling and base.
+/// The numbers of a setting: places, fundings, limit, margin, ahead, ceiling
+/// and base.
 #[derive(Clone, Copy, Debug, PartialEq, Eq)]
 struct Numbers {
     places: u16,
     fundings: u16,
     limit: u32,
+    margin: u32,
     ahead: u32,
     ceiling: u64,
     base: u64,
@@ -18,6 +20,7 @@ const LEAST: Numbers = Numbers {
     places: 1,
     fundings: 1,
     limit: 1,
+    margin: 0,
     ahead: 0,
     ceiling: 1,
     base: 0,
@@ -27,6 +30,7 @@ const MOST: Numbers = Numbers {
     places: 1024,
     fundings: 1024,
     limit: 3_600_000,
+    margin: 3_599_999,
     ahead: 60_000,
     ceiling: 99_999_999_999,
     base: 4_611_686_018_427_387_904,
@@ -38,6 +42,7 @@ fn check(codes: Vec<Code>, numbers: &Numbers) -> Result<Settings, Fault> {
         numbers.places,
         numbers.fundings,
         numbers.limit,
+        numbers.margin,
         numbers.ahead,
         numbers.ceiling,
         numbers.base,
@@ -50,18 +55,19 @@ fn told(settings: &Settings) -> Numbers {
         places: settings.places(),
         fundings: settings.fundings(),
         limit: settings.limit(),
+        margin: settings.margin(),
         ahead: settings.ahead(),
         ceiling: settings.ceiling(),
         base: settings.base(),
     }
 }
 
-/// So many codes: `AAAADE10`, `AAAADE11` and so on.
+/// So many codes: `AAAAD100`, `AAAAD101` and so on.
 fn codes(alloc: Global, count: u32) -> Result<Vec<Code>, Fail> {
     let mut codes = Vec::new(alloc);
     for index in 0..count {
-        let number = u64::from(index) + 10;
-        let text = format!(in alloc; "AAAADE{number}")?;
+        let number = u64::from(index) + 100;
+        let text = format!(in alloc; "AAAAD{number}")?;
         codes.push(Code::new(text.as_str())?)?;
     }
     Ok(codes)
@@ -97,6 +103,11 @@ fn numbers_to_their_bounds(rt: HostRuntime) -> Result<(), Fail> {
             limit: 3_600_001,
             ..MOST
         },
+        Numbers { margin: 1, ..LEAST },
+        Numbers {
+            margin: 3_600_000,
+            ..MOST
+        },
         Numbers {
             ahead: 60_001,
             ..MOST
@@ -122,17 +133,18 @@ fn participants_to_their_bounds(rt: HostRuntime) -> Result<(), Fail> {
     for (count, fault) in [
         (0, Some(Fault::BadSettings)),
         (1, None),
-        (64, None),
-        (65, Some(Fault::BadSettings)),
+        (256, None),
+        (257, Some(Fault::BadSettings)),
     ] {
         let refusal = check(codes(alloc, count)?, &MOST).err();
         assert_eq!(rt; refusal, fault, "{count}");
     }
-    let settings = check(codes(alloc, 64)?, &MOST)?;
-    assert_eq!(rt; settings.participants(), 64);
-    assert_eq!(rt; settings.code(63), Some(&Code::new("AAAADE73")?));
-    assert_eq!(rt; settings.code(64), None);
-    assert_eq!(rt; settings.index_of(&Code::new("AAAADE73")?), Some(63));
+    let settings = check(codes(alloc, 256)?, &MOST)?;
+    assert_eq!(rt; settings.participants(), 256);
+    let last = Code::new("AAAAD355")?;
+    assert_eq!(rt; settings.code(255), Some(&last));
+    assert_eq!(rt; settings.index_of(&last), Some(255));
+    assert_eq!(rt; settings.index_of(&Code::new("AAAAD356")?), None);
     Ok(())
 }
 

@@ -9,7 +9,8 @@ use Rattle.inst_command.specs.declared.command.Command.{Command}
 use Rattle.inst_command.specs.declared.command.Command.TheVariants.{Fund, Defund, Submit, Position}
 use Rattle.inst_command.specs.declared.reply.Reply.{Reply}
 use Rattle.inst_journal.specs.declared.event.Event.{Event}
-use Rattle.inst_journal.specs.Reply.{Handled, handle}
+use Rattle.inst_journal.specs.declared.handle.Handled.{Handled}
+use Rattle.inst_journal.specs.Reply.{handle, kept_events, told}
 
 pub record Book : Type 0 where
   pub settings : HubSettings
@@ -21,18 +22,23 @@ pub record Book : Type 0 where
 abbrev pub is_served : Command → Bool
 is_served (Fund reference cents) = true
 is_served (Defund reference cents) = true
-is_served (Submit id to cents stamp) = true
+is_served (Submit submission) = true
 is_served Position = true
 is_served _ = false
 
 -- what an ask of the participant is answered, and what its history keeps of it
-abbrev pub handle_ask : Book → Ask → Handled
+abbrev pub handle_ask : Book → Ask → Result Handled Fault
 handle_ask book ask = handle book.settings book.who book.events ask.command ask.at None
+
+-- what an ask of the participant is replied, or why it is refused
+abbrev pub own_reply : Book → Ask → Result Reply Fault
+own_reply book ask = told (handle_ask book ask)
 
 -- the book after an ask of its participant
 abbrev pub book_after : Book → Ask → Book
-book_after book ask = record book { events = book.events ++ (handle_ask book ask).kept }
+book_after book ask = record book { events = book.events ++ kept_events (handle_ask book ask) }
 
 -- an ask is answered as the books demand, and they keep what they are to keep, unless memory was refused
 abbrev pub AppliesUnlessMemory : Book → Book → Ask → Result Reply Fault → Type 0
-AppliesUnlessMemory old new ask result = (result ≡ Err Memory) ⊎ ((result ≡ (handle_ask old ask).reply) × (new ≡ book_after old ask))
+AppliesUnlessMemory old new ask result =
+    (result ≡ Err Memory) ⊎ ((result ≡ own_reply old ask) × (new ≡ book_after old ask))

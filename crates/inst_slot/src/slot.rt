@@ -1,8 +1,9 @@
 ghost use Rattle.std.specs.Prelude.{◌≡◌, true, [], IfOk, OnErr, IsOkUnless};
 ghost use Rattle.inst_settings.specs.Settings.{IsSettings, participants};
 ghost use Rattle.inst_command.specs.Ask.{ask_fits};
+ghost use Rattle.inst_journal.specs.Reply.{kept_events};
 ghost use Rattle.inst_journal.specs.Sound.{IsSound};
-ghost use Rattle.inst_slot.specs.Book.{is_served, handle_ask, AppliesUnlessMemory};
+ghost use Rattle.inst_slot.specs.Book.{is_served, handle_ask, own_reply, AppliesUnlessMemory};
 
 use inst_base::Fault;
 use inst_command::{Ask, Command, Reply};
@@ -58,7 +59,7 @@ impl Slot {
             command,
             Command::Fund { .. }
                 | Command::Defund { .. }
-                | Command::Submit { .. }
+                | Command::Submit(_)
                 | Command::Position
         )
     }
@@ -72,7 +73,7 @@ impl Slot {
         requires served { is_served ask.now.command ≡ true }
         ensures applied { AppliesUnlessMemory self.old self.new ask.now result }
         ensures err { OnErr result (self.new ≡ self.old) }
-        ensures no_memory { (handle_ask self.old ask.now).kept ≡ [] → result ≡ (handle_ask self.old ask.now).reply }
+        ensures no_memory { kept_events (handle_ask self.old ask.now) ≡ [] → result ≡ own_reply self.old ask.now }
     {
         let events = self.journal.events();
         let Handled { reply, kept } = handle_command(
@@ -90,9 +91,11 @@ impl Slot {
         Ok(reply)
     }
 
-    /// The participant's history.
+    /// The participant's history. It is sound.
     pub fn journal(&self) -> &Journal
-        ensures { result.now.events ≡ self.now.events }
+        ensures events { result.now.events ≡ self.now.events }
+        ensures lawful { IsSettings self.now.settings }
+        ensures sound { IsSound self.now.settings self.now.who result.now.events }
     {
         &self.journal
     }

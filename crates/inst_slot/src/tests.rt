@@ -3,7 +3,7 @@ ghost use Rattle.std.specs.Prelude.{◌≡◌};
 
 use crate::Slot;
 use inst_base::{Cents, Code, Fault, Ident, Moment};
-use inst_command::{Ask, Command, Outcome, Reply};
+use inst_command::{Ask, Command, Outcome, Reply, Submission};
 use inst_journal::Event;
 use inst_settings::Settings;
 use std::alloc::Global;
@@ -17,7 +17,7 @@ fn hub(alloc: Global) -> Result<Settings, Fail> {
         Code::new("BBBBFRPP")?,
         Code::new("CCCCITMM")?,
     ];
-    Ok(Settings::check(codes.to_vec(alloc)?, 2, 4, 10_000, 1000, 99_999_999_999, 0)?)
+    Ok(Settings::check(codes.to_vec(alloc)?, 2, 4, 10_000, 0, 1000, 99_999_999_999, 0)?)
 }
 
 /// What is asked, by short texts and plain numbers.
@@ -51,12 +51,12 @@ fn command(says: &Says) -> Result<Command, Fault> {
             reference: Ident::new(reference)?,
             cents: Cents::new(*cents)?,
         }),
-        Says::Submit(id, to, cents, stamp) => Ok(Command::Submit {
+        Says::Submit(id, to, cents, stamp) => Ok(Command::Submit(Submission {
             id: Ident::new(id)?,
             to: *to,
             cents: Cents::new(*cents)?,
             stamp: Moment::new(0, *stamp)?,
-        }),
+        })),
         Says::Position => Ok(Command::Position),
     }
 }

@@ -4,14 +4,14 @@ use Rattle.std.proofs.lemmas.List.{get_or-map, map-set, map-append, replicate_mo
 use Rattle.std.proofs.lemmas.Bool.{ltb-true, and_parts}
 use Rattle.inst_base.specs.declared.fault.Fault.{Fault}
 use Rattle.inst_base.specs.declared.fault.Fault.TheVariants.{Memory, BadField}
-use Rattle.inst_settings.specs.Settings.{HubSettings, participants}
-use Rattle.inst_command.specs.Ask.{is_participant, command_fits, ask_fits}
+use Rattle.inst_settings.specs.Settings.{HubSettings, participants, is_participant}
+use Rattle.inst_command.specs.Ask.{command_fits, ask_fits}
 use Rattle.inst_command.specs.declared.ask.Ask.{Ask}
 use Rattle.inst_command.specs.declared.reply.Reply.{Reply}
 use Rattle.inst_command.specs.declared.reply.Reply.TheVariants.{Refused}
 use Rattle.inst_journal.specs.declared.event.Event.{Event}
-use Rattle.inst_slot.specs.Book.{Book, is_served, handle_ask, book_after, AppliesUnlessMemory}
-use Rattle.inst_world.specs.World.{Hub, book_at, told, refusals_told, reply_to_ask, after_ask}
+use Rattle.inst_slot.specs.Book.{Book, is_served, own_reply, book_after, AppliesUnlessMemory}
+use Rattle.inst_world.specs.World.{Hub, book_at, as_reply, refusals_told, reply_to_ask, after_ask}
 use Rattle.inst_world.specs.Slots.{AreSlots, histories, IsHub}
 
 -- the slot at a place has the hub's settings and the place's number
@@ -52,7 +52,7 @@ found s books k i slot hub number same here =
 pub asker : (s : HubSettings) (ask : Ask) → ask_fits s ask ≡ true → is_participant s ask.who ≡ true
 asker s ask fits = (and_parts (is_participant s ask.who) (command_fits s ask.command) fits).0
 
-told_ok : (P : Reply → Type 0) (y : Result Reply Fault) → P (told y) → IfOk (refusals_told y) P
+told_ok : (P : Reply → Type 0) (y : Result Reply Fault) → P (as_reply y) → IfOk (refusals_told y) P
 told_ok P (Ok reply) here = here
 told_ok P (Err Memory) here = tt
 told_ok P (Err _) here = here
@@ -60,16 +60,16 @@ told_ok P (Err _) here = here
 -- what an ask is answered by its slot
 pub answered : (s : HubSettings) (books : List Book) (ask : Ask) (i : ℕ) (slot new : Book) (x r : Result Reply Fault) → slot ≡ book_at s books ask.who → i ≡ ask.who
     → AppliesUnlessMemory slot new ask x → r ≡ refusals_told x
-    → IfOk r (λ reply. (reply ≡ told (handle_ask (book_at s books ask.who) ask).reply) × (set books i new ≡ set books ask.who (book_after (book_at s books ask.who) ask)))
+    → IfOk r (λ reply. (reply ≡ as_reply (own_reply (book_at s books ask.who) ask)) × (set books i new ≡ set books ask.who (book_after (book_at s books ask.who) ask)))
 answered s books ask i slot new x r is_slot same applied is_told = elim applied [
   | inl memory ↦ rw (is_told, memory) tt
   | inr done ↦
       let book : Book = book_at s books ask.who in
-      let P : Reply → Type 0 = λ reply. (reply ≡ told (handle_ask book ask).reply) × (set books i new ≡ set books ask.who (book_after book ask)) in
-      let reply_is : x ≡ (handle_ask book ask).reply = done.0 ∙ ap (λ b. (handle_ask b ask).reply) is_slot in
+      let P : Reply → Type 0 = λ reply. (reply ≡ as_reply (own_reply book ask)) × (set books i new ≡ set books ask.who (book_after book ask)) in
+      let reply_is : x ≡ (own_reply book ask) = done.0 ∙ ap (λ b. (own_reply b ask)) is_slot in
       let new_is : new ≡ book_after book ask = done.1 ∙ ap (λ b. book_after b ask) is_slot in
       subst (λ (z : Result Reply Fault). IfOk z P) (sym (is_told ∙ ap refusals_told reply_is))
-      (told_ok P (handle_ask book ask).reply (refl, ap (λ n. set books n new) same ∙ ap (λ b. set books ask.who b) new_is))
+      (told_ok P (own_reply book ask) (refl, ap (λ n. set books n new) same ∙ ap (λ b. set books ask.who b) new_is))
 ]
 
 stays : (s : HubSettings) (books : List Book) (i : ℕ) (new : Book) → IsHub s books → new.settings ≡ s → new.who ≡ i → IsHub s (set books i new)
@@ -93,10 +93,10 @@ hub_stays s books ask i slot new x hub is_slot same applied err = elim applied [
 ]
 
 -- an ask that is served is answered as the model says
-pub served_reply : (s : HubSettings) (books : List Book) (ask : Ask) (reply : Reply) → is_served ask.command ≡ true → reply ≡ told (handle_ask (book_at s books ask.who) ask).reply
+pub served_reply : (s : HubSettings) (books : List Book) (ask : Ask) (reply : Reply) → is_served ask.command ≡ true → reply ≡ as_reply (own_reply (book_at s books ask.who) ask)
     → reply ≡ reply_to_ask (record { settings = s; books = histories books }) ask
 served_reply s books ask reply served is_told =
-    is_told ∙ sym (ap (λ b. cond b (told (handle_ask (book_at s books ask.who) ask).reply) (Refused BadField)) served)
+    is_told ∙ sym (ap (λ b. cond b (as_reply (own_reply (book_at s books ask.who) ask)) (Refused BadField)) served)
 
 -- and changes the hub as the model says
 pub served_after : (s : HubSettings) (books new : List Book) (ask : Ask) → is_served ask.command ≡ true → new ≡ set books ask.who (book_after (book_at s books ask.who) ask)

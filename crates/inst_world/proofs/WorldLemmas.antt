@@ -1,18 +1,22 @@
 -- What the hub answers to a line can be written, and keeps its settings.
 use Rattle.std.proofs.Common.{◌≡◌, ℕ, ◌+◌, ◌<◌, ◌≤◌, Bool, true, false, cond, nat_lt, nat_le, ◌==◌, List, [], ◌∷◌, ◌++◌, length, ◌⊎◌, Result, Ok, Err, IfOk, OnOk, refl, sym, ap, ◌∙◌}
 use Rattle.std.proofs.lemmas.Bool.{le-ltb}
+use Rattle.inst_base.specs.TimeLimit.{deadline_of, is_ahead, is_due}
 use Rattle.inst_base.specs.declared.fault.Fault.{Fault}
 use Rattle.inst_base.specs.declared.fault.Fault.TheVariants.{LineTooLong}
 use Rattle.inst_settings.specs.Settings.{HubSettings}
 use Rattle.inst_command.specs.declared.ask.Ask.{Ask}
 use Rattle.inst_command.specs.declared.command.Command.{Command}
 use Rattle.inst_command.specs.declared.command.Command.TheVariants.{Fund, Defund, Submit, Confirm, Reject, Investigate, Fetch, Position, Statement}
+use Rattle.inst_command.specs.declared.submission.Submission.{Submission}
 use Rattle.inst_command.specs.declared.reply.Reply.{Reply}
 use Rattle.inst_journal.specs.declared.event.Event.{Event}
-use Rattle.inst_journal.specs.Booked.{is_taken, submissions}
+use Rattle.inst_journal.specs.Booked.{is_taken}
+use Rattle.inst_journal.specs.Opened.{live_submissions}
 use Rattle.inst_journal.specs.Money.{available}
-use Rattle.inst_journal.specs.Keys.{is_fund_repeat, is_defund_repeat, is_submission_repeat, has_reference, fundings}
-use Rattle.inst_journal.specs.Reply.{Handled, fund, defund, submit}
+use Rattle.inst_journal.specs.Keys.{is_submission_repeat}
+use Rattle.inst_journal.specs.declared.handle.Handled.{Handled}
+use Rattle.inst_journal.specs.Reply.{is_new_funding, funding, submit, told}
 use Rattle.inst_json.specs.Replies.{reply_can_be_written}
 use Rattle.inst_json.specs.Lines.{command_of_line}
 use Rattle.inst_slot.specs.Book.{is_served}
@@ -22,36 +26,35 @@ use Rattle.inst_json.specs.Replies.{reply_data}
 use Rattle.inst_world.specs.Lines.{newline}
 use Rattle.inst_world.specs.Answers.{is_too_long, reply_to, is_refused, AnswersLine}
 use Rattle.inst_world.proofs.AnswersLemmas.{is_too_long-front}
-use Rattle.inst_world.specs.World.{any_line_reply, after_any_line, RepliesToLine, answering, reply_line, too_long_line, is_refused_line, is_refusal, Hub, book_of, told, reply_to_ask, reply_to_read, after_read, line_reply, after_line}
+use Rattle.inst_world.specs.World.{any_line_reply, after_any_line, RepliesToLine, answering, reply_line, too_long_line, is_refused_line, is_refusal, Hub, book_of, as_reply, reply_to_ask, reply_to_read, after_read, line_reply, after_line}
 
-abbrev CanBeTold : HubSettings → Handled → Type 0
-CanBeTold s h = reply_can_be_written s (told h.reply) ≡ true
+abbrev CanBeTold : HubSettings → Result Handled Fault → Type 0
+CanBeTold s h = reply_can_be_written s (as_reply (told h)) ≡ true
 
 -- of one of two, chosen by a test
-chosen : (s : HubSettings) (b : Bool) (x y : Handled) → CanBeTold s x → CanBeTold s y → CanBeTold s (cond b x y)
+chosen : (s : HubSettings) (b : Bool) (x y : Result Handled Fault) → CanBeTold s x → CanBeTold s y → CanBeTold s (cond b x y)
 chosen s true x y first second = first
 chosen s false x y first second = second
 
-fund_told : (s t : HubSettings) (J : List Event) (reference : List ℕ) (cents : ℕ) → CanBeTold t (fund s J reference cents)
-fund_told s t J reference cents =
-    chosen t (is_fund_repeat reference cents J) _ _ refl (chosen t (has_reference reference J) _ _ refl (chosen t (nat_le s.fundings (fundings J)) _ _ refl refl))
+funding_told : (s : HubSettings) (reference : List ℕ) (new : Result Handled Fault) (is_new : Result Bool Fault) → CanBeTold s new → CanBeTold s (funding reference new is_new)
+funding_told s reference new (Err fault) can = refl
+funding_told s reference new (Ok false) can = refl
+funding_told s reference new (Ok true) can = can
 
-defund_told : (s t : HubSettings) (J : List Event) (reference : List ℕ) (cents : ℕ) → CanBeTold t (defund s J reference cents)
-defund_told s t J reference cents =
-    chosen t (is_defund_repeat reference cents J) _ _ refl (chosen t (has_reference reference J) _ _ refl (chosen t (nat_le s.fundings (fundings J)) _ _ refl
-    (chosen t (nat_lt (available J) cents) _ _ refl refl)))
-
-submit_told : (s t : HubSettings) (who : ℕ) (J : List Event) (at : ℕ) (id : List ℕ) (to cents stamp : ℕ) → CanBeTold t (submit s who J at id to cents stamp)
-submit_told s t who J at id to cents stamp =
-    chosen t (to == who) _ _ refl (chosen t (is_submission_repeat id to cents stamp J) _ _ refl (chosen t (is_taken id J) _ _ refl
-    (chosen t (nat_lt (at + s.ahead) stamp) _ _ refl (chosen t (nat_le (stamp + s.limit) at) _ _ refl (chosen t (nat_le s.places (submissions J)) _ _ refl
-    (chosen t (nat_lt (available J) cents) _ _ refl refl))))))
+submit_told : (s t : HubSettings) (who : ℕ) (J : List Event) (at : ℕ) (x : Submission) → CanBeTold t (submit s who J at x)
+submit_told s t who J at x =
+    chosen t (x.to == who) _ _ refl (chosen t (is_submission_repeat x J) _ _ refl (chosen t (is_taken x.id J) _ _ refl
+    (chosen t (is_ahead s.ahead x.stamp at) _ _ refl (chosen t (is_due (deadline_of s.limit x.stamp) at) _ _ refl
+    (chosen t (nat_le s.places (live_submissions who J)) _ _ refl (chosen t (nat_lt (available J) x.cents) _ _ refl refl))))))
 
 -- a served command's reply can be written
 served_told : (hub : Hub) (who at : ℕ) (command : Command) → reply_can_be_written hub.settings (reply_to_ask hub (record { who = who; command = command; at = at })) ≡ true
-served_told hub who at (Fund reference cents) = fund_told hub.settings hub.settings (book_of hub who).events reference cents
-served_told hub who at (Defund reference cents) = defund_told hub.settings hub.settings (book_of hub who).events reference cents
-served_told hub who at (Submit id to cents stamp) = submit_told hub.settings hub.settings who (book_of hub who).events at id to cents stamp
+served_told hub who at (Fund reference cents) =
+    funding_told hub.settings reference _ (is_new_funding hub.settings (book_of hub who).events reference _) refl
+served_told hub who at (Defund reference cents) =
+    funding_told hub.settings reference _ (is_new_funding hub.settings (book_of hub who).events reference _)
+    (chosen hub.settings (nat_lt (available (book_of hub who).events) cents) _ _ refl refl)
+served_told hub who at (Submit x) = submit_told hub.settings hub.settings who (book_of hub who).events at x
 served_told hub who at Position = refl
 served_told hub who at (Confirm from id) = refl
 served_told hub who at (Reject from id reason) = refl

@@ -11,7 +11,7 @@ use Rattle.inst_command.specs.declared.reply.Reply.TheVariants.{Done, Taken, Sta
 use Rattle.inst_journal.specs.declared.event.Event.{Event}
 use Rattle.inst_json.specs.Lines.{command_of_line}
 use Rattle.inst_json.specs.Replies.{reply_data, refused_data, reply_can_be_written}
-use Rattle.inst_slot.specs.Book.{Book, is_served, handle_ask, book_after}
+use Rattle.inst_slot.specs.Book.{Book, is_served, own_reply, book_after}
 use Rattle.inst_world.specs.Answers.{Answerer, is_too_long, IsFront}
 
 -- books: the participants' histories, in the order of their numbers
@@ -28,9 +28,9 @@ abbrev pub book_of : Hub → ℕ → Book
 book_of hub who = record { settings = hub.settings; who = who; events = slice_index_or hub.books who [] }
 
 -- the reply, with a refusal as a reply
-abbrev pub told : Result Reply Fault → Reply
-told (Ok reply) = reply
-told (Err fault) = Refused fault
+abbrev pub as_reply : Result Reply Fault → Reply
+as_reply (Ok reply) = reply
+as_reply (Err fault) = Refused fault
 
 -- the same where want of memory may end the answer
 abbrev pub refusals_told : Result Reply Fault → Result Reply Fault
@@ -45,7 +45,7 @@ book_at s books who = record { settings = s; who = who; events = slice_index_or 
 -- what an ask is answered; a command that slots don't take yet is a bad field
 abbrev pub reply_to_ask : Hub → Ask → Reply
 reply_to_ask hub ask =
-    if is_served ask.command then told (handle_ask (book_of hub ask.who) ask).reply else Refused BadField
+    if is_served ask.command then as_reply (own_reply (book_of hub ask.who) ask) else Refused BadField
 
 -- the hub after an ask
 abbrev pub after_ask : Hub → Ask → Hub

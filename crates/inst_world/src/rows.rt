@@ -11,7 +11,7 @@ pub(crate) fn settings(rt: &impl AllocGlobal) -> Result<Settings, Fail> {
     for text in ["AAAADEFF", "BBBBFRPP", "CCCCITMM"] {
         codes.push(Code::new(text)?)?;
     }
-    Ok(Settings::check(codes, 2, 4, 10_000, 1_000, 99_999_999_999, 0)?)
+    Ok(Settings::check(codes, 2, 4, 10_000, 0, 1_000, 99_999_999_999, 0)?)
 }
 
 /// Compares what a run over these lines writes.

@@ -2,8 +2,8 @@
 ghost use Rattle.std.specs.Prelude.{◌≡◌, ℕ, ◌<◌, true, [], length, replicate, slice_set, slice_index_or, IfOk, OnErr, IsOkUnless};
 ghost use Rattle.inst_settings.specs.Settings.{IsSettings, participants};
 ghost use Rattle.inst_command.specs.Ask.{ask_fits};
-ghost use Rattle.inst_slot.specs.Book.{Book, is_served, handle_ask, book_after};
-ghost use Rattle.inst_world.specs.World.{told, refusals_told, book_at};
+ghost use Rattle.inst_slot.specs.Book.{Book, is_served, own_reply, book_after};
+ghost use Rattle.inst_world.specs.World.{as_reply, refusals_told, book_at};
 ghost use Rattle.inst_world.specs.Slots.{AreSlots, IsHub, histories};
 
 use inst_base::Fault;
@@ -31,7 +31,7 @@ pub(crate) fn answer(settings: &Settings, slots: &mut Vec<Slot>, ask: &Ask) -> R
     requires fits { ask_fits settings.now ask.now ≡ true }
     requires served { is_served ask.now.command ≡ true }
     ensures ok { let book = book_at settings.now slots.old.items ask.now.who in
-        IfOk result (λ reply. (reply ≡ told (handle_ask book ask.now).reply)
+        IfOk result (λ reply. (reply ≡ as_reply (own_reply book ask.now))
         × (slots.new.items ≡ slice_set slots.old.items ask.now.who (book_after book ask.now))) }
     ensures err { OnErr result (slots.new.items ≡ slots.old.items) }
     ensures only { IsOkUnless result Fault.Memory }

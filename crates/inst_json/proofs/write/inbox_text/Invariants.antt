@@ -2,7 +2,7 @@ use Rattle.std.proofs.Common.{◌≡◌, ◌++◌, true, false, nat_lt, codes, s
 use Rattle.inst_json.specs.Laws.{entry_has_words}
 use Rattle.std.specs.List.{list_all}
 use Rattle.serde_json.specs.Written.{items_text}
-use Rattle.inst_command.specs.Ask.{is_participant}
+use Rattle.inst_settings.specs.Settings.{is_participant}
 use Rattle.inst_json.specs.Replies.{items, entry_data}
 use Rattle.inst_json.proofs.write.inbox_text.Given as goal
 

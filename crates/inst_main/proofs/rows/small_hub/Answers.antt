@@ -19,6 +19,7 @@ chosen = (
     places = (codes "2", refl, refl);
     fundings = (codes "256", refl, refl);
     limit = (codes "10000", refl, refl);
+    margin = (codes "0", refl, refl);
     ahead = (codes "1000", refl, refl);
     ceiling = (codes "99999999999", refl, refl);
     base = (codes "0", refl, refl);

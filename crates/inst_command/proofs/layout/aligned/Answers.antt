@@ -10,7 +10,7 @@ use Rattle.std.specs.List.{list_all}
 use Rattle.inst_command.proofs.Telling.{columns_from, columns_length}
 use Rattle.inst_command.proofs.Latin.{line_text-latin, latin-code}
 use Rattle.inst_command.proofs.Widths.{left_column, right_column, columns_are, identifier_form}
-use Rattle.inst_command.proofs.columns.aligned.Goals as goal
+use Rattle.inst_command.proofs.layout.aligned.Goals as goal
 
 pub returns-clause-text : goal.returns-clause-text
 unfolding line_text
