@@ -1,7 +1,8 @@
 -- The laws of boards: who may decide, what a look and a decision tell, that a place is decided once and in time, and
 -- that one who holds a plain board gets exact looks and answers out of what any board promises. They are this hub's own
 -- promises.
-use Rattle.std.specs.Prelude.{◌≡◌, ◌≢◌, ◌↔◌, ◌⊎◌, ℕ, ◌*◌, ◌<◌, ◌≤◌, List, [], ◌∷◌, Option, Some, None, IfSome}
+use Rattle.std.specs.Prelude.{◌≡◌, ◌≢◌, ◌↔◌, ◌⊎◌, ℕ, ◌*◌, ◌<◌, ◌≤◌, List, [], ◌∷◌, Option, Some, None, IfSome, IsTrue}
+use Rattle.inst_command.specs.Ask.{is_participant}
 use Rattle.inst_command.specs.declared.outcome.Outcome.{Outcome}
 use Rattle.inst_command.specs.declared.outcome.Outcome.TheVariants.{Accepted, Rejected, TimedOut}
 use Rattle.inst_settings.specs.Settings.{HubSettings, participants}
@@ -42,6 +43,13 @@ pub record KnowsOpening {B : Type 0} (knows : B → Fact → Type 0) (b : B) (k 
 pub record KnowsOutcome {B : Type 0} (knows : B → Fact → Type 0) (b : B) (k : Place) (t : Terms) (o : Outcome) : Type 0 where
   pub terms : knows b (about k (HasTerms t))
   pub decided : knows b (about k (Decided o))
+
+-- the holder may write these terms of the place and open it
+pub record CanOpen {B : Type 0} (knows : B → Fact → Type 0) (has_role : B → ℕ → Type 0) (s : HubSettings) (b : B) (k : Place) (t : Terms) : Type 0 where
+  pub place : IsPlace s k
+  pub beneficiary : IsTrue (is_participant s t.to)
+  pub own : has_role b k.owner
+  pub unused : ¬ knows b (about k Opened)
 
 -- who may decide a place knows its opening, and is the originator's holder or the beneficiary's
 abbrev pub OnlyPartiesDecide : {B : Type 0} → (B → Fact → Type 0) → (B → ℕ → Type 0) → Type 0

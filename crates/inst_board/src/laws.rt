@@ -1,16 +1,17 @@
 //! The laws of boards, and code over any board. A function without a body has the law for its
 //! contract, so that the check proves it.
-ghost use Rattle.std.specs.Prelude.{◌≡◌, ℕ, Some, IfSome};
+ghost use Rattle.std.specs.Prelude.{◌≡◌, ◌≢◌, ◌≤◌, ℕ, Some, IfSome};
 ghost use Rattle.inst_terms.specs.declared.terms.Terms.{Terms};
 ghost use Rattle.inst_board.specs.declared.about.About.TheVariants.{Opened};
 ghost use Rattle.inst_board.specs.Standing.{pending, about};
 ghost use Rattle.inst_board.specs.Learning.{MayDecide, Decides};
 ghost use Rattle.inst_board.specs.Plain.{plain_knows, standing_at, after, outcome_of};
-ghost use Rattle.inst_board.specs.Laws.{DecidedOnce, OnlyPartiesDecide, OnlyTheBeneficiaryAnswers, EachPartyMayDecide, AnOpeningIsKnown, ALookIsKnown, ALookShowsWhatIsKnown, OwnOpeningsAreKnown, OwnAnswersAreKnown, ADecisionIsKnown, EachWishWantsByItsReading, EachDecisionIsInTime, WhatIsKnownStaysTrue, StandingsFollowTheWordLaw, WhichPlacesThereAre, EachPlaceHasItsNumber, PlainDecidesExactly, PlainLooksExactly, PlainOpensExactly, WhatIsDecidedIsInTime};
+ghost use Rattle.inst_board.specs.Laws.{KnowsMore, KnowsOpening, CanOpen, DecidedOnce, OnlyPartiesDecide, OnlyTheBeneficiaryAnswers, EachPartyMayDecide, AnOpeningIsKnown, ALookIsKnown, ALookShowsWhatIsKnown, OwnOpeningsAreKnown, OwnAnswersAreKnown, ADecisionIsKnown, EachWishWantsByItsReading, EachDecisionIsInTime, WhatIsKnownStaysTrue, StandingsFollowTheWordLaw, WhichPlacesThereAre, EachPlaceHasItsNumber, PlainDecidesExactly, PlainLooksExactly, PlainOpensExactly, WhatIsDecidedIsInTime};
 
 use crate::{Board, Place, PlainBoard, Wish};
 use inst_base::Moment;
 use inst_command::Outcome;
+use inst_terms::Terms;
 
 /// Over any board a place is decided once.
 pub fn decided_once<B: Board>()
@@ -149,4 +150,30 @@ pub fn decide_plain_twice(
     ensures second { result.1 ≡ outcome_of (after second later (after first at (standing_at board.old place))) }
 {
     decide_twice(board, place, first, at, second, later)
+}
+
+/// Writes the terms of two places, over any board, and then opens both: each is known with its own
+/// terms, and nothing is forgotten.
+pub fn open_two<B: Board>(
+    board: &mut B,
+    one: Place,
+    terms: &Terms,
+    other: Place,
+    others: &Terms,
+    deadline: Moment,
+)
+    requires apart { other ≢ one }
+    requires one { CanOpen B.knows B.has_role (B.settings board.old) board.old one terms.now }
+    requires other { CanOpen B.knows B.has_role (B.settings board.old) board.old other others.now }
+    requires deadline { 1 ≤ deadline }
+
+    ensures one { KnowsOpening B.knows board.new one terms.now deadline }
+    ensures other { KnowsOpening B.knows board.new other others.now deadline }
+    ensures kept { KnowsMore B.knows board.old board.new }
+    ensures stays { B.stays board.old board.new }
+{
+    board.write_terms(one, terms);
+    board.write_terms(other, others);
+    board.open(one, deadline);
+    board.open(other, deadline);
 }
