@@ -1,16 +1,22 @@
 -- What holders of boards know, and who may decide.
-use Rattle.std.proofs.Common.{◌≡◌, ℕ, ◌≤◌, inl, inr, sym, refl, ◌∙◌, subst}
+use Rattle.std.proofs.Common.{◌≡◌, ℕ, ◌<◌, ◌≤◌, ◌⊎◌, List, Some, None, inl, inr, sym, refl, ap, ◌∙◌, subst, arith}
+use Rattle.std.specs.Prelude.{Option}
+use Rattle.std.proofs.lemmas.Bool.Decides.{nat_tests}
 use Rattle.inst_command.specs.declared.outcome.Outcome.{Outcome}
-use Rattle.inst_command.specs.declared.outcome.Outcome.TheVariants.{Accepted, Rejected}
+use Rattle.inst_command.specs.declared.outcome.Outcome.TheVariants.{Accepted, Rejected, TimedOut}
 use Rattle.inst_terms.specs.declared.terms.Terms.{Terms}
 use Rattle.inst_board.specs.declared.place.Place.{Place}
+use Rattle.inst_board.specs.declared.wish.Wish.{Wish}
+use Rattle.inst_board.specs.declared.wish.Wish.TheVariants.{Accept, Reject}
 use Rattle.inst_board.specs.declared.look.Look.TheVariants.{Pending, Decided as Ended}
 use Rattle.inst_board.specs.declared.about.About.{About}
 use Rattle.inst_board.specs.declared.about.About.TheVariants.{Opened, HasTerms, Due, Decided}
 use Rattle.inst_board.specs.declared.about.Fact.{Fact}
+use Rattle.inst_board.specs.declared.about.Fact.{Fact}
 use Rattle.inst_board.specs.Standing.{Standing, unused, pending, final, IsLawful, Says, look_of, about}
-use Rattle.inst_board.specs.Learning.{Learns, KnowsTruly}
-use Rattle.inst_board.specs.Laws.{OnlyTheBeneficiaryAnswers, OwnOpeningsAreKnown, OwnAnswersAreKnown, WhatIsKnownStaysTrue}
+use Rattle.inst_board.specs.Learning.{Learns, KnowsTruly, Answers, Decides}
+use Rattle.inst_board.specs.Wish.{wanted}
+use Rattle.inst_board.specs.Laws.{KnowsOpening, OnlyTheBeneficiaryAnswers, OwnOpeningsAreKnown, OwnAnswersAreKnown, OwnAnswersStand, WhatIsKnownStaysTrue}
 use Rattle.inst_board.proofs.Places.{place_cases}
 
 -- a standing says one thing of each kind
@@ -89,3 +95,35 @@ module _ {B : Type 0} (knows : B → Fact → Type 0) where
     writing = λ c same truly j. let q = truly j in (q.0, q.1, λ a h. q.2 a ((same (about j a)).0 h));
     due = λ k d truly known. lawful_due truly.0 d truly.1 (truly.2 (Due d) known);
   }
+
+module _ {B : Type 0} (knows : B → Fact → Type 0) (has_role : B → ℕ → Type 0) (stood : B → Place → Outcome → Type 0)
+    (seldom : (b : B) (k : Place) (t : Terms) (o : Outcome) → knows b (about k (HasTerms t)) → has_role b t.to → stood b k o → knows b (about k (Decided o)) ⊎ (o ≡ TimedOut)) where
+  stands : (b c : B) (k : Place) (t : Terms) (d at : ℕ) (found : Option Outcome) (wish : Wish) (want : Outcome) → wanted wish d at ≡ Some want →
+      KnowsOpening knows b k t d → has_role b t.to → ((o : Outcome) → ¬ knows b (about k (Decided o))) →
+      (p : Standing) → Learns knows b k p c → Answers (stood b k) wish at p found → (found ≡ Some want) ⊎ (found ≡ Some TimedOut)
+  stands b c k t d at found wish want wants opening role none unused l h = absurd h
+  stands b c k t d at found wish want wants opening role none (pending s e) l h =
+      let due : d ≡ e = l.agrees (Due d) opening.due in
+      let no : None ≡ Some want = sym h.1 ∙ ap (λ (x : ℕ). wanted wish x at) (sym due) ∙ wants in
+      let never : ⊥ = cc in absurd never
+  stands b c k t d at found wish want wants opening role none (final s e o m) l h =
+      let due : d ≡ e = l.agrees (Due d) opening.due in
+      elim h.1 [
+        | inl was ↦ elim (seldom b k t o opening.terms role was) [
+          | inl known ↦ absurd (none o known)
+          | inr timed ↦ inr (h.0 ∙ ap Some timed)
+        ]
+        | inr new ↦ inl (h.0 ∙ sym new.0 ∙ ap (λ (x : ℕ). wanted wish x at) (sym due) ∙ wants)
+      ]
+
+  early_accept : (d at : ℕ) → at < d → wanted Accept d at ≡ Some Accepted
+  early_accept d at h = grind (arith, nat_tests)
+
+  early_reject : (r : List ℕ) (d at : ℕ) → at < d → wanted (Reject r) d at ≡ Some (Rejected r)
+  early_reject r d at h = grind (arith, nat_tests)
+
+  pub answers_stand : OwnAnswersStand knows has_role stood
+  answers_stand b c k t d at found opening role early none = (
+    λ h. stands b c k t d at found Accept Accepted (early_accept d at early) opening role none h.standing h.learns h.answers,
+    λ r h. stands b c k t d at found (Reject r) (Rejected r) (early_reject r d at early) opening role none h.standing h.learns h.answers,
+  )

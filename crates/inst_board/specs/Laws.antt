@@ -123,6 +123,13 @@ abbrev pub EachDecisionIsInTime : {B : Type 0} → (B → Fact → Type 0) → (
 EachDecisionIsInTime {B} knows stood = (b c : B) (k : Place) (wish : Wish) (deadline at : ℕ) (found : Option Outcome) → knows b (about k (Due deadline)) →
     Decides knows stood b k wish at found c → IsDecidedInTime stood b k wish deadline at found
 
+-- the beneficiary that answers in time, and knows no outcome, is answered what it wanted, or that it was timed out
+abbrev pub OwnAnswersStand : {B : Type 0} → (B → Fact → Type 0) → (B → ℕ → Type 0) → (B → Place → Outcome → Type 0) → Type 0
+OwnAnswersStand {B} knows has_role stood = (b c : B) (k : Place) (t : Terms) (deadline at : ℕ) (found : Option Outcome) →
+    KnowsOpening knows b k t deadline → has_role b t.to → at < deadline → ((o : Outcome) → ¬ knows b (about k (Decided o))) →
+    (Decides knows stood b k Accept at found c → (found ≡ Some Accepted) ⊎ (found ≡ Some TimedOut)) ×
+    ((reason : List ℕ) → Decides knows stood b k (Reject reason) at found c → (found ≡ Some (Rejected reason)) ⊎ (found ≡ Some TimedOut))
+
 -- who knows nothing knows truly, and each call keeps that
 pub record StaysTrue {B : Type 0} (knows : B → Fact → Type 0) (b : B) : Type 0 where
   pub first : ((f : Fact) → ¬ knows b f) → (j : Place) → KnowsTruly knows b j

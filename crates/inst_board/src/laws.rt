@@ -6,7 +6,7 @@ ghost use Rattle.inst_board.specs.declared.about.About.TheVariants.{Opened};
 ghost use Rattle.inst_board.specs.Standing.{pending, about};
 ghost use Rattle.inst_board.specs.Learning.{MayDecide, Decides};
 ghost use Rattle.inst_board.specs.Plain.{plain_knows, standing_at, after, outcome_of};
-ghost use Rattle.inst_board.specs.Laws.{KnowsMore, KnowsOpening, CanOpen, DecidedOnce, OnlyPartiesDecide, OnlyTheBeneficiaryAnswers, EachPartyMayDecide, AnOpeningIsKnown, ALookIsKnown, ALookShowsWhatIsKnown, OwnOpeningsAreKnown, OwnAnswersAreKnown, ADecisionIsKnown, EachWishWantsByItsReading, EachDecisionIsInTime, WhatIsKnownStaysTrue, StandingsFollowTheWordLaw, WhichPlacesThereAre, EachPlaceHasItsNumber, PlainDecidesExactly, PlainLooksExactly, PlainOpensExactly, WhatIsDecidedIsInTime};
+ghost use Rattle.inst_board.specs.Laws.{KnowsMore, KnowsOpening, CanOpen, DecidedOnce, OnlyPartiesDecide, OnlyTheBeneficiaryAnswers, EachPartyMayDecide, AnOpeningIsKnown, ALookIsKnown, ALookShowsWhatIsKnown, OwnOpeningsAreKnown, OwnAnswersAreKnown, ADecisionIsKnown, EachWishWantsByItsReading, EachDecisionIsInTime, OwnAnswersStand, WhatIsKnownStaysTrue, StandingsFollowTheWordLaw, WhichPlacesThereAre, EachPlaceHasItsNumber, PlainDecidesExactly, PlainLooksExactly, PlainOpensExactly, WhatIsDecidedIsInTime};
 
 use crate::{Board, Place, PlainBoard, Wish};
 use inst_base::Moment;
@@ -71,6 +71,11 @@ pub fn each_wish_wants_by_its_reading()
 /// Over any board a new outcome is in time.
 pub fn each_decision_is_in_time<B: Board>()
     ensures { EachDecisionIsInTime B.knows B.stood }
+{}
+
+/// Over any board an answer in time stands, unless the transfer was timed out before it.
+pub fn own_answers_stand<B: Board>()
+    ensures { OwnAnswersStand B.knows B.has_role B.stood }
 {}
 
 /// What is known of a place stays true of one lawful standing, whatever is called.
