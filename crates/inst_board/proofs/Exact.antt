@@ -174,3 +174,6 @@ plain_may_at b k wish (final t d o m) is opened = record {
 -- the holder of a plain board may decide each opened place
 pub plain_may : (b : Contents) (k : Place) (wish : Wish) → plain_knows b (about k Opened) → MayDecide plain_knows (λ _ _. Unit {0}) b k wish
 plain_may b k wish opened = plain_may_at b k wish (standing_at b k) refl opened
+
+pub opens_exactly : (b c : Contents) (k : Place) (t : Terms) (d : ℕ) → Learns plain_knows b k (pending t d) c → Stands b k (pending t d) c
+opens_exactly b c k t d l = stands_as b k (pending t d) c l (pending t d) l.agrees (λ a h. h) (λ a h. l.shown a h)

@@ -2,3 +2,4 @@ pub mod Places
 pub mod PlainSteps
 pub mod Deciding
 pub mod Exact
+pub mod Knowing

@@ -53,11 +53,14 @@ place_cases j k = elim (cases_eq j.owner k.owner) [
   | inr n ↦ inr (λ e. n (ap (λ (x : Place). x.owner) e))
 ]
 
-numbers_apart : (s : HubSettings) (j k : Place) → IsPlace s j → IsPlace s k → j ≢ k → number_of s j ≢ number_of s k
-numbers_apart s j k hj hk n e =
+pub same_of_number : (s : HubSettings) (j k : Place) → IsPlace s j → IsPlace s k → number_of s j ≡ number_of s k → j ≡ k
+same_of_number s j k hj hk e =
     let ij = inside s j hj in let ik = inside s k hk in
     let same = same_from_place j.owner j.index k.owner k.index s.places ij.index ik.index e in
-    n (same_place j k same.0 same.1)
+    same_place j k same.0 same.1
+
+numbers_apart : (s : HubSettings) (j k : Place) → IsPlace s j → IsPlace s k → j ≢ k → number_of s j ≢ number_of s k
+numbers_apart s j k hj hk n e = n (same_of_number s j k hj hk e)
 
 -- what is kept of a place that the settings have
 pub kept_inside : (b : Contents) (k : Place) → IsPlace b.settings k → kept_at b k ≡ kept_or_unused (slice_get b.kept (number_of b.settings k))

@@ -28,6 +28,10 @@ pub record Learns {B : Type 0} (knows : B → Fact → Type 0) (b : B) (k : Plac
   pub shown : (a : About) → Shows p a → knows c (about k a)
   pub only : (f : Fact) → knows c f → knows b f ⊎ ((f.place ≡ k) × Says p f.about)
 
+-- what is known of the place is true of one standing that a place may have
+abbrev pub KnowsTruly : {B : Type 0} → (B → Fact → Type 0) → B → Place → Type 0
+KnowsTruly knows b k = (p : Standing) × IsLawful p × ((a : About) → knows b (about k a) → Says p a)
+
 -- both holders know the same
 abbrev pub KnowTheSame : {B : Type 0} → (B → Fact → Type 0) → B → B → Type 0
 KnowTheSame knows b c = (f : Fact) → knows c f ↔ knows b f
@@ -52,14 +56,15 @@ IsAnswer TimedOut = ⊥
 -- A look at the place k, from the holder b to the holder c
 -- standing: what the place is then
 -- own: who has the originator's role knew its opening
--- answered: who has the beneficiary's role knew whether it was accepted or rejected
+-- answered: who has the beneficiary's role knew whether it was accepted or rejected, and the terms
 -- before: an outcome that is shown may have stood before
 pub record Looks {B : Type 0} (knows : B → Fact → Type 0) (has_role : B → ℕ → Type 0) (stood : B → Place → Outcome → Type 0) (b : B) (k : Place) (look : Look) (c : B) : Type 0 where
   pub standing : Standing
   pub learns : Learns knows b k standing c
   pub look_is : look ≡ look_of standing
   pub own : has_role b k.owner → (a : About) → IsOfOpening a → Says standing a → knows b (about k a)
-  pub answered : (t : Terms) → Says standing (HasTerms t) → has_role b t.to → (o : Outcome) → IsAnswer o → Says standing (Decided o) → knows b (about k (Decided o))
+  pub answered : (t : Terms) → Says standing (HasTerms t) → has_role b t.to → (o : Outcome) → IsAnswer o → Says standing (Decided o) →
+      knows b (about k (HasTerms t)) × knows b (about k (Decided o))
   pub before : (o : Outcome) → Says standing (Decided o) → stood b k o
 
 -- who may ask for this: the beneficiary, and for a time-out the originator too

@@ -1,16 +1,17 @@
 -- What a plain board keeps: one value for each place, by the owner's number and the index. All of it is known to its
 -- one holder. How places lie in a list is this hub's own choice.
-use Rattle.std.specs.Prelude.{◌≡◌, ◌≢◌, ℕ, ◌+◌, ◌*◌, List, Option, Some, None, if◌then◌else◌, length, slice_get}
+use Rattle.std.specs.Prelude.{◌≡◌, ◌≢◌, ℕ, ◌+◌, ◌*◌, List, Option, Some, None, true, false, IsTrue, refl, if◌then◌else◌, length, slice_get}
 use Rattle.inst_command.specs.declared.outcome.Outcome.{Outcome}
 use Rattle.inst_settings.specs.Settings.{HubSettings, participants}
 use Rattle.inst_terms.specs.declared.terms.Terms.{Terms}
 use Rattle.inst_board.specs.declared.place.Place.{Place}
 use Rattle.inst_board.specs.declared.wish.Wish.{Wish}
+use Rattle.inst_board.specs.declared.about.About.{About}
 use Rattle.inst_board.specs.declared.about.About.TheVariants.{Decided}
 use Rattle.inst_board.specs.declared.about.Fact.{Fact}
 use Rattle.inst_board.specs.declared.plain.Kept.{Kept}
 use Rattle.inst_board.specs.declared.plain.Kept.TheVariants.{Unused, Written, Pending, Final}
-use Rattle.inst_board.specs.Standing.{Standing, unused, pending, final, is_place, IsLawful, Says}
+use Rattle.inst_board.specs.Standing.{Standing, unused, pending, final, is_place, IsPlace, IsLawful, Says, about}
 use Rattle.inst_board.specs.Wish.{wanted}
 
 -- settings: those of the hub
@@ -45,6 +46,13 @@ standing_at board place = standing_of (kept_at board place)
 -- all that is true of the places is known
 abbrev pub plain_knows : Contents → Fact → Type 0
 plain_knows board fact = Says (standing_at board fact.place) fact.about
+
+-- nothing is known of a place that the settings don't have
+pub known_is_place : (board : Contents) (place : Place) (a : About) → plain_knows board (about place a) → IsPlace board.settings place
+known_is_place board place a = elim (is_place board.settings place) as (λ has. Says (standing_of (if has then kept_or_unused (slice_get board.kept (number_of board.settings place)) else Unused)) a → IsTrue has) [
+  | true ↦ λ _. refl
+  | false ↦ λ says. absurd says
+]
 
 -- the terms written to a place that isn't opened
 abbrev pub plain_wrote : Contents → Place → Terms → Type 0

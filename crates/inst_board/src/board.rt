@@ -12,9 +12,10 @@ pub trait Board {
     ghost use Rattle.inst_command.specs.declared.outcome.Outcome.TheVariants.{TimedOut};
     ghost use Rattle.inst_terms.specs.declared.terms.Terms.{Terms};
     ghost use Rattle.inst_board.specs.declared.place.Place.{Place};
+    ghost use Rattle.inst_board.specs.declared.about.About.{About};
     ghost use Rattle.inst_board.specs.declared.about.About.TheVariants.{Opened, HasTerms, Decided};
     ghost use Rattle.inst_board.specs.declared.about.Fact.{Fact};
-    ghost use Rattle.inst_board.specs.Standing.{IsPlace, pending, about};
+    ghost use Rattle.inst_board.specs.Standing.{Standing, IsPlace, Says, pending, about};
     ghost use Rattle.inst_board.specs.Learning.{Learns, KnowTheSame, KeepsWritten, Looks, MayDecide, Decides};
 
     /// The settings of the hub.
@@ -89,4 +90,10 @@ pub trait Board {
 
     /// The beneficiary's holder knows what it answered: else only the time-out may have stood.
     ghost stood_seldom: { (b : Self) (k : Place) (t : Terms) (o : Outcome) → knows b (about k (HasTerms t)) → has_role b t.to → stood b k o → knows b (about k (Decided o)) ⊎ (o ≡ TimedOut) };
+
+    /// What the holder knows of a place is true of one standing.
+    ghost knows_one: { (b : Self) (k : Place) → (p : Standing) × ((a : About) → knows b (about k a) → Says p a) };
+
+    /// It knows nothing of what the settings don't have.
+    ghost knows_places: { (b : Self) (k : Place) (a : About) → knows b (about k a) → IsPlace (settings b) k };
 }

@@ -1,20 +1,101 @@
 //! The laws of boards, and code over any board. A function without a body has the law for its
 //! contract, so that the check proves it.
-ghost use Rattle.std.specs.Prelude.{◌≡◌, ℕ, Some, IfSome};
+ghost use Rattle.std.specs.Prelude.{◌≡◌, ◌≢◌, ◌≤◌, ℕ, Some, IfSome};
 ghost use Rattle.inst_terms.specs.declared.terms.Terms.{Terms};
 ghost use Rattle.inst_board.specs.declared.about.About.TheVariants.{Opened};
 ghost use Rattle.inst_board.specs.Standing.{pending, about};
 ghost use Rattle.inst_board.specs.Learning.{MayDecide, Decides};
 ghost use Rattle.inst_board.specs.Plain.{plain_knows, standing_at, after, outcome_of};
-ghost use Rattle.inst_board.specs.Laws.{DecidedOnce, PlainDecidesExactly, PlainLooksExactly};
+ghost use Rattle.inst_board.specs.Laws.{KnowsMore, KnowsOpening, CanOpen, DecidedOnce, OnlyPartiesDecide, OnlyTheBeneficiaryAnswers, EachPartyMayDecide, AnOpeningIsKnown, ALookIsKnown, ALookShowsWhatIsKnown, OwnOpeningsAreKnown, OwnAnswersAreKnown, ADecisionIsKnown, EachWishWantsByItsReading, EachDecisionIsInTime, OwnAnswersStand, WhatIsKnownStaysTrue, StandingsFollowTheWordLaw, WhichPlacesThereAre, EachPlaceHasItsNumber, PlainDecidesExactly, PlainLooksExactly, PlainOpensExactly, WhatIsDecidedIsInTime};
 
 use crate::{Board, Place, PlainBoard, Wish};
 use inst_base::Moment;
 use inst_command::Outcome;
+use inst_terms::Terms;
 
 /// Over any board a place is decided once.
 pub fn decided_once<B: Board>()
     ensures { DecidedOnce B.knows B.stood }
+{}
+
+/// Who may decide a place knows its opening and is a party of its transfer.
+pub fn only_parties_decide<B: Board>()
+    ensures { OnlyPartiesDecide B.knows B.has_role }
+{}
+
+/// Who may confirm or reject is the beneficiary.
+pub fn only_the_beneficiary_answers<B: Board>()
+    ensures { OnlyTheBeneficiaryAnswers B.knows B.has_role }
+{}
+
+/// The beneficiary may have each wish, and the originator may let its transfer expire.
+pub fn each_party_may_decide<B: Board>()
+    ensures { EachPartyMayDecide B.knows B.has_role }
+{}
+
+/// Who opens a place knows its terms and its deadline.
+pub fn an_opening_is_known<B: Board>()
+    ensures { AnOpeningIsKnown B.knows }
+{}
+
+/// Who looks at a place knows what it showed.
+pub fn a_look_is_known<B: Board>()
+    ensures { ALookIsKnown B.knows B.has_role B.stood }
+{}
+
+/// A look hides nothing that is known.
+pub fn a_look_shows_what_is_known<B: Board>()
+    ensures { ALookShowsWhatIsKnown B.knows B.has_role B.stood }
+{}
+
+/// By a look the originator's holder learns no opening of its own places.
+pub fn own_openings_are_known<B: Board>()
+    ensures { OwnOpeningsAreKnown B.knows B.has_role B.stood }
+{}
+
+/// By a look the beneficiary's holder learns no acceptance and no rejection of what is addressed to it.
+pub fn own_answers_are_known<B: Board>()
+    ensures { OwnAnswersAreKnown B.knows B.has_role B.stood }
+{}
+
+/// A decision answers a known outcome, and what it answers is known from then on.
+pub fn a_decision_is_known<B: Board>()
+    ensures { ADecisionIsKnown B.knows B.stood }
+{}
+
+/// Before the deadline an answer is wanted, from it on the time-out.
+pub fn each_wish_wants_by_its_reading()
+    ensures { EachWishWantsByItsReading }
+{}
+
+/// Over any board a new outcome is in time.
+pub fn each_decision_is_in_time<B: Board>()
+    ensures { EachDecisionIsInTime B.knows B.stood }
+{}
+
+/// Over any board an answer in time stands, unless the transfer was timed out before it.
+pub fn own_answers_stand<B: Board>()
+    ensures { OwnAnswersStand B.knows B.has_role B.stood }
+{}
+
+/// What is known of a place stays true of one lawful standing, whatever is called.
+pub fn what_is_known_stays_true<B: Board>()
+    ensures { WhatIsKnownStaysTrue B.knows }
+{}
+
+/// A place stands as its words may.
+pub fn standings_follow_the_word_law()
+    ensures { StandingsFollowTheWordLaw }
+{}
+
+/// A participant of the settings has places from 0 to one less than their number.
+pub fn which_places_there_are()
+    ensures { WhichPlacesThereAre }
+{}
+
+/// No two places lie in one another's stead on a plain board.
+pub fn each_place_has_its_number()
+    ensures { EachPlaceHasItsNumber }
 {}
 
 /// What any board promises of a decision is exact on a plain one.
@@ -25,6 +106,16 @@ pub fn plain_decides_exactly()
 /// What any board promises of a look is exact on a plain one.
 pub fn plain_looks_exactly()
     ensures { PlainLooksExactly }
+{}
+
+/// What any board promises of an opening is exact on a plain one.
+pub fn plain_opens_exactly()
+    ensures { PlainOpensExactly }
+{}
+
+/// What becomes of a pending place of a plain board is in time.
+pub fn what_is_decided_is_in_time()
+    ensures { WhatIsDecidedIsInTime }
 {}
 
 /// Decides a place twice, over any board: the second answer is the first, if there was one.
@@ -64,4 +155,30 @@ pub fn decide_plain_twice(
     ensures second { result.1 ≡ outcome_of (after second later (after first at (standing_at board.old place))) }
 {
     decide_twice(board, place, first, at, second, later)
+}
+
+/// Writes the terms of two places, over any board, and then opens both: each is known with its own
+/// terms, and nothing is forgotten.
+pub fn open_two<B: Board>(
+    board: &mut B,
+    one: Place,
+    terms: &Terms,
+    other: Place,
+    others: &Terms,
+    deadline: Moment,
+)
+    requires apart { other ≢ one }
+    requires one { CanOpen B.knows B.has_role (B.settings board.old) board.old one terms.now }
+    requires other { CanOpen B.knows B.has_role (B.settings board.old) board.old other others.now }
+    requires deadline { 1 ≤ deadline }
+
+    ensures one { KnowsOpening B.knows board.new one terms.now deadline }
+    ensures other { KnowsOpening B.knows board.new other others.now deadline }
+    ensures kept { KnowsMore B.knows board.old board.new }
+    ensures stays { B.stays board.old board.new }
+{
+    board.write_terms(one, terms);
+    board.write_terms(other, others);
+    board.open(one, deadline);
+    board.open(other, deadline);
 }

@@ -119,7 +119,7 @@ impl Board for PlainBoard {
     ghost use Rattle.inst_board.specs.Learning.{Learns, KnowTheSame, KeepsWritten, Looks, Decides};
     ghost use Rattle.inst_board.specs.Plain.{Becomes, after, outcome_of, kept_at, standing_at};
     ghost use Rattle.std.proofs.Common.{refl, ◌∙◌, inl, ap};
-    ghost use Rattle.inst_board.specs.Plain.{Contents, plain_knows, plain_wrote, plain_stood};
+    ghost use Rattle.inst_board.specs.Plain.{Contents, plain_knows, plain_wrote, plain_stood, known_is_place};
 
     ghost settings = { λ b. b.settings };
 
@@ -142,6 +142,10 @@ impl Board for PlainBoard {
     ghost stays_roles = { λ a b p q. (λ r. r, λ r. r) };
 
     ghost stood_seldom = { λ b k t o known role was. inl was };
+
+    ghost knows_one = { λ b k. (standing_at b k, λ a h. h) };
+
+    ghost knows_places = { known_is_place };
 
     fn write_terms(&mut self, place: Place, terms: &Terms)
         requires place { IsPlace self.old.settings place }

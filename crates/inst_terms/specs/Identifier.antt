@@ -8,9 +8,17 @@ unfoldable pub sum_below : ℕ → (ℕ → ℕ) → ℕ
 sum_below zero f = 0
 sum_below (suc n) f = sum_below n f + f n
 
+-- above each character's value
+abbrev pub base : ℕ
+base = 128
+
+-- how many characters the four words have room for
+abbrev pub room : ℕ
+room = 36
+
 -- the number of n characters, the first lowest
 abbrev pub in_base_128 : ℕ → (ℕ → ℕ) → ℕ
-in_base_128 n character = sum_below n (λ j. character j * 128 ^ j)
+in_base_128 n character = sum_below n (λ j. character j * base ^ j)
 
 -- the word of the nine characters from `start` on
 abbrev pub nine_from : List ℕ → ℕ → ℕ
@@ -22,8 +30,8 @@ identifier_words id = nine_from id 0 ∷ nine_from id 9 ∷ nine_from id 18 ∷ 
 
 -- the character at a place of a word
 abbrev pub digit : ℕ → ℕ → ℕ
-digit word place = word / 128 ^ place % 128
+digit word place = word / base ^ place % base
 
 -- the characters are the identifier's, with zeros up to their end
 abbrev pub StandsIn : List ℕ → List ℕ → Type 0
-StandsIn id characters = (k : ℕ) → k < 36 → get_or characters k 0 ≡ get_or id k 0
+StandsIn id characters = (k : ℕ) → k < room → get_or characters k 0 ≡ get_or id k 0

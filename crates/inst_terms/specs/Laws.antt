@@ -1,10 +1,13 @@
 -- The laws of a place's words: packed words tell what was packed apart, and over all words that a place ever has one
 -- outcome is decided at most, in time, and nothing that could be seen goes back. They are this hub's own promises.
-use Rattle.std.specs.Prelude.{◌≡◌, ℕ, ◌<◌, ◌≤◌, List, Some, slice_get}
+use Rattle.std.specs.Prelude.{◌≡◌, ◌≢◌, ◌↔◌, ℕ, ◌<◌, ◌≤◌, List, [], ◌∷◌, Some, slice_get}
 use Rattle.inst_command.specs.declared.outcome.Outcome.{Outcome}
+use Rattle.inst_command.specs.declared.outcome.Outcome.TheVariants.{TimedOut}
+use Rattle.inst_command.specs.declared.outcome.State.{State}
+use Rattle.inst_command.specs.declared.outcome.State.TheVariants.{Unused as SeenUnused, Pending as SeenPending, Decided}
 use Rattle.inst_terms.specs.declared.terms.Terms.{Terms}
 use Rattle.inst_terms.specs.declared.word.Word.{Word}
-use Rattle.inst_terms.specs.declared.word.Word.TheVariants.{Pending, Final}
+use Rattle.inst_terms.specs.declared.word.Word.TheVariants.{Unused, Pending, Final}
 use Rattle.inst_terms.specs.Terms.{IsTerms, words_of}
 use Rattle.inst_terms.specs.Word.{IsWord, number_of}
 use Rattle.inst_terms.specs.WordLaw.{InTime, IsLawful, seen, IsAtLeast}
@@ -29,3 +32,30 @@ NothingSeenGoesBack = (words : List Word) → IsLawful words → (i j : ℕ) →
 abbrev pub EachOutcomeIsInTime : Type 0
 EachOutcomeIsInTime = (words : List Word) → IsLawful words → (i : ℕ) (o : Outcome) (t : ℕ) → slice_get words i ≡ Some (Final o t) →
     (j : ℕ) × (d : ℕ) × (j < i) × (slice_get words j ≡ Some (Pending d)) × (1 ≤ d) × InTime o d t
+
+-- what is in time: an acceptance or a rejection before the deadline, a time-out at it or after it
+abbrev pub WhatIsInTime : Type 0
+WhatIsInTime = (o : Outcome) (deadline moment : ℕ) →
+    (o ≢ TimedOut → InTime o deadline moment ↔ (moment < deadline)) ×
+    (o ≡ TimedOut → InTime o deadline moment ↔ (deadline ≤ moment))
+
+-- each outcome that is in time may be a place's, and stay so
+abbrev pub EachOutcomeInTimeMayStand : Type 0
+EachOutcomeInTimeMayStand = (o : Outcome) (deadline moment : ℕ) → 1 ≤ deadline → InTime o deadline moment →
+    IsLawful (Unused ∷ Pending deadline ∷ Pending deadline ∷ Final o moment ∷ Final o moment ∷ [])
+
+-- what is at least what was seen: after nothing anything, after a pending place it or an outcome, and after an outcome
+-- that one
+pub record GoesOnFrom (later : State) : Type 0 where
+  pub nothing : IsAtLeast later SeenUnused
+  pub pending : IsAtLeast later SeenPending ↔ (later ≢ SeenUnused)
+  pub decided : (o : Outcome) → IsAtLeast later (Decided o) ↔ (later ≡ Decided o)
+
+-- a pending word shows that, and a final one its outcome
+pub record WordsShow : Type 0 where
+  pub unused : seen Unused ≡ SeenUnused
+  pub pending : (deadline : ℕ) → seen (Pending deadline) ≡ SeenPending
+  pub final : (o : Outcome) (moment : ℕ) → seen (Final o moment) ≡ Decided o
+
+abbrev pub WhatIsSeen : Type 0
+WhatIsSeen = WordsShow × ((later : State) → GoesOnFrom later)

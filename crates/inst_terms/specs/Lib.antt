@@ -4,3 +4,4 @@ pub mod Terms
 pub mod Word
 pub mod WordLaw
 pub mod Laws
+pub mod Rows

@@ -11,6 +11,11 @@ digit_of character = if nat_lt character 65 then character - 48 else character -
 abbrev pub character_of : ℕ → ℕ
 character_of digit = if nat_lt digit 10 then digit + 48 else digit + 55
 
+-- how many digits there are
+abbrev pub digits : ℕ
+digits = 36
+
 -- the number of four characters
 abbrev pub reason_number : List ℕ → ℕ
-reason_number text = digit_of (get_or text 0 0) * 36 ^ 3 + digit_of (get_or text 1 0) * 36 ^ 2 + digit_of (get_or text 2 0) * 36 + digit_of (get_or text 3 0)
+reason_number text = digit_of (get_or text 0 0) * digits ^ 3 + digit_of (get_or text 1 0) * digits ^ 2
+    + digit_of (get_or text 2 0) * digits + digit_of (get_or text 3 0)

@@ -4,16 +4,19 @@
 use Rattle.std.specs.Prelude.{ℕ, ◌+◌, ◌*◌, ◌<◌, List, ◌∷◌, IsTrue}
 use Rattle.inst_base.specs.Cents.{is_amount}
 use Rattle.inst_base.specs.Text.{is_identifier}
-use Rattle.inst_terms.specs.declared.terms.TheConstants.{BENEFICIARIES}
 use Rattle.inst_terms.specs.declared.terms.Terms.{Terms}
 use Rattle.inst_terms.specs.Identifier.{identifier_words}
 
+-- how many beneficiaries the first word can name: the factor of the cents in it
+abbrev pub beneficiaries : ℕ
+beneficiaries = 64
+
 -- the five words
 abbrev pub words_of : Terms → List ℕ
-words_of terms = (terms.cents * BENEFICIARIES + terms.to) ∷ identifier_words terms.id
+words_of terms = (terms.cents * beneficiaries + terms.to) ∷ identifier_words terms.id
 
 -- terms that a place's words can have: a beneficiary below the factor, an amount and an identifier
 pub record IsTerms (terms : Terms) : Type 0 where
-  pub beneficiary : terms.to < BENEFICIARIES
+  pub beneficiary : terms.to < beneficiaries
   pub amount : IsTrue (is_amount terms.cents)
   pub identifier : IsTrue (is_identifier terms.id)

@@ -10,9 +10,17 @@ use Rattle.inst_terms.specs.declared.word.Word.{Word}
 use Rattle.inst_terms.specs.declared.word.Word.TheVariants.{Unused, Pending, Final}
 use Rattle.inst_terms.specs.Reason.{reason_number}
 
--- a moment, a reason below 2^21 and a kind below 4 in one number
+-- the room of a reason
+abbrev pub reason_room : ℕ
+reason_room = 2 ^ 21
+
+-- how many kinds of word there are
+abbrev pub kinds : ℕ
+kinds = 4
+
+-- a moment, a reason and a kind in one number
 abbrev pub number : ℕ → ℕ → ℕ → ℕ
-number moment reason kind = (moment * 2 ^ 21 + reason) * 4 + kind
+number moment reason kind = (moment * reason_room + reason) * kinds + kind
 
 -- the number of an outcome at the moment of its decision
 abbrev pub outcome_number : Outcome → ℕ → ℕ

@@ -1,6 +1,7 @@
 //! The laws of a place's words. Each is a function without a body whose contract is the law, so that
 //! the check proves it.
-ghost use Rattle.inst_terms.specs.Laws.{DifferentTermsHaveDifferentWords, DifferentWordsHaveDifferentNumbers, OneFinalWord, NothingSeenGoesBack, EachOutcomeIsInTime};
+ghost use Rattle.inst_terms.specs.Laws.{DifferentTermsHaveDifferentWords, DifferentWordsHaveDifferentNumbers, OneFinalWord, NothingSeenGoesBack, EachOutcomeIsInTime, WhatIsInTime, EachOutcomeInTimeMayStand, WhatIsSeen};
+ghost use Rattle.inst_terms.specs.Rows.{WordsOfTheFormat};
 
 /// Two different terms never have the same words.
 pub fn different_terms_have_different_words()
@@ -25,4 +26,25 @@ pub fn nothing_seen_goes_back()
 /// A place is accepted or rejected before its deadline, and timed out at it or after it.
 pub fn each_outcome_is_in_time()
     ensures { EachOutcomeIsInTime }
+{}
+
+/// In time is before the deadline for an acceptance and a rejection, and at it or after it for a
+/// time-out.
+pub fn what_is_in_time()
+    ensures { WhatIsInTime }
+{}
+
+/// No law forbids an outcome that is in time.
+pub fn each_outcome_in_time_may_stand()
+    ensures { EachOutcomeInTimeMayStand }
+{}
+
+/// A later view goes on from an earlier one as far as it must and no further.
+pub fn what_is_seen()
+    ensures { WhatIsSeen }
+{}
+
+/// The values of `docs/FORMATS.md`, computed.
+pub fn words_of_the_format()
+    ensures { WordsOfTheFormat }
 {}

@@ -1,7 +1,7 @@
-ghost use Rattle.std.specs.Prelude.{◌≡◌, ◌<◌, ◌≤◌, Some, ◌↔◌};
-ghost use Rattle.inst_base.specs.declared.moment.TheConstants.{LAST};
+ghost use Rattle.std.specs.Prelude.{◌≡◌, ◌<◌, Some, ◌↔◌, IsTrue};
+ghost use Rattle.inst_base.specs.Moment.{is_moment};
 ghost use Rattle.inst_terms.specs.declared.word.Word.{Word};
-ghost use Rattle.inst_terms.specs.Word.{IsWord, number, number_of};
+ghost use Rattle.inst_terms.specs.Word.{IsWord, number, number_of, reason_room, kinds};
 
 use crate::Word;
 use crate::reason::{pack_reason, read_reason};
@@ -68,9 +68,9 @@ pub fn read_outcome(word: u64) -> Option<Word>
 
 /// The number with these three parts, the moment highest.
 fn number(moment: u64, reason: u64, kind: u64) -> u64
-    requires moment { moment ≤ LAST }
-    requires reason { reason < REASON_ROOM }
-    requires kind { kind < KINDS }
+    requires moment { IsTrue (is_moment moment) }
+    requires reason { reason < reason_room }
+    requires kind { kind < kinds }
     ensures { result ≡ number moment reason kind }
 {
     (moment * REASON_ROOM + reason) * KINDS + kind

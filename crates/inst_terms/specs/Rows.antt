@@ -1,0 +1,27 @@
+-- Worked values of a place's words, computed from the definitions. They are this hub's own choice.
+use Rattle.std.specs.Prelude.{◌≡◌, ℕ, List, [], ◌∷◌, codes}
+use Rattle.inst_command.specs.declared.outcome.Outcome.TheVariants.{Accepted, Rejected, TimedOut}
+use Rattle.inst_terms.specs.declared.terms.Terms.{Terms}
+use Rattle.inst_terms.specs.declared.word.Word.TheVariants.{Unused, Pending, Final}
+use Rattle.inst_terms.specs.Terms.{words_of}
+use Rattle.inst_terms.specs.Word.{number_of}
+
+abbrev pub terms : ℕ → ℕ → List ℕ → Terms
+terms to cents id = record { to = to; cents = cents; id = id }
+
+pub record TermsWords : Type 0 where
+  pub usual : words_of (terms 1 50000 (codes "T1")) ≡ 3200001 ∷ 6356 ∷ 0 ∷ 0 ∷ 0 ∷ []
+  pub largest : words_of (terms 63 99999999999 (codes "T1")) ≡ 6399999999999 ∷ 6356 ∷ 0 ∷ 0 ∷ 0 ∷ []
+  pub longest : words_of (terms 0 1 (codes "ABCDEFGHIJKLMNOPQRSTUVWXYZabcdefghi")) ≡
+      64 ∷ 5301051446564806977 ∷ 5954676236578137546 ∷ 7040646590819035731 ∷ 59570708593324514 ∷ []
+
+pub record OutcomeWords : Type 0 where
+  pub unused : number_of Unused ≡ 0
+  pub pending : number_of (Pending 11000) ≡ 92274688000
+  pub last : number_of (Pending 2199023255551) ≡ 18446744073701163008
+  pub accepted : number_of (Final Accepted 10999) ≡ 92266299393
+  pub rejected : number_of (Final (Rejected (codes "AC04")) 2000) ≡ 16779144466
+  pub timed_out : number_of (Final TimedOut 11000) ≡ 92274688003
+
+abbrev pub WordsOfTheFormat : Type 0
+WordsOfTheFormat = TermsWords × OutcomeWords
