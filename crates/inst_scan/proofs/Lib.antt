@@ -1,4 +1,4 @@
 pub mod Reading
 pub mod Lexing
 pub mod Members
-pub mod Seen
+pub mod Shown
