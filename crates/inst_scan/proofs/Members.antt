@@ -12,12 +12,13 @@ use Rattle.json.specs.Json.{value, members, parse_map}
 use Rattle.json.proofs.Grammar.{value_is, value-begin_object}
 use Rattle.serde_json.specs.Data.{Data, string, number, unsigned, object, Members, no_members, put}
 use Rattle.serde_json.specs.Read.{of_json, of_members, converted, number_of}
-use Rattle.serde_json.specs.Find.{get, get_member}
+use Rattle.serde_json.specs.Find.{get_member}
 use Rattle.inst_scan.proofs.Reading.{converted-object, member_read, members_over, whole, whole_read}
 use Rattle.serde_json.proofs.Views.{get_member-put, get_member-put_other}
-use Rattle.inst_scan.specs.Scalar.{IsScalar}
+use Rattle.inst_scan.specs.Scalar.{IsScalar, data_of}
 use Rattle.inst_scan.specs.Names.{names, place_of}
-use Rattle.inst_scan.specs.Fields.{data_of, no_fields, TellsMembers}
+use Rattle.inst_scan.specs.Fields.{no_fields}
+use Rattle.inst_scan.proofs.Told.{TellsMembers, TellsObject}
 use Rattle.inst_scan.specs.declared.fields.Field.{Field}
 use Rattle.inst_scan.specs.declared.fields.Field.TheVariants.{Missing}
 
@@ -150,10 +151,6 @@ unfolding punctuate
 reading_goes_on ts old ls fields k t d field is scalar len seen reading =
     let left = member_read_on ts old (comma ∷ ls) fields k t d field is scalar refl len seen reading in
     (after_comma, left.0, left.1, refl, left.2, left.3, left.4)
-
--- each known field is what the object has under its name
-abbrev pub TellsObject : List Field → Data → Type 0
-TellsObject fields e = (i : ℕ) → i < 15 → get (get_or names i []) e ≡ data_of (get_or fields i Missing)
 
 pub reading_ends : (ts : List Token) (old : List Lexeme) (fields : List Field) (k : List ℕ) (t : Token) (d : Data) (field : Field)
     → old ≡ token (tok.string k) ∷ colon ∷ token t ∷ token tok.end_object ∷ [] → IsScalar t d → length fields ≡ 15 → data_of field ≡ Some d

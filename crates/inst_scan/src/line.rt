@@ -2,7 +2,7 @@
 ghost use Rattle.std.specs.Prelude.{◌≡◌, Some, IfSome};
 ghost use Rattle.serde_json.specs.Data.{Data};
 ghost use Rattle.serde_json.specs.Read.{read};
-ghost use Rattle.inst_scan.specs.Fields.{listed, no_fields, Tells};
+ghost use Rattle.inst_scan.specs.Fields.{listed, no_fields, fields_of, fields_told};
 
 use crate::fields::Fields;
 use crate::member::{key, scalar};
@@ -15,7 +15,7 @@ use crate::parts::skip_space;
 #[inline(always)]
 pub fn scan<'a>(text: &'a [u8], found: &mut Fields<'a>) -> Option<()>
     requires { listed found.old ≡ no_fields }
-    ensures { IfSome result (λ _. (d : Data) × (read text.now ≡ Some d) × Tells found.new d) }
+    ensures { IfSome result (λ _. (d : Data) × (read text.now ≡ Some d) × (fields_told found.new ≡ fields_of d)) }
 {
     let open = skip_space(text, 0);
     if open >= text.len() || text[open] != b'{' {

@@ -3,8 +3,7 @@ ghost use Rattle.std.specs.Prelude.{◌≡◌, ◌<◌, ◌≤◌, ◌∷◌, le
 ghost use Rattle.json.specs.Token.{Token, string};
 ghost use Rattle.json.specs.Lex.{lex, between, token, colon};
 ghost use Rattle.serde_json.specs.Data.{Data};
-ghost use Rattle.inst_scan.specs.Scalar.{IsScalar};
-ghost use Rattle.inst_scan.specs.Fields.{data_of};
+ghost use Rattle.inst_scan.specs.Scalar.{IsScalar, data_of};
 
 use crate::fields::Field;
 use crate::parts::{skip_space, string, whole};

@@ -3,8 +3,9 @@ use Rattle.std.proofs.lemmas.List.{drop_all}
 use Rattle.json.specs.Token as tok
 use Rattle.json.specs.Lex.{token, colon, lex, between, fresh, punctuate, tokens}
 use Rattle.inst_scan.specs.Fields.{listed}
+use Rattle.inst_scan.proofs.Told.{TellsObject, told_of}
 use Rattle.inst_scan.proofs.Lexing.{lex_open, lex_comma, lex_close}
-use Rattle.inst_scan.proofs.Members.{Reading, TellsObject, reading_begins, reading_goes_on, reading_ends}
+use Rattle.inst_scan.proofs.Members.{Reading, reading_begins, reading_goes_on, reading_ends}
 use Rattle.inst_scan.proofs.line.scan.Goals as goal
 
 pub loop-at-init : goal.loop-at-init
@@ -44,4 +45,4 @@ returns-then-skip_space-text c =
     ∙ ap (λ ls. token (tok.string k) ∷ colon ∷ ls)
     (v.4 ∙ ap (λ ls. token v.0 ∷ ls) (sym c.skip_space-stop.ensures.same ∙ lex_close t stop c.if-stop-text.false c.if-text-stop-eq125.true ∙ ap (λ ls. token tok.end_object ∷ ls) none)) in
     let e = reading_ends (tokens t) (lex between (drop l.at t)) (listed l.found) k v.0 v.1 c.in_ok-field.field is v.2 refl v.3 l.invariant.reading in
-    (e.0, e.1, subst (λ fs. TellsObject fs e.0) (sym c.put.ensures) e.2)
+    (e.0, e.1, told_of c.put.new.self e.0 (subst (λ fs. TellsObject fs e.0) (sym c.put.ensures) e.2))
