@@ -5,7 +5,7 @@ use Rattle.inst_base.specs.Moment.{moment_of, later_of}
 use Rattle.inst_base.specs.declared.fault.Fault.{Fault}
 use Rattle.inst_base.specs.declared.fault.Fault.TheVariants.{BadAmount, UnknownParticipant}
 use Rattle.inst_settings.specs.Settings.{HubSettings, index_of}
-use Rattle.inst_json.specs.Outcome.{◌>>=◌}
+use Rattle.inst_json.specs.Refusals.{◌>>=◌}
 
 -- an amount of 1 cent to the ceiling
 unfoldable pub amount_of : HubSettings → ℕ → Result ℕ Fault

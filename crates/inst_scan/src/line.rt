@@ -2,25 +2,25 @@
 ghost use Rattle.std.specs.Prelude.{◌≡◌, Some, IfSome};
 ghost use Rattle.serde_json.specs.Data.{Data};
 ghost use Rattle.serde_json.specs.Read.{read};
-ghost use Rattle.inst_scan.specs.Fields.{listed, no_fields, fields_of, fields_told};
+ghost use Rattle.inst_scan.specs.Fields.{fields_of, fields_told};
 
 use crate::fields::Fields;
 use crate::member::{key, scalar};
 use crate::parts::skip_space;
 
-/// Fills in the fields of a line that is a flat object of texts without escapes and whole numbers of
-/// at most 18 digits: JSON (RFC 8259) with its keys in any order and its white space, of which of a
-/// key given twice the last counts. `None` for every other line, JSON or not; then the line is to be
-/// read in another way, and the fields are of no use.
+/// The fields of a line that is a flat object of texts without escapes and whole numbers of
+/// at most 18 digits: JSON (RFC 8259) with its keys in any order and its white space, where of a key
+/// given twice the last counts. `None` for every other line, JSON or not: it is to be read in another
+/// way.
 #[inline(always)]
-pub fn scan<'a>(text: &'a [u8], found: &mut Fields<'a>) -> Option<()>
-    requires { listed found.old ≡ no_fields }
-    ensures { IfSome result (λ _. (d : Data) × (read text.now ≡ Some d) × (fields_told found.new ≡ fields_of d)) }
+pub fn scan<'a>(text: &'a [u8]) -> Option<Fields<'a>>
+    ensures { IfSome result (λ fields. (d : Data) × (read text.now ≡ Some d) × (fields_told fields ≡ fields_of d)) }
 {
     let open = skip_space(text, 0);
     if open >= text.len() || text[open] != b'{' {
         return None;
     }
+    let mut found: Fields<'a> = Fields::new();
     let mut at = open + 1;
     while at < text.len() {
         let (name, value) = key(text, at)?;
@@ -33,7 +33,7 @@ pub fn scan<'a>(text: &'a [u8], found: &mut Fields<'a>) -> Option<()>
         if text[stop] == b',' {
             at = stop + 1;
         } else if text[stop] == b'}' && skip_space(text, stop + 1) == text.len() {
-            return Some(());
+            return Some(found);
         } else {
             return None;
         }

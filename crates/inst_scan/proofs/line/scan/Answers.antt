@@ -15,7 +15,7 @@ loop-at-init c =
     let opened = ap (punctuate fresh) (sym c.skip_space-open.ensures.same ∙ lex_open t begin c.if-open-text.false c.if-text-open-ne123.false) in
     record {
       within = omega arith;
-      reading = reading_begins (tokens t) (lex between (drop (begin + 1) t)) (listed c.args.found.now) opened c.requires;
+      reading = reading_begins (tokens t) (lex between (drop (begin + 1) t)) (listed c.new-found.result) opened c.new-found.ensures;
     }
 
 pub loop-at-preserved : goal.loop-at-preserved
