@@ -2,10 +2,9 @@
 -- that one who holds a plain board gets exact looks and answers out of what any board promises. They are this hub's own
 -- promises.
 use Rattle.std.specs.Prelude.{◌≡◌, ◌≢◌, ◌↔◌, ◌⊎◌, ℕ, ◌*◌, ◌<◌, ◌≤◌, List, [], ◌∷◌, Option, Some, None, IfSome, IsTrue}
-use Rattle.inst_command.specs.Ask.{is_participant}
+use Rattle.inst_settings.specs.Settings.{is_participant, HubSettings, participants}
 use Rattle.inst_command.specs.declared.outcome.Outcome.{Outcome}
 use Rattle.inst_command.specs.declared.outcome.Outcome.TheVariants.{Accepted, Rejected, TimedOut}
-use Rattle.inst_settings.specs.Settings.{HubSettings, participants}
 use Rattle.inst_terms.specs.declared.terms.Terms.{Terms}
 use Rattle.inst_terms.specs.declared.word.Word.TheVariants.{Pending as PendingWord, Final as FinalWord}
 use Rattle.inst_terms.specs.WordLaw.{InTime, IsLawful as AreLawful}

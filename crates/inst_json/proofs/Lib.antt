@@ -3,5 +3,4 @@ pub mod Plain
 pub mod Texts
 pub mod Reading
 pub mod Telling
-pub mod Alike
 pub mod Pieces

@@ -1,22 +1,22 @@
 -- The checks of a line that come after each field is there, in their order: amount, moments, participants.
 -- The order is this hub's own choice.
-use Rattle.std.specs.Prelude.{ℕ, ◌&&◌, nat_le, List, ok_or, Result, Ok, Err, if◌then◌else◌}
-use Rattle.inst_base.specs.Moment.{moment_of, later_of}
+use Rattle.std.specs.Prelude.{ℕ, List, ok_or, Result, Ok, Err, if◌then◌else◌}
+use Rattle.inst_base.specs.Moment.{is_moment, moment_of}
+use Rattle.inst_base.specs.TimeLimit.{deadline_of}
 use Rattle.inst_base.specs.declared.fault.Fault.{Fault}
-use Rattle.inst_base.specs.declared.fault.Fault.TheVariants.{BadAmount, UnknownParticipant}
-use Rattle.inst_settings.specs.Settings.{HubSettings, index_of}
-use Rattle.inst_json.specs.Outcome.{◌>>=◌}
+use Rattle.inst_base.specs.declared.fault.Fault.TheVariants.{BadAmount, BadMoment, UnknownParticipant}
+use Rattle.inst_settings.specs.Settings.{HubSettings, index_of, is_within_ceiling}
+use Rattle.inst_json.specs.Refusals.{◌>>=◌}
 
 -- an amount of 1 cent to the ceiling
 unfoldable pub amount_of : HubSettings → ℕ → Result ℕ Fault
-amount_of s cents = if nat_le 1 cents && nat_le cents s.ceiling then Ok cents else Err BadAmount
+amount_of s cents = if is_within_ceiling s cents then Ok cents else Err BadAmount
 
 -- a time stamp whose deadline is a moment too
 unfoldable pub stamp_of : HubSettings → ℕ → Result ℕ Fault
 stamp_of s ms = do
   stamp ← moment_of s.base ms
-  deadline ← later_of stamp s.limit
-  Ok stamp
+  if is_moment (deadline_of s.limit stamp) then Ok stamp else Err BadMoment
 
 -- the number of the participant with a code
 unfoldable pub participant_of : HubSettings → List ℕ → Result ℕ Fault

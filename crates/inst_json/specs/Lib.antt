@@ -1,10 +1,10 @@
-pub mod Outcome
+pub mod Refusals
 pub mod Fields
 pub mod Verb
 pub mod Checks
+pub mod Asker
 pub mod Commands
 pub mod Replies
 pub mod Steps
 pub mod Lines
-pub mod Shown
 pub mod Laws

@@ -7,8 +7,9 @@ use Rattle.inst_base.specs.declared.fault.Fault.{Fault}
 use Rattle.inst_base.specs.declared.fault.Fault.TheVariants.{NotJson}
 use Rattle.inst_settings.specs.Settings.{HubSettings}
 use Rattle.inst_command.specs.declared.ask.Ask.{Ask}
-use Rattle.inst_json.specs.Outcome.{◌>>=◌}
+use Rattle.inst_json.specs.Refusals.{◌>>=◌}
 use Rattle.inst_command.specs.declared.step.Step.{Step}
+use Rattle.inst_scan.specs.Fields.{fields_of}
 use Rattle.inst_json.specs.Commands.{ask_of}
 use Rattle.inst_json.specs.Steps.{step_of}
 
@@ -20,10 +21,10 @@ json_of line = ok_or (if is_utf8 line then read line else None) NotJson
 unfoldable pub command_of_line : HubSettings → List ℕ → Result Ask Fault
 command_of_line s line = do
   value ← json_of line
-  ask_of s value
+  ask_of s (fields_of value)
 
 -- the step of a script line
 unfoldable pub step_of_line : HubSettings → List ℕ → Result Step Fault
 step_of_line s line = do
   value ← json_of line
-  step_of s value
+  step_of s (fields_of value)

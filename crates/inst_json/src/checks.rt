@@ -1,7 +1,8 @@
 //! The checks that come after each field is there: amount, moments, participants.
-ghost use Rattle.std.specs.Prelude.{◌≡◌, ◌+◌, true, nat_le, IfOk};
+ghost use Rattle.std.specs.Prelude.{◌≡◌, true, IfOk};
 ghost use Rattle.inst_base.specs.Moment.{is_moment, moment_of};
-ghost use Rattle.inst_settings.specs.Settings.{is_participant};
+ghost use Rattle.inst_base.specs.TimeLimit.{deadline_of};
+ghost use Rattle.inst_settings.specs.Settings.{is_participant, is_within_ceiling};
 ghost use Rattle.inst_json.specs.Checks.{amount_of, stamp_of, participant_of};
 
 use inst_base::{Cents, Code, Fault, Moment};
@@ -11,12 +12,13 @@ use inst_settings::Settings;
 #[tactic(auto, unfolding(crate::specs::Checks::amount_of))]
 pub(crate) fn amount(settings: &Settings, cents: u64) -> Result<Cents, Fault>
     ensures value { result ≡ amount_of settings.now cents }
-    ensures fits { IfOk result (λ amount. nat_le amount settings.now.ceiling ≡ true) }
+    ensures fits { IfOk result (λ amount. is_within_ceiling settings.now amount ≡ true) }
 {
-    if cents > settings.ceiling() {
+    let amount = Cents::new(cents)?;
+    if !settings.allows(amount) {
         return Err(Fault::BadAmount);
     }
-    Cents::new(cents)
+    Ok(amount)
 }
 
 /// The moment at `ms` absolute milliseconds, or `BadMoment` outside the moments of the hub.
@@ -31,10 +33,12 @@ pub(crate) fn moment(settings: &Settings, ms: u64) -> Result<Moment, Fault>
 #[tactic(auto, unfolding(crate::specs::Checks::stamp_of))]
 pub(crate) fn time_stamp(settings: &Settings, ms: u64) -> Result<Moment, Fault>
     ensures value { result ≡ stamp_of settings.now ms }
-    ensures fits { IfOk result (λ stamp. is_moment (stamp + settings.now.limit) ≡ true) }
+    ensures fits { IfOk result (λ stamp. is_moment (deadline_of settings.now.limit stamp) ≡ true) }
 {
     let stamp = moment(settings, ms)?;
-    stamp.later(settings.limit())?;
+    if !stamp.has_deadline(settings.limit()) {
+        return Err(Fault::BadMoment);
+    }
     Ok(stamp)
 }
 

@@ -1,101 +1,83 @@
-//! The fields of a line, each by the place of its name.
-ghost use Rattle.std.specs.Prelude.{◌≡◌, ◌<◌, true, [], codes, is_some, get_or, IfOk};
-ghost use Rattle.serde_json.specs.Find.{get};
+//! What a line's fields hold.
+ghost use Rattle.std.specs.Prelude.{◌≡◌, true, IfOk};
 ghost use Rattle.inst_command.specs.Ask.{is_count};
-ghost use Rattle.inst_scan.specs.Names.{names};
-ghost use Rattle.inst_scan.specs.Scanned.{seen};
-ghost use Rattle.inst_json.specs.Outcome.{Gives};
-ghost use Rattle.inst_json.specs.Fields.{text_at, whole_at, code_at, reason_at, count_at, place_at};
+ghost use Rattle.inst_scan.specs.Fields.{told};
+ghost use Rattle.inst_json.specs.Refusals.{Gives};
+ghost use Rattle.inst_json.specs.Fields.{text_in, whole_in, code_in, reason_in, count_in, place_in, is_there};
 
-use crate::names::STEP;
 use inst_base::{Code, Fault, Reason};
-use inst_scan::{Field, Scanned};
+use inst_command::is_count;
+use inst_scan::Field;
+use inst_settings::MOST_PLACES;
 
-/// The text in the field at a place among the names, or `BadField` where there is none.
+/// The text in a field, or `BadField` where there is none.
 #[inline(always)]
-pub(crate) fn text_at<'v>(line: &Scanned<'v>, place: usize) -> Result<&'v str, Fault>
-    requires { place < 15 }
-    ensures { Gives (λ text. text.now) result (text_at (get_or names place []) (seen line.now)) }
+pub(crate) fn text(field: Field<'_>) -> Result<&str, Fault>
+    ensures { Gives (λ text. text.now) result (text_in (told field.entry)) }
 {
-    match line.fields[place] {
+    match field {
         Field::Text(text) => Ok(text),
-        Field::Missing => Err(Fault::BadField),
-        Field::Whole(_) => Err(Fault::BadField),
-        Field::Other => Err(Fault::BadField),
+        Field::Missing | Field::Whole(_) | Field::Other => Err(Fault::BadField),
     }
 }
 
-/// The whole number in the field at a place among the names, or `BadField` where there is none of 64
-/// bits.
+/// The whole number in a field, or `BadField` where there is none of 64 bits.
 #[inline(always)]
-pub(crate) fn whole_at(line: &Scanned<'_>, place: usize) -> Result<u64, Fault>
-    requires { place < 15 }
-    ensures { result ≡ whole_at (get_or names place []) (seen line.now) }
+pub(crate) fn whole(field: Field<'_>) -> Result<u64, Fault>
+    ensures { result ≡ whole_in (told field.entry) }
 {
-    match line.fields[place] {
+    match field {
         Field::Whole(whole) => Ok(whole),
-        Field::Missing => Err(Fault::BadField),
-        Field::Text(_) => Err(Fault::BadField),
-        Field::Other => Err(Fault::BadField),
+        Field::Missing | Field::Text(_) | Field::Other => Err(Fault::BadField),
     }
 }
 
-/// Whether the line has the field `step`.
-pub(crate) fn has_step(line: &Scanned<'_>) -> bool
-    ensures { result ≡ is_some (get (codes "step") (seen line.now)) }
+/// Whether anything stands in a field.
+#[inline(always)]
+pub(crate) fn is_there(field: Field<'_>) -> bool
+    ensures { result ≡ is_there (told field.entry) }
 {
-    match line.fields[STEP] {
+    match field {
         Field::Missing => false,
-        Field::Text(_) => true,
-        Field::Whole(_) => true,
-        Field::Other => true,
+        Field::Text(_) | Field::Whole(_) | Field::Other => true,
     }
 }
 
-/// The participant's code in the field at a place among the names, or `BadField` where there is none.
-#[tactic(auto, unfolding(crate::specs::Fields::code_at))]
-pub(crate) fn code_at(line: &Scanned<'_>, place: usize) -> Result<Code, Fault>
-    requires { place < 15 }
-    ensures { result ≡ code_at (get_or names place []) (seen line.now) }
+/// The participant's code in a field, or `BadField` where there is none.
+#[tactic(auto, unfolding(crate::specs::Fields::code_in))]
+pub(crate) fn code(field: Field<'_>) -> Result<Code, Fault>
+    ensures { result ≡ code_in (told field.entry) }
 {
-    Code::new(text_at(line, place)?)
+    Code::new(text(field)?)
 }
 
-/// The reason in the field at a place among the names, or `BadField` where there is none.
-#[tactic(auto, unfolding(crate::specs::Fields::reason_at))]
-pub(crate) fn reason_at(line: &Scanned<'_>, place: usize) -> Result<Reason, Fault>
-    requires { place < 15 }
-    ensures { result ≡ reason_at (get_or names place []) (seen line.now) }
+/// The reason in a field, or `BadField` where there is none.
+#[tactic(auto, unfolding(crate::specs::Fields::reason_in))]
+pub(crate) fn reason(field: Field<'_>) -> Result<Reason, Fault>
+    ensures { result ≡ reason_in (told field.entry) }
 {
-    Reason::new(text_at(line, place)?)
+    Reason::new(text(field)?)
 }
 
-/// How many entries or lines the field at a place among the names asks for, 1 to 100, or `BadField`.
-#[tactic(auto, unfolding(crate::specs::Fields::count_at))]
-pub(crate) fn count_at(line: &Scanned<'_>, place: usize) -> Result<u32, Fault>
-    requires { place < 15 }
-    ensures value { result ≡ count_at (get_or names place []) (seen line.now) }
+/// How many entries or lines a field asks for, 1 to 100, or `BadField`.
+#[tactic(auto, unfolding(crate::specs::Fields::count_in))]
+pub(crate) fn count(field: Field<'_>) -> Result<u32, Fault>
+    ensures value { result ≡ count_in (told field.entry) }
     ensures fits { IfOk result (λ count. is_count count ≡ true) }
 {
-    let count = whole_at(line, place)?;
-    if count == 0 || count > 100 {
-        return Err(Fault::BadField);
+    match u32::try_from(whole(field)?) {
+        Ok(count) if is_count(count) => Ok(count),
+        _ => Err(Fault::BadField),
     }
-    Ok(count as u32)
 }
 
-/// The last place that a line can name.
-const LAST_PLACE: u64 = 1023;
-
-/// The place in the field at a place among the names, 0 to 1,023, or `BadField`.
-#[tactic(auto, unfolding(crate::specs::Fields::place_at))]
-pub(crate) fn place_at(line: &Scanned<'_>, place: usize) -> Result<u16, Fault>
-    requires { place < 15 }
-    ensures { result ≡ place_at (get_or names place []) (seen line.now) }
+/// The place in a field, 0 to 1,023, or `BadField`.
+#[tactic(auto, unfolding(crate::specs::Fields::place_in))]
+pub(crate) fn place(field: Field<'_>) -> Result<u16, Fault>
+    ensures { result ≡ place_in (told field.entry) }
 {
-    let number = whole_at(line, place)?;
-    if number > LAST_PLACE {
-        return Err(Fault::BadField);
+    match u16::try_from(whole(field)?) {
+        Ok(place) if place < MOST_PLACES => Ok(place),
+        _ => Err(Fault::BadField),
     }
-    Ok(number as u16)
 }

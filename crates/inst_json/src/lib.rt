@@ -2,13 +2,13 @@
 #![tactic(auto)]
 
 mod append;
+mod asker;
 mod checks;
 mod command;
 mod fields;
 pub mod laws;
-mod names;
+mod line;
 mod read;
-mod shown;
 mod step;
 #[cfg(test)]
 mod tests;

@@ -3,15 +3,14 @@ ghost use Rattle.std.specs.Prelude.{◌≡◌, true, IfOk};
 ghost use Rattle.serde_json.specs.View.{view};
 ghost use Rattle.inst_command.specs.Ask.{ask_fits};
 ghost use Rattle.inst_command.specs.Step.{step_fits};
-ghost use Rattle.inst_json.specs.Outcome.{GivesUnlessMemory, IsUnlessMemory};
+ghost use Rattle.inst_json.specs.Refusals.{GivesUnlessMemory, IsUnlessMemory};
 ghost use Rattle.inst_json.specs.Lines.{json_of, command_of_line, step_of_line};
 
 use crate::command::ask_of;
-use crate::shown::{fields_of, scan_line};
+use crate::line::{fields_of, scan_line};
 use crate::step::step_of;
 use inst_base::Fault;
 use inst_command::{Ask, Step};
-use inst_scan::{Field, Scanned};
 use inst_settings::Settings;
 use serde_json::Value;
 use std::alloc::Global;
@@ -26,10 +25,7 @@ pub fn read_command(alloc: Global, settings: &Settings, line: &[u8]) -> Result<A
     ensures value { IsUnlessMemory result (command_of_line settings.now line.now) }
     ensures fits { IfOk result (λ ask. ask_fits settings.now ask ≡ true) }
 {
-    let mut fields = Scanned {
-        fields: [Field::Missing; 16],
-    };
-    if let Some(()) = scan_line(line, &mut fields) {
+    if let Some(fields) = scan_line(line) {
         return ask_of(settings, &fields);
     }
     let value = json_of(alloc, line)?;
@@ -44,10 +40,7 @@ pub fn read_step(alloc: Global, settings: &Settings, line: &[u8]) -> Result<Step
     ensures value { IsUnlessMemory result (step_of_line settings.now line.now) }
     ensures fits { IfOk result (λ step. step_fits settings.now step ≡ true) }
 {
-    let mut fields = Scanned {
-        fields: [Field::Missing; 16],
-    };
-    if let Some(()) = scan_line(line, &mut fields) {
+    if let Some(fields) = scan_line(line) {
         return step_of(settings, &fields);
     }
     let value = json_of(alloc, line)?;

@@ -1,26 +1,27 @@
 //! The steps of a script: deliveries, bookings and expiries, and the asks.
 ghost use Rattle.std.specs.Prelude.{◌≡◌, true, IfOk};
-ghost use Rattle.inst_scan.specs.Scanned.{seen};
+ghost use Rattle.inst_scan.specs.Fields.{fields_told};
+ghost use Rattle.inst_settings.specs.Settings.{is_participant};
 ghost use Rattle.inst_command.specs.Step.{step_fits};
-ghost use Rattle.inst_json.specs.Steps.{deliver_of, learn_of, expire_of, move_of, step_of};
+ghost use Rattle.inst_json.specs.Steps.{passing_of, deliver_of, learn_of, expire_of, move_of, step_of};
 
-use crate::checks::{moment, participant};
+use crate::asker::{KnownAsker, asker_of};
+use crate::checks::participant;
 use crate::command::ask_of;
-use crate::fields::{code_at, has_step, place_at, text_at, whole_at};
-use crate::names::{AT, FROM, PLACE, STEP, WHO};
+use crate::fields::{code, is_there, place, text};
 use inst_base::Fault;
 use inst_command::Step;
-use inst_scan::Scanned;
+use inst_scan::Fields;
 use inst_settings::Settings;
 
-/// The step of a script line's value, or the first refusal of the line: what its field `step` names,
+/// The step of a script line's fields, or the first refusal of the line: what its field `step` names,
 /// or else its ask.
 #[tactic(auto, unfolding(crate::specs::Steps::step_of, crate::specs::Steps::asked_of))]
-pub(crate) fn step_of(settings: &Settings, line: &Scanned<'_>) -> Result<Step, Fault>
-    ensures value { result ≡ step_of settings.now (seen line.now) }
+pub(crate) fn step_of(settings: &Settings, line: &Fields<'_>) -> Result<Step, Fault>
+    ensures value { result ≡ step_of settings.now (fields_told line.now) }
     ensures fits { IfOk result (λ step. step_fits settings.now step ≡ true) }
 {
-    if has_step(line) {
+    if is_there(line.step) {
         return move_of(settings, line);
     }
     Ok(Step::Ask(ask_of(settings, line)?))
@@ -28,11 +29,11 @@ pub(crate) fn step_of(settings: &Settings, line: &Scanned<'_>) -> Result<Step, F
 
 /// The step that the field `step` names, or the first refusal of its line.
 #[tactic(auto, unfolding(crate::specs::Steps::move_of))]
-fn move_of(settings: &Settings, line: &Scanned<'_>) -> Result<Step, Fault>
-    ensures value { result ≡ move_of settings.now (seen line.now) }
+fn move_of(settings: &Settings, line: &Fields<'_>) -> Result<Step, Fault>
+    ensures value { result ≡ move_of settings.now (fields_told line.now) }
     ensures fits { IfOk result (λ step. step_fits settings.now step ≡ true) }
 {
-    match text_at(line, STEP)? {
+    match text(line.step)? {
         "deliver" => deliver(settings, line),
         "learn" => learn(settings, line),
         "expire" => expire(settings, line),
@@ -40,44 +41,61 @@ fn move_of(settings: &Settings, line: &Scanned<'_>) -> Result<Step, Fault>
     }
 }
 
+/// A participant, and the place of an originator's transfer that it comes to know of.
+#[derive(Clone, Copy)]
+struct Passing {
+    who: u8,
+    from: u8,
+    place: u16,
+}
+
+/// What a delivery or a booking is of, or the first refusal of its line.
+#[tactic(auto, unfolding(crate::specs::Steps::passing_of))]
+fn passing_of(settings: &Settings, line: &Fields<'_>) -> Result<Passing, Fault>
+    ensures value { result ≡ passing_of settings.now (fields_told line.now) }
+    ensures who_fits { IfOk result (λ passing. is_participant settings.now passing.who ≡ true) }
+    ensures from_fits { IfOk result (λ passing. is_participant settings.now passing.from ≡ true) }
+{
+    let who = code(line.who)?;
+    let from = code(line.from)?;
+    let place = place(line.place)?;
+    let who = participant(settings, &who)?;
+    let from = participant(settings, &from)?;
+    Ok(Passing { who, from, place })
+}
+
 /// A delivery, or the first refusal of its line.
 #[tactic(auto, unfolding(crate::specs::Steps::deliver_of))]
-fn deliver(settings: &Settings, line: &Scanned<'_>) -> Result<Step, Fault>
-    ensures value { result ≡ deliver_of settings.now (seen line.now) }
+fn deliver(settings: &Settings, line: &Fields<'_>) -> Result<Step, Fault>
+    ensures value { result ≡ deliver_of settings.now (fields_told line.now) }
     ensures fits { IfOk result (λ step. step_fits settings.now step ≡ true) }
 {
-    let to = code_at(line, WHO)?;
-    let from = code_at(line, FROM)?;
-    let place = place_at(line, PLACE)?;
-    let to = participant(settings, &to)?;
-    let from = participant(settings, &from)?;
-    Ok(Step::Deliver { from, place, to })
+    let Passing { who, from, place } = passing_of(settings, line)?;
+    Ok(Step::Deliver {
+        from,
+        place,
+        to: who,
+    })
 }
 
 /// A booking of what was decided, or the first refusal of its line.
 #[tactic(auto, unfolding(crate::specs::Steps::learn_of))]
-fn learn(settings: &Settings, line: &Scanned<'_>) -> Result<Step, Fault>
-    ensures value { result ≡ learn_of settings.now (seen line.now) }
+fn learn(settings: &Settings, line: &Fields<'_>) -> Result<Step, Fault>
+    ensures value { result ≡ learn_of settings.now (fields_told line.now) }
     ensures fits { IfOk result (λ step. step_fits settings.now step ≡ true) }
 {
-    let who = code_at(line, WHO)?;
-    let from = code_at(line, FROM)?;
-    let place = place_at(line, PLACE)?;
-    let who = participant(settings, &who)?;
-    let from = participant(settings, &from)?;
+    let Passing { who, from, place } = passing_of(settings, line)?;
     Ok(Step::Learn { who, from, place })
 }
 
 /// An expiry, or the first refusal of its line.
 #[tactic(auto, unfolding(crate::specs::Steps::expire_of))]
-fn expire(settings: &Settings, line: &Scanned<'_>) -> Result<Step, Fault>
-    ensures value { result ≡ expire_of settings.now (seen line.now) }
+fn expire(settings: &Settings, line: &Fields<'_>) -> Result<Step, Fault>
+    ensures value { result ≡ expire_of settings.now (fields_told line.now) }
     ensures fits { IfOk result (λ step. step_fits settings.now step ≡ true) }
 {
-    let who = code_at(line, WHO)?;
-    let place = place_at(line, PLACE)?;
-    let at = whole_at(line, AT)?;
-    let at = moment(settings, at)?;
-    let who = participant(settings, &who)?;
+    let asker = asker_of(line)?;
+    let place = place(line.place)?;
+    let KnownAsker { who, at } = asker.known(settings)?;
     Ok(Step::Expire { who, place, at })
 }

@@ -6,6 +6,7 @@ use crate::{read_command, read_step, write_answer, write_reply};
 use inst_base::{Cents, Code, Fault, Ident, Moment, Reason};
 use inst_command::{
     Answer, Ask, Command, Entries, Entry, Line, LineKind, Lines, Outcome, Reply, State, Step,
+    Submission,
 };
 use inst_settings::Settings;
 use std::alloc::Global;
@@ -27,7 +28,16 @@ fn hub(alloc: Global, ceiling: u64, base: u64) -> Result<Settings, Fail>
         Code::new("BBBBFRPP")?,
         Code::new("CCCCITMM")?,
     ];
-    Ok(Settings::check(codes.to_vec(alloc)?, 256, 256, 10_000, 1000, ceiling, base)?)
+    Ok(Settings::check(
+        codes.to_vec(alloc)?,
+        256,
+        256,
+        10_000,
+        0,
+        1000,
+        ceiling,
+        base,
+    )?)
 }
 
 fn ask(who: u8, command: Command, at: u64) -> Result<Ask, Fault> {
@@ -66,12 +76,12 @@ fn reads_each_command(rt: HostRuntime) -> Result<(), Fail> {
             r#"{"at":1000,"cents":50000,"cmd":"submit","id":"T1","stamp":1000,"to":"BBBBFRPP","who":"AAAADEFF"}"#,
             ask(
                 0,
-                Command::Submit {
+                Command::Submit(Submission {
                     id,
                     to: 1,
                     cents,
                     stamp,
-                },
+                }),
                 1000,
             )?,
         ),

@@ -1,14 +1,14 @@
 -- The lexer at the parts of a line, each at a place of the text.
-use Rattle.std.proofs.Common.{◌≡◌, ℕ, zero, suc, IsAscii, ◌+◌, ◌-◌, ◌*◌, ◌/◌, ◌%◌, ◌<◌, ◌≤◌, ◌^◌, Bool, true, false, cond, not, ◌||◌, ◌==◌, nat_lt, List, [], ◌∷◌, ◌++◌, length, get_or, take, drop, Some, decimal, refl, sym, ap, ap₂, ◌∙◌, arith, append_assoc, drop-cons, subst, ◌⊎◌, inl, inr}
-use Rattle.std.proofs.lemmas.Bool.{true≢false, ne_eqb, le-ltb, eqb-false, eqb-true, ltb-false, or_parts, not-true, cases_Bool, and_parts, ltb-true}
+use Rattle.std.proofs.Common.{◌≡◌, ℕ, zero, suc, IsAscii, ◌+◌, ◌*◌, ◌/◌, ◌%◌, ◌<◌, ◌^◌, Bool, true, false, cond, ◌||◌, ◌==◌, nat_lt, List, [], ◌∷◌, ◌++◌, length, get_or, take, drop, Some, decimal, refl, sym, ap, ap₂, ◌∙◌, arith, append_assoc, drop-cons, subst, ◌⊎◌, inl, inr}
+use Rattle.std.proofs.lemmas.Bool.{true≢false, eqb-true, or_parts, not-true, and_parts, ltb-true}
 use Rattle.std.proofs.lemmas.Fmt.{decimal_digit, decimal_step}
 use Rattle.std.specs.List.{prefix_len}
-use Rattle.json.specs.Token.{Token, string, number, end_object, begin_object}
+use Rattle.json.specs.Token.{string, number, end_object, begin_object}
 use Rattle.json.specs.Text.{content, plain, prepend}
 use Rattle.json.specs.Run.{is_plain}
 use Rattle.inst_scan.specs.Scalar.{is_text}
 use Rattle.json.specs.Word.{is_operator, is_space, ends_word}
-use Rattle.json.specs.Lex.{Lexeme, Mode, token, comma, colon, lex, lex_byte, between, in_string, quote, operator, space, other}
+use Rattle.json.specs.Lex.{Lexeme, Mode, token, comma, colon, lex, lex_byte, between, in_string, operator, space, other}
 use Rattle.json.proofs.Printed.Numbers.{lex-number}
 use Rattle.json.proofs.Printed.Decimals.{IsNumber-decimal}
 

@@ -1,4 +1,4 @@
 pub mod Reading
 pub mod Lexing
+pub mod Told
 pub mod Members
-pub mod Seen

@@ -1,25 +1,26 @@
 -- The members of an object, one after another.
-use Rattle.std.proofs.Common.{◌≡◌, ℕ, zero, suc, ◌+◌, ◌-◌, ◌<◌, ◌≤◌, Bool, true, false, cond, not, List, [], ◌∷◌, length, get_or, set, replicate, Option, Some, None, refl, sym, ap, ap₂, ◌∙◌, subst, arith, ◌⊎◌, inl, inr}
+use Rattle.std.proofs.Common.{◌≡◌, ℕ, zero, suc, ◌+◌, ◌-◌, ◌<◌, ◌≤◌, Bool, true, false, cond, not, List, [], ◌∷◌, length, get_or, set, replicate, Some, refl, sym, ap, ◌∙◌, subst, arith, ◌⊎◌, inl, inr}
 use Rattle.std.proofs.lemmas.Bool.{true≢false, cases_eq}
-use Rattle.std.proofs.lemmas.List.{get_or-set_same, get_or-set_other, get_or-replicate}
+use Rattle.std.proofs.lemmas.List.{get_or-set_same, get_or-set_other}
 use Rattle.std.proofs.lemmas.Slice.Eq.{bytes_eq-Decides}
 use Rattle.std.specs.Str.{bytes_eq}
 use Rattle.std.specs.List.{position_or_len}
 use Rattle.json.specs.Token as tok
 use Rattle.json.specs.Token.{Token}
 use Rattle.json.specs.Lex.{Lexeme, token, comma, colon, Place, fresh, after_value, after_comma, after_key, may_begin, begins_colon, punctuate}
-use Rattle.json.specs.Json.{value, members, parse_map, read_key}
+use Rattle.json.specs.Json.{value, members, parse_map}
 use Rattle.json.proofs.Grammar.{value_is, value-begin_object}
 use Rattle.serde_json.specs.Data.{Data, string, number, unsigned, object, Members, no_members, put}
 use Rattle.serde_json.specs.Read.{of_json, of_members, converted, number_of}
 use Rattle.serde_json.specs.Find.{get_member}
 use Rattle.inst_scan.proofs.Reading.{converted-object, member_read, members_over, whole, whole_read}
 use Rattle.serde_json.proofs.Views.{get_member-put, get_member-put_other}
-use Rattle.inst_scan.specs.Scalar.{IsScalar}
+use Rattle.inst_scan.specs.Scalar.{IsScalar, data_of}
 use Rattle.inst_scan.specs.Names.{names, place_of}
-use Rattle.inst_scan.specs.Scanned.{data_of, TellsMembers, Tells}
-use Rattle.inst_scan.specs.declared.line.Field.{Field}
-use Rattle.inst_scan.specs.declared.line.Field.TheVariants.{Missing}
+use Rattle.inst_scan.specs.Fields.{no_fields}
+use Rattle.inst_scan.proofs.Told.{TellsMembers, TellsObject}
+use Rattle.inst_scan.specs.declared.fields.Field.{Field}
+use Rattle.inst_scan.specs.declared.fields.Field.TheVariants.{Missing}
 
 pub IsScalar-string : (s : List ℕ) → IsScalar (tok.string s) (string s)
 unfolding punctuate
@@ -68,7 +69,7 @@ found_at p (x ∷ xs) h = found_from p x xs (p x) refl h (found_at p xs)
 
 -- ---- the fields after one more member
 
-pub tells_put : (fields : List Field) (ms : Members) (k : List ℕ) (d : Data) (field : Field) → length fields ≡ 16 → data_of field ≡ Some d → TellsMembers fields ms
+pub tells_put : (fields : List Field) (ms : Members) (k : List ℕ) (d : Data) (field : Field) → length fields ≡ 15 → data_of field ≡ Some d → TellsMembers fields ms
     → TellsMembers (set fields (place_of k) field) (put k d ms)
 tells_put fields ms k d field len is tells i h = by_place (cases_eq i (place_of k))
   where
@@ -99,9 +100,15 @@ Reading ts ls fields =
     × (converted of_json (value 127 ts) ≡ parse_map object (converted (λ js. of_members js ms) (members (value 126) n (punctuate p ls))))
     × TellsMembers fields ms
 
+none_at : (i n : ℕ) → get_or (replicate n Missing) i Missing ≡ Missing
+none_at zero zero = refl
+none_at (suc i) zero = refl
+none_at zero (suc n) = refl
+none_at (suc i) (suc n) = none_at i n
+
 -- the first brace opens an object with nothing in it
 pub reading_begins : (ts : List Token) (ls : List Lexeme) (fields : List Field) → ts ≡ punctuate fresh (token tok.begin_object ∷ ls)
-    → ((i : ℕ) → i < 15 → get_or fields i Missing ≡ Missing) → Reading ts ls fields
+    → fields ≡ no_fields → Reading ts ls fields
 unfolding punctuate
 reading_begins ts ls fields is none =
     let us = punctuate fresh ls in (
@@ -111,13 +118,13 @@ reading_begins ts ls fields is none =
       refl,
       omega arith,
       ap (λ vs. converted of_json (value 127 vs)) is ∙ ap (converted of_json) (value-begin_object 127 us (omega arith)) ∙ converted-object (members (value 126) (length us) us),
-      λ i h. ap data_of (sym (none i h)),
+      λ i h. ap data_of (sym (ap (λ fs. get_or fs i Missing) none ∙ none_at i 15)),
     )
 
 -- one member, behind which ls are left
 module _ (ts : List Token) (old ls : List Lexeme) (fields : List Field) (k : List ℕ) (t : Token) (d : Data) (field : Field)
     (is : old ≡ token (tok.string k) ∷ colon ∷ token t ∷ ls) (scalar : IsScalar t d) (no_colon : begins_colon ls ≡ false)
-    (len : length fields ≡ 16) (seen : data_of field ≡ Some d) where
+    (len : length fields ≡ 15) (seen : data_of field ≡ Some d) where
   -- the members so far, and those that are left
   abbrev Left : Type 0
   Left = (n : ℕ) × (ms : Members) × (length (punctuate after_value ls) ≤ n)
@@ -138,7 +145,7 @@ module _ (ts : List Token) (old ls : List Lexeme) (fields : List Field) (k : Lis
       )
 
 pub reading_goes_on : (ts : List Token) (old ls : List Lexeme) (fields : List Field) (k : List ℕ) (t : Token) (d : Data) (field : Field)
-    → old ≡ token (tok.string k) ∷ colon ∷ token t ∷ comma ∷ ls → IsScalar t d → length fields ≡ 16 → data_of field ≡ Some d
+    → old ≡ token (tok.string k) ∷ colon ∷ token t ∷ comma ∷ ls → IsScalar t d → length fields ≡ 15 → data_of field ≡ Some d
     → Reading ts old fields → Reading ts ls (set fields (place_of k) field)
 unfolding punctuate
 reading_goes_on ts old ls fields k t d field is scalar len seen reading =
@@ -146,8 +153,8 @@ reading_goes_on ts old ls fields k t d field is scalar len seen reading =
     (after_comma, left.0, left.1, refl, left.2, left.3, left.4)
 
 pub reading_ends : (ts : List Token) (old : List Lexeme) (fields : List Field) (k : List ℕ) (t : Token) (d : Data) (field : Field)
-    → old ≡ token (tok.string k) ∷ colon ∷ token t ∷ token tok.end_object ∷ [] → IsScalar t d → length fields ≡ 16 → data_of field ≡ Some d
-    → Reading ts old fields → (e : Data) × (whole (value 127 ts) ≡ Some e) × Tells (set fields (place_of k) field) e
+    → old ≡ token (tok.string k) ∷ colon ∷ token t ∷ token tok.end_object ∷ [] → IsScalar t d → length fields ≡ 15 → data_of field ≡ Some d
+    → Reading ts old fields → (e : Data) × (whole (value 127 ts) ≡ Some e) × TellsObject (set fields (place_of k) field) e
 unfolding punctuate
 reading_ends ts old fields k t d field is scalar len seen reading =
     let left = member_read_on ts old (token tok.end_object ∷ []) fields k t d field is scalar refl len seen reading in

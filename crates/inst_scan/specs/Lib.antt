@@ -1,3 +1,3 @@
 pub mod Scalar
 pub mod Names
-pub mod Scanned
+pub mod Fields

@@ -1,13 +1,13 @@
--- The names of the fields that lines have. Their order here is the order in which a reader keeps them.
+-- The names of the fields that lines have, in the order in which they are kept. Names are this hub's own choice.
 use Rattle.std.specs.Prelude.{ℕ, List, [], ◌∷◌, codes}
 use Rattle.std.specs.Str.{bytes_eq}
 use Rattle.std.specs.List.{position_or_len}
 
 abbrev pub names : List (List ℕ)
 names =
-    codes "cmd" ∷ codes "who" ∷ codes "at" ∷ codes "ref" ∷ codes "id" ∷ codes "to" ∷ codes "from" ∷ codes "cents" ∷ codes "stamp"
-    ∷ codes "reason" ∷ codes "max" ∷ codes "skip" ∷ codes "count" ∷ codes "step" ∷ codes "place" ∷ []
+    codes "cmd" ∷ codes "who" ∷ codes "at" ∷ codes "ref" ∷ codes "id" ∷ codes "to" ∷ codes "from" ∷ codes "cents"
+    ∷ codes "stamp" ∷ codes "reason" ∷ codes "max" ∷ codes "skip" ∷ codes "count" ∷ codes "step" ∷ codes "place" ∷ []
 
 -- the place of a name, or 15
 abbrev pub place_of : List ℕ → ℕ
-place_of key = position_or_len (bytes_eq key) names
+place_of name = position_or_len (bytes_eq name) names

@@ -1,8 +1,10 @@
 //! Lines that are flat objects of plain texts and whole numbers, read in one pass with no tree.
 #![tactic(auto)]
 
+mod fields;
 mod line;
 mod member;
 mod parts;
 
-pub use line::{Field, Scanned, scan};
+pub use fields::{Field, Fields};
+pub use line::scan;

@@ -1,12 +1,13 @@
 // The parts of a line: spaces, a plain text, a whole number.
 ghost use Rattle.std.specs.Prelude.{◌≡◌, ◌+◌, ◌<◌, ◌≤◌, ◌^◌, ◌++◌, ◌∷◌, [], true, length, drop, Some, IfSome, decimal};
 ghost use Rattle.std.specs.List.{prefix_len};
-ghost use Rattle.std.specs.Str.{IsAscii};
 ghost use Rattle.inst_scan.specs.Scalar.{is_text};
 ghost use Rattle.json.specs.Word.{is_space, ends_word};
 ghost use Rattle.json.specs.Text.{content, plain};
 ghost use Rattle.json.specs.Token.{number};
 ghost use Rattle.json.specs.Lex.{lex, between, in_string, token};
+
+use std::str;
 
 /// Whether the byte is one of the four spaces of JSON.
 #[inline(always)]
@@ -52,16 +53,17 @@ fn plain_end(text: &[u8], from: usize) -> usize
 
 /// The text that begins behind a quote, where it has no escape, and the place behind its closing quote.
 #[inline(always)]
-pub(crate) fn string(text: &[u8], from: usize) -> Option<(&[u8], usize)>
+pub(crate) fn string(text: &[u8], from: usize) -> Option<(&str, usize)>
     requires { from ≤ length text.now }
     ensures within { IfSome result (λ p. (from < p.1) × (p.1 ≤ length text.now)) }
-    ensures ascii { IfSome result (λ p. IsAscii p.0.now) }
     ensures value { IfSome result (λ p. content plain (drop from text.now) ≡ Some p.0.now) }
     ensures rest { IfSome result (λ p. lex in_string (drop from text.now) ≡ lex between (drop p.1 text.now)) }
 {
     let end = plain_end(text, from);
     if end < text.len() && text[end] == b'"' {
-        Some((&text[from..end], end + 1))
+        // Only ASCII stands before `end`.
+        let word = unsafe { str::from_utf8_unchecked(&text[from..end]) };
+        Some((word, end + 1))
     } else {
         None
     }

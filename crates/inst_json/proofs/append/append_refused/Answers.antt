@@ -1,6 +1,5 @@
 use Rattle.std.proofs.Common.{ap, ap₂, ◌∙◌, ◌++◌, codes, decimal, List, ℕ}
 use Rattle.std.proofs.lemmas.Result.{on_ok_weaker}
-use Rattle.inst_base.specs.Fault.{name_of, number_of}
 use Rattle.inst_json.proofs.Pieces.{refused_pieces}
 use Rattle.inst_json.proofs.append.append_refused.Goals as goal
 

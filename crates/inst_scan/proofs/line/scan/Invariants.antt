@@ -1,13 +1,13 @@
-use Rattle.std.proofs.Common.{◌≡◌, ◌-◌, ◌≤◌, length, drop}
+use Rattle.std.proofs.Common.{◌-◌, ◌≤◌, length, drop}
 use Rattle.json.specs.Lex.{lex, between, tokens}
 use Rattle.inst_scan.proofs.Members.{Reading}
+use Rattle.inst_scan.specs.Fields.{listed}
 use Rattle.inst_scan.proofs.line.scan.Given as goal
 
 abbrev pub invariant-loop-at : goal.invariant-loop-at
 invariant-loop-at l = record {
   within : l.at ≤ length l.text;
-  fields : length l.found.fields ≡ 16;
-  reading : Reading (tokens l.text) (lex between (drop l.at l.text)) l.found.fields;
+  reading : Reading (tokens l.text) (lex between (drop l.at l.text)) (listed l.found);
 }
 
 abbrev pub decreases-loop-at : goal.decreases-loop-at

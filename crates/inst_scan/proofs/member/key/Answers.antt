@@ -1,4 +1,4 @@
-use Rattle.std.proofs.Common.{sym, ap, ◌∙◌, ◌∷◌, ◌+◌}
+use Rattle.std.proofs.Common.{sym, ap, ◌∙◌, ◌∷◌}
 use Rattle.json.specs.Token.{string}
 use Rattle.json.specs.Lex.{token}
 use Rattle.inst_scan.proofs.Lexing.{lex_quote, lex_colon}

@@ -1,9 +1,8 @@
-use Rattle.std.proofs.Common.{sym, ap, ◌∙◌, ◌∷◌, ◌+◌, refl, decimal, Some}
+use Rattle.std.proofs.Common.{sym, ap, ◌∙◌, ◌∷◌, refl, decimal}
 use Rattle.json.specs.Token as token_spec
 use Rattle.json.specs.Lex.{token}
 use Rattle.serde_json.specs.Data as value_spec
 use Rattle.serde_json.proofs.Numbers.{number_of-decimal}
-use Rattle.std.proofs.lemmas.Str.{IsUtf8-from_ascii}
 use Rattle.inst_scan.proofs.Lexing.{lex_quote}
 use Rattle.inst_scan.proofs.Members.{IsScalar-string, IsScalar-number}
 use Rattle.inst_scan.proofs.member.scalar.Goals as goal
@@ -15,7 +14,7 @@ returns-then-text-start-eq34-clause-lexed c =
       token_spec.string word,
       value_spec.string word,
       IsScalar-string word,
-      ap (λ s. Some (value_spec.string s)) c.from_utf8_unchecked-text.ensures,
+      refl,
       sym c.skip_space-start.ensures.same
           ∙ lex_quote t c.skip_space-start.result word c.if-start-text.true c.if-text-start-eq34.true c.in_ok-word.ensures.value
           ∙ ap (λ ls. token (token_spec.string word) ∷ ls) c.in_ok-word.ensures.rest,
@@ -30,6 +29,3 @@ returns-clause-lexed c =
       refl,
       sym c.skip_space-start.ensures.same ∙ c.in_ok-value.ensures.lexed,
     )
-
-pub from_utf8_unchecked-text-requires : goal.from_utf8_unchecked-text-requires
-from_utf8_unchecked-text-requires c = IsUtf8-from_ascii _ c.in_ok-word.ensures.ascii

@@ -1,4 +1,4 @@
-use Rattle.std.proofs.Common.{◌≡◌, ◌+◌, ◌<◌, ◌≤◌, get_or, arith, ◌∙◌, refl}
+use Rattle.std.proofs.Common.{◌≡◌, ◌+◌, ◌<◌, get_or, arith, ◌∙◌, refl}
 use Rattle.inst_scan.proofs.Lexing.{first_digit, next_digit}
 use Rattle.inst_scan.proofs.parts.digits.Goals as goal
 

@@ -1,5 +1,6 @@
 use Rattle.std.proofs.Common.{◌≡◌, ◌+◌, ◌-◌, suc, ℕ, List, ap, sym, ◌∙◌, arith, drop, take, get_or, Some, subst, IsAscii}
 use Rattle.std.proofs.lemmas.List.{get_or-drop, drop-drop}
+use Rattle.std.proofs.lemmas.Str.{IsUtf8-from_ascii}
 use Rattle.std.specs.List.{prefix_len}
 use Rattle.inst_scan.specs.Scalar.{is_text}
 use Rattle.json.specs.Lex.{lex, between}
@@ -17,7 +18,7 @@ returns-then-text-end-eq34-clause-value c =
     let j = c.plain_end-end.result in
     let at = c.plain_end-end.ensures.value in
     let n : prefix_len is_text xs ≡ j - c.args.from = omega (arith, at) in
-    (string_at xs (quoted t c.args.from j at c.if-text-end-eq34.true)).0 ∙ ap (λ k. Some (take k xs)) n
+    (string_at xs (quoted t c.args.from j at c.if-text-end-eq34.true)).0 ∙ ap (λ k. Some (take k xs)) n ∙ ap Some (sym c.from_utf8_unchecked-word.ensures)
 
 pub returns-then-text-end-eq34-clause-rest : goal.returns-then-text-end-eq34-clause-rest
 returns-then-text-end-eq34-clause-rest c =
@@ -29,11 +30,11 @@ returns-then-text-end-eq34-clause-rest c =
     (string_at xs (quoted t c.args.from j at c.if-text-end-eq34.true)).1
     ∙ ap (lex between) (drop-drop (suc (prefix_len is_text xs)) c.args.from t) ∙ ap (λ k. lex between (drop k t)) n
 
-pub returns-then-text-end-eq34-clause-ascii : goal.returns-then-text-end-eq34-clause-ascii
-returns-then-text-end-eq34-clause-ascii c =
+pub from_utf8_unchecked-word-requires : goal.from_utf8_unchecked-word-requires
+from_utf8_unchecked-word-requires c =
     let t = c.args.text.now in
     let xs = drop c.args.from t in
     let j = c.plain_end-end.result in
     let at = c.plain_end-end.ensures.value in
     let n : prefix_len is_text xs ≡ j - c.args.from = omega (arith, at) in
-    subst (λ k. IsAscii (take k xs)) n (ascii_at xs)
+    IsUtf8-from_ascii _ (subst (λ k. IsAscii (take k xs)) n (ascii_at xs))

@@ -1,0 +1,32 @@
+-- What every command has: who asks, and when. It is read first and checked late, since what is refused of a moment comes
+-- behind what is refused of an amount. This hub's own choice.
+use Rattle.std.specs.Prelude.{Result, Ok}
+use Rattle.inst_base.specs.Moment.{moment_of}
+use Rattle.inst_base.specs.declared.fault.Fault.{Fault}
+use Rattle.inst_settings.specs.Settings.{HubSettings}
+use Rattle.inst_command.specs.declared.ask.Ask.{Ask}
+use Rattle.inst_command.specs.declared.command.Command.{Command}
+use Rattle.inst_scan.specs.Fields.{LineFields}
+use Rattle.inst_json.specs.Refusals.{◌>>=◌}
+use Rattle.inst_json.specs.Fields.{whole_in, code_in}
+use Rattle.inst_json.specs.Checks.{participant_of}
+use Rattle.inst_json.specs.declared.asker.Asker.{Asker}
+use Rattle.inst_json.specs.declared.asker.KnownAsker.{KnownAsker}
+
+-- the code of who asks, and the reading in absolute milliseconds
+unfoldable pub asker_of : LineFields → Result Asker Fault
+asker_of line = do
+  who ← code_in line.who
+  at ← whole_in line.at
+  Ok (record { who = who; at = at })
+
+-- the number of who asks, and the moment
+unfoldable pub known_of : HubSettings → Asker → Result KnownAsker Fault
+known_of s asker = do
+  at ← moment_of s.base asker.at
+  who ← participant_of s asker.who
+  Ok (record { who = who; at = at })
+
+-- what a known participant asks
+abbrev pub asking : KnownAsker → Command → Ask
+asking asker command = record { who = asker.who; command = command; at = asker.at }

@@ -1,0 +1,64 @@
+//! What every command has: who asks, and when.
+ghost use Rattle.std.specs.Prelude.{◌≡◌, true, IfOk};
+ghost use Rattle.inst_settings.specs.Settings.{is_participant};
+ghost use Rattle.inst_scan.specs.Fields.{fields_told};
+ghost use Rattle.inst_json.specs.Asker.{asker_of, known_of, asking};
+
+use crate::checks::{moment, participant};
+use crate::fields::{code, whole};
+use inst_base::{Code, Fault, Moment};
+use inst_command::{Ask, Command};
+use inst_scan::Fields;
+use inst_settings::Settings;
+
+/// Who asks and when, as a line gives them: the reading is in absolute milliseconds.
+#[derive(Clone, Copy)]
+pub(crate) struct Asker {
+    pub who: Code,
+    pub at: u64,
+}
+
+/// The number of who asks, and the moment.
+#[derive(Clone, Copy)]
+pub(crate) struct KnownAsker {
+    pub who: u8,
+    pub at: Moment,
+}
+
+/// The asker of a line, or `BadField`.
+#[tactic(auto, unfolding(crate::specs::Asker::asker_of))]
+pub(crate) fn asker_of(line: &Fields<'_>) -> Result<Asker, Fault>
+    ensures { result ≡ asker_of (fields_told line.now) }
+{
+    Ok(Asker {
+        who: code(line.who)?,
+        at: whole(line.at)?,
+    })
+}
+
+impl Asker {
+    /// The asker as a participant, or `BadMoment` where the reading is outside the moments of the
+    /// hub, and else `UnknownParticipant`.
+    #[tactic(auto, unfolding(crate::specs::Asker::known_of))]
+    pub(crate) fn known(&self, settings: &Settings) -> Result<KnownAsker, Fault>
+        ensures value { result ≡ known_of settings.now self.now }
+        ensures fits { IfOk result (λ asker. is_participant settings.now asker.who ≡ true) }
+    {
+        let at = moment(settings, self.at)?;
+        let who = participant(settings, &self.who)?;
+        Ok(KnownAsker { who, at })
+    }
+}
+
+impl KnownAsker {
+    /// What it asks.
+    pub(crate) fn asks(self, command: Command) -> Ask
+        ensures { result ≡ asking self command }
+    {
+        Ask {
+            who: self.who,
+            command,
+            at: self.at,
+        }
+    }
+}

@@ -1,0 +1,64 @@
+//! The fields of a line, by one pass over a line of the usual form, and else from its JSON value.
+ghost use Rattle.std.specs.Prelude.{◌≡◌, Ok, IfSome};
+ghost use Rattle.serde_json.specs.Data.{Data};
+ghost use Rattle.serde_json.specs.Find.{get};
+ghost use Rattle.serde_json.specs.View.{view};
+ghost use Rattle.inst_scan.specs.Fields.{found, told, fields_of, fields_told};
+ghost use Rattle.inst_json.specs.Lines.{json_of};
+
+use inst_scan::{Field, Fields, scan};
+use serde_json::Value;
+use std::str;
+
+/// The fields of a line that is found to be a flat object of plain texts and whole numbers.
+#[inline(always)]
+pub(crate) fn scan_line(line: &[u8]) -> Option<Fields<'_>>
+    ensures { IfSome result (λ fields. (d : Data) × (json_of line.now ≡ Ok d)
+        × (fields_told fields ≡ fields_of d)) }
+{
+    let fields = scan(line)?;
+    let Ok(_) = str::from_utf8(line) else {
+        return None;
+    };
+    Some(fields)
+}
+
+/// What a value has under a name.
+fn field_at<'v>(value: &'v Value, name: &str) -> Field<'v>
+    ensures { told result ≡ found (get name.now (view value.now)) }
+{
+    let Some(member) = value.get(name) else {
+        return Field::Missing;
+    };
+    if let Some(text) = member.as_str() {
+        return Field::Text(text);
+    }
+    match member.as_u64() {
+        Some(whole) => Field::Whole(whole),
+        None => Field::Other,
+    }
+}
+
+/// The known fields of a value.
+#[inline(never)]
+pub(crate) fn fields_of(value: &Value) -> Fields<'_>
+    ensures { fields_told result ≡ fields_of (view value.now) }
+{
+    Fields {
+        cmd: field_at(value, "cmd"),
+        who: field_at(value, "who"),
+        at: field_at(value, "at"),
+        reference: field_at(value, "ref"),
+        id: field_at(value, "id"),
+        to: field_at(value, "to"),
+        from: field_at(value, "from"),
+        cents: field_at(value, "cents"),
+        stamp: field_at(value, "stamp"),
+        reason: field_at(value, "reason"),
+        max: field_at(value, "max"),
+        skip: field_at(value, "skip"),
+        count: field_at(value, "count"),
+        step: field_at(value, "step"),
+        place: field_at(value, "place"),
+    }
+}
