@@ -14,7 +14,7 @@ use Rattle.inst_board.specs.declared.about.About.TheVariants.{Opened, HasTerms, 
 use Rattle.inst_board.specs.declared.about.Fact.{Fact}
 use Rattle.inst_board.specs.declared.about.Fact.{Fact}
 use Rattle.inst_board.specs.Standing.{Standing, unused, pending, final, IsLawful, Says, look_of, about}
-use Rattle.inst_board.specs.Learning.{Learns, KnowsTruly, Answers, Decides}
+use Rattle.inst_board.specs.Learning.{Learns, KnowsTruly, Answers}
 use Rattle.inst_board.specs.Wish.{wanted}
 use Rattle.inst_board.specs.Laws.{KnowsOpening, OnlyTheBeneficiaryAnswers, OwnOpeningsAreKnown, OwnAnswersAreKnown, OwnAnswersStand, WhatIsKnownStaysTrue}
 use Rattle.inst_board.proofs.Places.{place_cases}

@@ -28,23 +28,27 @@ KnowsMore knows b c = (f : Fact) → knows b f → knows c f
 -- two decisions of a place answer the same, once there is an outcome: whatever is wished, whenever it is read, and
 -- whatever the holder learns between them
 abbrev pub DecidedOnce : {B : Type 0} → (B → Fact → Type 0) → (B → Place → Outcome → Type 0) → Type 0
-DecidedOnce {B} knows stood = (a b c d : B) (k : Place) (first second : Wish) (at later : ℕ) (found again : Option Outcome) →
+DecidedOnce {B} knows stood = (a b c d : B) (k : Place) (first second : Wish) (at later : ℕ)
+    (found again : Option Outcome) →
     Decides knows stood a k first at found b → KnowsMore knows b c → Decides knows stood c k second later again d →
     IfSome found (λ o. again ≡ Some o)
 
 -- the opening of a place is known, with these terms and this deadline
-pub record KnowsOpening {B : Type 0} (knows : B → Fact → Type 0) (b : B) (k : Place) (t : Terms) (deadline : ℕ) : Type 0 where
+pub record KnowsOpening {B : Type 0} (knows : B → Fact → Type 0) (b : B) (k : Place) (t : Terms)
+    (deadline : ℕ) : Type 0 where
   pub opened : knows b (about k Opened)
   pub terms : knows b (about k (HasTerms t))
   pub due : knows b (about k (Due deadline))
 
 -- the outcome of a place is known, with its terms
-pub record KnowsOutcome {B : Type 0} (knows : B → Fact → Type 0) (b : B) (k : Place) (t : Terms) (o : Outcome) : Type 0 where
+pub record KnowsOutcome {B : Type 0} (knows : B → Fact → Type 0) (b : B) (k : Place) (t : Terms)
+    (o : Outcome) : Type 0 where
   pub terms : knows b (about k (HasTerms t))
   pub decided : knows b (about k (Decided o))
 
 -- the holder may write these terms of the place and open it
-pub record CanOpen {B : Type 0} (knows : B → Fact → Type 0) (has_role : B → ℕ → Type 0) (s : HubSettings) (b : B) (k : Place) (t : Terms) : Type 0 where
+pub record CanOpen {B : Type 0} (knows : B → Fact → Type 0) (has_role : B → ℕ → Type 0) (s : HubSettings) (b : B)
+    (k : Place) (t : Terms) : Type 0 where
   pub place : IsPlace s k
   pub beneficiary : IsTrue (is_participant s t.to)
   pub own : has_role b k.owner
@@ -58,49 +62,63 @@ OnlyPartiesDecide {B} knows has_role = (b : B) (k : Place) (wish : Wish) → May
 -- who may confirm or reject has the role of the beneficiary of the terms that it knows
 abbrev pub OnlyTheBeneficiaryAnswers : {B : Type 0} → (B → Fact → Type 0) → (B → ℕ → Type 0) → Type 0
 OnlyTheBeneficiaryAnswers {B} knows has_role = (b : B) (k : Place) (t : Terms) → knows b (about k (HasTerms t)) →
-    (MayDecide knows has_role b k Accept → has_role b t.to) × ((reason : List ℕ) → MayDecide knows has_role b k (Reject reason) → has_role b t.to)
+    (MayDecide knows has_role b k Accept → has_role b t.to) ×
+    ((reason : List ℕ) → MayDecide knows has_role b k (Reject reason) → has_role b t.to)
 
 -- the beneficiary may have each wish, and the originator may let a transfer expire
 abbrev pub EachPartyMayDecide : {B : Type 0} → (B → Fact → Type 0) → (B → ℕ → Type 0) → Type 0
-EachPartyMayDecide {B} knows has_role = (b : B) (k : Place) (t : Terms) (deadline : ℕ) → KnowsOpening knows b k t deadline →
-    (has_role b t.to → (wish : Wish) → MayDecide knows has_role b k wish) × (has_role b k.owner → MayDecide knows has_role b k Expire)
+EachPartyMayDecide {B} knows has_role = (b : B) (k : Place) (t : Terms) (deadline : ℕ) →
+    KnowsOpening knows b k t deadline →
+    (has_role b t.to → (wish : Wish) → MayDecide knows has_role b k wish) ×
+    (has_role b k.owner → MayDecide knows has_role b k Expire)
 
 -- what is opened is known so
 abbrev pub AnOpeningIsKnown : {B : Type 0} → (B → Fact → Type 0) → Type 0
-AnOpeningIsKnown {B} knows = (b c : B) (k : Place) (t : Terms) (deadline : ℕ) → Learns knows b k (pending t deadline) c → KnowsOpening knows c k t deadline
+AnOpeningIsKnown {B} knows = (b c : B) (k : Place) (t : Terms) (deadline : ℕ) →
+    Learns knows b k (pending t deadline) c → KnowsOpening knows c k t deadline
 
 -- what a look showed is known
-abbrev pub ALookIsKnown : {B : Type 0} → (B → Fact → Type 0) → (B → ℕ → Type 0) → (B → Place → Outcome → Type 0) → Type 0
+abbrev pub ALookIsKnown : {B : Type 0} → (B → Fact → Type 0) → (B → ℕ → Type 0) → (B → Place → Outcome → Type 0) →
+    Type 0
 ALookIsKnown {B} knows has_role stood = (b c : B) (k : Place) (t : Terms) →
     ((deadline : ℕ) → Looks knows has_role stood b k (Pending t deadline) c → KnowsOpening knows c k t deadline) ×
-    ((o : Outcome) → Looks knows has_role stood b k (Ended t o) c → knows c (about k Opened) × KnowsOutcome knows c k t o)
+    ((o : Outcome) → Looks knows has_role stood b k (Ended t o) c → knows c (about k Opened) ×
+    KnowsOutcome knows c k t o)
 
 -- a look is at least what is known
 pub record ShowsWhatIsKnown {B : Type 0} (knows : B → Fact → Type 0) (b : B) (k : Place) (look : Look) : Type 0 where
   pub opened : knows b (about k Opened) → look ≢ Unused
-  pub terms : (t : Terms) → knows b (about k (HasTerms t)) → ((d : ℕ) × (look ≡ Pending t d)) ⊎ ((o : Outcome) × (look ≡ Ended t o))
+  pub terms : (t : Terms) → knows b (about k (HasTerms t)) → ((d : ℕ) × (look ≡ Pending t d)) ⊎
+      ((o : Outcome) × (look ≡ Ended t o))
   pub due : (t : Terms) (d e : ℕ) → knows b (about k (Due d)) → look ≡ Pending t e → e ≡ d
   pub decided : (o : Outcome) → knows b (about k (Decided o)) → (t : Terms) × (look ≡ Ended t o)
 
-abbrev pub ALookShowsWhatIsKnown : {B : Type 0} → (B → Fact → Type 0) → (B → ℕ → Type 0) → (B → Place → Outcome → Type 0) → Type 0
-ALookShowsWhatIsKnown {B} knows has_role stood = (b c : B) (k : Place) (look : Look) → Looks knows has_role stood b k look c → ShowsWhatIsKnown knows b k look
+abbrev pub ALookShowsWhatIsKnown : {B : Type 0} → (B → Fact → Type 0) → (B → ℕ → Type 0) →
+    (B → Place → Outcome → Type 0) → Type 0
+ALookShowsWhatIsKnown {B} knows has_role stood = (b c : B) (k : Place) (look : Look) →
+    Looks knows has_role stood b k look c → ShowsWhatIsKnown knows b k look
 
 -- the originator's holder learns no opening by a look
-abbrev pub OwnOpeningsAreKnown : {B : Type 0} → (B → Fact → Type 0) → (B → ℕ → Type 0) → (B → Place → Outcome → Type 0) → Type 0
+abbrev pub OwnOpeningsAreKnown : {B : Type 0} → (B → Fact → Type 0) → (B → ℕ → Type 0) →
+    (B → Place → Outcome → Type 0) → Type 0
 OwnOpeningsAreKnown {B} knows has_role stood = (b c : B) (k : Place) (t : Terms) → has_role b k.owner →
     ((deadline : ℕ) → Looks knows has_role stood b k (Pending t deadline) c → KnowsOpening knows b k t deadline) ×
     ((o : Outcome) → Looks knows has_role stood b k (Ended t o) c → (deadline : ℕ) × KnowsOpening knows b k t deadline)
 
 -- the beneficiary's holder learns no answer by a look: what is accepted or rejected it knew so, and that it is its own
-abbrev pub OwnAnswersAreKnown : {B : Type 0} → (B → Fact → Type 0) → (B → ℕ → Type 0) → (B → Place → Outcome → Type 0) → Type 0
+abbrev pub OwnAnswersAreKnown : {B : Type 0} → (B → Fact → Type 0) → (B → ℕ → Type 0) → (B → Place → Outcome → Type 0) →
+    Type 0
 OwnAnswersAreKnown {B} knows has_role stood = (b c : B) (k : Place) (t : Terms) → has_role b t.to →
     (Looks knows has_role stood b k (Ended t Accepted) c → KnowsOutcome knows b k t Accepted) ×
-    ((reason : List ℕ) → Looks knows has_role stood b k (Ended t (Rejected reason)) c → KnowsOutcome knows b k t (Rejected reason))
+    ((reason : List ℕ) → Looks knows has_role stood b k (Ended t (Rejected reason)) c →
+    KnowsOutcome knows b k t (Rejected reason))
 
 -- a decision answers what was known, and what it answers is known
 abbrev pub ADecisionIsKnown : {B : Type 0} → (B → Fact → Type 0) → (B → Place → Outcome → Type 0) → Type 0
-ADecisionIsKnown {B} knows stood = (b c : B) (k : Place) (wish : Wish) (at : ℕ) (found : Option Outcome) → Decides knows stood b k wish at found c →
-    ((o : Outcome) → knows b (about k (Decided o)) → found ≡ Some o) × ((o : Outcome) → found ≡ Some o → knows c (about k (Decided o)))
+ADecisionIsKnown {B} knows stood = (b c : B) (k : Place) (wish : Wish) (at : ℕ) (found : Option Outcome) →
+    Decides knows stood b k wish at found c →
+    ((o : Outcome) → knows b (about k (Decided o)) → found ≡ Some o) ×
+    ((o : Outcome) → found ≡ Some o → knows c (about k (Decided o)))
 
 -- what each wish wants: from the deadline on the time-out, before it the beneficiary's answer, and nothing of an expiry
 pub record WantsByItsReading (deadline at : ℕ) : Type 0 where
@@ -114,26 +132,35 @@ EachWishWantsByItsReading = (deadline at : ℕ) → WantsByItsReading deadline a
 
 -- with a known deadline, an outcome that is answered stood before, where that could be, or is what was wanted, in time;
 -- and there is none only for an expiry before the deadline
-pub record IsDecidedInTime {B : Type 0} (stood : B → Place → Outcome → Type 0) (b : B) (k : Place) (wish : Wish) (deadline at : ℕ) (found : Option Outcome) : Type 0 where
-  pub outcome : (o : Outcome) → found ≡ Some o → stood b k o ⊎ ((wanted wish deadline at ≡ Some o) × InTime o deadline at)
+pub record IsDecidedInTime {B : Type 0} (stood : B → Place → Outcome → Type 0) (b : B) (k : Place) (wish : Wish)
+    (deadline at : ℕ) (found : Option Outcome) : Type 0 where
+  pub outcome : (o : Outcome) → found ≡ Some o → stood b k o ⊎
+      ((wanted wish deadline at ≡ Some o) × InTime o deadline at)
   pub none : found ≡ None → (wish ≡ Expire) × (at < deadline)
 
 abbrev pub EachDecisionIsInTime : {B : Type 0} → (B → Fact → Type 0) → (B → Place → Outcome → Type 0) → Type 0
-EachDecisionIsInTime {B} knows stood = (b c : B) (k : Place) (wish : Wish) (deadline at : ℕ) (found : Option Outcome) → knows b (about k (Due deadline)) →
+EachDecisionIsInTime {B} knows stood = (b c : B) (k : Place) (wish : Wish) (deadline at : ℕ) (found : Option Outcome) →
+    knows b (about k (Due deadline)) →
     Decides knows stood b k wish at found c → IsDecidedInTime stood b k wish deadline at found
 
 -- the beneficiary that answers in time, and knows no outcome, is answered what it wanted, or that it was timed out
-abbrev pub OwnAnswersStand : {B : Type 0} → (B → Fact → Type 0) → (B → ℕ → Type 0) → (B → Place → Outcome → Type 0) → Type 0
-OwnAnswersStand {B} knows has_role stood = (b c : B) (k : Place) (t : Terms) (deadline at : ℕ) (found : Option Outcome) →
-    KnowsOpening knows b k t deadline → has_role b t.to → at < deadline → ((o : Outcome) → ¬ knows b (about k (Decided o))) →
+abbrev pub OwnAnswersStand : {B : Type 0} → (B → Fact → Type 0) → (B → ℕ → Type 0) → (B → Place → Outcome → Type 0) →
+    Type 0
+OwnAnswersStand {B} knows has_role stood = (b c : B) (k : Place) (t : Terms) (deadline at : ℕ)
+    (found : Option Outcome) →
+    KnowsOpening knows b k t deadline → has_role b t.to → at < deadline →
+    ((o : Outcome) → ¬ knows b (about k (Decided o))) →
     (Decides knows stood b k Accept at found c → (found ≡ Some Accepted) ⊎ (found ≡ Some TimedOut)) ×
-    ((reason : List ℕ) → Decides knows stood b k (Reject reason) at found c → (found ≡ Some (Rejected reason)) ⊎ (found ≡ Some TimedOut))
+    ((reason : List ℕ) → Decides knows stood b k (Reject reason) at found c → (found ≡ Some (Rejected reason)) ⊎
+    (found ≡ Some TimedOut))
 
 -- who knows nothing knows truly, and each call keeps that
 pub record StaysTrue {B : Type 0} (knows : B → Fact → Type 0) (b : B) : Type 0 where
   pub first : ((f : Fact) → ¬ knows b f) → (j : Place) → KnowsTruly knows b j
-  pub learning : (c : B) (k : Place) (p : Standing) → Learns knows b k p c → ((j : Place) → KnowsTruly knows b j) → (j : Place) → KnowsTruly knows c j
-  pub writing : (c : B) → KnowTheSame knows b c → ((j : Place) → KnowsTruly knows b j) → (j : Place) → KnowsTruly knows c j
+  pub learning : (c : B) (k : Place) (p : Standing) → Learns knows b k p c → ((j : Place) → KnowsTruly knows b j) →
+      (j : Place) → KnowsTruly knows c j
+  pub writing : (c : B) → KnowTheSame knows b c → ((j : Place) → KnowsTruly knows b j) → (j : Place) →
+      KnowsTruly knows c j
   -- a known deadline is one
   pub due : (k : Place) (d : ℕ) → KnowsTruly knows b k → knows b (about k (Due d)) → 1 ≤ d
 
@@ -166,7 +193,8 @@ pub record Stands (b : Contents) (k : Place) (p : Standing) (c : Contents) : Typ
 
 -- on a plain board a decision answers what the first deciding wish wanted, and leaves that
 abbrev pub PlainDecidesExactly : Type 0
-PlainDecidesExactly = (b c : Contents) (k : Place) (wish : Wish) (at : ℕ) (found : Option Outcome) → plain_knows b (about k Opened) →
+PlainDecidesExactly = (b c : Contents) (k : Place) (wish : Wish) (at : ℕ) (found : Option Outcome) →
+    plain_knows b (about k Opened) →
     Decides plain_knows plain_stood b k wish at found c →
     (found ≡ outcome_of (after wish at (standing_at b k))) × Stands b k (after wish at (standing_at b k)) c
 
@@ -178,7 +206,8 @@ PlainLooksExactly = (b c : Contents) (k : Place) (look : Look) →
 
 -- on a plain board an opening leaves the place pending, and all others as they were
 abbrev pub PlainOpensExactly : Type 0
-PlainOpensExactly = (b c : Contents) (k : Place) (t : Terms) (deadline : ℕ) → Learns plain_knows b k (pending t deadline) c →
+PlainOpensExactly = (b c : Contents) (k : Place) (t : Terms) (deadline : ℕ) →
+    Learns plain_knows b k (pending t deadline) c →
     Stands b k (pending t deadline) c
 
 -- what becomes of a pending place: it stays so before the deadline, or is decided at this moment, in time

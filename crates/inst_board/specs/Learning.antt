@@ -58,12 +58,14 @@ IsAnswer TimedOut = ⊥
 -- own: who has the originator's role knew its opening
 -- answered: who has the beneficiary's role knew whether it was accepted or rejected, and the terms
 -- before: an outcome that is shown may have stood before
-pub record Looks {B : Type 0} (knows : B → Fact → Type 0) (has_role : B → ℕ → Type 0) (stood : B → Place → Outcome → Type 0) (b : B) (k : Place) (look : Look) (c : B) : Type 0 where
+pub record Looks {B : Type 0} (knows : B → Fact → Type 0) (has_role : B → ℕ → Type 0)
+    (stood : B → Place → Outcome → Type 0) (b : B) (k : Place) (look : Look) (c : B) : Type 0 where
   pub standing : Standing
   pub learns : Learns knows b k standing c
   pub look_is : look ≡ look_of standing
   pub own : has_role b k.owner → (a : About) → IsOfOpening a → Says standing a → knows b (about k a)
-  pub answered : (t : Terms) → Says standing (HasTerms t) → has_role b t.to → (o : Outcome) → IsAnswer o → Says standing (Decided o) →
+  pub answered : (t : Terms) → Says standing (HasTerms t) → has_role b t.to → (o : Outcome) → IsAnswer o →
+      Says standing (Decided o) →
       knows b (about k (HasTerms t)) × knows b (about k (Decided o))
   pub before : (o : Outcome) → Says standing (Decided o) → stood b k o
 
@@ -74,7 +76,8 @@ IsParty has_role (Reject reason) k terms = has_role terms.to
 IsParty has_role Expire k terms = has_role k.owner ⊎ has_role terms.to
 
 -- the holder may decide the place by this wish: it knows its opening, and has the role
-pub record MayDecide {B : Type 0} (knows : B → Fact → Type 0) (has_role : B → ℕ → Type 0) (b : B) (k : Place) (wish : Wish) : Type 0 where
+pub record MayDecide {B : Type 0} (knows : B → Fact → Type 0) (has_role : B → ℕ → Type 0) (b : B) (k : Place)
+    (wish : Wish) : Type 0 where
   pub terms : Terms
   pub deadline : ℕ
   pub opened : knows b (about k Opened)
@@ -87,10 +90,12 @@ pub record MayDecide {B : Type 0} (knows : B → Fact → Type 0) (has_role : B 
 abbrev pub Answers : (Outcome → Type 0) → Wish → ℕ → Standing → Option Outcome → Type 0
 Answers stood wish at unused found = ⊥
 Answers stood wish at (pending terms deadline) found = (found ≡ None) × (wanted wish deadline at ≡ None)
-Answers stood wish at (final terms deadline outcome moment) found = (found ≡ Some outcome) × (stood outcome ⊎ ((wanted wish deadline at ≡ Some outcome) × (moment ≡ at)))
+Answers stood wish at (final terms deadline outcome moment) found = (found ≡ Some outcome) ×
+    (stood outcome ⊎ ((wanted wish deadline at ≡ Some outcome) × (moment ≡ at)))
 
 -- `found` is an answer that a decision of the place k allows, for this wish and reading, from the holder b to the holder c
-pub record Decides {B : Type 0} (knows : B → Fact → Type 0) (stood : B → Place → Outcome → Type 0) (b : B) (k : Place) (wish : Wish) (at : ℕ) (found : Option Outcome) (c : B) : Type 0 where
+pub record Decides {B : Type 0} (knows : B → Fact → Type 0) (stood : B → Place → Outcome → Type 0) (b : B) (k : Place)
+    (wish : Wish) (at : ℕ) (found : Option Outcome) (c : B) : Type 0 where
   pub standing : Standing
   pub learns : Learns knows b k standing c
   pub answers : Answers (stood b k) wish at standing found

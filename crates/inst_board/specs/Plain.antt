@@ -48,7 +48,8 @@ abbrev pub plain_knows : Contents → Fact → Type 0
 plain_knows board fact = Says (standing_at board fact.place) fact.about
 
 -- nothing is known of a place that the settings don't have
-pub known_is_place : (board : Contents) (place : Place) (a : About) → plain_knows board (about place a) → IsPlace board.settings place
+pub known_is_place : (board : Contents) (place : Place) (a : About) → plain_knows board (about place a) →
+    IsPlace board.settings place
 known_is_place board place a = elim (is_place board.settings place) as (λ has. Says (standing_of (if has then kept_or_unused (slice_get board.kept (number_of board.settings place)) else Unused)) a → IsTrue has) [
   | true ↦ λ _. refl
   | false ↦ λ says. absurd says

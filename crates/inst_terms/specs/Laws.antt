@@ -30,7 +30,8 @@ NothingSeenGoesBack = (words : List Word) → IsLawful words → (i j : ℕ) →
 
 -- before a final word stood the pending one, and by its deadline the outcome is in time
 abbrev pub EachOutcomeIsInTime : Type 0
-EachOutcomeIsInTime = (words : List Word) → IsLawful words → (i : ℕ) (o : Outcome) (t : ℕ) → slice_get words i ≡ Some (Final o t) →
+EachOutcomeIsInTime = (words : List Word) → IsLawful words → (i : ℕ) (o : Outcome) (t : ℕ) →
+    slice_get words i ≡ Some (Final o t) →
     (j : ℕ) × (d : ℕ) × (j < i) × (slice_get words j ≡ Some (Pending d)) × (1 ≤ d) × InTime o d t
 
 -- what is in time: an acceptance or a rejection before the deadline, a time-out at it or after it
