@@ -35,10 +35,10 @@ impl Command {
         ensures { result ≡ command_fits settings.now self.now }
     {
         match self {
-            Command::Fund { cents, .. } | Command::Defund { cents, .. } => settings.allows(*cents),
+            Command::Fund { cents, .. } | Command::Defund { cents, .. } => settings.allows(cents.get()),
             Command::Submit(submission) => {
                 settings.has_participant(submission.to)
-                    && settings.allows(submission.cents)
+                    && settings.allows(submission.cents.get())
                     && submission.stamp.has_deadline(settings.limit())
             }
             Command::Confirm { from, .. } | Command::Reject { from, .. } => {

@@ -14,11 +14,10 @@ pub(crate) fn amount(settings: &Settings, cents: u64) -> Result<Cents, Fault>
     ensures value { result ≡ amount_of settings.now cents }
     ensures fits { IfOk result (λ amount. is_within_ceiling settings.now amount ≡ true) }
 {
-    let amount = Cents::new(cents)?;
-    if !settings.allows(amount) {
+    if !settings.allows(cents) {
         return Err(Fault::BadAmount);
     }
-    Ok(amount)
+    Cents::new(cents)
 }
 
 /// The moment at `ms` absolute milliseconds, or `BadMoment` outside the moments of the hub.

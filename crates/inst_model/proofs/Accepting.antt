@@ -60,7 +60,7 @@ timed_out_cases deadline at early o e = cases (is_due deadline at) e
     cases true e = inr (same_Some TimedOut o e)
     cases false e = inl e
 
-when_true : (b : Bool) (o : Option Outcome) (x : Outcome) → cond b o None ≡ Some x → (b ≡ true) × (o ≡ Some x)
+pub when_true : (b : Bool) (o : Option Outcome) (x : Outcome) → cond b o None ≡ Some x → (b ≡ true) × (o ≡ Some x)
 when_true true o x e = (refl, e)
 when_true false o x e = absurd cc
 

@@ -1,17 +1,20 @@
 -- Positions sum to the net funding and what is untold.
-use Rattle.std.proofs.Common.{◌≡◌, ℕ, ◌+◌, ◌-◌, ◌≤◌, ℤ, pos, ◌+ℤ◌, ◌-ℤ◌, List, Option, sym, ap, ◌∙◌, arith}
+use Rattle.std.proofs.Common.{◌≡◌, ℕ, ◌+◌, ◌-◌, ◌≤◌, ℤ, pos, ◌+ℤ◌, ◌-ℤ◌, List, Option, Some, None, subst, sym, ap, ◌∙◌, arith}
 use Rattle.std.proofs.lemmas.Int.{ints}
 use Rattle.inst_model.specs.Opening.{Opening, IsOpening}
 use Rattle.inst_settings.specs.Settings.{HubSettings, participants}
 use Rattle.inst_command.specs.declared.outcome.Outcome.{Outcome}
+use Rattle.inst_command.specs.declared.outcome.Outcome.TheVariants.{Accepted, Rejected, TimedOut}
 use Rattle.inst_command.specs.declared.step.Step.{Step}
 use Rattle.inst_journal.specs.declared.event.Event.{Event}
 use Rattle.inst_journal.specs.Money.{reserved, position}
-use Rattle.inst_journal.specs.Sums.{funded, defunded, net, credits, debits}
+use Rattle.inst_journal.specs.Sums.{funded, defunded, net, credits, debits, if_unbooked}
+use Rattle.inst_journal.specs.Booked.{own_booked}
+use Rattle.inst_journal.proofs.OwnBookings.{own_booked-booked}
 use Rattle.inst_journal.proofs.Places.{never_overdrawn}
 use Rattle.inst_model.specs.Hub.{outcome, history}
 use Rattle.inst_model.specs.Interleaving.{IsInterleaving}
-use Rattle.inst_model.specs.Untold.{sum_below, total, signed_total}
+use Rattle.inst_model.specs.Untold.{sum_below, total, signed_total, if_untold}
 use Rattle.inst_model.specs.Conservation.{MoneyIsConserved}
 use Rattle.inst_model.proofs.Outcomes.{booked_outcome}
 use Rattle.inst_model.proofs.Together.{together}
@@ -65,6 +68,14 @@ agree s O opened L steps = record {
   accepted_is_booked = λ from id e. accepted_booked s O opened L from id e;
 }
 
+-- an untold amount is reserved
+reserved_while_untold : (out known : Option Outcome) (cents : ℕ) → if_untold out known cents ≤ if_unbooked known cents
+reserved_while_untold None None cents = omega arith
+reserved_while_untold (Some Accepted) None cents = omega arith
+reserved_while_untold (Some (Rejected reason)) None cents = omega arith
+reserved_while_untold (Some TimedOut) None cents = omega arith
+reserved_while_untold out (Some before) cents = omega arith
+
 pub money_is_conserved : MoneyIsConserved
 money_is_conserved s O opened L steps =
     let a : Agree s (history s O L) (outcome s O L) = agree s O opened L steps in
@@ -72,6 +83,9 @@ money_is_conserved s O opened L steps =
       sum = conserved s (history s O L) (outcome s O L) a;
       signed_sum = signed_conserved s (history s O L) (outcome s O L) a;
       all_told = λ told. all_told_conserved s (history s O L) (outcome s O L) a (λ p. nothing_untold (history s O L) (outcome s O L) p (told p));
+      each_untold_is_reserved = λ p id to cents stamp there.
+          subst (λ (known : Option Outcome). if_untold (outcome s O L p id) known cents ≤ if_unbooked (own_booked id (history s O L p)) cents)
+          (own_booked-booked s p (history s O L p) id (a.all.sound p)) (reserved_while_untold (outcome s O L p id) (own_booked id (history s O L p)) cents);
       untold_is_reserved = λ p. untold_reserved s (history s O L) (outcome s O L) p (a.all.sound p);
       never_overdrawn = λ p. never_overdrawn s p (history s O L p) (a.all.sound p);
     }

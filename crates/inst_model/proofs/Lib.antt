@@ -29,3 +29,5 @@ pub mod FittingMirror
 pub mod Booking
 pub mod Closing
 pub mod Stepping
+pub mod Timely
+pub mod Learnt

@@ -1,5 +1,6 @@
 -- Money is settled or released at most once.
-use Rattle.std.proofs.Common.{◌≡◌, ◌≢◌, ℕ, List, Option, Some, None, refl, ap, subst}
+use Rattle.std.proofs.Common.{◌≡◌, ◌≢◌, ℕ, List, Option, Some, None, refl, sym, ap, ◌∙◌, subst}
+use Rattle.std.proofs.lemmas.Option.{same_Some}
 use Rattle.inst_settings.specs.Settings.{HubSettings}
 use Rattle.inst_command.specs.declared.outcome.Outcome.{Outcome}
 use Rattle.inst_command.specs.declared.outcome.Outcome.TheVariants.{Accepted, Rejected, TimedOut}
@@ -21,12 +22,25 @@ not_accepted (Some Accepted) cents other = absurd (other refl)
 not_accepted (Some (Rejected reason)) cents other = refl
 not_accepted (Some TimedOut) cents other = refl
 
+-- a booked transfer isn't reserved any more
+booked_unreserved : (o : Option Outcome) (x : Outcome) (cents : ℕ) → o ≡ Some x → if_unbooked o cents ≡ 0
+booked_unreserved o x cents e = ap (λ p. if_unbooked p cents) e
+
 settled_once : (s : HubSettings) (p : ℕ) (J : List Event) → IsSound s p J → IsSettledOnce p J
 settled_once s p J sound = record {
   booked_once = booked_once s p J sound;
   one_place = λ id to cents stamp there.
       subst (λ (o : Option Outcome). IsOneOf cents (if_unbooked (own_booked id J) cents) (if_accepted (own_booked id J) cents) (if_released o cents))
       (own_booked-booked s p J id sound) (in_one_place (own_booked id J) cents);
+  reserved_until_booked = λ id to cents stamp there none.
+      let own : own_booked id J ≡ None = own_booked-booked s p J id sound ∙ none in
+      (ap (λ o. if_unbooked o cents) own, ap (λ o. if_accepted o cents) own);
+  debited_if_accepted = λ id to cents stamp there accepted.
+      let own : own_booked id J ≡ Some Accepted = own_booked-booked s p J id sound ∙ accepted in
+      (booked_unreserved (own_booked id J) Accepted cents own, ap (λ o. if_accepted o cents) own);
+  free_otherwise = λ id to cents stamp o there is other.
+      let own : own_booked id J ≡ Some o = own_booked-booked s p J id sound ∙ is in
+      (booked_unreserved (own_booked id J) o cents own, not_accepted (own_booked id J) cents (λ accepted. other (same_Some o Accepted (sym own ∙ accepted))));
   credited = λ from id cents deadline there accepted. ap (λ o. if_accepted o cents) accepted;
   not_credited = λ from id cents deadline there other. not_accepted (booked from id J) cents other;
 }

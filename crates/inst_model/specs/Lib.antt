@@ -19,3 +19,5 @@ pub mod Locality
 pub mod Places
 pub mod ClosedBooks
 pub mod StepByStep
+pub mod InTime
+pub mod Learning

@@ -13,7 +13,9 @@ use Rattle.inst_command.specs.declared.reply.Reply.TheVariants.{Done, Taken, Sta
 use Rattle.inst_command.specs.declared.reply.Answer.{Answer}
 use Rattle.inst_command.specs.declared.reply.Answer.TheVariants.{Reply, New}
 use Rattle.inst_model.specs.Trace.{trace}
-use Rattle.inst_model.specs.Opening.Opening.{First}
+use Rattle.inst_model.specs.Hub.{history}
+use Rattle.inst_model.specs.Opening.Opening.{First, FromBooks}
+use Rattle.inst_journal.specs.declared.event.Event.{Event}
 
 abbrev pub settings : HubSettings
 settings = record {
@@ -89,6 +91,13 @@ is_new new = New new
 -- the answers to a script
 abbrev pub answers : List Step → List Answer
 answers script = trace settings First (reverse script)
+
+-- the same hub with a margin of two seconds, and the answers there
+abbrev pub settings_with_margin : HubSettings
+settings_with_margin = record settings { margin = 2000 }
+
+abbrev pub answers_with_margin : List Step → List Answer
+answers_with_margin script = trace settings_with_margin First (reverse script)
 
 -- A is funded and submits a transfer to B
 abbrev pub submitted : List Step
@@ -209,4 +218,99 @@ learnt_twice =
     ∷ learn A A 0
     ∷ learn B A 0
     ∷ position A 2000
+    ∷ []
+
+-- an expiry and a rejection one millisecond before the deadline, and at it
+abbrev pub on_either_side : List Step
+on_either_side =
+    delivered
+    ++ submit A (codes "T2") B 100 1000 1000
+    ∷ deliver B A 1
+    ∷ expire A 0 10999
+    ∷ reject B A (codes "T1") (codes "AC04") 10999
+    ∷ reject B A (codes "T2") (codes "AC04") 11000
+    ∷ expire A 1 11000
+    ∷ []
+
+-- four fundings, and then a reference that is kept with other cents, and one that isn't
+abbrev pub fundings_full : List Step
+fundings_full =
+    fund A (codes "F1") 1 0
+    ∷ fund A (codes "F2") 1 0
+    ∷ fund A (codes "F3") 1 0
+    ∷ fund A (codes "F4") 1 0
+    ∷ fund A (codes "F1") 2 0
+    ∷ fund A (codes "F5") 1 0
+    ∷ fund A (codes "F4") 1 0
+    ∷ []
+
+-- two transfers come to B, in another order than they were taken
+abbrev pub a_page_of_two : List Step
+a_page_of_two =
+    submitted
+    ++ submit A (codes "T2") B 200 1000 1000
+    ∷ deliver B A 1
+    ∷ deliver B A 0
+    ∷ ask B (Fetch 2) 1500
+    ∷ ask B (Fetch 2) 1500
+    ∷ []
+
+-- confirmations at a margin of two seconds
+abbrev pub margin_confirmed_before : List Step
+margin_confirmed_before = delivered ++ confirm B A (codes "T1") 8999 ∷ []
+
+abbrev pub margin_confirmation_refused : List Step
+margin_confirmation_refused =
+    delivered
+    ++ confirm B A (codes "T1") 9000
+    ∷ position A 9000
+    ∷ reject B A (codes "T1") (codes "AC04") 10999
+    ∷ confirm B A (codes "T1") 9000
+    ∷ []
+
+abbrev pub margin_then_timed_out : List Step
+margin_then_timed_out = delivered ++ confirm B A (codes "T1") 10999 ∷ confirm B A (codes "T1") 11000 ∷ []
+
+abbrev pub margin_after_expire : List Step
+margin_after_expire = delivered ++ expire A 0 11000 ∷ confirm B A (codes "T1") 9500 ∷ []
+
+-- the books that a script leaves, and the answers at the next opening
+abbrev pub books_after : List Step → ℕ → List Event
+books_after script p = history settings First (reverse script) p
+
+abbrev pub answers_from : List Step → List Step → List Answer
+answers_from before script = trace settings (FromBooks (books_after before)) (reverse script)
+
+-- A's transfer is pending when the hub closes, and goes on at the next opening
+abbrev pub carried_over_an_opening : List Step
+carried_over_an_opening =
+    position A 1002
+    ∷ submit A (codes "T1") B 20000 1000 1002
+    ∷ submit A (codes "T1") B 19999 1000 1002
+    ∷ ask A (Statement 0 10) 1002
+    ∷ confirm B A (codes "T1") 2000
+    ∷ learn A A 0
+    ∷ ask A (Statement 0 10) 2000
+    ∷ []
+
+-- A has an accepted and a pending transfer when the hub closes, and two places
+abbrev pub one_settled : List Step
+one_settled =
+    fund A (codes "F1") 50000 0
+    ∷ submit A (codes "T1") B 100 1000 1000
+    ∷ submit A (codes "T2") B 100 1000 1000
+    ∷ deliver B A 0
+    ∷ deliver B A 1
+    ∷ confirm B A (codes "T1") 2000
+    ∷ learn A A 0
+    ∷ []
+
+abbrev pub places_given_back : List Step
+places_given_back =
+    submit A (codes "T3") B 100 3000 3000
+    ∷ submit A (codes "T4") B 100 3000 3000
+    ∷ investigate A (codes "T1") 3000
+    ∷ submit A (codes "T1") B 100 1000 3000
+    ∷ expire A 0 11000
+    ∷ investigate A (codes "T2") 3000
     ∷ []

@@ -5,6 +5,8 @@ ghost use Rattle.inst_model.specs.Once.{MoneyIsSettledOnce};
 ghost use Rattle.inst_model.specs.ClosedBooks.{ClosedBooksSumToTheNet};
 ghost use Rattle.inst_model.specs.Conservation.{MoneyIsConserved};
 ghost use Rattle.inst_model.specs.Locality.{OutcomeIsLocal};
+ghost use Rattle.inst_model.specs.InTime.{EachOutcomeIsInTime};
+ghost use Rattle.inst_model.specs.Learning.{LearningBooks, ExpiryBooks, DeliveryForwards, NothingDecidedIsDelivered};
 ghost use Rattle.inst_model.specs.Places.{PlacesName, IdentifiersName};
 ghost use Rattle.inst_model.specs.SoundAndFit.{HistoriesAreSound, HistoriesFit};
 ghost use Rattle.inst_model.specs.StepByStep.{TheFirstThatWantsDecides, AViewGrowsByWhatIsSeen, AtMostOneEntryIsSeen, RepliesAreInTheTrace};
@@ -27,6 +29,19 @@ pub fn a_transfer_has_one_outcome()
     ensures answered { AnsweredIsTheOutcome }
     ensures booked { BookedIsTheOutcome }
     ensures stays { OutcomeStays }
+{}
+
+/// An outcome is in time for the reading that decided it.
+pub fn each_outcome_is_in_time()
+    ensures { EachOutcomeIsInTime }
+{}
+
+/// Who learns has it booked, and what is pending comes to its beneficiary.
+pub fn what_is_decided_is_learnt()
+    ensures learnt { LearningBooks }
+    ensures expired { ExpiryBooks }
+    ensures delivered { DeliveryForwards }
+    ensures undelivered { NothingDecidedIsDelivered }
 {}
 
 /// A transfer's money is settled or released at most once.

@@ -15,7 +15,7 @@ ghost use Rattle.inst_model.specs.Hub.{history};
 ghost use Rattle.inst_model.specs.Opening.Opening.{First};
 ghost use Rattle.inst_model.specs.Untold.{total, signed_total, untold};
 ghost use Rattle.inst_model.specs.Trace.{replies};
-ghost use Rattle.inst_model.specs.Rows.{A, B, settings, answers, is_done, is_taken, is_state, is_position, is_refused, is_new, confirm_before_expire, expire_before_confirm, untold_yet, untold_then_learnt, alone, among_others, confirmed_late, confirmed_before_delivery, expired_before_taken, one_of_two_expired, wrong_deliveries_and_stamp_ahead, expired_before_delivery, rejected_with_reason, investigate_at_the_deadline, confirmed_by_another, learnt_twice};
+ghost use Rattle.inst_model.specs.Rows.{A, B, settings, answers, is_done, is_taken, is_state, is_position, is_refused, is_new, confirm_before_expire, expire_before_confirm, untold_yet, untold_then_learnt, alone, among_others, confirmed_late, confirmed_before_delivery, expired_before_taken, one_of_two_expired, wrong_deliveries_and_stamp_ahead, expired_before_delivery, rejected_with_reason, investigate_at_the_deadline, confirmed_by_another, learnt_twice, answers_with_margin, answers_from, on_either_side, fundings_full, a_page_of_two, margin_confirmed_before, margin_confirmation_refused, margin_then_timed_out, margin_after_expire, carried_over_an_opening, delivered, one_settled, places_given_back};
 
 /// A confirmation just in time stands, though the deadline passes before the originator learns of it.
 pub fn confirm_before_expire()
@@ -149,4 +149,89 @@ pub fn learnt_twice()
     ensures history { history settings First (reverse learnt_twice) A ≡
         Event.Funded (codes "F1") 50000 ∷ Event.Taken (codes "T1") B 20000 1000
         ∷ Event.Booked A (codes "T1") Outcome.Accepted ∷ [] }
+{}
+
+/// One millisecond before the deadline an expiry does nothing and a rejection stands; at the deadline a
+/// rejection comes too late, and the expiry finds the time-out that it made.
+pub fn on_either_side()
+    ensures { answers on_either_side ≡
+        is_done (codes "F1") ∷ is_taken (codes "T1") 11000 ∷ is_new true
+        ∷ is_taken (codes "T2") 11000 ∷ is_new true ∷ is_new false
+        ∷ is_state A (codes "T1") (State.Decided (Outcome.Rejected (codes "AC04")))
+        ∷ is_state A (codes "T2") (State.Decided Outcome.TimedOut) ∷ is_new true ∷ [] }
+{}
+
+/// Where all fundings are used, a kept reference with other cents is a duplicate still, a new one finds no
+/// room, and a repeat is answered.
+pub fn fundings_full()
+    ensures { answers fundings_full ≡
+        is_done (codes "F1") ∷ is_done (codes "F2") ∷ is_done (codes "F3") ∷ is_done (codes "F4")
+        ∷ is_refused Fault.Duplicate ∷ is_refused Fault.Full ∷ is_done (codes "F4") ∷ [] }
+{}
+
+/// A page has the transfers in the order in which they came, and the next page goes on from there.
+pub fn a_page_of_two()
+    ensures { answers a_page_of_two ≡
+        is_done (codes "F1") ∷ is_taken (codes "T1") 11000 ∷ is_taken (codes "T2") 11000
+        ∷ is_new true ∷ is_new true
+        ∷ Answer.Reply (Reply.Inbox (record { from = A; id = codes "T2"; cents = 200; deadline = 11000 }
+        ∷ record { from = A; id = codes "T1"; cents = 20000; deadline = 11000 } ∷ []))
+        ∷ Answer.Reply (Reply.Inbox []) ∷ [] }
+{}
+
+/// The last millisecond before the margin still accepts.
+pub fn margin_confirmed_before()
+    ensures { answers_with_margin margin_confirmed_before ≡
+        is_done (codes "F1") ∷ is_taken (codes "T1") 11000 ∷ is_new true
+        ∷ is_state A (codes "T1") (State.Decided Outcome.Accepted) ∷ [] }
+{}
+
+/// In the margin a confirmation comes too late and decides nothing; a rejection still stands, and then the
+/// confirmation is answered with it.
+pub fn margin_confirmation_refused()
+    ensures { answers_with_margin margin_confirmation_refused ≡
+        is_done (codes "F1") ∷ is_taken (codes "T1") 11000 ∷ is_new true
+        ∷ is_refused Fault.Expired ∷ is_position 50000 20000 30000
+        ∷ is_state A (codes "T1") (State.Decided (Outcome.Rejected (codes "AC04")))
+        ∷ is_state A (codes "T1") (State.Decided (Outcome.Rejected (codes "AC04"))) ∷ [] }
+{}
+
+/// A confirmation in the margin leaves the transfer pending, and one at the deadline times it out.
+pub fn margin_then_timed_out()
+    ensures { answers_with_margin margin_then_timed_out ≡
+        is_done (codes "F1") ∷ is_taken (codes "T1") 11000 ∷ is_new true
+        ∷ is_refused Fault.Expired ∷ is_state A (codes "T1") (State.Decided Outcome.TimedOut) ∷ [] }
+{}
+
+/// A transfer that has timed out is answered so, also at an earlier reading in the margin.
+pub fn margin_after_expire()
+    ensures { answers_with_margin margin_after_expire ≡
+        is_done (codes "F1") ∷ is_taken (codes "T1") 11000 ∷ is_new true ∷ is_new true
+        ∷ is_state A (codes "T1") (State.Decided Outcome.TimedOut) ∷ [] }
+{}
+
+/// At the next opening a pending transfer is still reserved, its repeat and its duplicate are told apart, the
+/// statement begins anew, and the transfer can be confirmed.
+pub fn carried_over_an_opening()
+    ensures { answers_from delivered carried_over_an_opening ≡
+        is_position 50000 20000 30000 ∷ is_taken (codes "T1") 11000 ∷ is_refused Fault.Duplicate
+        ∷ Answer.Reply (Reply.Statement [])
+        ∷ is_state A (codes "T1") (State.Decided Outcome.Accepted) ∷ is_new true
+        ∷ Answer.Reply (Reply.Statement (record {
+          number = 1;
+          kind = LineKind.Paid;
+          other = Some B;
+          id = codes "T1";
+          cents = 20000;
+          position = 30000;
+        } ∷ [])) ∷ [] }
+{}
+
+/// At the next opening a settled transfer's place is free again, a pending one's isn't; the settled one keeps its
+/// name and its outcome, and the pending one is at the first place.
+pub fn places_given_back()
+    ensures { answers_from one_settled places_given_back ≡
+        is_taken (codes "T3") 13000 ∷ is_refused Fault.Full
+        ∷ is_state A (codes "T1") (State.Decided Outcome.Accepted) ∷ is_taken (codes "T1") 11000
+        ∷ is_new true ∷ is_state A (codes "T2") (State.Decided Outcome.TimedOut) ∷ [] }
 {}

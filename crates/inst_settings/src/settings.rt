@@ -1,12 +1,13 @@
 ghost use Rattle.std.specs.Prelude.{◌≡◌, ◌<◌, ◌≤◌, Some, true, slice_get, IfOk, OnErr, IsOkUnless};
 ghost use Rattle.std.specs.Option.{option_copied};
+ghost use Rattle.inst_base.specs.Cents.{is_amount};
 
 use crate::codes::{are_different, index_of};
 use crate::finder::Finder;
 use crate::ranges::{
     MOST_AHEAD, MOST_BASE, MOST_CEILING, MOST_FUNDINGS, MOST_LIMIT, MOST_PARTICIPANTS, MOST_PLACES,
 };
-use inst_base::{Cents, Code, Fault};
+use inst_base::{Code, Fault};
 use std::marker::Model;
 
 /// The settings of a hub, in their ranges, with different codes.
@@ -214,11 +215,12 @@ impl Settings {
         self.ceiling
     }
 
-    /// Whether one command may move this amount.
-    pub fn allows(&self, cents: Cents) -> bool
-        ensures { result ≡ is_within_ceiling self.now cents }
+    /// Whether one command may move so many cents: 1 to the ceiling.
+    pub fn allows(&self, cents: u64) -> bool
+        ensures value { result ≡ is_within_ceiling self.now cents }
+        ensures amount { result ≡ true → is_amount cents ≡ true }
     {
-        cents.get() <= self.ceiling
+        (1..=self.ceiling).contains(&cents)
     }
 
     /// The absolute milliseconds from which moments are counted.

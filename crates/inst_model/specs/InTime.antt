@@ -1,0 +1,38 @@
+-- Each outcome is in time for the reading that decided it (EPC004-16, chapter 4: time-out deadline, positive and negative
+-- confirmation): an acceptance before the deadline by more than the margin, a rejection before the deadline, a time-out at
+-- it or after it. The margin is this hub's own choice.
+use Rattle.std.specs.Prelude.{◌≡◌, ℕ, ◌+◌, ◌<◌, ◌≤◌, List, ◌∷◌, Option, Some, None}
+use Rattle.inst_settings.specs.Settings.{HubSettings}
+use Rattle.inst_command.specs.declared.outcome.Outcome.{Outcome}
+use Rattle.inst_command.specs.declared.outcome.Outcome.TheVariants.{Accepted, Rejected, TimedOut}
+use Rattle.inst_command.specs.declared.step.Step.{Step}
+use Rattle.inst_command.specs.declared.step.Step.TheVariants.{Ask, Deliver, Learn, Expire}
+use Rattle.inst_model.specs.Opening.{Opening}
+use Rattle.inst_model.specs.Transfer.{Transfer, transfer}
+use Rattle.inst_model.specs.Hub.{outcome, history}
+
+-- the reading of a step, where it has one
+abbrev pub reading : Step → Option ℕ
+reading (Ask ask) = Some ask.at
+reading (Deliver from place to) = None
+reading (Learn who from place) = None
+reading (Expire who place at) = Some at
+
+-- the outcome of a transfer with this deadline is in time at the reading
+abbrev pub IsInTime : HubSettings → ℕ → ℕ → Outcome → Type 0
+IsInTime s deadline at Accepted = at + s.margin < deadline
+IsInTime s deadline at (Rejected reason) = at < deadline
+IsInTime s deadline at TimedOut = deadline ≤ at
+
+-- the step decides the transfer of p with this identifier, in time
+pub record DecidesInTime (s : HubSettings) (O : Opening) (past : List Step) (step : Step) (p : ℕ) (id : List ℕ) (o : Outcome) : Type 0 where
+  pub terms : Transfer
+  pub taken : transfer id (history s O past p) ≡ Some terms
+  pub at : ℕ
+  pub is_read : reading step ≡ Some at
+  pub in_time : IsInTime s (terms.stamp + s.limit) at o
+
+abbrev pub EachOutcomeIsInTime : Type 0
+EachOutcomeIsInTime =
+    (s : HubSettings) (O : Opening) (past : List Step) (step : Step) (p : ℕ) (id : List ℕ) (o : Outcome) →
+    outcome s O past p id ≡ None → outcome s O (step ∷ past) p id ≡ Some o → DecidesInTime s O past step p id o

@@ -1,0 +1,42 @@
+-- What each side is told (EPC004-16, chapter 4: both participants are told one outcome): a party that learns of a decided
+-- transfer has it booked, an originator whose transfer expires has it booked, and what is pending comes to its beneficiary,
+-- which nothing does that is decided. That each is a step of its own is this hub's own choice.
+use Rattle.std.specs.Prelude.{◌≡◌, ◌⊎◌, ℕ, true, false, List, ◌∷◌, Some, None}
+use Rattle.inst_settings.specs.Settings.{HubSettings}
+use Rattle.inst_command.specs.declared.outcome.Outcome.{Outcome}
+use Rattle.inst_command.specs.declared.step.Step.{Step}
+use Rattle.inst_command.specs.declared.step.Step.TheVariants.{Deliver, Learn, Expire}
+use Rattle.inst_journal.specs.Booked.{is_forwarded, booked}
+use Rattle.inst_model.specs.Opening.{Opening, IsOpening}
+use Rattle.inst_model.specs.Transfer.{Transfer, at_place}
+use Rattle.inst_model.specs.Hub.{outcome, history}
+use Rattle.inst_model.specs.Trace.{is_seen}
+
+-- a party that learns of a decided transfer has its outcome booked
+abbrev pub LearningBooks : Type 0
+LearningBooks =
+    (s : HubSettings) (O : Opening) → IsOpening s O → (past : List Step) (who p place : ℕ) (x : Transfer) (o : Outcome) →
+    at_place p (history s O past p) place ≡ Some x → outcome s O past p x.id ≡ Some o →
+    (who ≡ p) ⊎ (is_forwarded p x.id (history s O past who) ≡ true) →
+    booked p x.id (history s O (Learn who p place ∷ past) who) ≡ Some o
+
+-- an originator whose transfer is decided by its expiry, or was before, has the outcome booked
+abbrev pub ExpiryBooks : Type 0
+ExpiryBooks =
+    (s : HubSettings) (O : Opening) → IsOpening s O → (past : List Step) (p place at : ℕ) (x : Transfer) (o : Outcome) →
+    at_place p (history s O past p) place ≡ Some x → outcome s O (Expire p place at ∷ past) p x.id ≡ Some o →
+    booked p x.id (history s O (Expire p place at ∷ past) p) ≡ Some o
+
+-- a pending transfer that is delivered has come to its beneficiary
+abbrev pub DeliveryForwards : Type 0
+DeliveryForwards =
+    (s : HubSettings) (O : Opening) (past : List Step) (p place : ℕ) (x : Transfer) →
+    at_place p (history s O past p) place ≡ Some x → outcome s O past p x.id ≡ None →
+    is_forwarded p x.id (history s O (Deliver p place x.to ∷ past) x.to) ≡ true
+
+-- nothing decided is delivered
+abbrev pub NothingDecidedIsDelivered : Type 0
+NothingDecidedIsDelivered =
+    (s : HubSettings) (O : Opening) (past : List Step) (p place q : ℕ) (x : Transfer) (o : Outcome) →
+    at_place p (history s O past p) place ≡ Some x → outcome s O past p x.id ≡ Some o →
+    is_seen s O past (Deliver p place q) q ≡ false
