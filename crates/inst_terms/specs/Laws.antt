@@ -1,8 +1,8 @@
 -- The laws of a place's words: packed words tell what was packed apart, and over all words that a place ever has one
 -- outcome is decided at most, in time, and nothing that could be seen goes back. They are this hub's own promises.
-use Rattle.std.specs.Prelude.{◌≡◌, ◌≢◌, ◌↔◌, ℕ, ◌<◌, ◌≤◌, List, [], ◌∷◌, Some, slice_get}
+use Rattle.std.specs.Prelude.{◌≡◌, ◌≢◌, ◌↔◌, ℕ, ◌+◌, ◌<◌, ◌≤◌, List, [], ◌∷◌, Some, slice_get}
 use Rattle.inst_command.specs.declared.outcome.Outcome.{Outcome}
-use Rattle.inst_command.specs.declared.outcome.Outcome.TheVariants.{TimedOut}
+use Rattle.inst_command.specs.declared.outcome.Outcome.TheVariants.{Accepted, Rejected, TimedOut}
 use Rattle.inst_command.specs.declared.outcome.State.{State}
 use Rattle.inst_command.specs.declared.outcome.State.TheVariants.{Unused as SeenUnused, Pending as SeenPending, Decided}
 use Rattle.inst_terms.specs.declared.terms.Terms.{Terms}
@@ -20,30 +20,34 @@ DifferentWordsHaveDifferentNumbers = (v w : Word) → IsWord v → IsWord w → 
 
 -- a place has one final word at most
 abbrev pub OneFinalWord : Type 0
-OneFinalWord = (words : List Word) → IsLawful words → (i j : ℕ) (o p : Outcome) (t u : ℕ) →
+OneFinalWord = (margin : ℕ) (words : List Word) → IsLawful margin words → (i j : ℕ) (o p : Outcome) (t u : ℕ) →
     slice_get words i ≡ Some (Final o t) → slice_get words j ≡ Some (Final p u) → Final o t ≡ Final p u
 
 -- what was seen of a place is seen of it from then on, or more
 abbrev pub NothingSeenGoesBack : Type 0
-NothingSeenGoesBack = (words : List Word) → IsLawful words → (i j : ℕ) → i ≤ j → (v w : Word) →
+NothingSeenGoesBack = (margin : ℕ) (words : List Word) → IsLawful margin words → (i j : ℕ) → i ≤ j → (v w : Word) →
     slice_get words i ≡ Some v → slice_get words j ≡ Some w → IsAtLeast (seen w) (seen v)
 
 -- before a final word stood the pending one, and by its deadline the outcome is in time
 abbrev pub EachOutcomeIsInTime : Type 0
-EachOutcomeIsInTime = (words : List Word) → IsLawful words → (i : ℕ) (o : Outcome) (t : ℕ) →
+EachOutcomeIsInTime = (margin : ℕ) (words : List Word) → IsLawful margin words → (i : ℕ) (o : Outcome) (t : ℕ) →
     slice_get words i ≡ Some (Final o t) →
-    (j : ℕ) × (d : ℕ) × (j < i) × (slice_get words j ≡ Some (Pending d)) × (1 ≤ d) × InTime o d t
+    (j : ℕ) × (d : ℕ) × (j < i) × (slice_get words j ≡ Some (Pending d)) × (1 ≤ d) × InTime margin o d t
 
--- what is in time: an acceptance or a rejection before the deadline, a time-out at it or after it
+-- what is in time: an acceptance before the deadline by more than the margin, a rejection before the deadline, a time-out
+-- at it or after it
+pub record TellsInTime (margin deadline moment : ℕ) : Type 0 where
+  pub accepted : InTime margin Accepted deadline moment ↔ (moment + margin < deadline)
+  pub rejected : (reason : List ℕ) → InTime margin (Rejected reason) deadline moment ↔ (moment < deadline)
+  pub timed_out : InTime margin TimedOut deadline moment ↔ (deadline ≤ moment)
+
 abbrev pub WhatIsInTime : Type 0
-WhatIsInTime = (o : Outcome) (deadline moment : ℕ) →
-    (o ≢ TimedOut → InTime o deadline moment ↔ (moment < deadline)) ×
-    (o ≡ TimedOut → InTime o deadline moment ↔ (deadline ≤ moment))
+WhatIsInTime = (margin deadline moment : ℕ) → TellsInTime margin deadline moment
 
 -- each outcome that is in time may be a place's, and stay so
 abbrev pub EachOutcomeInTimeMayStand : Type 0
-EachOutcomeInTimeMayStand = (o : Outcome) (deadline moment : ℕ) → 1 ≤ deadline → InTime o deadline moment →
-    IsLawful (Unused ∷ Pending deadline ∷ Pending deadline ∷ Final o moment ∷ Final o moment ∷ [])
+EachOutcomeInTimeMayStand = (margin : ℕ) (o : Outcome) (deadline moment : ℕ) → 1 ≤ deadline → InTime margin o deadline moment →
+    IsLawful margin (Unused ∷ Pending deadline ∷ Pending deadline ∷ Final o moment ∷ Final o moment ∷ [])
 
 -- what is at least what was seen: after nothing anything, after a pending place it or an outcome, and after an outcome
 -- that one

@@ -10,10 +10,10 @@ abbrev pub terms : ℕ → ℕ → List ℕ → Terms
 terms to cents id = record { to = to; cents = cents; id = id }
 
 pub record TermsWords : Type 0 where
-  pub usual : words_of (terms 1 50000 (codes "T1")) ≡ 3200001 ∷ 6356 ∷ 0 ∷ 0 ∷ 0 ∷ []
-  pub largest : words_of (terms 63 99999999999 (codes "T1")) ≡ 6399999999999 ∷ 6356 ∷ 0 ∷ 0 ∷ 0 ∷ []
+  pub usual : words_of (terms 1 50000 (codes "T1")) ≡ 12800001 ∷ 6356 ∷ 0 ∷ 0 ∷ 0 ∷ []
+  pub largest : words_of (terms 255 99999999999 (codes "T1")) ≡ 25599999999999 ∷ 6356 ∷ 0 ∷ 0 ∷ 0 ∷ []
   pub longest : words_of (terms 0 1 (codes "ABCDEFGHIJKLMNOPQRSTUVWXYZabcdefghi")) ≡
-      64 ∷ 5301051446564806977 ∷ 5954676236578137546 ∷ 7040646590819035731 ∷ 59570708593324514 ∷ []
+      256 ∷ 5301051446564806977 ∷ 5954676236578137546 ∷ 7040646590819035731 ∷ 59570708593324514 ∷ []
 
 pub record OutcomeWords : Type 0 where
   pub unused : number_of Unused ≡ 0

@@ -9,7 +9,7 @@ use Rattle.inst_terms.specs.Identifier.{identifier_words}
 
 -- how many beneficiaries the first word can name: the factor of the cents in it
 abbrev pub beneficiaries : ℕ
-beneficiaries = 64
+beneficiaries = 256
 
 -- the five words
 abbrev pub words_of : Terms → List ℕ

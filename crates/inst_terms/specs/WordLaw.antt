@@ -1,7 +1,8 @@
 -- How the outcome word of a place may change: from unused to pending once, then once to a final word, which stays. A
 -- transfer is accepted or rejected before its deadline and timed out from it on, as in the rulebook
--- (EPC004-16, chapter 4: time cycle); that one word decides is this hub's own choice.
-use Rattle.std.specs.Prelude.{◌≡◌, ◌⊎◌, ℕ, ◌<◌, ◌≤◌, List, [], ◌∷◌}
+-- (EPC004-16, chapter 4: time cycle); the margin for acceptances, and that one word decides, are this hub's own choices.
+use Rattle.std.specs.Prelude.{◌≡◌, ◌⊎◌, ℕ, ◌≤◌, List, [], ◌∷◌, IsTrue}
+use Rattle.inst_base.specs.TimeLimit.{is_in_time, is_in_time_to_accept, is_due}
 use Rattle.inst_command.specs.declared.outcome.Outcome.{Outcome}
 use Rattle.inst_command.specs.declared.outcome.Outcome.TheVariants.{Accepted, Rejected, TimedOut}
 use Rattle.inst_command.specs.declared.outcome.State.{State}
@@ -9,30 +10,30 @@ use Rattle.inst_command.specs.declared.outcome.State.TheVariants.{Unused as Seen
 use Rattle.inst_terms.specs.declared.word.Word.{Word}
 use Rattle.inst_terms.specs.declared.word.Word.TheVariants.{Unused, Pending, Final}
 
--- the outcome of a transfer with this deadline, decided at the moment, is in time
-abbrev pub InTime : Outcome → ℕ → ℕ → Type 0
-InTime Accepted deadline moment = moment < deadline
-InTime (Rejected reason) deadline moment = moment < deadline
-InTime TimedOut deadline moment = deadline ≤ moment
+-- the outcome of a transfer with this deadline, decided at the moment, is in time, with this margin for acceptances
+abbrev pub InTime : ℕ → Outcome → ℕ → ℕ → Type 0
+InTime margin Accepted deadline moment = IsTrue (is_in_time_to_accept margin deadline moment)
+InTime margin (Rejected reason) deadline moment = IsTrue (is_in_time deadline moment)
+InTime margin TimedOut deadline moment = IsTrue (is_due deadline moment)
 
 -- one exchange leads from the first word to the second
-abbrev pub Moves : Word → Word → Type 0
-Moves Unused Unused = ⊥
-Moves Unused (Pending deadline) = 1 ≤ deadline
-Moves Unused (Final outcome moment) = ⊥
-Moves (Pending deadline) Unused = ⊥
-Moves (Pending deadline) (Pending other) = ⊥
-Moves (Pending deadline) (Final outcome moment) = InTime outcome deadline moment
-Moves (Final outcome moment) word = ⊥
+abbrev pub Moves : ℕ → Word → Word → Type 0
+Moves margin Unused Unused = ⊥
+Moves margin Unused (Pending deadline) = 1 ≤ deadline
+Moves margin Unused (Final outcome moment) = ⊥
+Moves margin (Pending deadline) Unused = ⊥
+Moves margin (Pending deadline) (Pending other) = ⊥
+Moves margin (Pending deadline) (Final outcome moment) = InTime margin outcome deadline moment
+Moves margin (Final outcome moment) word = ⊥
 
 -- the words that a place has one after another, after the word `before`: each is the one before it, or moves from it
-abbrev pub Follow : Word → List Word → Type 0
-Follow before [] = Unit {0}
-Follow before (word ∷ words) = ((word ≡ before) ⊎ Moves before word) × Follow word words
+abbrev pub Follow : ℕ → Word → List Word → Type 0
+Follow margin before [] = Unit {0}
+Follow margin before (word ∷ words) = ((word ≡ before) ⊎ Moves margin before word) × Follow margin word words
 
 -- the words of a place from the opening of the hub on
-abbrev pub IsLawful : List Word → Type 0
-IsLawful words = Follow Unused words
+abbrev pub IsLawful : ℕ → List Word → Type 0
+IsLawful margin words = Follow margin Unused words
 
 -- what a word shows
 abbrev pub seen : Word → State

@@ -5,9 +5,9 @@ ghost use Rattle.inst_terms.specs.Terms.{IsTerms, words_of};
 use crate::identifier::{pack_identifier, read_identifier};
 use inst_base::{Cents, Ident};
 
-/// How many beneficiaries the first terms word can name: the factor of the cents in it. It grows
-/// with the number of participants that a hub may have.
-pub const BENEFICIARIES: u64 = 64;
+/// How many beneficiaries the first terms word can name: the factor of the cents in it. A hub has no more
+/// participants than that.
+pub const BENEFICIARIES: u64 = 256;
 
 /// What stands in a place's terms words: the beneficiary's number, the amount and the originator's
 /// identifier of a transfer.

@@ -31,17 +31,17 @@ fn both_ways_word(rt: &impl Abort, word: Word, number: u64) {
 
 #[test]
 fn the_words_of_terms(rt: HostRuntime) -> Result<(), Fault> {
-    both_ways_terms(&rt, terms(1, 50_000, "T1")?, [3_200_001, 6356, 0, 0, 0]);
+    both_ways_terms(&rt, terms(1, 50_000, "T1")?, [12_800_001, 6356, 0, 0, 0]);
     both_ways_terms(
         &rt,
-        terms(63, 99_999_999_999, "T1")?,
-        [6_399_999_999_999, 6356, 0, 0, 0],
+        terms(255, 99_999_999_999, "T1")?,
+        [25_599_999_999_999, 6356, 0, 0, 0],
     );
     both_ways_terms(
         &rt,
         terms(0, 1, "ABCDEFGHIJKLMNOPQRSTUVWXYZabcdefghi")?,
         [
-            64,
+            256,
             5_301_051_446_564_806_977,
             5_954_676_236_578_137_546,
             7_040_646_590_819_035_731,
@@ -79,17 +79,17 @@ fn words_that_no_terms_have(rt: HostRuntime) {
     let t1 = 6356;
     for words in [
         // A `!`, a character after a 0, no character, 36 characters.
-        [3_200_001, 33, 0, 0, 0],
-        [3_200_001, 84 + 49 * 128 * 128, 0, 0, 0],
-        [3_200_001, t1, 84, 0, 0],
-        [3_200_001, 0, 0, 0, 0],
-        [3_200_001, NINE_A, NINE_A, NINE_A, NINE_A],
+        [12_800_001, 33, 0, 0, 0],
+        [12_800_001, 84 + 49 * 128 * 128, 0, 0, 0],
+        [12_800_001, t1, 84, 0, 0],
+        [12_800_001, 0, 0, 0, 0],
+        [12_800_001, NINE_A, NINE_A, NINE_A, NINE_A],
         // 2^63 and more.
-        [3_200_001, t1, 1 << 63, 0, 0],
-        [3_200_001, t1 + (1 << 63), 0, 0, 0],
+        [12_800_001, t1, 1 << 63, 0, 0],
+        [12_800_001, t1 + (1 << 63), 0, 0, 0],
         // No cents, and one more than the most.
         [1, t1, 0, 0, 0],
-        [100_000_000_000 * 64, t1, 0, 0, 0],
+        [100_000_000_000 * 256, t1, 0, 0, 0],
         [u64::MAX, t1, 0, 0, 0],
     ] {
         assert_eq!(rt; unpack(&words), None, "{words:?}");
