@@ -12,50 +12,51 @@ use Rattle.inst_board.specs.Standing.{Standing, unused, pending, final, Says, ab
 use Rattle.inst_board.specs.Learning.{Learns, Answers, MayDecide, IsParty}
 use Rattle.inst_board.specs.Laws.{KnowsMore, DecidedOnce}
 
--- what is known as decided is answered
-pub answers_known : (stood : Outcome → Type 0) (wish : Wish) (t : ℕ) (p : Standing) (found : Option Outcome) (o : Outcome) → Says p (Decided o) → Answers stood wish t p found → found ≡ Some o
-answers_known stood wish t unused found o says h = absurd says
-answers_known stood wish t (pending ts d) found o says h = absurd says
-answers_known stood wish t (final ts d p at) found o says h = h.0 ∙ ap Some (sym says)
+module _ (margin : ℕ) where
+  -- what is known as decided is answered
+  pub answers_known : (stood : Outcome → Type 0) (wish : Wish) (t : ℕ) (p : Standing) (found : Option Outcome) (o : Outcome) → Says p (Decided o) → Answers margin stood wish t p found → found ≡ Some o
+  answers_known stood wish t unused found o says h = absurd says
+  answers_known stood wish t (pending ts d) found o says h = absurd says
+  answers_known stood wish t (final ts d p at) found o says h = h.0 ∙ ap Some (sym says)
 
-module _ {B : Type 0} (knows : B → Fact → Type 0) where
-  abbrev Known : B → Place → Option Outcome → Type 0
-  Known c k found = IfSome found (λ o. knows c (about k (Decided o)))
+  module _ {B : Type 0} (knows : B → Fact → Type 0) where
+    abbrev Known : B → Place → Option Outcome → Type 0
+    Known c k found = IfSome found (λ o. knows c (about k (Decided o)))
 
-  -- what was answered is known
-  pub answered : (b c : B) (k : Place) (stood : Outcome → Type 0) (wish : Wish) (t : ℕ) (p : Standing) (found : Option Outcome) → Learns knows b k p c → Answers stood wish t p found → Known c k found
-  answered b c k stood wish t unused found l h = absurd h
-  answered b c k stood wish t (pending ts d) found l h = subst (λ (f : Option Outcome). Known c k f) (sym h.0) tt
-  answered b c k stood wish t (final ts d o at) found l h = subst (λ (f : Option Outcome). Known c k f) (sym h.0) (l.shown (Decided o) refl)
+    -- what was answered is known
+    pub answered : (b c : B) (k : Place) (stood : Outcome → Type 0) (wish : Wish) (t : ℕ) (p : Standing) (found : Option Outcome) → Learns margin knows b k p c → Answers margin stood wish t p found → Known c k found
+    answered b c k stood wish t unused found l h = absurd h
+    answered b c k stood wish t (pending ts d) found l h = subst (λ (f : Option Outcome). Known c k f) (sym h.0) tt
+    answered b c k stood wish t (final ts d o at) found l h = subst (λ (f : Option Outcome). Known c k f) (sym h.0) (l.shown (Decided o) refl)
 
-  pub again : (c d : B) (k : Place) (stood : Outcome → Type 0) (wish : Wish) (t : ℕ) (q : Standing) (found found' : Option Outcome) → Learns knows c k q d → Answers stood wish t q found'
-      → Known c k found → IfSome found (λ o. found' ≡ Some o)
-  again c d k stood wish t q None found' l h known = tt
-  again c d k stood wish t q (Some o) found' l h known = answers_known stood wish t q found' o (l.agrees (Decided o) known) h
+    pub again : (c d : B) (k : Place) (stood : Outcome → Type 0) (wish : Wish) (t : ℕ) (q : Standing) (found found' : Option Outcome) → Learns margin knows c k q d → Answers margin stood wish t q found'
+        → Known c k found → IfSome found (λ o. found' ≡ Some o)
+    again c d k stood wish t q None found' l h known = tt
+    again c d k stood wish t q (Some o) found' l h known = answers_known stood wish t q found' o (l.agrees (Decided o) known) h
 
-  known_more : (b c : B) (k : Place) (found : Option Outcome) → KnowsMore knows b c → Known b k found → Known c k found
-  known_more b c k None more known = tt
-  known_more b c k (Some o) more known = more (about k (Decided o)) known
+    known_more : (b c : B) (k : Place) (found : Option Outcome) → KnowsMore knows b c → Known b k found → Known c k found
+    known_more b c k None more known = tt
+    known_more b c k (Some o) more known = more (about k (Decided o)) known
 
-  pub decided_once : (stood : B → Place → Outcome → Type 0) → DecidedOnce knows stood
-  decided_once stood a b c d k first second at later found found' one more two =
-      again c d k (stood c k) second later two.standing found found' two.learns two.answers
-      (known_more b c k found more (answered a b k (stood a k) first at one.standing found one.learns one.answers))
+    pub decided_once : (stood : B → Place → Outcome → Type 0) → DecidedOnce margin knows stood
+    decided_once stood a b c d k first second at later found found' one more two =
+        again c d k (stood c k) second later two.standing found found' two.learns two.answers
+        (known_more b c k found more (answered a b k (stood a k) first at one.standing found one.learns one.answers))
 
-party_still : (before later : ℕ → Type 0) (wish : Wish) (k : Place) (t : Terms) → ((p : ℕ) → before p → later p) → IsParty before wish k t → IsParty later wish k t
-party_still before later Accept k t keeps h = keeps t.to h
-party_still before later (Reject r) k t keeps h = keeps t.to h
-party_still before later Expire k t keeps (inl h) = inl (keeps k.owner h)
-party_still before later Expire k t keeps (inr h) = inr (keeps t.to h)
+  party_still : (before later : ℕ → Type 0) (wish : Wish) (k : Place) (t : Terms) → ((p : ℕ) → before p → later p) → IsParty before wish k t → IsParty later wish k t
+  party_still before later Accept k t keeps h = keeps t.to h
+  party_still before later (Reject r) k t keeps h = keeps t.to h
+  party_still before later Expire k t keeps (inl h) = inl (keeps k.owner h)
+  party_still before later Expire k t keeps (inr h) = inr (keeps t.to h)
 
--- who may decide a place may do so later
-pub may_still : {B : Type 0} (knows : B → Fact → Type 0) (has_role : B → ℕ → Type 0) (b c : B) (k : Place) (wish : Wish) → KnowsMore knows b c → ((p : ℕ) → has_role b p → has_role c p) →
-    MayDecide knows has_role b k wish → MayDecide knows has_role c k wish
-may_still knows has_role b c k wish more keeps may = record {
-  terms = may.terms;
-  deadline = may.deadline;
-  opened = more (about k Opened) may.opened;
-  has_terms = more (about k (HasTerms may.terms)) may.has_terms;
-  due = more (about k (Due may.deadline)) may.due;
-  party = party_still (has_role b) (has_role c) wish k may.terms keeps may.party;
-}
+  -- who may decide a place may do so later
+  pub may_still : {B : Type 0} (knows : B → Fact → Type 0) (has_role : B → ℕ → Type 0) (b c : B) (k : Place) (wish : Wish) → KnowsMore knows b c → ((p : ℕ) → has_role b p → has_role c p) →
+      MayDecide knows has_role b k wish → MayDecide knows has_role c k wish
+  may_still knows has_role b c k wish more keeps may = record {
+    terms = may.terms;
+    deadline = may.deadline;
+    opened = more (about k Opened) may.opened;
+    has_terms = more (about k (HasTerms may.terms)) may.has_terms;
+    due = more (about k (Due may.deadline)) may.due;
+    party = party_still (has_role b) (has_role c) wish k may.terms keeps may.party;
+  }

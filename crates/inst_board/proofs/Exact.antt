@@ -16,164 +16,165 @@ use Rattle.inst_board.specs.Plain.{Contents, standing_at, plain_knows, plain_sto
 use Rattle.inst_board.specs.Laws.{SayTheSame, Stands}
 use Rattle.inst_board.proofs.PlainSteps.{stays_true}
 
-module _ (b : Contents) (k : Place) (p : Standing) (c : Contents) (l : Learns plain_knows b k p c) where
-  elsewhere_same : (j : Place) → j ≢ k → SayTheSame (standing_at c j) (standing_at b j)
-  elsewhere_same j n a = (λ h. elim (l.only (about j a) h) [ inl was ↦ was | inr new ↦ absurd (n new.0) ], λ h. l.kept (about j a) h)
+module _ (margin : ℕ) where
+  module _ (b : Contents) (k : Place) (p : Standing) (c : Contents) (l : Learns margin plain_knows b k p c) where
+    elsewhere_same : (j : Place) → j ≢ k → SayTheSame (standing_at c j) (standing_at b j)
+    elsewhere_same j n a = (λ h. elim (l.only (about j a) h) [ inl was ↦ was | inr new ↦ absurd (n new.0) ], λ h. l.kept (about j a) h)
 
-  -- what is said of the place afterwards: what was said of it, or what it was read as
-  from_either : (a : About) → Says (standing_at c k) a → Says (standing_at b k) a ⊎ Says p a
-  from_either a h = elim (l.only (about k a) h) [ inl was ↦ inl was | inr new ↦ inr new.1 ]
+    -- what is said of the place afterwards: what was said of it, or what it was read as
+    from_either : (a : About) → Says (standing_at c k) a → Says (standing_at b k) a ⊎ Says p a
+    from_either a h = elim (l.only (about k a) h) [ inl was ↦ inl was | inr new ↦ inr new.1 ]
 
-  -- a standing that is said by both, and of which all is said afterwards
-  stands_as : (q : Standing) → ((a : About) → Says (standing_at b k) a → Says q a) → ((a : About) → Says p a → Says q a) → ((a : About) → Says q a → Says (standing_at c k) a) → Stands b k q c
-  stands_as q was read all = record {
-    here = λ a. (λ h. elim (from_either a h) [ inl w ↦ was a w | inr r ↦ read a r ], all a);
-    elsewhere = elsewhere_same;
+    -- a standing that is said by both, and of which all is said afterwards
+    stands_as : (q : Standing) → ((a : About) → Says (standing_at b k) a → Says q a) → ((a : About) → Says p a → Says q a) → ((a : About) → Says q a → Says (standing_at c k) a) → Stands b k q c
+    stands_as q was read all = record {
+      here = λ a. (λ h. elim (from_either a h) [ inl w ↦ was a w | inr r ↦ read a r ], all a);
+      elsewhere = elsewhere_same;
+    }
+
+    pub still : ((a : About) → Says p a → Says (standing_at b k) a) → Stands b k (standing_at b k) c
+    still read = stands_as (standing_at b k) (λ a h. h) read (λ a h. l.kept (about k a) h)
+
+  -- all that is true of the first is true of the second
+  abbrev Follows : Standing → Standing → Type 0
+  Follows p q = (a : About) → Says p a → Says q a
+
+  same_pending : (t s : Terms) (d e : ℕ) → Follows (pending t d) (pending s e) → Follows (pending s e) (pending t d)
+  same_pending t s d e h Opened x = tt
+  same_pending t s d e h (HasTerms r) x = x ∙ sym (h (HasTerms t) refl)
+  same_pending t s d e h (Due f) x = x ∙ sym (h (Due d) refl)
+  same_pending t s d e h (Decided o) x = absurd x
+
+  same_final : (t s : Terms) (d e : ℕ) (o z : Outcome) (m n : ℕ) → Follows (final t d o m) (final s e z n) → Follows (final s e z n) (final t d o m)
+  same_final t s d e o z m n h Opened x = tt
+  same_final t s d e o z m n h (HasTerms r) x = x ∙ sym (h (HasTerms t) refl)
+  same_final t s d e o z m n h (Due f) x = x ∙ sym (h (Due d) refl)
+  same_final t s d e o z m n h (Decided y) x = x ∙ sym (h (Decided o) refl)
+
+  ended_same : (t s : Terms) (d e : ℕ) (o : Outcome) (m n : ℕ) → Follows (pending t d) (final s e o n) → Follows (final s e o n) (final t d o m)
+  ended_same t s d e o m n h Opened x = tt
+  ended_same t s d e o m n h (HasTerms r) x = x ∙ sym (h (HasTerms t) refl)
+  ended_same t s d e o m n h (Due f) x = x ∙ sym (h (Due d) refl)
+  ended_same t s d e o m n h (Decided y) x = x
+
+  all_said : (b c : Contents) (k : Place) (t : Terms) (d : ℕ) (s : Terms) (e : ℕ) (o : Outcome) (m n : ℕ) → standing_at b k ≡ pending t d → Learns margin plain_knows b k (final s e o n) c → Follows (final t d o m) (standing_at c k)
+  all_said b c k t d s e o m n is l Opened x = l.shown Opened tt
+  all_said b c k t d s e o m n is l (HasTerms r) x = l.kept (about k (HasTerms r)) (subst (λ (q : Standing). Says q (HasTerms r)) (sym is) x)
+  all_said b c k t d s e o m n is l (Due f) x = l.kept (about k (Due f)) (subst (λ (q : Standing). Says q (Due f)) (sym is) x)
+  all_said b c k t d s e o m n is l (Decided y) x = l.shown (Decided y) x
+
+  after_is : (wish : Wish) (at : ℕ) (t : Terms) (d : ℕ) (w : Option Outcome) → wanted margin wish d at ≡ w → after margin wish at (pending t d) ≡ elim w [ None ↦ pending t d | Some o ↦ final t d o at ]
+  after_is wish at t d w e = ap (λ (x : Option Outcome). elim x [ None ↦ pending t d | Some o ↦ final t d o at ]) e
+
+  module _ (b c : Contents) (k : Place) (wish : Wish) (at : ℕ) (found : Option Outcome) where
+    abbrev Exact : Standing → Type 0
+    Exact q = (found ≡ outcome_of (after margin wish at q)) × Stands b k (after margin wish at q) c
+
+    from_pending : (t : Terms) (d : ℕ) → standing_at b k ≡ pending t d → (p : Standing) → Learns margin plain_knows b k p c → Answers margin (plain_stood b k) wish at p found → Exact (pending t d)
+    from_pending t d is unused l h = absurd h
+    from_pending t d is (pending s e) l h =
+        let follows : Follows (pending t d) (pending s e) = subst (λ (q : Standing). Follows q (pending s e)) is l.agrees in
+        let none : wanted margin wish d at ≡ None = ap (λ (x : ℕ). wanted margin wish x at) (follows (Due d) refl) ∙ h.1 in
+        let stays = still b k (pending s e) c l (subst (λ (q : Standing). Follows (pending s e) q) (sym is) (same_pending t s d e follows)) in
+        let unchanged = after_is wish at t d None none in
+        (h.0 ∙ sym (ap outcome_of unchanged), subst (λ (q : Standing). Stands b k q c) (is ∙ sym unchanged) stays)
+    from_pending t d is (final s e o n) l h =
+        let follows : Follows (pending t d) (final s e o n) = subst (λ (q : Standing). Follows q (final s e o n)) is l.agrees in
+        let wants : wanted margin wish d at ≡ Some o = elim h.1 [ inl was ↦ absurd (subst (λ (q : Standing). Says q (Decided o)) is was) | inr new ↦ ap (λ (x : ℕ). wanted margin wish x at) (follows (Due d) refl) ∙ new.0 ] in
+        let changed = after_is wish at t d (Some o) wants in
+        let stands = stands_as b k (final s e o n) c l (final t d o at) (stays_true margin (standing_at b k) t d at o is) (ended_same t s d e o at n follows) (all_said b c k t d s e o at n is l) in
+        (h.0 ∙ sym (ap outcome_of changed), subst (λ (q : Standing). Stands b k q c) (sym changed) stands)
+
+    from_final : (t : Terms) (d : ℕ) (o : Outcome) (m : ℕ) → standing_at b k ≡ final t d o m → (p : Standing) → Learns margin plain_knows b k p c → Answers margin (plain_stood b k) wish at p found → Exact (final t d o m)
+    from_final t d o m is unused l h = absurd h
+    from_final t d o m is (pending s e) l h = absurd (subst (λ (q : Standing). Follows q (pending s e)) is l.agrees (Decided o) refl)
+    from_final t d o m is (final s e z n) l h =
+        let follows : Follows (final t d o m) (final s e z n) = subst (λ (q : Standing). Follows q (final s e z n)) is l.agrees in
+        let stays = still b k (final s e z n) c l (subst (λ (q : Standing). Follows (final s e z n) q) (sym is) (same_final t s d e o z m n follows)) in
+        (h.0 ∙ ap Some (sym (follows (Decided o) refl)), subst (λ (q : Standing). Stands b k q c) is stays)
+
+    exact_from : (q : Standing) → standing_at b k ≡ q → Says q Opened → (p : Standing) → Learns margin plain_knows b k p c → Answers margin (plain_stood b k) wish at p found → Exact q
+    exact_from unused is opened p l h = absurd opened
+    exact_from (pending t d) is opened p l h = from_pending t d is p l h
+    exact_from (final t d o m) is opened p l h = from_final t d o m is p l h
+
+  pub decides_exactly : (b c : Contents) (k : Place) (wish : Wish) (at : ℕ) (found : Option Outcome) → plain_knows b (about k Opened) → Decides margin plain_knows plain_stood b k wish at found c →
+      (found ≡ outcome_of (after margin wish at (standing_at b k))) × Stands b k (after margin wish at (standing_at b k)) c
+  decides_exactly b c k wish at found opened h = exact_from b c k wish at found (standing_at b k) refl opened h.standing h.learns h.answers
+
+  looks_pending : (s t : Terms) (e d : ℕ) → s ≡ t → e ≡ d → look_of (pending s e) ≡ look_of (pending t d)
+  looks_pending s t e d p q = cc
+
+  looks_final : (s t : Terms) (e d : ℕ) (z o : Outcome) (n m : ℕ) → s ≡ t → z ≡ o → look_of (final s e z n) ≡ look_of (final t d o m)
+  looks_final s t e d z o n m p q = cc
+
+  -- a look at a place that stands as q and is read as p
+  same_look : (b c : Contents) (k : Place) (q : Standing) → standing_at b k ≡ q → (p : Standing) → Learns margin plain_knows b k p c →
+      ((a : About) → IsOfOpening a → Says p a → Says (standing_at b k) a) → ((o : Outcome) → Says p (Decided o) → Says (standing_at b k) (Decided o)) →
+      (look_of p ≡ look_of q) × Follows p (standing_at b k)
+  same_look b c k unused is unused l own before = (refl, λ a h. absurd h)
+  same_look b c k unused is (pending s e) l own before = absurd (subst (λ (x : Standing). Says x Opened) is (own Opened tt tt))
+  same_look b c k unused is (final s e z n) l own before = absurd (subst (λ (x : Standing). Says x Opened) is (own Opened tt tt))
+  same_look b c k (pending t d) is unused l own before = absurd (l.agrees Opened (subst (λ (x : Standing). Says x Opened) (sym is) tt))
+  same_look b c k (pending t d) is (pending s e) l own before =
+      let follows : Follows (pending t d) (pending s e) = subst (λ (x : Standing). Follows x (pending s e)) is l.agrees in
+      (looks_pending s t e d (sym (follows (HasTerms t) refl)) (sym (follows (Due d) refl)), subst (λ (x : Standing). Follows (pending s e) x) (sym is) (same_pending t s d e follows))
+  same_look b c k (pending t d) is (final s e z n) l own before = absurd (subst (λ (x : Standing). Says x (Decided z)) is (before z refl))
+  same_look b c k (final t d o m) is unused l own before = absurd (l.agrees Opened (subst (λ (x : Standing). Says x Opened) (sym is) tt))
+  same_look b c k (final t d o m) is (pending s e) l own before = absurd (l.agrees (Decided o) (subst (λ (x : Standing). Says x (Decided o)) (sym is) refl))
+  same_look b c k (final t d o m) is (final s e z n) l own before =
+      let follows : Follows (final t d o m) (final s e z n) = subst (λ (x : Standing). Follows x (final s e z n)) is l.agrees in
+      (looks_final s t e d z o n m (sym (follows (HasTerms t) refl)) (sym (follows (Decided o) refl)), subst (λ (x : Standing). Follows (final s e z n) x) (sym is) (same_final t s d e o z m n follows))
+
+  pub looks_exactly : (b c : Contents) (k : Place) (look : Look) → Looks margin plain_knows (λ _ _. Unit {0}) plain_stood b k look c →
+      (look ≡ look_of (standing_at b k)) × Stands b k (standing_at b k) c
+  looks_exactly b c k look h =
+      let same = same_look b c k (standing_at b k) refl h.standing h.learns (h.own tt) h.before in
+      (h.look_is ∙ same.0, still b k h.standing c h.learns same.1)
+
+  same_wanted : (wish : Wish) (at : ℕ) (t s : Terms) (d e : ℕ) (w : Option Outcome) → wanted margin wish d at ≡ w → d ≡ e → outcome_of (after margin wish at (pending t d)) ≡ outcome_of (after margin wish at (pending s e))
+  same_wanted wish at t s d e None is same = ap outcome_of (after_is wish at t d None is) ∙ sym (ap outcome_of (after_is wish at s e None (ap (λ (x : ℕ). wanted margin wish x at) (sym same) ∙ is)))
+  same_wanted wish at t s d e (Some o) is same = ap outcome_of (after_is wish at t d (Some o) is) ∙ sym (ap outcome_of (after_is wish at s e (Some o) (ap (λ (x : ℕ). wanted margin wish x at) (sym same) ∙ is)))
+
+  any_party : (wish : Wish) (k : Place) (t : Terms) → IsParty (λ _. Unit {0}) wish k t
+  any_party Accept k t = tt
+  any_party (Reject r) k t = tt
+  any_party Expire k t = inl tt
+
+  -- standings that say the same are decided alike
+  pub same_outcome : (wish : Wish) (at : ℕ) (p q : Standing) → SayTheSame p q → outcome_of (after margin wish at p) ≡ outcome_of (after margin wish at q)
+  same_outcome wish at unused unused same = refl
+  same_outcome wish at unused (pending s e) same = absurd ((same Opened).1 tt)
+  same_outcome wish at unused (final s e z n) same = absurd ((same Opened).1 tt)
+  same_outcome wish at (pending t d) unused same = absurd ((same Opened).0 tt)
+  same_outcome wish at (pending t d) (pending s e) same = same_wanted wish at t s d e (wanted margin wish d at) refl ((same (Due d)).0 refl)
+  same_outcome wish at (pending t d) (final s e z n) same = absurd ((same (Decided z)).1 refl)
+  same_outcome wish at (final t d o m) unused same = absurd ((same Opened).0 tt)
+  same_outcome wish at (final t d o m) (pending s e) same = absurd ((same (Decided o)).0 refl)
+  same_outcome wish at (final t d o m) (final s e z n) same = ap Some ((same (Decided o)).0 refl)
+
+  plain_may_at : (b : Contents) (k : Place) (wish : Wish) (q : Standing) → standing_at b k ≡ q → Says q Opened → MayDecide plain_knows (λ _ _. Unit {0}) b k wish
+  plain_may_at b k wish unused is opened = absurd opened
+  plain_may_at b k wish (pending t d) is opened = record {
+    terms = t;
+    deadline = d;
+    opened = subst (λ (q : Standing). Says q Opened) (sym is) tt;
+    has_terms = subst (λ (q : Standing). Says q (HasTerms t)) (sym is) refl;
+    due = subst (λ (q : Standing). Says q (Due d)) (sym is) refl;
+    party = any_party wish k t;
+  }
+  plain_may_at b k wish (final t d o m) is opened = record {
+    terms = t;
+    deadline = d;
+    opened = subst (λ (q : Standing). Says q Opened) (sym is) tt;
+    has_terms = subst (λ (q : Standing). Says q (HasTerms t)) (sym is) refl;
+    due = subst (λ (q : Standing). Says q (Due d)) (sym is) refl;
+    party = any_party wish k t;
   }
 
-  pub still : ((a : About) → Says p a → Says (standing_at b k) a) → Stands b k (standing_at b k) c
-  still read = stands_as (standing_at b k) (λ a h. h) read (λ a h. l.kept (about k a) h)
+  -- the holder of a plain board may decide each opened place
+  pub plain_may : (b : Contents) (k : Place) (wish : Wish) → plain_knows b (about k Opened) → MayDecide plain_knows (λ _ _. Unit {0}) b k wish
+  plain_may b k wish opened = plain_may_at b k wish (standing_at b k) refl opened
 
--- all that is true of the first is true of the second
-abbrev Follows : Standing → Standing → Type 0
-Follows p q = (a : About) → Says p a → Says q a
-
-same_pending : (t s : Terms) (d e : ℕ) → Follows (pending t d) (pending s e) → Follows (pending s e) (pending t d)
-same_pending t s d e h Opened x = tt
-same_pending t s d e h (HasTerms r) x = x ∙ sym (h (HasTerms t) refl)
-same_pending t s d e h (Due f) x = x ∙ sym (h (Due d) refl)
-same_pending t s d e h (Decided o) x = absurd x
-
-same_final : (t s : Terms) (d e : ℕ) (o z : Outcome) (m n : ℕ) → Follows (final t d o m) (final s e z n) → Follows (final s e z n) (final t d o m)
-same_final t s d e o z m n h Opened x = tt
-same_final t s d e o z m n h (HasTerms r) x = x ∙ sym (h (HasTerms t) refl)
-same_final t s d e o z m n h (Due f) x = x ∙ sym (h (Due d) refl)
-same_final t s d e o z m n h (Decided y) x = x ∙ sym (h (Decided o) refl)
-
-ended_same : (t s : Terms) (d e : ℕ) (o : Outcome) (m n : ℕ) → Follows (pending t d) (final s e o n) → Follows (final s e o n) (final t d o m)
-ended_same t s d e o m n h Opened x = tt
-ended_same t s d e o m n h (HasTerms r) x = x ∙ sym (h (HasTerms t) refl)
-ended_same t s d e o m n h (Due f) x = x ∙ sym (h (Due d) refl)
-ended_same t s d e o m n h (Decided y) x = x
-
-all_said : (b c : Contents) (k : Place) (t : Terms) (d : ℕ) (s : Terms) (e : ℕ) (o : Outcome) (m n : ℕ) → standing_at b k ≡ pending t d → Learns plain_knows b k (final s e o n) c → Follows (final t d o m) (standing_at c k)
-all_said b c k t d s e o m n is l Opened x = l.shown Opened tt
-all_said b c k t d s e o m n is l (HasTerms r) x = l.kept (about k (HasTerms r)) (subst (λ (q : Standing). Says q (HasTerms r)) (sym is) x)
-all_said b c k t d s e o m n is l (Due f) x = l.kept (about k (Due f)) (subst (λ (q : Standing). Says q (Due f)) (sym is) x)
-all_said b c k t d s e o m n is l (Decided y) x = l.shown (Decided y) x
-
-after_is : (wish : Wish) (at : ℕ) (t : Terms) (d : ℕ) (w : Option Outcome) → wanted wish d at ≡ w → after wish at (pending t d) ≡ elim w [ None ↦ pending t d | Some o ↦ final t d o at ]
-after_is wish at t d w e = ap (λ (x : Option Outcome). elim x [ None ↦ pending t d | Some o ↦ final t d o at ]) e
-
-module _ (b c : Contents) (k : Place) (wish : Wish) (at : ℕ) (found : Option Outcome) where
-  abbrev Exact : Standing → Type 0
-  Exact q = (found ≡ outcome_of (after wish at q)) × Stands b k (after wish at q) c
-
-  from_pending : (t : Terms) (d : ℕ) → standing_at b k ≡ pending t d → (p : Standing) → Learns plain_knows b k p c → Answers (plain_stood b k) wish at p found → Exact (pending t d)
-  from_pending t d is unused l h = absurd h
-  from_pending t d is (pending s e) l h =
-      let follows : Follows (pending t d) (pending s e) = subst (λ (q : Standing). Follows q (pending s e)) is l.agrees in
-      let none : wanted wish d at ≡ None = ap (λ (x : ℕ). wanted wish x at) (follows (Due d) refl) ∙ h.1 in
-      let stays = still b k (pending s e) c l (subst (λ (q : Standing). Follows (pending s e) q) (sym is) (same_pending t s d e follows)) in
-      let unchanged = after_is wish at t d None none in
-      (h.0 ∙ sym (ap outcome_of unchanged), subst (λ (q : Standing). Stands b k q c) (is ∙ sym unchanged) stays)
-  from_pending t d is (final s e o n) l h =
-      let follows : Follows (pending t d) (final s e o n) = subst (λ (q : Standing). Follows q (final s e o n)) is l.agrees in
-      let wants : wanted wish d at ≡ Some o = elim h.1 [ inl was ↦ absurd (subst (λ (q : Standing). Says q (Decided o)) is was) | inr new ↦ ap (λ (x : ℕ). wanted wish x at) (follows (Due d) refl) ∙ new.0 ] in
-      let changed = after_is wish at t d (Some o) wants in
-      let stands = stands_as b k (final s e o n) c l (final t d o at) (stays_true (standing_at b k) t d at o is) (ended_same t s d e o at n follows) (all_said b c k t d s e o at n is l) in
-      (h.0 ∙ sym (ap outcome_of changed), subst (λ (q : Standing). Stands b k q c) (sym changed) stands)
-
-  from_final : (t : Terms) (d : ℕ) (o : Outcome) (m : ℕ) → standing_at b k ≡ final t d o m → (p : Standing) → Learns plain_knows b k p c → Answers (plain_stood b k) wish at p found → Exact (final t d o m)
-  from_final t d o m is unused l h = absurd h
-  from_final t d o m is (pending s e) l h = absurd (subst (λ (q : Standing). Follows q (pending s e)) is l.agrees (Decided o) refl)
-  from_final t d o m is (final s e z n) l h =
-      let follows : Follows (final t d o m) (final s e z n) = subst (λ (q : Standing). Follows q (final s e z n)) is l.agrees in
-      let stays = still b k (final s e z n) c l (subst (λ (q : Standing). Follows (final s e z n) q) (sym is) (same_final t s d e o z m n follows)) in
-      (h.0 ∙ ap Some (sym (follows (Decided o) refl)), subst (λ (q : Standing). Stands b k q c) is stays)
-
-  exact_from : (q : Standing) → standing_at b k ≡ q → Says q Opened → (p : Standing) → Learns plain_knows b k p c → Answers (plain_stood b k) wish at p found → Exact q
-  exact_from unused is opened p l h = absurd opened
-  exact_from (pending t d) is opened p l h = from_pending t d is p l h
-  exact_from (final t d o m) is opened p l h = from_final t d o m is p l h
-
-pub decides_exactly : (b c : Contents) (k : Place) (wish : Wish) (at : ℕ) (found : Option Outcome) → plain_knows b (about k Opened) → Decides plain_knows plain_stood b k wish at found c →
-    (found ≡ outcome_of (after wish at (standing_at b k))) × Stands b k (after wish at (standing_at b k)) c
-decides_exactly b c k wish at found opened h = exact_from b c k wish at found (standing_at b k) refl opened h.standing h.learns h.answers
-
-looks_pending : (s t : Terms) (e d : ℕ) → s ≡ t → e ≡ d → look_of (pending s e) ≡ look_of (pending t d)
-looks_pending s t e d p q = cc
-
-looks_final : (s t : Terms) (e d : ℕ) (z o : Outcome) (n m : ℕ) → s ≡ t → z ≡ o → look_of (final s e z n) ≡ look_of (final t d o m)
-looks_final s t e d z o n m p q = cc
-
--- a look at a place that stands as q and is read as p
-same_look : (b c : Contents) (k : Place) (q : Standing) → standing_at b k ≡ q → (p : Standing) → Learns plain_knows b k p c →
-    ((a : About) → IsOfOpening a → Says p a → Says (standing_at b k) a) → ((o : Outcome) → Says p (Decided o) → Says (standing_at b k) (Decided o)) →
-    (look_of p ≡ look_of q) × Follows p (standing_at b k)
-same_look b c k unused is unused l own before = (refl, λ a h. absurd h)
-same_look b c k unused is (pending s e) l own before = absurd (subst (λ (x : Standing). Says x Opened) is (own Opened tt tt))
-same_look b c k unused is (final s e z n) l own before = absurd (subst (λ (x : Standing). Says x Opened) is (own Opened tt tt))
-same_look b c k (pending t d) is unused l own before = absurd (l.agrees Opened (subst (λ (x : Standing). Says x Opened) (sym is) tt))
-same_look b c k (pending t d) is (pending s e) l own before =
-    let follows : Follows (pending t d) (pending s e) = subst (λ (x : Standing). Follows x (pending s e)) is l.agrees in
-    (looks_pending s t e d (sym (follows (HasTerms t) refl)) (sym (follows (Due d) refl)), subst (λ (x : Standing). Follows (pending s e) x) (sym is) (same_pending t s d e follows))
-same_look b c k (pending t d) is (final s e z n) l own before = absurd (subst (λ (x : Standing). Says x (Decided z)) is (before z refl))
-same_look b c k (final t d o m) is unused l own before = absurd (l.agrees Opened (subst (λ (x : Standing). Says x Opened) (sym is) tt))
-same_look b c k (final t d o m) is (pending s e) l own before = absurd (l.agrees (Decided o) (subst (λ (x : Standing). Says x (Decided o)) (sym is) refl))
-same_look b c k (final t d o m) is (final s e z n) l own before =
-    let follows : Follows (final t d o m) (final s e z n) = subst (λ (x : Standing). Follows x (final s e z n)) is l.agrees in
-    (looks_final s t e d z o n m (sym (follows (HasTerms t) refl)) (sym (follows (Decided o) refl)), subst (λ (x : Standing). Follows (final s e z n) x) (sym is) (same_final t s d e o z m n follows))
-
-pub looks_exactly : (b c : Contents) (k : Place) (look : Look) → Looks plain_knows (λ _ _. Unit {0}) plain_stood b k look c →
-    (look ≡ look_of (standing_at b k)) × Stands b k (standing_at b k) c
-looks_exactly b c k look h =
-    let same = same_look b c k (standing_at b k) refl h.standing h.learns (h.own tt) h.before in
-    (h.look_is ∙ same.0, still b k h.standing c h.learns same.1)
-
-same_wanted : (wish : Wish) (at : ℕ) (t s : Terms) (d e : ℕ) (w : Option Outcome) → wanted wish d at ≡ w → d ≡ e → outcome_of (after wish at (pending t d)) ≡ outcome_of (after wish at (pending s e))
-same_wanted wish at t s d e None is same = ap outcome_of (after_is wish at t d None is) ∙ sym (ap outcome_of (after_is wish at s e None (ap (λ (x : ℕ). wanted wish x at) (sym same) ∙ is)))
-same_wanted wish at t s d e (Some o) is same = ap outcome_of (after_is wish at t d (Some o) is) ∙ sym (ap outcome_of (after_is wish at s e (Some o) (ap (λ (x : ℕ). wanted wish x at) (sym same) ∙ is)))
-
-any_party : (wish : Wish) (k : Place) (t : Terms) → IsParty (λ _. Unit {0}) wish k t
-any_party Accept k t = tt
-any_party (Reject r) k t = tt
-any_party Expire k t = inl tt
-
--- standings that say the same are decided alike
-pub same_outcome : (wish : Wish) (at : ℕ) (p q : Standing) → SayTheSame p q → outcome_of (after wish at p) ≡ outcome_of (after wish at q)
-same_outcome wish at unused unused same = refl
-same_outcome wish at unused (pending s e) same = absurd ((same Opened).1 tt)
-same_outcome wish at unused (final s e z n) same = absurd ((same Opened).1 tt)
-same_outcome wish at (pending t d) unused same = absurd ((same Opened).0 tt)
-same_outcome wish at (pending t d) (pending s e) same = same_wanted wish at t s d e (wanted wish d at) refl ((same (Due d)).0 refl)
-same_outcome wish at (pending t d) (final s e z n) same = absurd ((same (Decided z)).1 refl)
-same_outcome wish at (final t d o m) unused same = absurd ((same Opened).0 tt)
-same_outcome wish at (final t d o m) (pending s e) same = absurd ((same (Decided o)).0 refl)
-same_outcome wish at (final t d o m) (final s e z n) same = ap Some ((same (Decided o)).0 refl)
-
-plain_may_at : (b : Contents) (k : Place) (wish : Wish) (q : Standing) → standing_at b k ≡ q → Says q Opened → MayDecide plain_knows (λ _ _. Unit {0}) b k wish
-plain_may_at b k wish unused is opened = absurd opened
-plain_may_at b k wish (pending t d) is opened = record {
-  terms = t;
-  deadline = d;
-  opened = subst (λ (q : Standing). Says q Opened) (sym is) tt;
-  has_terms = subst (λ (q : Standing). Says q (HasTerms t)) (sym is) refl;
-  due = subst (λ (q : Standing). Says q (Due d)) (sym is) refl;
-  party = any_party wish k t;
-}
-plain_may_at b k wish (final t d o m) is opened = record {
-  terms = t;
-  deadline = d;
-  opened = subst (λ (q : Standing). Says q Opened) (sym is) tt;
-  has_terms = subst (λ (q : Standing). Says q (HasTerms t)) (sym is) refl;
-  due = subst (λ (q : Standing). Says q (Due d)) (sym is) refl;
-  party = any_party wish k t;
-}
-
--- the holder of a plain board may decide each opened place
-pub plain_may : (b : Contents) (k : Place) (wish : Wish) → plain_knows b (about k Opened) → MayDecide plain_knows (λ _ _. Unit {0}) b k wish
-plain_may b k wish opened = plain_may_at b k wish (standing_at b k) refl opened
-
-pub opens_exactly : (b c : Contents) (k : Place) (t : Terms) (d : ℕ) → Learns plain_knows b k (pending t d) c → Stands b k (pending t d) c
-opens_exactly b c k t d l = stands_as b k (pending t d) c l (pending t d) l.agrees (λ a h. h) (λ a h. l.shown a h)
+  pub opens_exactly : (b c : Contents) (k : Place) (t : Terms) (d : ℕ) → Learns margin plain_knows b k (pending t d) c → Stands b k (pending t d) c
+  opens_exactly b c k t d l = stands_as b k (pending t d) c l (pending t d) l.agrees (λ a h. h) (λ a h. l.shown a h)

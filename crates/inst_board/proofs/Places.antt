@@ -81,10 +81,10 @@ get_set_cases (x ∷ xs) zero (suc j) w = inr refl
 get_set_cases (x ∷ xs) (suc i) zero w = inr refl
 get_set_cases (x ∷ xs) (suc i) (suc j) w = get_set_cases xs i j w
 
-pub lawful_set : (l : List Kept) (i : ℕ) (w : Kept) → IsLawful (standing_of w) → ((j : ℕ) → IsLawful (standing_of (kept_or_unused (slice_get l j)))) → (j : ℕ) → IsLawful (standing_of (kept_or_unused (slice_get (set l i w) j)))
-lawful_set l i w h all j = elim (get_set_cases l i j w) [
-  | inl e ↦ subst (λ (o : Option Kept). IsLawful (standing_of (kept_or_unused o))) (sym e) h
-  | inr e ↦ subst (λ (o : Option Kept). IsLawful (standing_of (kept_or_unused o))) (sym e) (all j)
+pub lawful_set : (margin : ℕ) (l : List Kept) (i : ℕ) (w : Kept) → IsLawful margin (standing_of w) → ((j : ℕ) → IsLawful margin (standing_of (kept_or_unused (slice_get l j)))) → (j : ℕ) → IsLawful margin (standing_of (kept_or_unused (slice_get (set l i w) j)))
+lawful_set margin l i w h all j = elim (get_set_cases l i j w) [
+  | inl e ↦ subst (λ (o : Option Kept). IsLawful margin (standing_of (kept_or_unused o))) (sym e) h
+  | inr e ↦ subst (λ (o : Option Kept). IsLawful margin (standing_of (kept_or_unused o))) (sym e) (all j)
 ]
 
 kept_outside : (b : Contents) (k : Place) → is_place b.settings k ≡ false → kept_at b k ≡ Unused
@@ -109,18 +109,18 @@ written b k w form h =
       elsewhere = λ j n. kept_elsewhere b k w h j n (is_place b.settings j) refl;
     }
 
-pub contents_written : (b : Contents) (k : Place) (w : Kept) → IsContents b → IsPlace b.settings k → IsLawful (standing_of w) → IsContents (with_kept b (number_of b.settings k) w)
+pub contents_written : (b : Contents) (k : Place) (w : Kept) → IsContents b → IsPlace b.settings k → IsLawful b.settings.margin (standing_of w) → IsContents (with_kept b (number_of b.settings k) w)
 contents_written b k w form h lawful = record {
   sized = length-set b.kept (number_of b.settings k) w ∙ form.sized;
-  lawful = lawful_set b.kept (number_of b.settings k) w lawful form.lawful;
+  lawful = lawful_set b.settings.margin b.kept (number_of b.settings k) w lawful form.lawful;
 }
 
 -- a read in the list
 pub kept_read : (b : Contents) (k : Place) (x : Kept) → IsPlace b.settings k → number_of b.settings k < length b.kept → x ≡ get_or b.kept (number_of b.settings k) x → x ≡ kept_at b k
 kept_read b k x h below is = sym (kept_inside b k h ∙ read_at b.kept (number_of b.settings k) x below is)
 
-pub lawful_read : (b : Contents) (k : Place) (x : Kept) → IsContents b → IsPlace b.settings k → number_of b.settings k < length b.kept → x ≡ get_or b.kept (number_of b.settings k) x → IsLawful (standing_of x)
-lawful_read b k x form h below is = subst (λ (w : Kept). IsLawful (standing_of w)) (read_at b.kept (number_of b.settings k) x below is) (form.lawful (number_of b.settings k))
+pub lawful_read : (b : Contents) (k : Place) (x : Kept) → IsContents b → IsPlace b.settings k → number_of b.settings k < length b.kept → x ≡ get_or b.kept (number_of b.settings k) x → IsLawful b.settings.margin (standing_of x)
+lawful_read b k x form h below is = subst (λ (w : Kept). IsLawful b.settings.margin (standing_of w)) (read_at b.kept (number_of b.settings k) x below is) (form.lawful (number_of b.settings k))
 
 -- a board of unused places
 all_unused : (n i : ℕ) → kept_or_unused (slice_get (replicate n Unused) i) ≡ Unused
@@ -140,5 +140,5 @@ empty_unused s k = at_either (is_place s k) refl where
 pub empty_contents : (s : HubSettings) → IsContents (empty s)
 empty_contents s = record {
   sized = length-replicate (s.places * participants s) Unused;
-  lawful = λ i. subst (λ (w : Kept). IsLawful (standing_of w)) (sym (all_unused (s.places * participants s) i)) tt;
+  lawful = λ i. subst (λ (w : Kept). IsLawful s.margin (standing_of w)) (sym (all_unused (s.places * participants s) i)) tt;
 }

@@ -19,85 +19,86 @@ use Rattle.inst_board.specs.Wish.{wanted}
 use Rattle.inst_board.specs.Plain.{Contents, kept_at, standing_of, standing_at, plain_knows, plain_stood, Becomes}
 use Rattle.inst_board.proofs.Places.{place_cases}
 
-pub shows_says : (p : Standing) (a : About) → Shows p a → Says p a
-shows_says unused a h = h
-shows_says (pending t d) a h = h
-shows_says (final t d o at) Opened h = h
-shows_says (final t d o at) (HasTerms s) h = h
-shows_says (final t d o at) (Due e) h = absurd h
-shows_says (final t d o at) (Decided q) h = h
+module _ (margin : ℕ) where
+  pub shows_says : (p : Standing) (a : About) → Shows p a → Says p a
+  shows_says unused a h = h
+  shows_says (pending t d) a h = h
+  shows_says (final t d o at) Opened h = h
+  shows_says (final t d o at) (HasTerms s) h = h
+  shows_says (final t d o at) (Due e) h = absurd h
+  shows_says (final t d o at) (Decided q) h = h
 
--- one who knows all that is true learns nothing by a look
-pub learns_still : (b : Contents) (k : Place) → IsLawful (standing_at b k) → Learns plain_knows b k (standing_at b k) b
-learns_still b k lawful = record {
-  lawful = lawful;
-  agrees = λ a h. h;
-  kept = λ f h. h;
-  shown = λ a h. shows_says (standing_at b k) a h;
-  only = λ f h. inl h;
-}
-
-module _ (b : Contents) (k : Place) (w : Kept) (c : Contents) (becomes : Becomes b k w c) where
-  says_at : (j : Place) (a : About) → (j ≡ k → Says (standing_of w) a) → (j ≢ k → Says (standing_at b j) a) → Says (standing_at c j) a
-  says_at j a here there = elim (place_cases j k) [
-    | inl e ↦ subst (λ (i : Place). Says (standing_at c i) a) (sym e) (subst (λ (x : Kept). Says (standing_of x) a) (sym becomes.here) (here e))
-    | inr n ↦ subst (λ (x : Kept). Says (standing_of x) a) (sym (becomes.elsewhere j n)) (there n)
-  ]
-
-  says_from : (j : Place) (a : About) → Says (standing_at c j) a → Says (standing_at b j) a ⊎ ((j ≡ k) × Says (standing_of w) a)
-  says_from j a h = elim (place_cases j k) [
-    | inl e ↦ inr (e, subst (λ (x : Kept). Says (standing_of x) a) becomes.here (subst (λ (i : Place). Says (standing_at c i) a) e h))
-    | inr n ↦ inl (subst (λ (x : Kept). Says (standing_of x) a) (becomes.elsewhere j n) h)
-  ]
-
-  -- a write after which all is true that was true before
-  pub learns_written : IsLawful (standing_of w) → ((a : About) → Says (standing_at b k) a → Says (standing_of w) a) → Learns plain_knows b k (standing_of w) c
-  learns_written lawful follows = record {
+  -- one who knows all that is true learns nothing by a look
+  pub learns_still : (b : Contents) (k : Place) → IsLawful margin (standing_at b k) → Learns margin plain_knows b k (standing_at b k) b
+  learns_still b k lawful = record {
     lawful = lawful;
-    agrees = follows;
-    kept = λ f h. says_at f.place f.about (λ e. follows f.about (subst (λ (j : Place). Says (standing_at b j) f.about) e h)) (λ n. h);
-    shown = λ a h. says_at k a (λ e. shows_says (standing_of w) a h) (λ n. absurd (n refl));
-    only = λ f h. says_from f.place f.about h;
+    agrees = λ a h. h;
+    kept = λ f h. h;
+    shown = λ a h. shows_says (standing_at b k) a h;
+    only = λ f h. inl h;
   }
 
-pub nothing_opened : (p : Standing) → ¬ Says p Opened → (a : About) (q : Standing) → Says p a → Says q a
-nothing_opened unused new a q h = absurd h
-nothing_opened (pending t d) new a q h = absurd (new tt)
-nothing_opened (final t d o at) new a q h = absurd (new tt)
+  module _ (b : Contents) (k : Place) (w : Kept) (c : Contents) (becomes : Becomes b k w c) where
+    says_at : (j : Place) (a : About) → (j ≡ k → Says (standing_of w) a) → (j ≢ k → Says (standing_at b j) a) → Says (standing_at c j) a
+    says_at j a here there = elim (place_cases j k) [
+      | inl e ↦ subst (λ (i : Place). Says (standing_at c i) a) (sym e) (subst (λ (x : Kept). Says (standing_of x) a) (sym becomes.here) (here e))
+      | inr n ↦ subst (λ (x : Kept). Says (standing_of x) a) (sym (becomes.elsewhere j n)) (there n)
+    ]
 
--- a decision keeps what is true of a pending place
-pub stays_true : (p : Standing) (t : Terms) (d at : ℕ) (o : Outcome) → p ≡ pending t d → (a : About) → Says p a → Says (final t d o at) a
-stays_true p t d at o is Opened h = tt
-stays_true p t d at o is (HasTerms s) h = subst (λ (q : Standing). Says q (HasTerms s)) is h
-stays_true p t d at o is (Due e) h = subst (λ (q : Standing). Says q (Due e)) is h
-stays_true p t d at o is (Decided z) h = absurd (subst (λ (q : Standing). Says q (Decided z)) is h)
+    says_from : (j : Place) (a : About) → Says (standing_at c j) a → Says (standing_at b j) a ⊎ ((j ≡ k) × Says (standing_of w) a)
+    says_from j a h = elim (place_cases j k) [
+      | inl e ↦ inr (e, subst (λ (x : Kept). Says (standing_of x) a) becomes.here (subst (λ (i : Place). Says (standing_at c i) a) e h))
+      | inr n ↦ inl (subst (λ (x : Kept). Says (standing_of x) a) (becomes.elsewhere j n) h)
+    ]
 
--- what a wish wants is in time
-pub wanted_in_time : (wish : Wish) (d t : ℕ) (o : Outcome) → wanted wish d t ≡ Some o → InTime o d t
-wanted_in_time Accept d t Accepted e = grind (arith, nat_tests)
-wanted_in_time Accept d t (Rejected r) e = grind (arith, nat_tests)
-wanted_in_time Accept d t TimedOut e = grind (arith, nat_tests)
-wanted_in_time (Reject s) d t Accepted e = grind (arith, nat_tests)
-wanted_in_time (Reject s) d t (Rejected r) e = grind (arith, nat_tests)
-wanted_in_time (Reject s) d t TimedOut e = grind (arith, nat_tests)
-wanted_in_time Expire d t Accepted e = grind (arith, nat_tests)
-wanted_in_time Expire d t (Rejected r) e = grind (arith, nat_tests)
-wanted_in_time Expire d t TimedOut e = grind (arith, nat_tests)
-
-pub record IsKept (b : Contents) (k : Place) (w : Kept) : Type 0 where
-  pub value : w ≡ kept_at b k
-  pub lawful : IsLawful (standing_of w)
-
--- a pending place is decided
-pub decides_now : (b : Contents) (k : Place) (wish : Wish) (at : ℕ) (t : Terms) (d : ℕ) (o : Outcome) (v w : Kept) (c : Contents) →
-    IsKept b k v → v ≡ Pending t d → w ≡ Final t d o at → Becomes b k w c → wanted wish d at ≡ Some o →
-    Decides plain_knows plain_stood b k wish at (Some o) c
-decides_now b k wish at t d o v w c kept is ended becomes wants =
-    let due : IsLawful (pending t d) = subst (λ (x : Kept). IsLawful (standing_of x)) is kept.lawful in
-    let becomes' = subst (λ (x : Kept). Becomes b k x c) ended becomes in
-    let before : standing_at b k ≡ pending t d = ap standing_of (sym kept.value ∙ is) in
-    record {
-      standing = final t d o at;
-      learns = learns_written b k (Final t d o at) c becomes' (due, wanted_in_time wish d at o wants) (stays_true (standing_at b k) t d at o before);
-      answers = (refl, inr (wants, refl));
+    -- a write after margin which all is true that was true before
+    pub learns_written : IsLawful margin (standing_of w) → ((a : About) → Says (standing_at b k) a → Says (standing_of w) a) → Learns margin plain_knows b k (standing_of w) c
+    learns_written lawful follows = record {
+      lawful = lawful;
+      agrees = follows;
+      kept = λ f h. says_at f.place f.about (λ e. follows f.about (subst (λ (j : Place). Says (standing_at b j) f.about) e h)) (λ n. h);
+      shown = λ a h. says_at k a (λ e. shows_says (standing_of w) a h) (λ n. absurd (n refl));
+      only = λ f h. says_from f.place f.about h;
     }
+
+  pub nothing_opened : (p : Standing) → ¬ Says p Opened → (a : About) (q : Standing) → Says p a → Says q a
+  nothing_opened unused new a q h = absurd h
+  nothing_opened (pending t d) new a q h = absurd (new tt)
+  nothing_opened (final t d o at) new a q h = absurd (new tt)
+
+  -- a decision keeps what is true of a pending place
+  pub stays_true : (p : Standing) (t : Terms) (d at : ℕ) (o : Outcome) → p ≡ pending t d → (a : About) → Says p a → Says (final t d o at) a
+  stays_true p t d at o is Opened h = tt
+  stays_true p t d at o is (HasTerms s) h = subst (λ (q : Standing). Says q (HasTerms s)) is h
+  stays_true p t d at o is (Due e) h = subst (λ (q : Standing). Says q (Due e)) is h
+  stays_true p t d at o is (Decided z) h = absurd (subst (λ (q : Standing). Says q (Decided z)) is h)
+
+  -- what a wish wants is in time
+  pub wanted_in_time : (wish : Wish) (d t : ℕ) (o : Outcome) → wanted margin wish d t ≡ Some o → InTime margin o d t
+  wanted_in_time Accept d t Accepted e = grind (arith, nat_tests)
+  wanted_in_time Accept d t (Rejected r) e = grind (arith, nat_tests)
+  wanted_in_time Accept d t TimedOut e = grind (arith, nat_tests)
+  wanted_in_time (Reject s) d t Accepted e = grind (arith, nat_tests)
+  wanted_in_time (Reject s) d t (Rejected r) e = grind (arith, nat_tests)
+  wanted_in_time (Reject s) d t TimedOut e = grind (arith, nat_tests)
+  wanted_in_time Expire d t Accepted e = grind (arith, nat_tests)
+  wanted_in_time Expire d t (Rejected r) e = grind (arith, nat_tests)
+  wanted_in_time Expire d t TimedOut e = grind (arith, nat_tests)
+
+  pub record IsKept (b : Contents) (k : Place) (w : Kept) : Type 0 where
+    pub value : w ≡ kept_at b k
+    pub lawful : IsLawful margin (standing_of w)
+
+  -- a pending place is decided
+  pub decides_now : (b : Contents) (k : Place) (wish : Wish) (at : ℕ) (t : Terms) (d : ℕ) (o : Outcome) (v w : Kept) (c : Contents) →
+      IsKept b k v → v ≡ Pending t d → w ≡ Final t d o at → Becomes b k w c → wanted margin wish d at ≡ Some o →
+      Decides margin plain_knows plain_stood b k wish at (Some o) c
+  decides_now b k wish at t d o v w c kept is ended becomes wants =
+      let due : IsLawful margin (pending t d) = subst (λ (x : Kept). IsLawful margin (standing_of x)) is kept.lawful in
+      let becomes' = subst (λ (x : Kept). Becomes b k x c) ended becomes in
+      let before : standing_at b k ≡ pending t d = ap standing_of (sym kept.value ∙ is) in
+      record {
+        standing = final t d o at;
+        learns = learns_written b k (Final t d o at) c becomes' (due, wanted_in_time wish d at o wants) (stays_true (standing_at b k) t d at o before);
+        answers = (refl, inr (wants, refl));
+      }

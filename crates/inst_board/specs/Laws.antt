@@ -1,7 +1,7 @@
 -- The laws of boards: who may decide, what a look and a decision tell, that a place is decided once and in time, and
 -- that one who holds a plain board gets exact looks and answers out of what any board promises. They are this hub's own
 -- promises.
-use Rattle.std.specs.Prelude.{◌≡◌, ◌≢◌, ◌↔◌, ◌⊎◌, ℕ, ◌*◌, ◌<◌, ◌≤◌, List, [], ◌∷◌, Option, Some, None, IfSome, IsTrue}
+use Rattle.std.specs.Prelude.{◌≡◌, ◌≢◌, ◌↔◌, ◌⊎◌, ℕ, ◌+◌, ◌*◌, ◌<◌, ◌≤◌, List, [], ◌∷◌, Option, Some, None, IfSome, IsTrue}
 use Rattle.inst_settings.specs.Settings.{is_participant, HubSettings, participants}
 use Rattle.inst_command.specs.declared.outcome.Outcome.{Outcome}
 use Rattle.inst_command.specs.declared.outcome.Outcome.TheVariants.{Accepted, Rejected, TimedOut}
@@ -27,10 +27,10 @@ KnowsMore knows b c = (f : Fact) → knows b f → knows c f
 
 -- two decisions of a place answer the same, once there is an outcome: whatever is wished, whenever it is read, and
 -- whatever the holder learns between them
-abbrev pub DecidedOnce : {B : Type 0} → (B → Fact → Type 0) → (B → Place → Outcome → Type 0) → Type 0
-DecidedOnce {B} knows stood = (a b c d : B) (k : Place) (first second : Wish) (at later : ℕ)
+abbrev pub DecidedOnce : {B : Type 0} → ℕ → (B → Fact → Type 0) → (B → Place → Outcome → Type 0) → Type 0
+DecidedOnce {B} margin knows stood = (a b c d : B) (k : Place) (first second : Wish) (at later : ℕ)
     (found again : Option Outcome) →
-    Decides knows stood a k first at found b → KnowsMore knows b c → Decides knows stood c k second later again d →
+    Decides margin knows stood a k first at found b → KnowsMore knows b c → Decides margin knows stood c k second later again d →
     IfSome found (λ o. again ≡ Some o)
 
 -- the opening of a place is known, with these terms and this deadline
@@ -73,16 +73,16 @@ EachPartyMayDecide {B} knows has_role = (b : B) (k : Place) (t : Terms) (deadlin
     (has_role b k.owner → MayDecide knows has_role b k Expire)
 
 -- what is opened is known so
-abbrev pub AnOpeningIsKnown : {B : Type 0} → (B → Fact → Type 0) → Type 0
-AnOpeningIsKnown {B} knows = (b c : B) (k : Place) (t : Terms) (deadline : ℕ) →
-    Learns knows b k (pending t deadline) c → KnowsOpening knows c k t deadline
+abbrev pub AnOpeningIsKnown : {B : Type 0} → ℕ → (B → Fact → Type 0) → Type 0
+AnOpeningIsKnown {B} margin knows = (b c : B) (k : Place) (t : Terms) (deadline : ℕ) →
+    Learns margin knows b k (pending t deadline) c → KnowsOpening knows c k t deadline
 
 -- what a look showed is known
-abbrev pub ALookIsKnown : {B : Type 0} → (B → Fact → Type 0) → (B → ℕ → Type 0) → (B → Place → Outcome → Type 0) →
+abbrev pub ALookIsKnown : {B : Type 0} → ℕ → (B → Fact → Type 0) → (B → ℕ → Type 0) → (B → Place → Outcome → Type 0) →
     Type 0
-ALookIsKnown {B} knows has_role stood = (b c : B) (k : Place) (t : Terms) →
-    ((deadline : ℕ) → Looks knows has_role stood b k (Pending t deadline) c → KnowsOpening knows c k t deadline) ×
-    ((o : Outcome) → Looks knows has_role stood b k (Ended t o) c → knows c (about k Opened) ×
+ALookIsKnown {B} margin knows has_role stood = (b c : B) (k : Place) (t : Terms) →
+    ((deadline : ℕ) → Looks margin knows has_role stood b k (Pending t deadline) c → KnowsOpening knows c k t deadline) ×
+    ((o : Outcome) → Looks margin knows has_role stood b k (Ended t o) c → knows c (about k Opened) ×
     KnowsOutcome knows c k t o)
 
 -- a look is at least what is known
@@ -93,85 +93,91 @@ pub record ShowsWhatIsKnown {B : Type 0} (knows : B → Fact → Type 0) (b : B)
   pub due : (t : Terms) (d e : ℕ) → knows b (about k (Due d)) → look ≡ Pending t e → e ≡ d
   pub decided : (o : Outcome) → knows b (about k (Decided o)) → (t : Terms) × (look ≡ Ended t o)
 
-abbrev pub ALookShowsWhatIsKnown : {B : Type 0} → (B → Fact → Type 0) → (B → ℕ → Type 0) →
+abbrev pub ALookShowsWhatIsKnown : {B : Type 0} → ℕ → (B → Fact → Type 0) → (B → ℕ → Type 0) →
     (B → Place → Outcome → Type 0) → Type 0
-ALookShowsWhatIsKnown {B} knows has_role stood = (b c : B) (k : Place) (look : Look) →
-    Looks knows has_role stood b k look c → ShowsWhatIsKnown knows b k look
+ALookShowsWhatIsKnown {B} margin knows has_role stood = (b c : B) (k : Place) (look : Look) →
+    Looks margin knows has_role stood b k look c → ShowsWhatIsKnown knows b k look
 
 -- the originator's holder learns no opening by a look
-abbrev pub OwnOpeningsAreKnown : {B : Type 0} → (B → Fact → Type 0) → (B → ℕ → Type 0) →
+abbrev pub OwnOpeningsAreKnown : {B : Type 0} → ℕ → (B → Fact → Type 0) → (B → ℕ → Type 0) →
     (B → Place → Outcome → Type 0) → Type 0
-OwnOpeningsAreKnown {B} knows has_role stood = (b c : B) (k : Place) (t : Terms) → has_role b k.owner →
-    ((deadline : ℕ) → Looks knows has_role stood b k (Pending t deadline) c → KnowsOpening knows b k t deadline) ×
-    ((o : Outcome) → Looks knows has_role stood b k (Ended t o) c → (deadline : ℕ) × KnowsOpening knows b k t deadline)
+OwnOpeningsAreKnown {B} margin knows has_role stood = (b c : B) (k : Place) (t : Terms) → has_role b k.owner →
+    ((deadline : ℕ) → Looks margin knows has_role stood b k (Pending t deadline) c → KnowsOpening knows b k t deadline) ×
+    ((o : Outcome) → Looks margin knows has_role stood b k (Ended t o) c → (deadline : ℕ) × KnowsOpening knows b k t deadline)
 
 -- the beneficiary's holder learns no answer by a look: what is accepted or rejected it knew so, and that it is its own
-abbrev pub OwnAnswersAreKnown : {B : Type 0} → (B → Fact → Type 0) → (B → ℕ → Type 0) → (B → Place → Outcome → Type 0) →
+abbrev pub OwnAnswersAreKnown : {B : Type 0} → ℕ → (B → Fact → Type 0) → (B → ℕ → Type 0) → (B → Place → Outcome → Type 0) →
     Type 0
-OwnAnswersAreKnown {B} knows has_role stood = (b c : B) (k : Place) (t : Terms) → has_role b t.to →
-    (Looks knows has_role stood b k (Ended t Accepted) c → KnowsOutcome knows b k t Accepted) ×
-    ((reason : List ℕ) → Looks knows has_role stood b k (Ended t (Rejected reason)) c →
+OwnAnswersAreKnown {B} margin knows has_role stood = (b c : B) (k : Place) (t : Terms) → has_role b t.to →
+    (Looks margin knows has_role stood b k (Ended t Accepted) c → KnowsOutcome knows b k t Accepted) ×
+    ((reason : List ℕ) → Looks margin knows has_role stood b k (Ended t (Rejected reason)) c →
     KnowsOutcome knows b k t (Rejected reason))
 
 -- a decision answers what was known, and what it answers is known
-abbrev pub ADecisionIsKnown : {B : Type 0} → (B → Fact → Type 0) → (B → Place → Outcome → Type 0) → Type 0
-ADecisionIsKnown {B} knows stood = (b c : B) (k : Place) (wish : Wish) (at : ℕ) (found : Option Outcome) →
-    Decides knows stood b k wish at found c →
+abbrev pub ADecisionIsKnown : {B : Type 0} → ℕ → (B → Fact → Type 0) → (B → Place → Outcome → Type 0) → Type 0
+ADecisionIsKnown {B} margin knows stood = (b c : B) (k : Place) (wish : Wish) (at : ℕ) (found : Option Outcome) →
+    Decides margin knows stood b k wish at found c →
     ((o : Outcome) → knows b (about k (Decided o)) → found ≡ Some o) ×
     ((o : Outcome) → found ≡ Some o → knows c (about k (Decided o)))
 
--- what each wish wants: from the deadline on the time-out, before it the beneficiary's answer, and nothing of an expiry
-pub record WantsByItsReading (deadline at : ℕ) : Type 0 where
-  pub late : deadline ≤ at → (wish : Wish) → wanted wish deadline at ≡ Some TimedOut
-  pub accept : at < deadline → wanted Accept deadline at ≡ Some Accepted
-  pub reject : at < deadline → (reason : List ℕ) → wanted (Reject reason) deadline at ≡ Some (Rejected reason)
-  pub expire : at < deadline → wanted Expire deadline at ≡ None
+-- what each wish wants: from the deadline on the time-out, before it the rejection, before it by more than the margin the
+-- acceptance, in the margin nothing of an acceptance, and nothing of an expiry
+pub record WantsByItsReading (margin deadline at : ℕ) : Type 0 where
+  pub late : deadline ≤ at → (wish : Wish) → wanted margin wish deadline at ≡ Some TimedOut
+  pub accept : at + margin < deadline → wanted margin Accept deadline at ≡ Some Accepted
+  pub in_margin : at < deadline → deadline ≤ at + margin → wanted margin Accept deadline at ≡ None
+  pub reject : at < deadline → (reason : List ℕ) → wanted margin (Reject reason) deadline at ≡ Some (Rejected reason)
+  pub expire : at < deadline → wanted margin Expire deadline at ≡ None
 
 abbrev pub EachWishWantsByItsReading : Type 0
-EachWishWantsByItsReading = (deadline at : ℕ) → WantsByItsReading deadline at
+EachWishWantsByItsReading = (margin deadline at : ℕ) → WantsByItsReading margin deadline at
+
+-- a wish that leaves the transfer pending: an expiry before the deadline, or an acceptance in the margin
+abbrev pub StaysPending : ℕ → Wish → ℕ → ℕ → Type 0
+StaysPending margin wish deadline at =
+    (at < deadline) × ((wish ≡ Expire) ⊎ ((wish ≡ Accept) × (deadline ≤ at + margin)))
 
 -- with a known deadline, an outcome that is answered stood before, where that could be, or is what was wanted, in time;
--- and there is none only for an expiry before the deadline
-pub record IsDecidedInTime {B : Type 0} (stood : B → Place → Outcome → Type 0) (b : B) (k : Place) (wish : Wish)
+-- and there is none only where the wish leaves the transfer pending
+pub record IsDecidedInTime {B : Type 0} (margin : ℕ) (stood : B → Place → Outcome → Type 0) (b : B) (k : Place) (wish : Wish)
     (deadline at : ℕ) (found : Option Outcome) : Type 0 where
   pub outcome : (o : Outcome) → found ≡ Some o → stood b k o ⊎
-      ((wanted wish deadline at ≡ Some o) × InTime o deadline at)
-  pub none : found ≡ None → (wish ≡ Expire) × (at < deadline)
+      ((wanted margin wish deadline at ≡ Some o) × InTime margin o deadline at)
+  pub none : found ≡ None → StaysPending margin wish deadline at
 
-abbrev pub EachDecisionIsInTime : {B : Type 0} → (B → Fact → Type 0) → (B → Place → Outcome → Type 0) → Type 0
-EachDecisionIsInTime {B} knows stood = (b c : B) (k : Place) (wish : Wish) (deadline at : ℕ) (found : Option Outcome) →
+abbrev pub EachDecisionIsInTime : {B : Type 0} → ℕ → (B → Fact → Type 0) → (B → Place → Outcome → Type 0) → Type 0
+EachDecisionIsInTime {B} margin knows stood = (b c : B) (k : Place) (wish : Wish) (deadline at : ℕ) (found : Option Outcome) →
     knows b (about k (Due deadline)) →
-    Decides knows stood b k wish at found c → IsDecidedInTime stood b k wish deadline at found
+    Decides margin knows stood b k wish at found c → IsDecidedInTime margin stood b k wish deadline at found
 
 -- the beneficiary that answers in time, and knows no outcome, is answered what it wanted, or that it was timed out
-abbrev pub OwnAnswersStand : {B : Type 0} → (B → Fact → Type 0) → (B → ℕ → Type 0) → (B → Place → Outcome → Type 0) →
+abbrev pub OwnAnswersStand : {B : Type 0} → ℕ → (B → Fact → Type 0) → (B → ℕ → Type 0) → (B → Place → Outcome → Type 0) →
     Type 0
-OwnAnswersStand {B} knows has_role stood = (b c : B) (k : Place) (t : Terms) (deadline at : ℕ)
+OwnAnswersStand {B} margin knows has_role stood = (b c : B) (k : Place) (t : Terms) (deadline at : ℕ)
     (found : Option Outcome) →
-    KnowsOpening knows b k t deadline → has_role b t.to → at < deadline →
-    ((o : Outcome) → ¬ knows b (about k (Decided o))) →
-    (Decides knows stood b k Accept at found c → (found ≡ Some Accepted) ⊎ (found ≡ Some TimedOut)) ×
-    ((reason : List ℕ) → Decides knows stood b k (Reject reason) at found c → (found ≡ Some (Rejected reason)) ⊎
+    KnowsOpening knows b k t deadline → has_role b t.to → ((o : Outcome) → ¬ knows b (about k (Decided o))) →
+    (at + margin < deadline → Decides margin knows stood b k Accept at found c → (found ≡ Some Accepted) ⊎ (found ≡ Some TimedOut)) ×
+    (at < deadline → (reason : List ℕ) → Decides margin knows stood b k (Reject reason) at found c → (found ≡ Some (Rejected reason)) ⊎
     (found ≡ Some TimedOut))
 
 -- who knows nothing knows truly, and each call keeps that
-pub record StaysTrue {B : Type 0} (knows : B → Fact → Type 0) (b : B) : Type 0 where
-  pub first : ((f : Fact) → ¬ knows b f) → (j : Place) → KnowsTruly knows b j
-  pub learning : (c : B) (k : Place) (p : Standing) → Learns knows b k p c → ((j : Place) → KnowsTruly knows b j) →
-      (j : Place) → KnowsTruly knows c j
-  pub writing : (c : B) → KnowTheSame knows b c → ((j : Place) → KnowsTruly knows b j) → (j : Place) →
-      KnowsTruly knows c j
+pub record StaysTrue {B : Type 0} (margin : ℕ) (knows : B → Fact → Type 0) (b : B) : Type 0 where
+  pub first : ((f : Fact) → ¬ knows b f) → (j : Place) → KnowsTruly margin knows b j
+  pub learning : (c : B) (k : Place) (p : Standing) → Learns margin knows b k p c → ((j : Place) → KnowsTruly margin knows b j) →
+      (j : Place) → KnowsTruly margin knows c j
+  pub writing : (c : B) → KnowTheSame knows b c → ((j : Place) → KnowsTruly margin knows b j) → (j : Place) →
+      KnowsTruly margin knows c j
   -- a known deadline is one
-  pub due : (k : Place) (d : ℕ) → KnowsTruly knows b k → knows b (about k (Due d)) → 1 ≤ d
+  pub due : (k : Place) (d : ℕ) → KnowsTruly margin knows b k → knows b (about k (Due d)) → 1 ≤ d
 
-abbrev pub WhatIsKnownStaysTrue : {B : Type 0} → (B → Fact → Type 0) → Type 0
-WhatIsKnownStaysTrue {B} knows = (b : B) → StaysTrue knows b
+abbrev pub WhatIsKnownStaysTrue : {B : Type 0} → ℕ → (B → Fact → Type 0) → Type 0
+WhatIsKnownStaysTrue {B} margin knows = (b : B) → StaysTrue margin knows b
 
 -- a standing is lawful where its outcome words are
 abbrev pub StandingsFollowTheWordLaw : Type 0
-StandingsFollowTheWordLaw = (t : Terms) (deadline : ℕ) →
-    (IsLawful (pending t deadline) ↔ AreLawful (PendingWord deadline ∷ [])) ×
-    ((o : Outcome) (moment : ℕ) → IsLawful (final t deadline o moment) ↔ AreLawful (PendingWord deadline ∷ FinalWord o moment ∷ []))
+StandingsFollowTheWordLaw = (margin : ℕ) (t : Terms) (deadline : ℕ) →
+    (IsLawful margin (pending t deadline) ↔ AreLawful margin (PendingWord deadline ∷ [])) ×
+    ((o : Outcome) (moment : ℕ) → IsLawful margin (final t deadline o moment) ↔ AreLawful margin (PendingWord deadline ∷ FinalWord o moment ∷ []))
 
 -- the settings have so many places of each participant
 abbrev pub WhichPlacesThereAre : Type 0
@@ -195,23 +201,23 @@ pub record Stands (b : Contents) (k : Place) (p : Standing) (c : Contents) : Typ
 abbrev pub PlainDecidesExactly : Type 0
 PlainDecidesExactly = (b c : Contents) (k : Place) (wish : Wish) (at : ℕ) (found : Option Outcome) →
     plain_knows b (about k Opened) →
-    Decides plain_knows plain_stood b k wish at found c →
-    (found ≡ outcome_of (after wish at (standing_at b k))) × Stands b k (after wish at (standing_at b k)) c
+    Decides b.settings.margin plain_knows plain_stood b k wish at found c →
+    (found ≡ outcome_of (after b.settings.margin wish at (standing_at b k))) × Stands b k (after b.settings.margin wish at (standing_at b k)) c
 
 -- on a plain board a look shows what is there, and leaves it
 abbrev pub PlainLooksExactly : Type 0
 PlainLooksExactly = (b c : Contents) (k : Place) (look : Look) →
-    Looks plain_knows (λ _ _. Unit {0}) plain_stood b k look c →
+    Looks b.settings.margin plain_knows (λ _ _. Unit {0}) plain_stood b k look c →
     (look ≡ look_of (standing_at b k)) × Stands b k (standing_at b k) c
 
 -- on a plain board an opening leaves the place pending, and all others as they were
 abbrev pub PlainOpensExactly : Type 0
 PlainOpensExactly = (b c : Contents) (k : Place) (t : Terms) (deadline : ℕ) →
-    Learns plain_knows b k (pending t deadline) c →
+    Learns b.settings.margin plain_knows b k (pending t deadline) c →
     Stands b k (pending t deadline) c
 
 -- what becomes of a pending place: it stays so before the deadline, or is decided at this moment, in time
 abbrev pub WhatIsDecidedIsInTime : Type 0
-WhatIsDecidedIsInTime = (wish : Wish) (at : ℕ) (t : Terms) (deadline : ℕ) →
-    ((after wish at (pending t deadline) ≡ pending t deadline) × (wish ≡ Expire) × (at < deadline)) ⊎
-    ((o : Outcome) × (after wish at (pending t deadline) ≡ final t deadline o at) × InTime o deadline at)
+WhatIsDecidedIsInTime = (margin : ℕ) (wish : Wish) (at : ℕ) (t : Terms) (deadline : ℕ) →
+    ((after margin wish at (pending t deadline) ≡ pending t deadline) × StaysPending margin wish deadline at) ⊎
+    ((o : Outcome) × (after margin wish at (pending t deadline) ≡ final t deadline o at) × InTime margin o deadline at)

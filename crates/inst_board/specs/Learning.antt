@@ -21,16 +21,16 @@ use Rattle.inst_board.specs.Wish.{wanted}
 -- kept: never less is known
 -- shown: what the place shows is known
 -- only: nothing else is learnt, but what is true of this place
-pub record Learns {B : Type 0} (knows : B → Fact → Type 0) (b : B) (k : Place) (p : Standing) (c : B) : Type 0 where
-  pub lawful : IsLawful p
+pub record Learns {B : Type 0} (margin : ℕ) (knows : B → Fact → Type 0) (b : B) (k : Place) (p : Standing) (c : B) : Type 0 where
+  pub lawful : IsLawful margin p
   pub agrees : (a : About) → knows b (about k a) → Says p a
   pub kept : (f : Fact) → knows b f → knows c f
   pub shown : (a : About) → Shows p a → knows c (about k a)
   pub only : (f : Fact) → knows c f → knows b f ⊎ ((f.place ≡ k) × Says p f.about)
 
 -- what is known of the place is true of one standing that a place may have
-abbrev pub KnowsTruly : {B : Type 0} → (B → Fact → Type 0) → B → Place → Type 0
-KnowsTruly knows b k = (p : Standing) × IsLawful p × ((a : About) → knows b (about k a) → Says p a)
+abbrev pub KnowsTruly : {B : Type 0} → ℕ → (B → Fact → Type 0) → B → Place → Type 0
+KnowsTruly margin knows b k = (p : Standing) × IsLawful margin p × ((a : About) → knows b (about k a) → Says p a)
 
 -- both holders know the same
 abbrev pub KnowTheSame : {B : Type 0} → (B → Fact → Type 0) → B → B → Type 0
@@ -58,10 +58,10 @@ IsAnswer TimedOut = ⊥
 -- own: who has the originator's role knew its opening
 -- answered: who has the beneficiary's role knew whether it was accepted or rejected, and the terms
 -- before: an outcome that is shown may have stood before
-pub record Looks {B : Type 0} (knows : B → Fact → Type 0) (has_role : B → ℕ → Type 0)
+pub record Looks {B : Type 0} (margin : ℕ) (knows : B → Fact → Type 0) (has_role : B → ℕ → Type 0)
     (stood : B → Place → Outcome → Type 0) (b : B) (k : Place) (look : Look) (c : B) : Type 0 where
   pub standing : Standing
-  pub learns : Learns knows b k standing c
+  pub learns : Learns margin knows b k standing c
   pub look_is : look ≡ look_of standing
   pub own : has_role b k.owner → (a : About) → IsOfOpening a → Says standing a → knows b (about k a)
   pub answered : (t : Terms) → Says standing (HasTerms t) → has_role b t.to → (o : Outcome) → IsAnswer o →
@@ -87,15 +87,15 @@ pub record MayDecide {B : Type 0} (knows : B → Fact → Type 0) (has_role : B 
 
 -- the answer to a wish at the moment, where the place then stands as p: the outcome that stands, which stood before,
 -- where that could be, or is what was wanted; and none where the transfer is pending and nothing was wanted yet
-abbrev pub Answers : (Outcome → Type 0) → Wish → ℕ → Standing → Option Outcome → Type 0
-Answers stood wish at unused found = ⊥
-Answers stood wish at (pending terms deadline) found = (found ≡ None) × (wanted wish deadline at ≡ None)
-Answers stood wish at (final terms deadline outcome moment) found = (found ≡ Some outcome) ×
-    (stood outcome ⊎ ((wanted wish deadline at ≡ Some outcome) × (moment ≡ at)))
+abbrev pub Answers : ℕ → (Outcome → Type 0) → Wish → ℕ → Standing → Option Outcome → Type 0
+Answers margin stood wish at unused found = ⊥
+Answers margin stood wish at (pending terms deadline) found = (found ≡ None) × (wanted margin wish deadline at ≡ None)
+Answers margin stood wish at (final terms deadline outcome moment) found = (found ≡ Some outcome) ×
+    (stood outcome ⊎ ((wanted margin wish deadline at ≡ Some outcome) × (moment ≡ at)))
 
 -- `found` is an answer that a decision of the place k allows, for this wish and reading, from the holder b to the holder c
-pub record Decides {B : Type 0} (knows : B → Fact → Type 0) (stood : B → Place → Outcome → Type 0) (b : B) (k : Place)
+pub record Decides {B : Type 0} (margin : ℕ) (knows : B → Fact → Type 0) (stood : B → Place → Outcome → Type 0) (b : B) (k : Place)
     (wish : Wish) (at : ℕ) (found : Option Outcome) (c : B) : Type 0 where
   pub standing : Standing
-  pub learns : Learns knows b k standing c
-  pub answers : Answers (stood b k) wish at standing found
+  pub learns : Learns margin knows b k standing c
+  pub answers : Answers margin (stood b k) wish at standing found

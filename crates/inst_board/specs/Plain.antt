@@ -64,10 +64,10 @@ abbrev pub plain_stood : Contents → Place → Outcome → Type 0
 plain_stood board place outcome = Says (standing_at board place) (Decided outcome)
 
 -- what a place is after a wish was read at the moment
-abbrev pub after : Wish → ℕ → Standing → Standing
-after wish at unused = unused
-after wish at (pending terms deadline) = elim (wanted wish deadline at) [ None ↦ pending terms deadline | Some outcome ↦ final terms deadline outcome at ]
-after wish at (final terms deadline outcome moment) = final terms deadline outcome moment
+abbrev pub after : ℕ → Wish → ℕ → Standing → Standing
+after margin wish at unused = unused
+after margin wish at (pending terms deadline) = elim (wanted margin wish deadline at) [ None ↦ pending terms deadline | Some outcome ↦ final terms deadline outcome at ]
+after margin wish at (final terms deadline outcome moment) = final terms deadline outcome moment
 
 -- the outcome that stands
 abbrev pub outcome_of : Standing → Option Outcome
@@ -78,7 +78,7 @@ outcome_of (final terms deadline outcome at) = Some outcome
 -- there is one kept value for each place, and each is lawful
 pub record IsContents (board : Contents) : Type 0 where
   pub sized : length board.kept ≡ board.settings.places * participants board.settings
-  pub lawful : (k : ℕ) → IsLawful (standing_of (kept_or_unused (slice_get board.kept k)))
+  pub lawful : (k : ℕ) → IsLawful board.settings.margin (standing_of (kept_or_unused (slice_get board.kept k)))
 
 -- from the first to the second, the place k comes to be kept so, and all others stay
 pub record Becomes (old : Contents) (k : Place) (kept : Kept) (new : Contents) : Type 0 where

@@ -27,11 +27,11 @@ pub data Standing : Type 0 where
   -- the terms, the deadline, the outcome and the deciding moment
   final : Terms → ℕ → Outcome → ℕ → Standing
 
--- what a place may be: a deadline is at least 1, an outcome is in time
-abbrev pub IsLawful : Standing → Type 0
-IsLawful unused = Unit {0}
-IsLawful (pending terms deadline) = 1 ≤ deadline
-IsLawful (final terms deadline outcome at) = (1 ≤ deadline) × InTime outcome deadline at
+-- what a place may be: a deadline is at least 1, an outcome is in time, with this margin for acceptances
+abbrev pub IsLawful : ℕ → Standing → Type 0
+IsLawful margin unused = Unit {0}
+IsLawful margin (pending terms deadline) = 1 ≤ deadline
+IsLawful margin (final terms deadline outcome at) = (1 ≤ deadline) × InTime margin outcome deadline at
 
 -- what is true of a place
 abbrev pub Says : Standing → About → Type 0

@@ -58,13 +58,13 @@ pub trait Board {
         requires written { (terms : Terms) × wrote self.old place terms }
         requires deadline { 1 ≤ deadline }
 
-        ensures opened { (terms : Terms) → wrote self.old place terms → Learns knows self.old place (pending terms deadline) self.new }
+        ensures opened { (terms : Terms) → wrote self.old place terms → Learns (settings self.old).margin knows self.old place (pending terms deadline) self.new }
         ensures others { KeepsWritten wrote self.old (λ k. k ≢ place) self.new }
         ensures stays { stays self.old self.new };
 
     /// What the place shows now: `Unused` too where the settings don't have it.
     fn look(&mut self, place: Place) -> Look
-        ensures look { Looks knows has_role stood self.old place result self.new }
+        ensures look { Looks (settings self.old).margin knows has_role stood self.old place result self.new }
         ensures outside { ¬ IsPlace (settings self.old) place → result ≡ Look.Unused }
         ensures written { KeepsWritten wrote self.old (λ _. Unit {0}) self.new }
         ensures stays { stays self.old self.new };
@@ -76,7 +76,7 @@ pub trait Board {
     fn decide(&mut self, place: Place, wish: Wish, at: Moment) -> Option<Outcome>
         requires { MayDecide knows has_role self.old place wish }
 
-        ensures decides { Decides knows stood self.old place wish at result self.new }
+        ensures decides { Decides (settings self.old).margin knows stood self.old place wish at result self.new }
         ensures written { KeepsWritten wrote self.old (λ _. Unit {0}) self.new }
         ensures stays { stays self.old self.new };
 

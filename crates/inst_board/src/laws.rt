@@ -15,7 +15,7 @@ use inst_terms::Terms;
 
 /// Over any board a place is decided once.
 pub fn decided_once<B: Board>()
-    ensures { DecidedOnce B.knows B.stood }
+    ensures { (margin : ℕ) → DecidedOnce margin B.knows B.stood }
 {}
 
 /// Who may decide a place knows its opening and is a party of its transfer.
@@ -35,32 +35,32 @@ pub fn each_party_may_decide<B: Board>()
 
 /// Who opens a place knows its terms and its deadline.
 pub fn an_opening_is_known<B: Board>()
-    ensures { AnOpeningIsKnown B.knows }
+    ensures { (margin : ℕ) → AnOpeningIsKnown margin B.knows }
 {}
 
 /// Who looks at a place knows what it showed.
 pub fn a_look_is_known<B: Board>()
-    ensures { ALookIsKnown B.knows B.has_role B.stood }
+    ensures { (margin : ℕ) → ALookIsKnown margin B.knows B.has_role B.stood }
 {}
 
 /// A look hides nothing that is known.
 pub fn a_look_shows_what_is_known<B: Board>()
-    ensures { ALookShowsWhatIsKnown B.knows B.has_role B.stood }
+    ensures { (margin : ℕ) → ALookShowsWhatIsKnown margin B.knows B.has_role B.stood }
 {}
 
 /// By a look the originator's holder learns no opening of its own places.
 pub fn own_openings_are_known<B: Board>()
-    ensures { OwnOpeningsAreKnown B.knows B.has_role B.stood }
+    ensures { (margin : ℕ) → OwnOpeningsAreKnown margin B.knows B.has_role B.stood }
 {}
 
 /// By a look the beneficiary's holder learns no acceptance and no rejection of what is addressed to it.
 pub fn own_answers_are_known<B: Board>()
-    ensures { OwnAnswersAreKnown B.knows B.has_role B.stood }
+    ensures { (margin : ℕ) → OwnAnswersAreKnown margin B.knows B.has_role B.stood }
 {}
 
 /// A decision answers a known outcome, and what it answers is known from then on.
 pub fn a_decision_is_known<B: Board>()
-    ensures { ADecisionIsKnown B.knows B.stood }
+    ensures { (margin : ℕ) → ADecisionIsKnown margin B.knows B.stood }
 {}
 
 /// Before the deadline an answer is wanted, from it on the time-out.
@@ -70,17 +70,17 @@ pub fn each_wish_wants_by_its_reading()
 
 /// Over any board a new outcome is in time.
 pub fn each_decision_is_in_time<B: Board>()
-    ensures { EachDecisionIsInTime B.knows B.stood }
+    ensures { (margin : ℕ) → EachDecisionIsInTime margin B.knows B.stood }
 {}
 
 /// Over any board an answer in time stands, unless the transfer was timed out before it.
 pub fn own_answers_stand<B: Board>()
-    ensures { OwnAnswersStand B.knows B.has_role B.stood }
+    ensures { (margin : ℕ) → OwnAnswersStand margin B.knows B.has_role B.stood }
 {}
 
 /// What is known of a place stays true of one lawful standing, whatever is called.
 pub fn what_is_known_stays_true<B: Board>()
-    ensures { WhatIsKnownStaysTrue B.knows }
+    ensures { (margin : ℕ) → WhatIsKnownStaysTrue margin B.knows }
 {}
 
 /// A place stands as its words may.
@@ -131,7 +131,9 @@ pub fn decide_twice<B: Board>(
     requires second { MayDecide B.knows B.has_role board.old place second }
 
     ensures once { IfSome result.0 (λ o. result.1 ≡ Some o) }
-    ensures decides { (between : B) × Decides B.knows B.stood board.old place first at result.0 between × Decides B.knows B.stood between place second later result.1 board.new }
+    ensures decides { (between : B)
+        × Decides (B.settings board.old).margin B.knows B.stood board.old place first at result.0 between
+        × Decides (B.settings board.old).margin B.knows B.stood between place second later result.1 board.new }
     ensures stays { B.stays board.old board.new }
 {
     let answer = board.decide(place, first, at);
@@ -151,8 +153,9 @@ pub fn decide_plain_twice(
 ) -> (Option<Outcome>, Option<Outcome>)
     requires { plain_knows board.old (about place Opened) }
 
-    ensures first { result.0 ≡ outcome_of (after first at (standing_at board.old place)) }
-    ensures second { result.1 ≡ outcome_of (after second later (after first at (standing_at board.old place))) }
+    ensures first { result.0 ≡ outcome_of (after board.old.settings.margin first at (standing_at board.old place)) }
+    ensures second { result.1 ≡ outcome_of (after board.old.settings.margin second later
+        (after board.old.settings.margin first at (standing_at board.old place))) }
 {
     decide_twice(board, place, first, at, second, later)
 }

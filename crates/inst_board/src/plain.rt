@@ -29,6 +29,7 @@ pub struct PlainBoard {
     settings: Snapshot<Settings>,
     participants: u16,
     places: u16,
+    margin: u32,
     kept: Vec<Kept>,
 }
 
@@ -42,7 +43,8 @@ impl Model for PlainBoard {
 
     ghost invariant = { λ b. IsContents (record { settings = b.settings.value; kept = b.kept.items })
         × (b.participants ≡ length b.settings.value.codes)
-        × (b.places ≡ b.settings.value.places) };
+        × (b.places ≡ b.settings.value.places)
+        × (b.margin ≡ b.settings.value.margin) };
 }
 
 impl PlainBoard {
@@ -65,6 +67,7 @@ impl PlainBoard {
             settings: Snapshot::of(settings),
             participants,
             places,
+            margin: settings.margin(),
             kept: vec![in alloc; Kept::Unused; size]?,
         })
     }
@@ -78,7 +81,7 @@ impl PlainBoard {
     /// What is kept of the place.
     fn kept(&self, place: Place) -> Kept
         ensures value { result ≡ kept_at self.now place }
-        ensures lawful { IsLawful (standing_of result) }
+        ensures lawful { IsLawful self.now.settings.margin (standing_of result) }
     {
         if !self.has(place) {
             return Kept::Unused;
@@ -89,7 +92,7 @@ impl PlainBoard {
     /// Keeps this of the place.
     fn keep(&mut self, place: Place, kept: Kept)
         requires place { IsPlace self.old.settings place }
-        requires lawful { IsLawful (standing_of kept) }
+        requires lawful { IsLawful self.old.settings.margin (standing_of kept) }
         ensures { Becomes self.old place kept self.new }
     {
         self.kept[number_of(self.places, place)] = kept;
@@ -167,7 +170,7 @@ impl Board for PlainBoard {
         requires deadline { 1 ≤ deadline }
 
         ensures exact { (terms : Terms) → plain_wrote self.old place terms → Becomes self.old place (Kept.Pending terms deadline) self.new }
-        ensures opened { (terms : Terms) → plain_wrote self.old place terms → Learns plain_knows self.old place (pending terms deadline) self.new }
+        ensures opened { (terms : Terms) → plain_wrote self.old place terms → Learns self.old.settings.margin plain_knows self.old place (pending terms deadline) self.new }
         ensures others { KeepsWritten plain_wrote self.old (λ k. k ≢ place) self.new }
         ensures stays { self.new.settings ≡ self.old.settings }
     {
@@ -179,7 +182,7 @@ impl Board for PlainBoard {
 
     fn look(&mut self, place: Place) -> Look
         ensures exact { (result ≡ look_of (standing_at self.old place)) × (self.new ≡ self.old) }
-        ensures look { Looks plain_knows (λ _ _. Unit {0}) plain_stood self.old place result self.new }
+        ensures look { Looks self.old.settings.margin plain_knows (λ _ _. Unit {0}) plain_stood self.old place result self.new }
         ensures outside { ¬ IsPlace self.old.settings place → result ≡ Look.Unused }
         ensures written { KeepsWritten plain_wrote self.old (λ _. Unit {0}) self.new }
         ensures stays { self.new.settings ≡ self.old.settings }
@@ -195,15 +198,15 @@ impl Board for PlainBoard {
         requires { plain_knows self.old (about place Opened) }
 
         ensures answer { result ≡ outcome_of (standing_at self.new place) }
-        ensures here { standing_at self.new place ≡ after wish at (standing_at self.old place) }
+        ensures here { standing_at self.new place ≡ after self.old.settings.margin wish at (standing_at self.old place) }
         ensures elsewhere { (j : Place) → j ≢ place → kept_at self.new j ≡ kept_at self.old j }
-        ensures decides { Decides plain_knows plain_stood self.old place wish at result self.new }
+        ensures decides { Decides self.old.settings.margin plain_knows plain_stood self.old place wish at result self.new }
         ensures written { KeepsWritten plain_wrote self.old (λ _. Unit {0}) self.new }
         ensures stays { self.new.settings ≡ self.old.settings }
     {
         match self.kept(place) {
             Kept::Pending(terms, deadline) => {
-                let outcome = wish.outcome(deadline, at)?;
+                let outcome = wish.outcome(self.margin, deadline, at)?;
                 self.keep(place, ended(terms, deadline, &outcome, at));
                 Some(outcome)
             }

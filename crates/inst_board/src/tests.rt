@@ -28,12 +28,12 @@ fn terms() -> Result<Terms, Fault> {
     })
 }
 
-/// Two participants with three places each.
+/// Two participants with three places each, and a margin of 200 ms.
 fn settings(alloc: Global) -> Result<Settings, Fault>
     ensures { IfOk result (λ s. (participants s ≡ 2) × (s.places ≡ 3)) }
 {
     let codes = vec![in alloc; Code::new("AAAADEFF")?, Code::new("BBBBFRPP")?]?;
-    Settings::check(codes, 3, 3, 1000, 1000, 1000, 0)
+    Settings::check(codes, 3, 3, 1000, 200, 1000, 1000, 0)
 }
 
 /// A board on which the last place of the first participant is pending.
@@ -75,7 +75,9 @@ fn each_wish_about_the_deadline(rt: HostRuntime) -> Result<(), Fault> {
     let rejected = Outcome::Rejected(reason);
     let pending = Look::Pending(terms()?, moment(DEADLINE)?);
     for (wish, at, want) in [
-        (Wish::Accept, 999, Some(Outcome::Accepted)),
+        (Wish::Accept, 799, Some(Outcome::Accepted)),
+        (Wish::Accept, 800, None),
+        (Wish::Accept, 999, None),
         (Wish::Accept, 1000, Some(Outcome::TimedOut)),
         (Wish::Accept, 1001, Some(Outcome::TimedOut)),
         (Wish::Reject(reason), 999, Some(rejected)),

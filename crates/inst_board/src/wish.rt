@@ -18,17 +18,17 @@ impl Wish {
     ghost use Rattle.inst_board.specs.Wish.{wanted};
 
     /// What the wish makes of a transfer that is pending until `deadline`, read at `at`: `None` where
-    /// it stays pending.
-    pub fn outcome(self, deadline: Moment, at: Moment) -> Option<Outcome>
-        ensures { result ≡ wanted self deadline at }
+    /// it stays pending. An acceptance must come before the deadline by more than `margin` milliseconds.
+    pub fn outcome(self, margin: u32, deadline: Moment, at: Moment) -> Option<Outcome>
+        ensures { result ≡ wanted margin self deadline at }
     {
-        if at.past_base() >= deadline.past_base() {
+        if at.is_due(deadline) {
             return Some(Outcome::TimedOut);
         }
         match self {
-            Wish::Accept => Some(Outcome::Accepted),
+            Wish::Accept if at.is_in_time_to_accept(margin, deadline) => Some(Outcome::Accepted),
+            Wish::Accept | Wish::Expire => None,
             Wish::Reject(reason) => Some(Outcome::Rejected(reason)),
-            Wish::Expire => None,
         }
     }
 }

@@ -1,6 +1,11 @@
+use Rattle.std.proofs.Common.{subst, sym}
+use Rattle.inst_settings.specs.Settings.{HubSettings}
+use Rattle.inst_board.specs.Learning.{Decides}
 use Rattle.inst_board.proofs.Deciding.{decided_once}
 use Rattle.inst_board.proofs.laws.decide_twice.Goals as goal
 
 pub returns-clause-once : goal.returns-clause-once
 returns-clause-once g c =
-    decided_once g.B.Board.knows g.B.Board.stood _ _ _ _ _ _ _ _ _ _ _ c.decide-answer.ensures.decides (λ f h. h) c.decide-again.ensures.decides
+    let same = g.met.B.Board.stays_settings _ _ c.decide-answer.ensures.stays in
+    decided_once (g.B.Board.settings c.args.board.now).margin g.B.Board.knows g.B.Board.stood _ _ _ _ _ _ _ _ _ _ _ c.decide-answer.ensures.decides (λ f h. h)
+    (subst (λ (s : HubSettings). Decides s.margin g.B.Board.knows g.B.Board.stood c.decide-answer.new.self c.args.place c.args.second c.args.later c.decide-again.result c.decide-again.new.self) same c.decide-again.ensures.decides)

@@ -2,4 +2,4 @@ use Rattle.inst_board.proofs.Deciding.{decided_once}
 use Rattle.inst_board.proofs.laws.decided_once.Goals as goal
 
 pub returns : goal.returns
-returns g c = decided_once g.B.Board.knows g.B.Board.stood
+returns g c = λ margin. decided_once margin g.B.Board.knows g.B.Board.stood

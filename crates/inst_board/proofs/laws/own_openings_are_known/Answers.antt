@@ -2,4 +2,4 @@ use Rattle.inst_board.proofs.Knowing.{own_openings}
 use Rattle.inst_board.proofs.laws.own_openings_are_known.Goals as goal
 
 pub returns : goal.returns
-returns g c = own_openings g.B.Board.knows g.B.Board.has_role g.B.Board.stood
+returns g c = λ margin. own_openings margin g.B.Board.knows g.B.Board.has_role g.B.Board.stood

@@ -2,4 +2,4 @@ use Rattle.inst_board.proofs.Exact.{decides_exactly}
 use Rattle.inst_board.proofs.laws.plain_decides_exactly.Goals as goal
 
 pub returns : goal.returns
-returns c = decides_exactly
+returns c = λ b. decides_exactly b.settings.margin b

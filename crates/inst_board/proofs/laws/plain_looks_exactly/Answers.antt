@@ -2,4 +2,4 @@ use Rattle.inst_board.proofs.Exact.{looks_exactly}
 use Rattle.inst_board.proofs.laws.plain_looks_exactly.Goals as goal
 
 pub returns : goal.returns
-returns c = looks_exactly
+returns c = λ b. looks_exactly b.settings.margin b

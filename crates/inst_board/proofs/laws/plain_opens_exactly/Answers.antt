@@ -2,4 +2,4 @@ use Rattle.inst_board.proofs.Exact.{opens_exactly}
 use Rattle.inst_board.proofs.laws.plain_opens_exactly.Goals as goal
 
 pub returns : goal.returns
-returns c = opens_exactly
+returns c = λ b. opens_exactly b.settings.margin b

@@ -1,7 +1,7 @@
 use Rattle.std.proofs.Common.{◌≡◌, ℕ, ◌+◌, ◌*◌, ◌∙◌, ap, sym, subst, arith}
 use Rattle.inst_board.specs.declared.plain.Kept.{Kept}
-use Rattle.inst_board.specs.Standing.{IsPlace}
-use Rattle.inst_board.specs.Plain.{Contents, number_of, IsContents, Becomes}
+use Rattle.inst_board.specs.Standing.{IsPlace, IsLawful}
+use Rattle.inst_board.specs.Plain.{Contents, number_of, IsContents, Becomes, standing_of}
 use Rattle.inst_board.proofs.Places.{with_kept, written, contents_written, number_below}
 use Rattle.inst_board.proofs.plain.PlainBoard.keep.Goals as goal
 
@@ -20,7 +20,8 @@ invariant_of-self c =
     let k = c.args.place in
     let place : IsPlace b.settings k = subst (λ (x : Contents). IsPlace x.settings k) (sym c.self.view_is) c.requires.place in
     let number : c.number_of.result ≡ number_of b.settings k = c.number_of.ensures ∙ ap (λ (x : ℕ). k.owner * x + k.index) c.self.invariant.2 in
-    (subst (λ (n : ℕ). IsContents (with_kept b n c.args.kept)) (sym number) (contents_written b k c.args.kept c.self.invariant.0 place c.requires.lawful), c.self.invariant.1, c.self.invariant.2)
+    let lawful : IsLawful b.settings.margin (standing_of c.args.kept) = subst (λ (x : Contents). IsLawful x.settings.margin (standing_of c.args.kept)) (sym c.self.view_is) c.requires.lawful in
+    (subst (λ (n : ℕ). IsContents (with_kept b n c.args.kept)) (sym number) (contents_written b k c.args.kept c.self.invariant.0 place lawful), c.self.invariant.1, c.self.invariant.2, c.self.invariant.3)
 
 pub returns : goal.returns
 returns c =
