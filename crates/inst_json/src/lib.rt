@@ -11,6 +11,8 @@ mod lists;
 mod piece;
 mod read;
 mod reply;
+#[cfg(test)]
+mod scan_tests;
 mod step;
 #[cfg(test)]
 mod tests;
