@@ -35,7 +35,9 @@ impl Command {
         ensures { result ≡ command_fits settings.now self.now }
     {
         match self {
-            Command::Fund { cents, .. } | Command::Defund { cents, .. } => settings.allows(cents.get()),
+            Command::Fund { cents, .. } | Command::Defund { cents, .. } => settings.allows(
+                cents.get(),
+            ),
             Command::Submit(submission) => {
                 settings.has_participant(submission.to)
                     && settings.allows(submission.cents.get())

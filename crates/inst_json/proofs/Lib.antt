@@ -3,4 +3,3 @@ pub mod Plain
 pub mod Texts
 pub mod Reading
 pub mod Telling
-pub mod Pieces

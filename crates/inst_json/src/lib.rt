@@ -1,20 +1,24 @@
 //! The lines of a hub: commands and steps read from JSON, replies written to it.
 #![tactic(auto)]
 
-mod append;
 mod asker;
 mod checks;
 mod command;
 mod fields;
 pub mod laws;
 mod line;
+mod lists;
+mod piece;
 mod read;
+mod reply;
+#[cfg(test)]
+mod scan_tests;
 mod step;
 #[cfg(test)]
 mod tests;
 mod verb;
 mod write;
 
-pub use append::append_reply;
 pub use read::{read_command, read_step};
+pub use reply::append_reply;
 pub use write::{write_answer, write_reply};

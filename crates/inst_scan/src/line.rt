@@ -9,7 +9,7 @@ use crate::member::{key, scalar};
 use crate::parts::skip_space;
 
 /// The fields of a line that is a flat object of texts without escapes and whole numbers of
-/// at most 18 digits: JSON (RFC 8259) with its keys in any order and its white space, where of a key
+/// at most 19 digits: JSON (RFC 8259) with its keys in any order and its white space, where of a key
 /// given twice the last counts. `None` for every other line, JSON or not: it is to be read in another
 /// way.
 #[inline(always)]

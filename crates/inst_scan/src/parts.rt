@@ -69,7 +69,7 @@ pub(crate) fn string(text: &[u8], from: usize) -> Option<(&str, usize)>
     }
 }
 
-/// The digits from `from` on, where none stands for nothing: their value, of at most 18 digits, and
+/// The digits from `from` on, where none stands for nothing: their value, of at most 19 digits, and
 /// the place behind them.
 #[inline(always)]
 fn digits(text: &[u8], from: usize) -> Option<(u64, usize)>
@@ -104,7 +104,7 @@ fn ends_number(byte: u8) -> bool
     byte == b',' || byte == b'}' || byte == b' '
 }
 
-/// A whole number of at most 18 digits behind which its word ends, and the place behind it.
+/// A whole number of at most 19 digits behind which its word ends, and the place behind it.
 #[inline(always)]
 pub(crate) fn whole(text: &[u8], from: usize) -> Option<(u64, usize)>
     requires { from ≤ length text.now }

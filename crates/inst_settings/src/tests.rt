@@ -1,4 +1,5 @@
 use crate::Settings;
+use crate::finder::Finder;
 use inst_base::{Code, Fault};
 use std::alloc::Global;
 use std::test::Fail;
@@ -174,6 +175,61 @@ fn codes_are_numbered_as_given(rt: HostRuntime) -> Result<(), Fail> {
     ] {
         let refusal = check(twice.to_vec(alloc)?, &LEAST).err();
         assert_eq!(rt; refusal, Some(Fault::BadSettings), "{twice:?}");
+    }
+    Ok(())
+}
+
+/// So many codes as banks have them, every third with a branch: other banks, the same bank in other
+/// countries and places, and other branches of one bank.
+fn bank_codes(alloc: Global, count: u32) -> Result<Vec<Code>, Fail> {
+    let countries = ["DE", "FR", "IT", "ES", "NL", "BE", "AT", "IE"];
+    let banks = [
+        "DEUT", "BNPA", "UNCR", "BSCH", "INGB", "KRED", "RZBA", "AIBK",
+    ];
+    let mut codes = Vec::new(alloc);
+    for index in 0..count {
+        let bank = banks[(index % 8) as usize];
+        let country = countries[(index / 8 % 8) as usize];
+        let place = 10 + index / 64;
+        let branch = 100 + index;
+        let text = if index % 3 == 0 {
+            format!(in alloc; "{bank}{country}{place}{branch}")?
+        } else {
+            format!(in alloc; "{bank}{country}{place}")?
+        };
+        codes.push(Code::new(text.as_str())?)?;
+    }
+    Ok(codes)
+}
+
+#[test]
+fn most_codes_of_banks_are_guessed(rt: HostRuntime) -> Result<(), Fail> {
+    let alloc = rt.alloc();
+    for count in [1, 2, 16, 64, 128, 256] {
+        let codes = bank_codes(alloc, count)?;
+        let finder = Finder::new(&codes);
+        let mut guessed = 0u32;
+        for (number, code) in codes.iter().enumerate() {
+            if usize::from(finder.guess(code)) == number {
+                guessed = guessed.saturating_add(1);
+            }
+        }
+        assert!(rt; guessed >= count - count / 16, "{guessed} of {count}");
+    }
+    Ok(())
+}
+
+#[test]
+fn every_code_of_a_bank_has_its_number(rt: HostRuntime) -> Result<(), Fail> {
+    let alloc = rt.alloc();
+    let settings = check(bank_codes(alloc, 64)?, &MOST)?;
+    for (number, code) in bank_codes(alloc, 128)?.iter().enumerate() {
+        let wanted = if number < 64 { Some(number) } else { None };
+        assert_eq!(rt;
+            settings.index_of(code).map(usize::from),
+            wanted,
+            "{code:?}"
+        );
     }
     Ok(())
 }

@@ -57,10 +57,7 @@ impl Slot {
     {
         matches!(
             command,
-            Command::Fund { .. }
-                | Command::Defund { .. }
-                | Command::Submit(_)
-                | Command::Position
+            Command::Fund { .. } | Command::Defund { .. } | Command::Submit(_) | Command::Position
         )
     }
 

@@ -17,7 +17,16 @@ fn hub(alloc: Global) -> Result<Settings, Fail> {
         Code::new("BBBBFRPP")?,
         Code::new("CCCCITMM")?,
     ];
-    Ok(Settings::check(codes.to_vec(alloc)?, 2, 4, 10_000, 0, 1000, 99_999_999_999, 0)?)
+    Ok(Settings::check(
+        codes.to_vec(alloc)?,
+        2,
+        4,
+        10_000,
+        0,
+        1000,
+        99_999_999_999,
+        0,
+    )?)
 }
 
 /// What is asked, by short texts and plain numbers.

@@ -1,4 +1,4 @@
-use Rattle.std.proofs.Common.{◌≡◌, ◌<◌, [], get_or, Some, sym, ap, ◌∙◌, arith, length}
+use Rattle.std.proofs.Common.{◌<◌, [], Some, sym, ap, ◌∙◌, arith, length}
 use Rattle.std.proofs.lemmas.Slice.Eq.{bytes_eq-Decides}
 use Rattle.std.proofs.lemmas.List.{get_or_read}
 use Rattle.inst_settings.specs.Settings.{index_of}

@@ -1,0 +1,110 @@
+//! The replies that are lists: the entries of an inbox and the lines of a statement.
+ghost use Rattle.std.specs.Prelude.{◌≡◌, ◌++◌, true, nat_lt, OnOk};
+ghost use Rattle.std.specs.List.{list_all};
+ghost use Rattle.serde_json.specs.Data.{string};
+ghost use Rattle.serde_json.specs.Written.{compact_text, comma_if};
+ghost use Rattle.inst_settings.specs.Settings.{is_participant};
+ghost use Rattle.inst_command.specs.LineText.{line_fits, line_text};
+ghost use Rattle.inst_json.specs.Laws.{entry_has_words};
+ghost use Rattle.inst_json.specs.Replies.{entry_data, inbox_data, statement_data};
+
+use crate::piece::{Piece, append};
+use crate::reply::code_text;
+use inst_command::{Entry, Line, line_text};
+use inst_settings::Settings;
+use std::alloc::{AllocError, Global};
+
+pub(crate) fn append_inbox(
+    out: &mut Vec<u8>,
+    settings: &Settings,
+    entries: &[Entry],
+) -> Result<(), AllocError>
+    requires { list_all (λ entry. is_participant settings.now entry.from) entries.now ≡ true }
+    ensures text { OnOk result (out.new.items ≡ out.old.items ++ compact_text (inbox_data settings.now entries.now)) }
+    ensures words { OnOk result (list_all (entry_has_words settings.now) entries.now ≡ true) }
+{
+    append(out, &[Piece::Text("{\"entries\":[")])?;
+    for (index, entry) in entries.iter().enumerate() {
+        append_comma(out, index)?;
+        append_entry(out, settings, entry)?;
+    }
+    append(out, &[Piece::Text("],\"reply\":\"inbox\"}")])
+}
+
+/// Puts the comma before the item with this index at the end of the text; before the first is none.
+fn append_comma(out: &mut Vec<u8>, index: usize) -> Result<(), AllocError>
+    ensures { OnOk result (out.new.items ≡ out.old.items ++ comma_if (nat_lt 0 index)) }
+{
+    if index > 0 {
+        append(out, &[Piece::Text(",")])?;
+    }
+    Ok(())
+}
+
+/// Puts an entry of an inbox at the end of the text.
+fn append_entry<'a>(
+    out: &mut Vec<u8>,
+    settings: &'a Settings,
+    entry: &'a Entry,
+) -> Result<(), AllocError>
+    requires { is_participant settings.now entry.now.from ≡ true }
+    ensures text { OnOk result (out.new.items ≡ out.old.items ++ compact_text (entry_data settings.now entry.now)) }
+    ensures words { OnOk result (entry_has_words settings.now entry.now ≡ true) }
+{
+    let cents = entry.cents.get();
+    let deadline = entry.deadline.millis(settings.base());
+    let from = code_text(settings, entry.from);
+    let id = entry.id.text();
+    append(
+        out,
+        &[
+            Piece::Text("{\"cents\":"),
+            Piece::Number(cents),
+            Piece::Text(",\"deadline\":"),
+            Piece::Number(deadline),
+            Piece::Text(",\"from\":\""),
+            Piece::Text(from),
+            Piece::Text("\",\"id\":\""),
+            Piece::Text(id),
+            Piece::Text("\"}"),
+        ],
+    )
+}
+
+pub(crate) fn append_statement(
+    alloc: Global,
+    out: &mut Vec<u8>,
+    settings: &Settings,
+    lines: &[Line],
+) -> Result<(), AllocError>
+    requires { list_all (line_fits settings.now) lines.now ≡ true }
+    ensures { OnOk result (out.new.items ≡ out.old.items ++ compact_text (statement_data settings.now lines.now)) }
+{
+    append(out, &[Piece::Text("{\"lines\":[")])?;
+    for (index, line) in lines.iter().enumerate() {
+        append_comma(out, index)?;
+        append_line(alloc, out, settings, line)?;
+    }
+    append(out, &[Piece::Text("],\"reply\":\"statement\"}")])
+}
+
+/// Puts a statement line at the end of the text, as a text of JSON.
+fn append_line(
+    alloc: Global,
+    out: &mut Vec<u8>,
+    settings: &Settings,
+    line: &Line,
+) -> Result<(), AllocError>
+    requires { line_fits settings.now line.now ≡ true }
+    ensures { OnOk result (out.new.items
+        ≡ out.old.items ++ compact_text (string (line_text settings.now line.now))) }
+{
+    let Ok(line) = line_text(alloc, settings, line) else {
+        return Err(AllocError);
+    };
+    let line = line.as_str();
+    append(
+        out,
+        &[Piece::Text("\""), Piece::Text(line), Piece::Text("\"")],
+    )
+}

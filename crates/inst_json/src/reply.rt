@@ -1,0 +1,211 @@
+//! The text of each reply, put at the end of others piece by piece.
+ghost use Rattle.std.specs.Prelude.{◌≡◌, ◌++◌, true, IsTrue, OnOk, IfErr};
+ghost use Rattle.serde_json.specs.Written.{compact_text};
+ghost use Rattle.inst_base.specs.Text.{is_code};
+ghost use Rattle.inst_settings.specs.Settings.{is_participant};
+ghost use Rattle.inst_command.specs.LineText.{code_numbered};
+ghost use Rattle.inst_json.specs.Laws.{has_words};
+ghost use Rattle.inst_json.specs.Replies.{done_data, taken_data, state_data, rejected_data, state_of, is_used, is_state_name, position_data, refused_data, reply_data, reply_can_be_written};
+
+use crate::lists::{append_inbox, append_statement};
+use crate::piece::{Piece, append};
+use inst_base::{Fault, Ident, Reason};
+use inst_command::{Outcome, Reply, State};
+use inst_settings::Settings;
+use std::alloc::{AllocError, Global};
+
+/// Puts the line of a reply, without its newline, at the end of `out`: compact JSON with the keys in
+/// byte order. Moments are absolute milliseconds, and amounts are cents. `Memory` is the only fault;
+/// then a part of the line may stand at the end.
+pub fn append_reply(
+    alloc: Global,
+    settings: &Settings,
+    reply: &Reply,
+    out: &mut Vec<u8>,
+) -> Result<(), Fault>
+    requires { reply_can_be_written settings.now reply.now ≡ true }
+    ensures text { OnOk result (out.new.items ≡ out.old.items ++ compact_text (reply_data settings.now reply.now)) }
+    ensures err { IfErr result (λ fault. fault ≡ Fault.Memory) }
+{
+    append_text(alloc, settings, reply, out)?;
+    Ok(())
+}
+
+/// Puts the text of a reply at the end of `out`.
+pub(crate) fn append_text(
+    alloc: Global,
+    settings: &Settings,
+    reply: &Reply,
+    out: &mut Vec<u8>,
+) -> Result<(), AllocError>
+    requires { reply_can_be_written settings.now reply.now ≡ true }
+    ensures text { OnOk result (out.new.items ≡ out.old.items ++ compact_text (reply_data settings.now reply.now)) }
+    ensures words { OnOk result (has_words settings.now reply.now ≡ true) }
+{
+    match reply {
+        Reply::Done { reference } => append_done(out, reference),
+        Reply::Taken { id, deadline } => append_taken(out, id, deadline.millis(settings.base())),
+        Reply::State { from, id, state } => append_state(out, settings, *from, id, state),
+        Reply::Inbox { entries } => append_inbox(out, settings, entries.as_slice()),
+        Reply::Position {
+            position,
+            reserved,
+            available,
+        } => append_position(out, *position, *reserved, *available),
+        Reply::Statement { lines } => append_statement(alloc, out, settings, lines.as_slice()),
+        Reply::Refused(fault) => append_refused(out, *fault),
+    }
+}
+
+fn append_done(out: &mut Vec<u8>, reference: &Ident) -> Result<(), AllocError>
+    ensures { OnOk result (out.new.items ≡ out.old.items ++ compact_text (done_data reference.now)) }
+{
+    let reference = reference.text();
+    append(
+        out,
+        &[
+            Piece::Text("{\"ref\":\""),
+            Piece::Text(reference),
+            Piece::Text("\",\"reply\":\"done\"}"),
+        ],
+    )
+}
+
+/// The deadline is in absolute milliseconds.
+fn append_taken(out: &mut Vec<u8>, id: &Ident, deadline: u64) -> Result<(), AllocError>
+    ensures { OnOk result (out.new.items ≡ out.old.items ++ compact_text (taken_data id.now deadline)) }
+{
+    let id = id.text();
+    append(
+        out,
+        &[
+            Piece::Text("{\"deadline\":"),
+            Piece::Number(deadline),
+            Piece::Text(",\"id\":\""),
+            Piece::Text(id),
+            Piece::Text("\",\"reply\":\"taken\"}"),
+        ],
+    )
+}
+
+fn append_position(
+    out: &mut Vec<u8>,
+    position: u64,
+    reserved: u64,
+    available: u64,
+) -> Result<(), AllocError>
+    ensures { OnOk result (out.new.items ≡ out.old.items ++ compact_text (position_data position reserved available)) }
+{
+    append(
+        out,
+        &[
+            Piece::Text("{\"available\":"),
+            Piece::Number(available),
+            Piece::Text(",\"position\":"),
+            Piece::Number(position),
+            Piece::Text(",\"reply\":\"position\",\"reserved\":"),
+            Piece::Number(reserved),
+            Piece::Text("}"),
+        ],
+    )
+}
+
+fn append_refused(out: &mut Vec<u8>, fault: Fault) -> Result<(), AllocError>
+    ensures { OnOk result (out.new.items ≡ out.old.items ++ compact_text (refused_data fault)) }
+{
+    append(
+        out,
+        &[
+            Piece::Text("{\"fault\":\""),
+            Piece::Text(fault.name()),
+            Piece::Text("\",\"number\":"),
+            Piece::Number(u64::from(fault.number())),
+            Piece::Text(",\"reply\":\"refused\"}"),
+        ],
+    )
+}
+
+/// The code of the participant with this number.
+pub(crate) fn code_text(settings: &Settings, number: u8) -> &str
+    requires { is_participant settings.now number ≡ true }
+    ensures value { result.now ≡ code_numbered settings.now number }
+    ensures form { IsTrue (is_code result.now) }
+{
+    match settings.code(number) {
+        Some(code) => code.text(),
+        None => unreachable!(),
+    }
+}
+
+fn append_state(
+    out: &mut Vec<u8>,
+    settings: &Settings,
+    from: u8,
+    id: &Ident,
+    state: &State,
+) -> Result<(), AllocError>
+    requires known { is_participant settings.now from ≡ true }
+    requires used { is_used state.now ≡ true }
+    ensures { OnOk result (out.new.items
+        ≡ out.old.items ++ compact_text (state_of (code_numbered settings.now from) id.now state.now)) }
+{
+    let from = code_text(settings, from);
+    match state {
+        State::Unused => unreachable!(),
+        State::Pending => append_named_state(out, from, id, "pending"),
+        State::Decided(Outcome::Accepted) => append_named_state(out, from, id, "accepted"),
+        State::Decided(Outcome::Rejected(reason)) => append_rejected(out, from, id, reason),
+        State::Decided(Outcome::TimedOut) => append_named_state(out, from, id, "timed_out"),
+    }
+}
+
+/// A state without a reason.
+fn append_named_state<'a>(
+    out: &mut Vec<u8>,
+    from: &'a str,
+    id: &'a Ident,
+    name: &'a str,
+) -> Result<(), AllocError>
+    requires from_form { IsTrue (is_code from.now) }
+    requires name_form { is_state_name name.now ≡ true }
+    ensures { OnOk result (out.new.items ≡ out.old.items ++ compact_text (state_data from.now id.now name.now)) }
+{
+    let id = id.text();
+    append(
+        out,
+        &[
+            Piece::Text("{\"from\":\""),
+            Piece::Text(from),
+            Piece::Text("\",\"id\":\""),
+            Piece::Text(id),
+            Piece::Text("\",\"reply\":\"state\",\"state\":\""),
+            Piece::Text(name),
+            Piece::Text("\"}"),
+        ],
+    )
+}
+
+fn append_rejected<'a>(
+    out: &mut Vec<u8>,
+    from: &'a str,
+    id: &'a Ident,
+    reason: &'a Reason,
+) -> Result<(), AllocError>
+    requires { IsTrue (is_code from.now) }
+    ensures { OnOk result (out.new.items ≡ out.old.items ++ compact_text (rejected_data from.now id.now reason.now)) }
+{
+    let id = id.text();
+    let reason = reason.text();
+    append(
+        out,
+        &[
+            Piece::Text("{\"from\":\""),
+            Piece::Text(from),
+            Piece::Text("\",\"id\":\""),
+            Piece::Text(id),
+            Piece::Text("\",\"reason\":\""),
+            Piece::Text(reason),
+            Piece::Text("\",\"reply\":\"state\",\"state\":\"rejected\"}"),
+        ],
+    )
+}

@@ -1,0 +1,320 @@
+//! Each line is read as its tree is, whichever way it goes.
+use crate::command::ask_of;
+use crate::line::{fields_of, scan_line};
+use crate::step::step_of;
+use crate::{read_command, read_step};
+use inst_base::{Code, Fault};
+use inst_settings::Settings;
+use serde_json::Value;
+use std::alloc::Global;
+use std::process::Abort;
+use std::test::Fail;
+
+/// The members of each command and step.
+const LINES: [&[&str]; 12] = [
+    &[
+        r#""at":0"#,
+        r#""cents":50000"#,
+        r#""cmd":"fund""#,
+        r#""ref":"F1""#,
+        r#""who":"AAAADEFF""#,
+    ],
+    &[
+        r#""at":0"#,
+        r#""cents":1"#,
+        r#""cmd":"defund""#,
+        r#""ref":"D1""#,
+        r#""who":"AAAADEFF""#,
+    ],
+    &[
+        r#""at":1000"#,
+        r#""cents":50000"#,
+        r#""cmd":"submit""#,
+        r#""id":"T1""#,
+        r#""stamp":1000"#,
+        r#""to":"BBBBFRPP""#,
+        r#""who":"AAAADEFF""#,
+    ],
+    &[
+        r#""at":2"#,
+        r#""cmd":"confirm""#,
+        r#""from":"AAAADEFF""#,
+        r#""id":"T1""#,
+        r#""who":"BBBBFRPP""#,
+    ],
+    &[
+        r#""at":2"#,
+        r#""cmd":"reject""#,
+        r#""from":"AAAADEFF""#,
+        r#""id":"T1""#,
+        r#""reason":"AC04""#,
+        r#""who":"BBBBFRPP""#,
+    ],
+    &[
+        r#""at":2"#,
+        r#""cmd":"investigate""#,
+        r#""id":"T1""#,
+        r#""who":"AAAADEFF""#,
+    ],
+    &[
+        r#""at":1500"#,
+        r#""cmd":"fetch""#,
+        r#""max":10"#,
+        r#""who":"BBBBFRPP""#,
+    ],
+    &[r#""at":0"#, r#""cmd":"position""#, r#""who":"AAAADEFF""#],
+    &[
+        r#""at":3"#,
+        r#""cmd":"statement""#,
+        r#""count":10"#,
+        r#""skip":0"#,
+        r#""who":"AAAADEFF""#,
+    ],
+    &[
+        r#""from":"AAAADEFF""#,
+        r#""place":0"#,
+        r#""step":"deliver""#,
+        r#""who":"BBBBFRPP""#,
+    ],
+    &[
+        r#""from":"AAAADEFF""#,
+        r#""place":1023"#,
+        r#""step":"learn""#,
+        r#""who":"AAAADEFF""#,
+    ],
+    &[
+        r#""at":11000"#,
+        r#""place":0"#,
+        r#""step":"expire""#,
+        r#""who":"AAAADEFF""#,
+    ],
+];
+
+/// Members that a line may have before and behind its own, and whether one pass reads the line.
+const MEMBERS: [(&str, bool); 38] = [
+    (r#""at":7"#, true),
+    (r#""at":"7""#, true),
+    (r#""at":null"#, false),
+    (r#""who":"CCCCITMM""#, true),
+    (r#""who":7"#, true),
+    (r#""cmd":"position""#, true),
+    (r#""step":"expire""#, true),
+    (r#""step":7"#, true),
+    (r#""x":7"#, true),
+    (r#""x":"y","x":7"#, true),
+    (r#""x":7,"x":"y""#, true),
+    (r#""":"""#, true),
+    (r#""\u0061t":7"#, false),
+    (r#""a\u0074":"7""#, false),
+    (r#""who":"AAAADE\u0046F""#, false),
+    (r#""who":"AAAADEF\/""#, false),
+    (r#""é":7"#, false),
+    (r#""id":"é""#, false),
+    (r#""id":"\ud83d\ude00""#, false),
+    (r#""id":"\ud83d""#, false),
+    (r#""skip":0"#, true),
+    (r#""skip":999999999999999999"#, true),
+    (r#""skip":1000000000000000000"#, true),
+    (r#""skip":9999999999999999999"#, true),
+    (r#""skip":18446744073709551615"#, false),
+    (r#""skip":18446744073709551616"#, false),
+    (r#""skip":99999999999999999999"#, false),
+    (r#""skip":-0"#, false),
+    (r#""skip":-1"#, false),
+    (r#""skip":1.0"#, false),
+    (r#""skip":1e3"#, false),
+    (r#""skip":1e400"#, false),
+    (r#""skip":01"#, false),
+    (r#""skip":true"#, false),
+    (r#""x":{"at":7}"#, false),
+    (r#""x":[{},[1]]"#, false),
+    (r#""x""#, false),
+    (r#","#, false),
+];
+
+/// A hub of AAAADEFF, BBBBFRPP and CCCCITMM.
+fn hub(alloc: Global) -> Result<Settings, Fail> {
+    let codes = [
+        Code::new("AAAADEFF")?,
+        Code::new("BBBBFRPP")?,
+        Code::new("CCCCITMM")?,
+    ];
+    Ok(Settings::check(
+        codes.to_vec(alloc)?,
+        256,
+        256,
+        10_000,
+        0,
+        1000,
+        99_999_999_999,
+        0,
+    )?)
+}
+
+/// Asserts that a line is read as its tree is.
+fn assert_alike(
+    rt: &impl Abort,
+    alloc: Global,
+    settings: &Settings,
+    line: &[u8],
+) -> Result<(), Fail> {
+    let command = read_command(alloc, settings, line);
+    let step = read_step(alloc, settings, line);
+    match Value::from_slice(alloc, line) {
+        Ok(value) => {
+            let fields = fields_of(&value);
+            assert_eq!(rt; command, ask_of(settings, &fields), "{line:?}");
+            assert_eq!(rt; step, step_of(settings, &fields), "{line:?}");
+        }
+        Err(_) => {
+            assert_eq!(rt; command, Err(Fault::NotJson), "{line:?}");
+            assert_eq!(rt; step, Err(Fault::NotJson), "{line:?}");
+        }
+    }
+    Ok(())
+}
+
+/// An object of members, the one at `first` first, and then as they come; `more` stands before or
+/// behind them.
+fn line_of(
+    alloc: Global,
+    members: &[&str],
+    first: usize,
+    more: Option<&str>,
+    is_behind: bool,
+) -> Result<String, Fail> {
+    let mut parts: Vec<&str> = Vec::new(alloc);
+    if let Some(more) = more
+        && !is_behind
+    {
+        parts.push(more)?;
+    }
+    for (place, member) in members.iter().enumerate() {
+        if place >= first {
+            parts.push(member)?;
+        }
+    }
+    for (place, member) in members.iter().enumerate() {
+        if place < first {
+            parts.push(member)?;
+        }
+    }
+    if let Some(more) = more
+        && is_behind
+    {
+        parts.push(more)?;
+    }
+    let mut line = String::from_str(alloc, "{")?;
+    for (place, part) in parts.iter().enumerate() {
+        if place > 0 {
+            line.push_str(",")?;
+        }
+        line.push_str(part)?;
+    }
+    line.push_str("}")?;
+    Ok(line)
+}
+
+/// The bytes with another before the one at a place.
+fn with_byte(alloc: Global, bytes: &[u8], at: usize, other: u8) -> Result<Vec<u8>, Fail> {
+    let mut line = Vec::new(alloc);
+    for (place, byte) in bytes.iter().enumerate() {
+        if place == at {
+            line.push(other)?;
+        }
+        line.push(*byte)?;
+    }
+    Ok(line)
+}
+
+/// The bytes before a place.
+fn cut(alloc: Global, bytes: &[u8], at: usize) -> Result<Vec<u8>, Fail> {
+    let mut line = Vec::new(alloc);
+    for (place, byte) in bytes.iter().enumerate() {
+        if place < at {
+            line.push(*byte)?;
+        }
+    }
+    Ok(line)
+}
+
+#[test]
+fn keys_in_any_order_are_read_in_one_pass(rt: HostRuntime) -> Result<(), Fail> {
+    let alloc = rt.alloc();
+    let hub = hub(alloc)?;
+    for members in LINES {
+        for first in 0..members.len() {
+            let line = line_of(alloc, members, first, None, false)?;
+            assert!(rt; scan_line(line.as_bytes()).is_some(), "{line}");
+            assert_alike(&rt, alloc, &hub, line.as_bytes())?;
+        }
+    }
+    Ok(())
+}
+
+#[test]
+fn more_members_count_as_in_the_tree(rt: HostRuntime) -> Result<(), Fail> {
+    let alloc = rt.alloc();
+    let hub = hub(alloc)?;
+    for members in LINES {
+        for (more, is_scanned) in MEMBERS {
+            for is_behind in [false, true] {
+                let line = line_of(alloc, members, 0, Some(more), is_behind)?;
+                assert_eq!(rt; scan_line(line.as_bytes()).is_some(), is_scanned, "{line}");
+                assert_alike(&rt, alloc, &hub, line.as_bytes())?;
+            }
+        }
+    }
+    Ok(())
+}
+
+#[test]
+fn white_space_and_strange_bytes_at_every_place(rt: HostRuntime) -> Result<(), Fail> {
+    let alloc = rt.alloc();
+    let hub = hub(alloc)?;
+    for members in LINES {
+        let line = line_of(alloc, members, 0, None, false)?;
+        for at in 0..line.len() {
+            for other in [
+                b' ', b'\t', b'\n', b'\r', 0x0b, b'"', b',', b'}', b'0', 0xc3,
+            ] {
+                let line = with_byte(alloc, line.as_bytes(), at, other)?;
+                assert_alike(&rt, alloc, &hub, &line)?;
+            }
+        }
+    }
+    Ok(())
+}
+
+#[test]
+fn every_cut_of_a_line(rt: HostRuntime) -> Result<(), Fail> {
+    let alloc = rt.alloc();
+    let hub = hub(alloc)?;
+    for members in LINES {
+        let line = line_of(alloc, members, 0, None, false)?;
+        for at in 0..line.len() {
+            assert_alike(&rt, alloc, &hub, &cut(alloc, line.as_bytes(), at)?)?;
+        }
+        for tail in [" ", "\r", " \t\n", "x", ",", "}", "{}"] {
+            let line = format!(in alloc; "{line}{tail}")?;
+            assert_alike(&rt, alloc, &hub, line.as_bytes())?;
+        }
+    }
+    for line in [
+        "",
+        " ",
+        "{}",
+        " { } ",
+        "[]",
+        "7",
+        "\"{\"",
+        "{\"at\"}",
+        "{\"at\":}",
+        "{:1}",
+        "{,}",
+        "{{}}",
+    ] {
+        assert_alike(&rt, alloc, &hub, line.as_bytes())?;
+    }
+    Ok(())
+}
