@@ -3,7 +3,8 @@ use Rattle.std.proofs.Common.{◌≡◌, ℕ, ◌+◌, ◌<◌, ◌≤◌, Bool,
 use Rattle.std.proofs.lemmas.Bool.{lt-ltb, le-ltb, false≢true}
 use Rattle.std.proofs.lemmas.List.{append-nil}
 use Rattle.inst_world.specs.Lines.{newline}
-use Rattle.inst_world.specs.Answers.{Answerer, max_line_len, is_too_long, reply_to, state_after_line, is_refused, output, state_after, refusals, IsFront, AnswersLine}
+use Rattle.inst_world.specs.Answers.{Answerer, is_too_long, reply_to, state_after_line, is_refused, output, state_after, refusals, IsFront, AnswersLine}
+use Rattle.inst_world.specs.Limits.{most_line_bytes}
 
 pub output-append : {S : Type 0} (a : Answerer S) (s : S) (xs ys : List (List ℕ)) → output a s (xs ++ ys) ≡ output a s xs ++ output a (state_after a s xs) ys
 output-append a s [] ys = refl
@@ -23,13 +24,13 @@ refusals-push a s [] x = omega arith
 refusals-push a s (y ∷ xs) x = let h : _ ≡ _ = refusals-push a (state_after_line a s y) xs x in omega (arith, h)
 
 -- a line is too long where its front was let go, or the part held is too long
-pub is_too_long-front : (is_long : Bool) (front part : List ℕ) → IsFront is_long front → (is_long ≡ true) ⊎ (max_line_len < length part) → is_too_long (front ++ part) ≡ true
+pub is_too_long-front : (is_long : Bool) (front part : List ℕ) → IsFront is_long front → (is_long ≡ true) ⊎ (most_line_bytes < length part) → is_too_long (front ++ part) ≡ true
 is_too_long-front true front part h why = lt-ltb _ _ (let long : 4096 < length front = h.0 in omega (arith, length-append front part))
 is_too_long-front false front part h (inl is) = absurd (false≢true is)
 is_too_long-front false front part h (inr long) = lt-ltb _ _ (omega (arith, length-append front part))
 
 -- the answer to a line that is too long
-pub answers_too_long : {S : Type 0} (a : Answerer S) (is_long : Bool) (part : List ℕ) (s : S) (out : List ℕ) → (is_long ≡ true) ⊎ (max_line_len < length part) → AnswersLine a is_long part s s out (out ++ (a.too_long ++ newline ∷ [])) true
+pub answers_too_long : {S : Type 0} (a : Answerer S) (is_long : Bool) (part : List ℕ) (s : S) (out : List ℕ) → (is_long ≡ true) ⊎ (most_line_bytes < length part) → AnswersLine a is_long part s s out (out ++ (a.too_long ++ newline ∷ [])) true
 answers_too_long a is_long part s out why = record {
   reply = λ front h. rw (is_too_long-front is_long front part h why) refl;
   state = λ front h. rw (is_too_long-front is_long front part h why) refl;
@@ -37,7 +38,7 @@ answers_too_long a is_long part s out why = record {
 }
 
 -- the answer to a line that the world takes
-pub answers_by_world : {S : Type 0} (a : Answerer S) (part : List ℕ) (s : S) (out : List ℕ) → length part ≤ max_line_len → AnswersLine a false part s (a.next s part) out (out ++ (a.reply s part ++ newline ∷ [])) (a.is_refusal s part)
+pub answers_by_world : {S : Type 0} (a : Answerer S) (part : List ℕ) (s : S) (out : List ℕ) → length part ≤ most_line_bytes → AnswersLine a false part s (a.next s part) out (out ++ (a.reply s part ++ newline ∷ [])) (a.is_refusal s part)
 answers_by_world a part s out short =
     let fits : is_too_long part ≡ false = le-ltb _ _ short in
     record {

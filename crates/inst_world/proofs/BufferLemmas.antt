@@ -6,7 +6,8 @@ use Rattle.std.proofs.lemmas.Slice.{between_is}
 use borrow.Rule.Slice.PartMut.{put_mid, post_of}
 use lib.Seq.{paste}
 use Rattle.inst_world.specs.Lines.{NoNewline}
-use Rattle.inst_world.specs.Answers.{MakesRoom, max_line_len}
+use Rattle.inst_world.specs.Answers.{MakesRoom}
+use Rattle.inst_world.specs.Limits.{most_line_bytes}
 use Rattle.inst_world.proofs.LinesLemmas.{NoNewline-append}
 
 -- a front of known length, and then some more
@@ -47,7 +48,7 @@ held-moved xs start e below within =
     ap (λ (k : ℕ). take k (part ++ drop (0 + (e - start)) xs)) whole ∙ take_at part (drop (0 + (e - start)) xs) (e - start) len
 
 -- a line that is too long is let go
-pub room-dropped : (was_long : Bool) (held : List ℕ) → NoNewline held → (was_long || nat_lt max_line_len (length held)) ≡ true → MakesRoom was_long held true []
+pub room-dropped : (was_long : Bool) (held : List ℕ) → NoNewline held → (was_long || nat_lt most_line_bytes (length held)) ≡ true → MakesRoom was_long held true []
 room-dropped true held none long = record {
   line = λ front h. (front ++ held, (let l : 4096 < length front = h.0 in omega (arith, length-append front held), NoNewline-append front held h.1 none), append-nil _);
   no_newline = tt;

@@ -3,7 +3,8 @@ use Rattle.std.proofs.Common.{◌≡◌, ℕ, ◌+◌, ◌<◌, ◌≤◌, Bool,
 use Rattle.std.proofs.lemmas.List.{append-nil, take_all, take_at}
 use Rattle.std.proofs.lemmas.Bool.{false≢true}
 use Rattle.std.specs.Io.KnownBytes.{Appends, Consumes, Keeps}
-use Rattle.inst_world.specs.Lines.{newline, lines_of, whole_lines_of, whole_lines_within, NoNewline, max_lines, max_bytes}
+use Rattle.inst_world.specs.Lines.{newline, lines_of, whole_lines_of, whole_lines_within, NoNewline}
+use Rattle.inst_world.specs.Limits.{most_lines, most_bytes}
 use Rattle.inst_world.specs.Answers.{Answerer, reply_to, state_after_line, is_refused, output, state_after, refusals, IsFront, MakesRoom, AnswersLine}
 use Rattle.inst_world.specs.Replies.{WritesPart, WritesFirst}
 use Rattle.inst_world.specs.Progress.{Splits, Progress, Stopped, Finished, CutOff}
@@ -205,28 +206,28 @@ module _ {S : Type 0} (a : Answerer S) (start : S) (before : Option (List ℕ)) 
 
   -- no line more may come
   pub progress-full : (bytes : List ℕ) (now : Option (List ℕ)) (state : S) (is_long : Bool) (held : List ℕ) (lines refused : ℕ)
-      → Progress a start before bytes now [] state is_long held lines refused → lines ≡ max_lines → length bytes ≤ max_bytes
+      → Progress a start before bytes now [] state is_long held lines refused → lines ≡ most_lines → length bytes ≤ most_bytes
       → CutOff a start before bytes now
   progress-full bytes now state is_long held lines refused p full short =
       let within : whole_lines_within bytes ≡ p.answered =
-      ap (λ (t : List ℕ). take max_lines (whole_lines_of t)) (take_all max_bytes bytes short)
-      ∙ ap (λ (t : List (List ℕ)). take max_lines t) (whole_lines_of-split bytes p.answered (p.front ++ held) p.splits)
-      ∙ take_at p.answered _ max_lines (sym p.lines_are ∙ full) in
+      ap (λ (t : List ℕ). take most_lines (whole_lines_of t)) (take_all most_bytes bytes short)
+      ∙ ap (λ (t : List (List ℕ)). take most_lines t) (whole_lines_of-split bytes p.answered (p.front ++ held) p.splits)
+      ∙ take_at p.answered _ most_lines (sym p.lines_are ∙ full) in
       record { appends = written-all now p.written p.answered _ p.appends p.replies within }
 
   -- a read failed, or gave a byte too many
   pub progress-cut : (bytes past : List ℕ) (now : Option (List ℕ)) (state : S) (is_long : Bool) (held : List ℕ) (lines refused : ℕ)
-      → Progress a start before bytes now [] state is_long held lines refused → NoNewline held → lines ≤ max_lines → length bytes ≤ max_bytes
-      → (past ≡ []) ⊎ (length bytes ≡ max_bytes)
+      → Progress a start before bytes now [] state is_long held lines refused → NoNewline held → lines ≤ most_lines → length bytes ≤ most_bytes
+      → (past ≡ []) ⊎ (length bytes ≡ most_bytes)
       → CutOff a start before (bytes ++ past) now
   progress-cut bytes past now state is_long held lines refused p none few short why =
-      let kept : take max_bytes (bytes ++ past) ≡ bytes = ⊎_elim
-      (λ (is : past ≡ []). ap (λ (t : List ℕ). take max_bytes (bytes ++ t)) is ∙ ap (λ (t : List ℕ). take max_bytes t) (append-nil bytes) ∙ take_all max_bytes bytes short)
-      (λ (is : length bytes ≡ max_bytes). take_at bytes past max_bytes is) why in
+      let kept : take most_bytes (bytes ++ past) ≡ bytes = ⊎_elim
+      (λ (is : past ≡ []). ap (λ (t : List ℕ). take most_bytes (bytes ++ t)) is ∙ ap (λ (t : List ℕ). take most_bytes t) (append-nil bytes) ∙ take_all most_bytes bytes short)
+      (λ (is : length bytes ≡ most_bytes). take_at bytes past most_bytes is) why in
       let within : whole_lines_within (bytes ++ past) ≡ p.answered =
-      ap (λ (t : List ℕ). take max_lines (whole_lines_of t)) kept
-      ∙ ap (λ (t : List (List ℕ)). take max_lines t) (whole_lines_of-split bytes p.answered (p.front ++ held) p.splits ∙ ap (λ (t : List (List ℕ)). p.answered ++ t) (whole_lines_of-part (p.front ++ held) (NoNewline-front is_long p.front held p.is_front none)) ∙ append-nil p.answered)
-      ∙ take_all max_lines p.answered (subst (λ (n : ℕ). n ≤ max_lines) p.lines_are few) in
+      ap (λ (t : List ℕ). take most_lines (whole_lines_of t)) kept
+      ∙ ap (λ (t : List (List ℕ)). take most_lines t) (whole_lines_of-split bytes p.answered (p.front ++ held) p.splits ∙ ap (λ (t : List (List ℕ)). p.answered ++ t) (whole_lines_of-part (p.front ++ held) (NoNewline-front is_long p.front held p.is_front none)) ∙ append-nil p.answered)
+      ∙ take_all most_lines p.answered (subst (λ (n : ℕ). n ≤ most_lines) p.lines_are few) in
       record { appends = written-all now p.written p.answered _ p.appends p.replies within }
 
   -- a last line with no newline is answered

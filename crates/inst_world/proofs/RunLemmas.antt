@@ -6,7 +6,8 @@ use Rattle.inst_base.specs.declared.fault.Fault.{Fault}
 use Rattle.inst_base.specs.declared.fault.Fault.TheVariants.{Memory}
 use Rattle.inst_world.specs.declared.session.Session.{Session}
 use Rattle.inst_world.specs.declared.session.Counts.{Counts}
-use Rattle.inst_world.specs.Lines.{lines_of, IsWithinLimits, max_bytes, max_lines}
+use Rattle.inst_world.specs.Lines.{lines_of, IsWithinLimits}
+use Rattle.inst_world.specs.Limits.{most_bytes, most_lines}
 use Rattle.inst_world.specs.Answers.{Answerer, output, state_after, refusals}
 use Rattle.inst_world.specs.LineBuffer.{held}
 use Rattle.inst_world.specs.Progress.{Progress, Finished}
@@ -26,7 +27,7 @@ pub record Done {S : Type 0} (a : Answerer S) (start : S) (before : Option (List
   pub lines_are : IfSome left (λ bytes. counts.lines ≡ length (lines_of bytes))
   pub refused_are : IfSome left (λ bytes. counts.refused ≡ refusals a start (lines_of bytes))
   pub state_is : IfSome left (λ bytes. state ≡ state_after a start (lines_of bytes))
-  pub fits : counts.lines ≤ max_lines → IfSome left IsWithinLimits
+  pub fits : counts.lines ≤ most_lines → IfSome left IsWithinLimits
   pub at_end : IsAtEnd left'
 
 -- all that was left is what was consumed, at the end
@@ -72,8 +73,8 @@ module _ {S : Type 0} (a : Answerer S) (start : S) (before left : Option (List �
         refused_are = if_consumed left left'' r.bytes (λ bytes. counts.refused ≡ refusals a start (lines_of bytes)) all e.at_end f.refused_are;
         state_is = if_consumed left left'' r.bytes (λ bytes. s' ≡ state_after a start (lines_of bytes)) all e.at_end f.state_is;
         fits = λ few. if_consumed left left'' r.bytes IsWithinLimits all e.at_end record {
-          bytes_fit = subst (λ (n : ℕ). n ≤ max_bytes) r.reached.taken_is old.input.limit;
-          lines_fit = subst (λ (n : ℕ). n ≤ max_lines) f.lines_are few;
+          bytes_fit = subst (λ (n : ℕ). n ≤ most_bytes) r.reached.taken_is old.input.limit;
+          lines_fit = subst (λ (n : ℕ). n ≤ most_lines) f.lines_are few;
         };
         at_end = e.at_end;
       }

@@ -8,7 +8,8 @@ use Rattle.inst_base.specs.declared.fault.Fault.TheVariants.{Memory, ReadFault, 
 use Rattle.inst_world.specs.declared.session.Session.{Session}
 use Rattle.inst_world.specs.declared.session.Counts.{Counts}
 use Rattle.inst_world.specs.declared.line_buffer.LineBuffer.{LineBuffer}
-use Rattle.inst_world.specs.Lines.{newline, NoNewline, BreaksAt, max_lines, max_bytes}
+use Rattle.inst_world.specs.Lines.{newline, NoNewline, BreaksAt}
+use Rattle.inst_world.specs.Limits.{most_lines, most_bytes}
 use Rattle.inst_world.specs.Answers.{Answerer, AnswersLine, MakesRoom, output, state_after, refusals}
 use Rattle.inst_world.specs.LineBuffer.{held, Fills, FillFails}
 use Rattle.inst_world.specs.Replies.{WritesPart, WritesFirst}
@@ -192,8 +193,8 @@ module _ {S : Type 0} (a : Answerer S) where
         let p : Progress a start before bytes now [] s old.input.is_long (held old.input) old.counts.lines old.counts.refused =
         subst (λ (t : List ℕ). Progress a start before bytes now t s old.input.is_long (held old.input) old.counts.lines old.counts.refused) ready.pending r.progress in
         progress-cut a start before bytes f.past now s _ _ _ _ p ready.answered.no_newline old.limit
-        (subst (λ (n : ℕ). n ≤ max_bytes) r.taken_is old.input.limit)
-        (⊎_elim (λ (is : f.past ≡ []). inl is) (λ (is : old.input.taken ≡ max_bytes). inr (sym r.taken_is ∙ is)) f.why);
+        (subst (λ (n : ℕ). n ≤ most_bytes) r.taken_is old.input.limit)
+        (⊎_elim (λ (is : f.past ≡ []). inl is) (λ (is : old.input.taken ≡ most_bytes). inr (sym r.taken_is ∙ is)) f.why);
   }
 
   pub leaves-stopped : (start : S) (before : Option (List ℕ)) (bytes : List ℕ) (now : Option (List ℕ)) (fault : Fault) → IsNoReadFault fault → Stopped a start before bytes now → Leaves a start before bytes now fault
@@ -249,7 +250,7 @@ module _ {S : Type 0} (a : Answerer S) where
       → middle.replies ≡ old.replies → middle.counts ≡ old.counts → Fills old.input middle.input n left left'
       → Advances a middle s now answered s' now' → new.input ≡ answered.input → new.counts ≡ answered.counts
       → WritesFirst now' now'' answered.replies.bytes.items new.replies.bytes.items → new.replies.bytes.items ≡ []
-      → new.counts.lines ≡ max_lines
+      → new.counts.lines ≡ most_lines
       → Fails a old s now now'' left left' ReadFault
   turn-full old middle answered new s s' now now' now'' left left' n same_replies same_counts f d same_input same_counts' w none full = record {
     read = f.read;
@@ -258,7 +259,7 @@ module _ {S : Type 0} (a : Answerer S) where
         let e : Reached a start before (bytes ++ f.read) now'' new s' = delivered start before bytes old middle answered new s s' now now' now'' left left' n same_replies same_counts f d same_input same_counts' w r in
         progress-full a start before (bytes ++ f.read) now'' s' _ _ _ _
         (subst (λ (t : List ℕ). Progress a start before (bytes ++ f.read) now'' t s' new.input.is_long (held new.input) new.counts.lines new.counts.refused) none e.progress)
-        full (subst (λ (k : ℕ). k ≤ max_bytes) e.taken_is new.input.limit);
+        full (subst (λ (k : ℕ). k ≤ most_bytes) e.taken_is new.input.limit);
   }
 
   pub turn-goes_on : (old middle answered sent new : Session) (s s' : S) (now now' now'' left left' : Option (List ℕ)) (n : ℕ)
@@ -269,7 +270,7 @@ module _ {S : Type 0} (a : Answerer S) where
       → new.replies ≡ sent.replies → new.counts ≡ sent.counts → new.input.taken ≡ sent.input.taken
       → MakesRoom sent.input.is_long (held sent.input) new.input.is_long (held new.input)
       → new.input.end ≤ 4096
-      → (sent.counts.lines ≡ max_lines → (sent.input.is_long || nat_lt 0 (length (held sent.input))) ≡ false)
+      → (sent.counts.lines ≡ most_lines → (sent.input.is_long || nat_lt 0 (length (held sent.input))) ≡ false)
       → Turns a old s now new s' now'' left left'
   turn-goes_on old middle answered sent new s s' now now' now'' left left' n same_replies same_counts f some d same_taken same_input same_counts' w none same_replies' same_counts'' same_taken' room space limit =
       record {

@@ -1,5 +1,6 @@
 -- What is answered to lines, at any world. This hub's own choice.
 use Rattle.std.specs.Prelude.{◌≡◌, ℕ, ◌+◌, ◌<◌, Bool, true, false, List, [], ◌∷◌, ◌++◌, length, nat_lt, if◌then◌else◌}
+use Rattle.inst_world.specs.Limits.{most_line_bytes}
 use Rattle.inst_world.specs.Lines.{newline, NoNewline}
 
 -- how a world of states S answers a line: by which reply, into which state, and whether the reply is
@@ -10,12 +11,8 @@ pub record Answerer (S : Type 0) : Type 0 where
   pub is_refusal : S → List ℕ → Bool
   pub too_long : List ℕ
 
--- the most bytes of a line that reaches the world
-abbrev pub max_line_len : ℕ
-max_line_len = 4096
-
 abbrev pub is_too_long : List ℕ → Bool
-is_too_long line = nat_lt max_line_len (length line)
+is_too_long line = nat_lt most_line_bytes (length line)
 
 -- the reply to a line, without its newline
 abbrev pub reply_to : {S : Type 0} → Answerer S → S → List ℕ → List ℕ
@@ -47,7 +44,7 @@ refusals a s (line ∷ lines) =
 
 -- the front of a line that was let go since the line is too long already, or nothing
 abbrev pub IsFront : Bool → List ℕ → Type 0
-IsFront true front = (max_line_len < length front) × NoNewline front
+IsFront true front = (most_line_bytes < length front) × NoNewline front
 IsFront false front = front ≡ []
 
 -- what is held changes where no newline is: part of it may be let go, where the line is too long

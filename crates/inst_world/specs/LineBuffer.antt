@@ -2,7 +2,7 @@
 use Rattle.std.specs.Prelude.{◌≡◌, ℕ, ◌+◌, List, [], ◌++◌, length, slice_range, Option, ◌⊎◌}
 use Rattle.std.specs.Io.KnownBytes.{Consumes, IsAtEnd}
 use Rattle.inst_world.specs.declared.line_buffer.LineBuffer.{LineBuffer}
-use Rattle.inst_world.specs.Lines.{max_bytes}
+use Rattle.inst_world.specs.Limits.{most_bytes}
 
 -- the bytes that were read and not answered, but for the front of a line that is too long
 abbrev pub held : LineBuffer → List ℕ
@@ -22,4 +22,4 @@ pub record Fills (old new : LineBuffer) (n : ℕ) (before after : Option (List �
 pub record FillFails (old : LineBuffer) (before after : Option (List ℕ)) : Type 0 where
   pub past : List ℕ
   pub consumes : Consumes before after past
-  pub why : (past ≡ []) ⊎ (old.taken ≡ max_bytes)
+  pub why : (past ≡ []) ⊎ (old.taken ≡ most_bytes)

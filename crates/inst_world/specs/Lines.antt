@@ -1,5 +1,6 @@
 -- The lines of a text of bytes, and how many a run may have. This hub's own choice.
 use Rattle.std.specs.Prelude.{◌≡◌, ◌≢◌, ℕ, ◌+◌, ◌<◌, ◌≤◌, List, [], ◌∷◌, ◌++◌, length, take, drop, ◌==◌, if◌then◌else◌}
+use Rattle.inst_world.specs.Limits.{most_lines, most_bytes}
 
 -- the byte that ends a line
 abbrev pub newline : ℕ
@@ -26,21 +27,14 @@ whole_lines_of [] = []
 whole_lines_of (b ∷ bytes) =
     if b == newline then [] ∷ whole_lines_of bytes else onto_whole b (whole_lines_of bytes)
 
--- the most lines, and the most bytes, of a run
-abbrev pub max_lines : ℕ
-max_lines = 1000000
-
-abbrev pub max_bytes : ℕ
-max_bytes = 4294967296
-
 -- the lines whose newline stands within the limits of a run
 abbrev pub whole_lines_within : List ℕ → List (List ℕ)
-whole_lines_within bytes = take max_lines (whole_lines_of (take max_bytes bytes))
+whole_lines_within bytes = take most_lines (whole_lines_of (take most_bytes bytes))
 
 -- no more bytes, and no more lines, than a run may have
 pub record IsWithinLimits (bytes : List ℕ) : Type 0 where
-  pub bytes_fit : length bytes ≤ max_bytes
-  pub lines_fit : length (lines_of bytes) ≤ max_lines
+  pub bytes_fit : length bytes ≤ most_bytes
+  pub lines_fit : length (lines_of bytes) ≤ most_lines
 
 -- no byte is a newline
 abbrev pub NoNewline : List ℕ → Type 0

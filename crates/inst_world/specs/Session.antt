@@ -5,7 +5,8 @@ use Rattle.inst_base.specs.declared.fault.Fault.{Fault}
 use Rattle.inst_base.specs.declared.fault.Fault.TheVariants.{Memory, ReadFault, WriteFault}
 use Rattle.inst_world.specs.declared.session.Session.{Session}
 use Rattle.inst_world.specs.declared.session.Counts.{Counts}
-use Rattle.inst_world.specs.Lines.{NoNewline, lines_of, max_lines}
+use Rattle.inst_world.specs.Lines.{NoNewline, lines_of}
+use Rattle.inst_world.specs.Limits.{most_lines, most_line_bytes}
 use Rattle.inst_world.specs.Answers.{Answerer, AnswersLine}
 use Rattle.inst_world.specs.LineBuffer.{held}
 use Rattle.inst_world.specs.Progress.{Progress, Stopped, Finished, CutOff}
@@ -18,13 +19,13 @@ pub record Reached {S : Type 0} (a : Answerer S) (start : S) (before : Option (L
 -- no whole line is held, and after the last line that a run may have nothing is
 pub record IsAnswered (session : Session) : Type 0 where
   pub no_newline : NoNewline (held session.input)
-  pub limit : session.counts.lines ≡ max_lines → (session.input.is_long ≡ false) × (held session.input ≡ [])
+  pub limit : session.counts.lines ≡ most_lines → (session.input.is_long ≡ false) × (held session.input ≡ [])
 
 -- each whole line is answered, the replies are written, and there is room for a read
 pub record IsReady (session : Session) : Type 0 where
   pub answered : IsAnswered session
   pub pending : session.replies.bytes.items ≡ []
-  pub room : session.input.end ≤ 4096
+  pub room : session.input.end ≤ most_line_bytes
 
 -- the first n bytes that are held are answered as the rest of a line, and let go with the byte after them
 pub record TakesLine {S : Type 0} (a : Answerer S) (n : ℕ) (old new : Session) (old_state new_state : S) : Type 0 where

@@ -2,6 +2,8 @@
 #![tactic(auto)]
 
 mod answer;
+mod held_line;
+mod limits;
 mod line_buffer;
 mod replies;
 #[cfg(test)]
@@ -13,6 +15,7 @@ mod slots;
 mod tests;
 mod world;
 
+pub use limits::{MOST_BYTES, MOST_LINE_BYTES, MOST_LINES};
 pub use run::run_lines;
 pub use session::Counts;
 pub use world::World;

@@ -1,22 +1,16 @@
 // The part of the input that is held, and where its lines end.
-ghost use Rattle.std.specs.Prelude.{◌≡◌, ◌≤◌, ◌<◌, ◌+◌, [], ◌++◌, ◌||◌, nat_lt, MatchOption, OnOk, IfOk, IsErrOf, OnErr, false, length, drop, vec_len};
+ghost use Rattle.std.specs.Prelude.{◌≡◌, ◌≤◌, ◌<◌, ◌+◌, [], ◌++◌, ◌||◌, nat_lt, MatchOption, OnOk, IfOk, IsErrOf, OnErr, false, length, take, drop, vec_len};
 ghost use Rattle.std.specs.Io.{ReadsAtMost};
 ghost use Rattle.std.specs.Io.KnownBytes.{ReadConsumes};
+ghost use Rattle.inst_world.specs.Limits.{most_bytes, buffer_bytes};
 ghost use Rattle.inst_world.specs.Lines.{NoNewline, BreaksAt};
 
+use crate::held_line::HeldLine;
+use crate::limits::{BUFFER_BYTES, MOST_BYTES};
 use inst_base::Fault;
 use memchr::memchr;
 use std::alloc::{AllocError, Global};
 use std::io::Read;
-
-/// The most bytes that a run reads.
-pub const MAX_BYTES: u64 = 4_294_967_296;
-
-/// The most bytes of a line that reaches the world, its newline not counted.
-pub const MAX_LINE_LEN: usize = 4_096;
-
-/// The bytes that a buffer has room for.
-const BUFFER_LEN: usize = 65_536;
 
 /// The bytes that were read and not answered. Of a line that is too long nothing is held but what
 /// the last read gave.
@@ -28,13 +22,14 @@ pub struct LineBuffer {
     is_long: bool,
     taken: u64,
     ghost ordered: { start ≤ end },
-    ghost within: { end ≤ 65536 },
-    ghost size: { vec_len bytes ≡ 65536 },
-    ghost limit: { taken ≤ 4294967296 },
+    ghost within: { end ≤ buffer_bytes },
+    ghost size: { vec_len bytes ≡ buffer_bytes },
+    ghost limit: { taken ≤ most_bytes },
 }
 
 impl LineBuffer {
-    ghost use Rattle.inst_world.specs.Answers.{max_line_len, MakesRoom};
+    ghost use Rattle.inst_world.specs.Answers.{MakesRoom};
+    ghost use Rattle.inst_world.specs.Limits.{most_line_bytes};
     ghost use Rattle.inst_world.specs.LineBuffer.{held, Fills, FillFails};
 
     /// An empty buffer.
@@ -42,7 +37,7 @@ impl LineBuffer {
         ensures held { IfOk result (λ input. held input ≡ []) }
         ensures start { IfOk result (λ input. (input.is_long ≡ false) × (input.taken ≡ 0) × (input.end ≡ 0)) }
     {
-        let bytes = vec![in alloc; 0; BUFFER_LEN]?;
+        let bytes = vec![in alloc; 0; BUFFER_BYTES]?;
         Ok(LineBuffer {
             bytes,
             start: 0,
@@ -53,15 +48,15 @@ impl LineBuffer {
     }
 
     /// Reads further bytes, and says how many: 0 at the end of the input. `ReadFault` comes where the
-    /// read fails, and where the input goes on after `MAX_BYTES`.
+    /// read fails, and where the input goes on after `MOST_BYTES`.
     pub fn fill<R: Read>(&mut self, reader: &mut R) -> Result<usize, Fault>
-        requires { self.old.end < 65536 }
+        requires { self.old.end < buffer_bytes }
         ensures ok { IfOk result (λ n. Fills self.old self.new n (R.remaining reader.old) (R.remaining reader.new)) }
         ensures err { OnErr result (FillFails self.old (R.remaining reader.old) (R.remaining reader.new)) }
         ensures fault { OnErr result (IsErrOf result Fault.ReadFault) }
     {
-        let left = MAX_BYTES - self.taken;
-        let room = left.max(1).min((BUFFER_LEN - self.end) as u64) as usize;
+        let left = MOST_BYTES - self.taken;
+        let room = left.max(1).min((BUFFER_BYTES - self.end) as u64) as usize;
         let start = self.end;
         let count = read_bytes(reader, &mut self.bytes[start..start + room])?;
         if count as u64 > left {
@@ -79,11 +74,16 @@ impl LineBuffer {
         &self.bytes[self.start..self.end]
     }
 
-    /// Whether the front of a line that is too long was let go.
-    pub fn is_long(&self) -> bool
-        ensures { result ≡ self.now.is_long }
+    /// The line that ends by this many of the bytes that are held.
+    pub fn line(&self, len: usize) -> HeldLine<'_>
+        requires { len ≤ length (held self.now) }
+        ensures is_long { result.exit.is_long ≡ self.now.is_long }
+        ensures part { result.exit.part.now ≡ take len (held self.now) }
     {
-        self.is_long
+        HeldLine {
+            is_long: self.is_long,
+            part: &self.as_slice()[..len],
+        }
     }
 
     /// How many bytes are held.
@@ -98,13 +98,6 @@ impl LineBuffer {
         ensures { result ≡ (self.now.is_long || nat_lt 0 (length (held self.now))) }
     {
         self.is_long || self.start < self.end
-    }
-
-    /// Whether a line is too long that ends by this many of the bytes that are held.
-    pub fn is_too_long(&self, len: usize) -> bool
-        ensures { result ≡ (self.now.is_long || nat_lt max_line_len len) }
-    {
-        self.is_long || len > MAX_LINE_LEN
     }
 
     /// Lets go of a line of which this many bytes are held, and of its newline.
@@ -123,10 +116,10 @@ impl LineBuffer {
     pub fn make_room(&mut self)
         requires { NoNewline (held self.old) }
         ensures kept { MakesRoom self.old.is_long (held self.old) self.new.is_long (held self.new) }
-        ensures room { self.new.end ≤ 4096 }
+        ensures room { self.new.end ≤ most_line_bytes }
         ensures taken { self.new.taken ≡ self.old.taken }
     {
-        if self.is_too_long(self.len()) {
+        if self.line(self.len()).is_too_long() {
             self.is_long = true;
             self.start = 0;
             self.end = 0;

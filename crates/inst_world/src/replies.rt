@@ -1,14 +1,13 @@
 // Replies on their way to a writer.
 ghost use Rattle.std.specs.Prelude.{◌≡◌, ◌<◌, ◌||◌, [], true, false, nat_lt, length, OnOk, OnErr, IsErrOf};
 ghost use Rattle.std.specs.Io.KnownBytes.{Appends};
+ghost use Rattle.inst_world.specs.Limits.{buffer_bytes};
 ghost use Rattle.inst_world.specs.Replies.{WritesPart, WritesFirst};
 
+use crate::limits::BUFFER_BYTES;
 use inst_base::Fault;
 use std::alloc::Global;
 use std::io::Write;
-
-/// The bytes of replies that are held before they are written.
-const FULL_LEN: usize = 65_536;
 
 /// Replies that are not written yet.
 #[derive(Drop)]
@@ -46,12 +45,12 @@ impl ReplyBuffer {
     /// Writes the replies if there are many. `WriteFault` comes as from `write_to`.
     pub fn write_if_full<W: Write>(&mut self, writer: &mut W) -> Result<(), Fault>
         ensures ok { OnOk result (WritesFirst (W.contents writer.old) (W.contents writer.new) self.old.bytes.items self.new.bytes.items) }
-        ensures short { OnOk result (length self.new.bytes.items < 65536) }
+        ensures short { OnOk result (length self.new.bytes.items < buffer_bytes) }
         ensures unflushed { OnOk result (self.old.is_unflushed ≡ true → self.new.is_unflushed ≡ true) }
         ensures err { OnErr result (WritesPart (W.contents writer.old) (W.contents writer.new) self.old.bytes.items) }
         ensures fault { OnErr result (IsErrOf result Fault.WriteFault) }
     {
-        if self.bytes.len() < FULL_LEN {
+        if self.bytes.len() < BUFFER_BYTES {
             return Ok(());
         }
         self.write_to(writer)

@@ -17,8 +17,8 @@ use std::io::{Read, Write};
 /// A line ends by a newline, and the last one may lack it; a line of more than 4,096 bytes is answered
 /// `LineTooLong`. Whatever was answered is written and flushed before each read and at the end.
 ///
-/// `ReadFault` comes where a read fails in any way, and where the input goes on after `MAX_LINES`
-/// lines, each with its newline, or after `MAX_BYTES` bytes: what was read up to there is answered.
+/// `ReadFault` comes where a read fails in any way, and where the input goes on after `MOST_LINES`
+/// lines, each with its newline, or after `MOST_BYTES` bytes: what was read up to there is answered.
 /// `WriteFault` comes where a write or a flush fails, or a write takes no byte, and `Memory` where
 /// there is none: then a front of the replies is written.
 pub fn run_lines<R: Read, W: Write>(

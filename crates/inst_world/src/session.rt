@@ -1,16 +1,15 @@
 // What a run holds between its reads, and one turn of it: a read, and the answers to what it gave.
+ghost use Rattle.inst_world.specs.Limits.{most_lines};
 ghost use Rattle.std.specs.Prelude.{◌≡◌, ◌≤◌, ◌<◌, ◌⊎◌, [], OnOk, IfOk, OnErr, IfErr, IsErrOf, MatchBool, false, length};
 
 use crate::answer::answer;
+use crate::limits::MOST_LINES;
 use crate::line_buffer::{LineBuffer, find_newline};
 use crate::replies::ReplyBuffer;
 use crate::world::World;
 use inst_base::Fault;
 use std::alloc::Global;
 use std::io::{Read, Write};
-
-/// The most lines of a run.
-pub const MAX_LINES: u64 = 1_000_000;
 
 /// How many lines were answered.
 #[derive(Clone, Copy, Debug, PartialEq, Eq)]
@@ -27,12 +26,13 @@ pub struct Session {
     pub input: LineBuffer,
     pub replies: ReplyBuffer,
     pub counts: Counts,
-    ghost limit: { counts.lines ≤ 1000000 },
+    ghost limit: { counts.lines ≤ most_lines },
     ghost fewer: { counts.refused ≤ counts.lines },
 }
 
 impl Session {
-    ghost use Rattle.inst_world.specs.Lines.{NoNewline, max_lines};
+    ghost use Rattle.inst_world.specs.Lines.{NoNewline};
+    ghost use Rattle.inst_world.specs.Limits.{most_lines};
     ghost use Rattle.inst_world.specs.World.{answering};
     ghost use Rattle.inst_world.specs.LineBuffer.{held};
     ghost use Rattle.inst_world.specs.Session.{IsAnswered, IsReady, TakesLine, Advances, Stops, AnswersLast, Finishes, IsNoReadFault, Turns, Ends, Fails};
@@ -62,20 +62,19 @@ impl Session {
     /// newline. `Memory` comes where there is no room for the reply.
     fn answer_line(&mut self, alloc: Global, world: &mut World, len: usize) -> Result<(), Fault>
         requires within { len ≤ length (held self.old.input) }
-        requires room { self.old.counts.lines < 1000000 }
+        requires room { self.old.counts.lines < most_lines }
         ensures ok { OnOk result (TakesLine answering len self.old self.new world.old world.new) }
         ensures fault { OnErr result (IsErrOf result Fault.Memory) }
     {
-        let is_long = self.input.is_long();
-        let line = &self.input.as_slice()[..len];
-        let is_refused = answer(alloc, world, is_long, line, &mut self.replies.bytes)?;
+        let line = self.input.line(len);
+        let is_refused = answer(alloc, world, line, &mut self.replies.bytes)?;
         self.input.drop_line(len);
         self.counts.lines += 1;
         self.counts.refused += u64::from(is_refused);
         Ok(())
     }
 
-    /// Answers the lines that are held whole, up to `MAX_LINES` in all. `Memory` comes as from
+    /// Answers the lines that are held whole, up to `MOST_LINES` in all. `Memory` comes as from
     /// `answer_line`, and `WriteFault` as from `write_if_full`.
     fn answer_held<W: Write>(
         &mut self,
@@ -84,12 +83,12 @@ impl Session {
         writer: &mut W,
     ) -> Result<(), Fault>
         ensures ok { OnOk result (Advances answering self.old world.old (W.contents writer.old) self.new world.new (W.contents writer.new)) }
-        ensures done { OnOk result (NoNewline (held self.new.input) ⊎ (self.new.counts.lines ≡ max_lines)) }
+        ensures done { OnOk result (NoNewline (held self.new.input) ⊎ (self.new.counts.lines ≡ most_lines)) }
         ensures taken { OnOk result (self.new.input.taken ≡ self.old.input.taken) }
         ensures err { OnErr result (Stops answering self.old world.old (W.contents writer.old) (W.contents writer.new)) }
         ensures fault { IfErr result IsNoReadFault }
     {
-        while self.counts.lines < MAX_LINES {
+        while self.counts.lines < MOST_LINES {
             let Some(len) = find_newline(self.input.as_slice()) else {
                 return Ok(());
             };
@@ -150,7 +149,7 @@ impl Session {
         }
         self.answer_held(alloc, world, writer)?;
         self.replies.deliver(writer)?;
-        if self.counts.lines == MAX_LINES && self.input.is_in_line() {
+        if self.counts.lines == MOST_LINES && self.input.is_in_line() {
             return Err(Fault::ReadFault);
         }
         self.input.make_room();

@@ -1,10 +1,13 @@
 ghost use Rattle.std.specs.Prelude.{◌≡◌, true, IfOk, OnErr, IsOkUnless};
+ghost use Rattle.inst_settings.specs.Settings.{IsSettings, is_participant};
 ghost use Rattle.inst_command.specs.Ask.{ask_fits};
-ghost use Rattle.inst_world.specs.World.{opened, reply_to_ask, after_ask};
+ghost use Rattle.inst_journal.specs.Sound.{IsSound};
+ghost use Rattle.inst_world.specs.World.{opened, book_of, reply_to_ask, after_ask};
 
 use crate::slots;
 use inst_base::Fault;
 use inst_command::{Ask, Reply};
+use inst_journal::Journal;
 use inst_settings::Settings;
 use inst_slot::Slot;
 use std::alloc::Global;
@@ -47,6 +50,16 @@ impl World {
         ensures { result.now ≡ self.now.settings }
     {
         &self.settings
+    }
+
+    /// The history of a participant, which is sound.
+    pub fn journal(&self, who: u8) -> &Journal
+        requires { is_participant self.now.settings who ≡ true }
+        ensures events { result.now.events ≡ (book_of self.now who).events }
+        ensures lawful { IsSettings self.now.settings }
+        ensures sound { IsSound self.now.settings who result.now.events }
+    {
+        self.slots[usize::from(who)].journal()
     }
 
     /// Answers an ask, a refusal as a reply. The only error is `Memory`, and then the hub is as it was.

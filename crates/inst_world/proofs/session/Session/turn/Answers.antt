@@ -6,7 +6,7 @@ use Rattle.inst_world.specs.Session.{Fails, IsNoReadFault}
 use Rattle.inst_world.proofs.WriteLemmas.{writes-all}
 use Rattle.inst_world.proofs.SessionLemmas.{err_passed, answered-read, turn-fill_fails, turn-stops, stops-after, turn-ends, turn-full, turn-goes_on}
 use Rattle.inst_world.proofs.session.Session.turn.Goals as goal
-use Rattle.inst_world.proofs.session.Session.turn.Goals.{else-self-eq-MAX_LINES-via-then-self-eq-MAX_LINES+else-is_in_line, else-self-eq-MAX_LINES-via-else-self-eq-MAX_LINES}
+use Rattle.inst_world.proofs.session.Session.turn.Goals.{else-self-eq-MOST_LINES-via-then-self-eq-MOST_LINES+else-is_in_line, else-self-eq-MOST_LINES-via-else-self-eq-MOST_LINES}
 
 pub returns-in_err-fill-clause-err : goal.returns-in_err-fill-clause-err
 returns-in_err-fill-clause-err g c =
@@ -61,7 +61,7 @@ returns-in_err-deliver-clause-err g c =
 pub returns-then-is_in_line-clause-err : goal.returns-then-is_in_line-clause-err
 returns-then-is_in_line-clause-err g c =
     turn-full answering _ _ _ (let m = c.answer_held.new.self in record { input = m.input; replies = c.deliver.new.self; counts = m.counts; limit = m.limit; fewer = m.fewer }) _ _ _ _ _ _ _ _ refl refl c.in_ok-fill.ensures.ok c.in_ok-answer_held.ensures.ok refl refl
-    (writes-all _ _ _ _ c.in_ok-deliver.ensures.ok c.in_ok-deliver.ensures.none) c.in_ok-deliver.ensures.none c.if-self-eq-MAX_LINES.true
+    (writes-all _ _ _ _ c.in_ok-deliver.ensures.ok c.in_ok-deliver.ensures.none) c.in_ok-deliver.ensures.none c.if-self-eq-MOST_LINES.true
 
 pub returns-clause-ok : goal.returns-clause-ok
 returns-clause-ok g c =
@@ -69,7 +69,7 @@ returns-clause-ok g c =
     c.in_ok-answer_held.ensures.ok c.in_ok-answer_held.ensures.taken refl refl
     (writes-all _ _ _ _ c.in_ok-deliver.ensures.ok c.in_ok-deliver.ensures.none) c.in_ok-deliver.ensures.none
     refl refl c.make_room.ensures.taken c.make_room.ensures.kept c.make_room.ensures.room
-    (λ full. elim c.else-self-eq-MAX_LINES.branch [
-      | else-self-eq-MAX_LINES-via-then-self-eq-MAX_LINES+else-is_in_line w ↦ sym w.is_in_line.ensures ∙ w.if-is_in_line.false
-      | else-self-eq-MAX_LINES-via-else-self-eq-MAX_LINES w ↦ absurd (w.if-self-eq-MAX_LINES.false full)
+    (λ full. elim c.else-self-eq-MOST_LINES.branch [
+      | else-self-eq-MOST_LINES-via-then-self-eq-MOST_LINES+else-is_in_line w ↦ sym w.is_in_line.ensures ∙ w.if-is_in_line.false
+      | else-self-eq-MOST_LINES-via-else-self-eq-MOST_LINES w ↦ absurd (w.if-self-eq-MOST_LINES.false full)
     ])
