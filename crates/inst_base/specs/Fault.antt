@@ -2,7 +2,10 @@
 -- first fourteen is the order in which a line and a command are checked: this hub's own choice.
 use Rattle.std.specs.Prelude.{◌≡◌, ◌⊎◌, ℕ, List, Result, Err, codes}
 use Rattle.inst_base.specs.declared.fault.Fault.{Fault}
-use Rattle.inst_base.specs.declared.fault.Fault.TheVariants.{NotJson, BadField, BadIdentifier, BadAmount, BadMoment, UnknownParticipant, SelfTransfer, UnknownTransfer, Duplicate, StampAhead, Expired, Full, Shortage, Memory, BadSettings, LineTooLong, ReadFault, WriteFault}
+use Rattle.inst_base.specs.declared.fault.Fault.TheVariants.{NotJson, BadField, BadIdentifier, BadAmount, BadMoment}
+use Rattle.inst_base.specs.declared.fault.Fault.TheVariants.{UnknownParticipant, SelfTransfer, UnknownTransfer}
+use Rattle.inst_base.specs.declared.fault.Fault.TheVariants.{Duplicate, StampAhead, Expired, Full, Shortage, Memory}
+use Rattle.inst_base.specs.declared.fault.Fault.TheVariants.{BadSettings, LineTooLong, ReadFault, WriteFault}
 
 -- the number of a refusal
 abbrev pub number_of : Fault → ℕ

@@ -6,7 +6,13 @@ ghost use Rattle.inst_board.specs.declared.about.About.TheVariants.{Opened};
 ghost use Rattle.inst_board.specs.Standing.{pending, about};
 ghost use Rattle.inst_board.specs.Learning.{MayDecide, Decides};
 ghost use Rattle.inst_board.specs.Plain.{plain_knows, standing_at, after, outcome_of};
-ghost use Rattle.inst_board.specs.Laws.{KnowsMore, KnowsOpening, CanOpen, DecidedOnce, OnlyPartiesDecide, OnlyTheBeneficiaryAnswers, EachPartyMayDecide, AnOpeningIsKnown, ALookIsKnown, ALookShowsWhatIsKnown, OwnOpeningsAreKnown, OwnAnswersAreKnown, ADecisionIsKnown, EachWishWantsByItsReading, EachDecisionIsInTime, OwnAnswersStand, WhatIsKnownStaysTrue, StandingsFollowTheWordLaw, WhichPlacesThereAre, EachPlaceHasItsNumber, PlainDecidesExactly, PlainLooksExactly, PlainOpensExactly, WhatIsDecidedIsInTime};
+ghost use Rattle.inst_board.specs.Laws.{KnowsMore, KnowsOpening, CanOpen, DecidedOnce, OnlyPartiesDecide};
+ghost use Rattle.inst_board.specs.Laws.{OnlyTheBeneficiaryAnswers, EachPartyMayDecide, AnOpeningIsKnown, ALookIsKnown};
+ghost use Rattle.inst_board.specs.Laws.{ALookShowsWhatIsKnown, OwnOpeningsAreKnown, OwnAnswersAreKnown};
+ghost use Rattle.inst_board.specs.Laws.{ADecisionIsKnown, EachWishWantsByItsReading, EachDecisionIsInTime};
+ghost use Rattle.inst_board.specs.Laws.{OwnAnswersStand, WhatIsKnownStaysTrue, StandingsFollowTheWordLaw};
+ghost use Rattle.inst_board.specs.Laws.{WhichPlacesThereAre, EachPlaceHasItsNumber, PlainDecidesExactly};
+ghost use Rattle.inst_board.specs.Laws.{PlainLooksExactly, PlainOpensExactly, WhatIsDecidedIsInTime};
 
 use crate::{Board, Place, PlainBoard, Wish};
 use inst_base::Moment;

@@ -1,6 +1,7 @@
 //! When a command is a repeat of a kept one, and which keys are kept.
 ghost use Rattle.std.specs.Prelude.{◌≡◌};
-ghost use Rattle.inst_journal.specs.Keys.{is_fund_repeat, is_defund_repeat, is_this_submission, is_submission_repeat, refers, has_reference, fundings};
+ghost use Rattle.inst_journal.specs.Keys.{is_fund_repeat, is_defund_repeat, is_this_submission, is_submission_repeat};
+ghost use Rattle.inst_journal.specs.Keys.{refers, has_reference, fundings};
 
 use crate::Event;
 use crate::opening::current;

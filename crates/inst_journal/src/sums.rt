@@ -1,7 +1,8 @@
 //! The plain sums over a history, in cents.
 ghost use Rattle.std.specs.Prelude.{◌≡◌, ◌+◌, ◌*◌, ◌≤◌, length, sum_by, if◌then◌else◌};
 ghost use Rattle.inst_base.specs.declared.cents.TheConstants.{MOST_CENTS};
-ghost use Rattle.inst_journal.specs.Sums.{if_accepted, if_unbooked, funding, defunding, credit, debit, reservation, funded, defunded, credits, debits};
+ghost use Rattle.inst_journal.specs.Sums.{if_accepted, if_unbooked, funding, defunding, credit, debit, reservation};
+ghost use Rattle.inst_journal.specs.Sums.{funded, defunded, credits, debits};
 ghost use Rattle.inst_journal.specs.Booked.{is_forwarding};
 ghost use Rattle.inst_journal.specs.Keys.{is_funding};
 ghost use Rattle.inst_journal.specs.Money.{reserved, position, available};

@@ -24,7 +24,8 @@ pub record IsSettledOnce (p : ℕ) (J : List Event) : Type 0 where
       (reservation J (Taken id to cents stamp) ≡ cents) × (debit J (Taken id to cents stamp) ≡ 0)
   pub debited_if_accepted : (id : List ℕ) (to cents stamp : ℕ) → Contains J (Taken id to cents stamp) → booked p id J ≡ Some Accepted →
       (reservation J (Taken id to cents stamp) ≡ 0) × (debit J (Taken id to cents stamp) ≡ cents)
-  pub free_otherwise : (id : List ℕ) (to cents stamp : ℕ) (o : Outcome) → Contains J (Taken id to cents stamp) → booked p id J ≡ Some o → o ≢ Accepted →
+  pub free_otherwise : (id : List ℕ) (to cents stamp : ℕ) (o : Outcome) → Contains J (Taken id to cents stamp) →
+      booked p id J ≡ Some o → o ≢ Accepted →
       (reservation J (Taken id to cents stamp) ≡ 0) × (debit J (Taken id to cents stamp) ≡ 0)
   pub credited : (from : ℕ) (id : List ℕ) (cents deadline : ℕ) → Contains J (Forwarded from id cents deadline) →
       booked from id J ≡ Some Accepted → credit J (Forwarded from id cents deadline) ≡ cents
@@ -32,4 +33,5 @@ pub record IsSettledOnce (p : ℕ) (J : List Event) : Type 0 where
       booked from id J ≢ Some Accepted → credit J (Forwarded from id cents deadline) ≡ 0
 
 abbrev pub MoneyIsSettledOnce : Type 0
-MoneyIsSettledOnce = (s : HubSettings) (O : Opening) → IsOpening s O → (L : List Step) → IsInterleaving s L → (p : ℕ) → IsSettledOnce p (history s O L p)
+MoneyIsSettledOnce = (s : HubSettings) (O : Opening) → IsOpening s O → (L : List Step) → IsInterleaving s L → (p : ℕ) →
+    IsSettledOnce p (history s O L p)

@@ -15,7 +15,16 @@ ghost use Rattle.inst_model.specs.Hub.{history};
 ghost use Rattle.inst_model.specs.Opening.Opening.{First};
 ghost use Rattle.inst_model.specs.Untold.{total, signed_total, untold};
 ghost use Rattle.inst_model.specs.Trace.{replies};
-ghost use Rattle.inst_model.specs.Rows.{A, B, settings, answers, is_done, is_taken, is_state, is_position, is_refused, is_new, confirm_before_expire, expire_before_confirm, untold_yet, untold_then_learnt, alone, among_others, confirmed_late, confirmed_before_delivery, expired_before_taken, one_of_two_expired, wrong_deliveries_and_stamp_ahead, expired_before_delivery, rejected_with_reason, investigate_at_the_deadline, confirmed_by_another, learnt_twice, answers_with_margin, answers_from, on_either_side, fundings_full, a_page_of_two, margin_confirmed_before, margin_confirmation_refused, margin_then_timed_out, margin_after_expire, carried_over_an_opening, delivered, one_settled, places_given_back};
+ghost use Rattle.inst_model.specs.Rows.{A, B, settings, answers, is_done, is_taken, is_state, is_position, is_refused};
+ghost use Rattle.inst_model.specs.Rows.{is_new, confirm_before_expire, expire_before_confirm, untold_yet};
+ghost use Rattle.inst_model.specs.Rows.{untold_then_learnt, alone, among_others, confirmed_late};
+ghost use Rattle.inst_model.specs.Rows.{confirmed_before_delivery, expired_before_taken, one_of_two_expired};
+ghost use Rattle.inst_model.specs.Rows.{wrong_deliveries_and_stamp_ahead, expired_before_delivery};
+ghost use Rattle.inst_model.specs.Rows.{rejected_with_reason, investigate_at_the_deadline, confirmed_by_another};
+ghost use Rattle.inst_model.specs.Rows.{learnt_twice, answers_with_margin, answers_from, on_either_side, fundings_full};
+ghost use Rattle.inst_model.specs.Rows.{a_page_of_two, margin_confirmed_before, margin_confirmation_refused};
+ghost use Rattle.inst_model.specs.Rows.{margin_then_timed_out, margin_after_expire, carried_over_an_opening, delivered};
+ghost use Rattle.inst_model.specs.Rows.{one_settled, places_given_back};
 
 /// A confirmation just in time stands, though the deadline passes before the originator learns of it.
 pub fn confirm_before_expire()

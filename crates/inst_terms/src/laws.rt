@@ -1,6 +1,8 @@
 //! The laws of a place's words. Each is a function without a body whose contract is the law, so that
 //! the check proves it.
-ghost use Rattle.inst_terms.specs.Laws.{DifferentTermsHaveDifferentWords, DifferentWordsHaveDifferentNumbers, OneFinalWord, NothingSeenGoesBack, EachOutcomeIsInTime, WhatIsInTime, EachOutcomeInTimeMayStand, WhatIsSeen};
+ghost use Rattle.inst_terms.specs.Laws.{DifferentTermsHaveDifferentWords, DifferentWordsHaveDifferentNumbers};
+ghost use Rattle.inst_terms.specs.Laws.{OneFinalWord, NothingSeenGoesBack, EachOutcomeIsInTime, WhatIsInTime};
+ghost use Rattle.inst_terms.specs.Laws.{EachOutcomeInTimeMayStand, WhatIsSeen};
 ghost use Rattle.inst_terms.specs.Rows.{WordsOfTheFormat};
 
 /// Two different terms never have the same words.

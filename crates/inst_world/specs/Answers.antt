@@ -54,7 +54,8 @@ pub record MakesRoom (was_long : Bool) (old : List ℕ) (is_long : Bool) (new : 
   pub idle : was_long ≡ false → old ≡ [] → (is_long ≡ false) × (new ≡ [])
 
 -- a line is answered, of which this part is held and any front of it was let go
-pub record AnswersLine {S : Type 0} (a : Answerer S) (is_long : Bool) (part : List ℕ) (old new : S) (out_old out_new : List ℕ) (refused : Bool) : Type 0 where
+pub record AnswersLine {S : Type 0} (a : Answerer S) (is_long : Bool) (part : List ℕ) (old new : S)
+    (out_old out_new : List ℕ) (refused : Bool) : Type 0 where
   pub reply : (front : List ℕ) → IsFront is_long front → out_new ≡ out_old ++ (reply_to a old (front ++ part) ++ newline ∷ [])
   pub state : (front : List ℕ) → IsFront is_long front → new ≡ state_after_line a old (front ++ part)
   pub refusal : (front : List ℕ) → IsFront is_long front → refused ≡ is_refused a old (front ++ part)

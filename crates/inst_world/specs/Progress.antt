@@ -12,7 +12,9 @@ pub record Splits (bytes : List ℕ) (first : List (List ℕ)) (rest : List ℕ)
 -- of the bytes that were read, the lines in `answered` are answered and the rest is held, but for a front
 -- of a line that is too long; what the writer held `before`, and has `now`, shows the replies, but for
 -- those still `pending`
-pub record Progress {S : Type 0} (a : Answerer S) (start : S) (before : Option (List ℕ)) (bytes : List ℕ) (now : Option (List ℕ)) (pending : List ℕ) (state : S) (is_long : Bool) (held : List ℕ) (lines refused : ℕ) : Type 0 where
+pub record Progress {S : Type 0} (a : Answerer S) (start : S) (before : Option (List ℕ)) (bytes : List ℕ)
+    (now : Option (List ℕ)) (pending : List ℕ) (state : S) (is_long : Bool) (held : List ℕ) (lines refused : ℕ)
+    : Type 0 where
   pub answered : List (List ℕ)
   pub front : List ℕ
   pub written : List ℕ
@@ -32,7 +34,8 @@ pub record Stopped {S : Type 0} (a : Answerer S) (start : S) (before : Option (L
   pub is_front : output a start (lines_of bytes) ≡ written ++ unwritten
 
 -- each line of the bytes is answered and written
-pub record Finished {S : Type 0} (a : Answerer S) (start : S) (before : Option (List ℕ)) (bytes : List ℕ) (now : Option (List ℕ)) (state : S) (lines refused : ℕ) : Type 0 where
+pub record Finished {S : Type 0} (a : Answerer S) (start : S) (before : Option (List ℕ)) (bytes : List ℕ)
+    (now : Option (List ℕ)) (state : S) (lines refused : ℕ) : Type 0 where
   pub appends : Appends before now (output a start (lines_of bytes))
   pub state_is : state ≡ state_after a start (lines_of bytes)
   pub lines_are : lines ≡ length (lines_of bytes)

@@ -12,7 +12,8 @@ use Rattle.inst_world.specs.LineBuffer.{held}
 use Rattle.inst_world.specs.Progress.{Progress, Stopped, Finished, CutOff}
 
 -- the session has come this far in the bytes that were read
-pub record Reached {S : Type 0} (a : Answerer S) (start : S) (before : Option (List ℕ)) (bytes : List ℕ) (now : Option (List ℕ)) (session : Session) (state : S) : Type 0 where
+pub record Reached {S : Type 0} (a : Answerer S) (start : S) (before : Option (List ℕ)) (bytes : List ℕ)
+    (now : Option (List ℕ)) (session : Session) (state : S) : Type 0 where
   pub progress : Progress a start before bytes now session.replies.bytes.items state session.input.is_long (held session.input) session.counts.lines session.counts.refused
   pub taken_is : session.input.taken ≡ length bytes
 
@@ -38,26 +39,34 @@ pub record TakesLine {S : Type 0} (a : Answerer S) (n : ℕ) (old new : Session)
   pub refused_are : new.counts.refused ≡ old.counts.refused + cond is_refused 1 0
 
 -- what was answered stays answered, with no further read
-pub record Advances {S : Type 0} (a : Answerer S) (old : Session) (old_state : S) (now : Option (List ℕ)) (new : Session) (new_state : S) (now' : Option (List ℕ)) : Type 0 where
-  pub reaches : (start : S) (before : Option (List ℕ)) (bytes : List ℕ) → Reached a start before bytes now old old_state → Reached a start before bytes now' new new_state
+pub record Advances {S : Type 0} (a : Answerer S) (old : Session) (old_state : S) (now : Option (List ℕ))
+    (new : Session) (new_state : S) (now' : Option (List ℕ)) : Type 0 where
+  pub reaches : (start : S) (before : Option (List ℕ)) (bytes : List ℕ) →
+      Reached a start before bytes now old old_state → Reached a start before bytes now' new new_state
 
 -- a front of the replies is written
 pub record Stops {S : Type 0} (a : Answerer S) (old : Session) (old_state : S) (now now' : Option (List ℕ)) : Type 0 where
-  pub stops : (start : S) (before : Option (List ℕ)) (bytes : List ℕ) → Reached a start before bytes now old old_state → Stopped a start before bytes now'
+  pub stops : (start : S) (before : Option (List ℕ)) (bytes : List ℕ) →
+      Reached a start before bytes now old old_state → Stopped a start before bytes now'
 
 -- the replies to all the bytes are written or pending
-pub record AnsweredAll {S : Type 0} (a : Answerer S) (start : S) (before : Option (List ℕ)) (bytes : List ℕ) (now : Option (List ℕ)) (session : Session) (state : S) : Type 0 where
+pub record AnsweredAll {S : Type 0} (a : Answerer S) (start : S) (before : Option (List ℕ)) (bytes : List ℕ)
+    (now : Option (List ℕ)) (session : Session) (state : S) : Type 0 where
   pub closed : List ℕ
   pub progress : Progress a start before closed now session.replies.bytes.items state false [] session.counts.lines session.counts.refused
   pub same_lines : lines_of closed ≡ lines_of bytes
 
 -- a last line is answered
 pub record AnswersLast {S : Type 0} (a : Answerer S) (old new : Session) (old_state new_state : S) : Type 0 where
-  pub ends : (start : S) (before : Option (List ℕ)) (bytes : List ℕ) (now : Option (List ℕ)) → Reached a start before bytes now old old_state → AnsweredAll a start before bytes now new new_state
+  pub ends : (start : S) (before : Option (List ℕ)) (bytes : List ℕ) (now : Option (List ℕ)) →
+      Reached a start before bytes now old old_state → AnsweredAll a start before bytes now new new_state
 
 -- all is answered and written, with these counts
-pub record Finishes {S : Type 0} (a : Answerer S) (old : Session) (old_state : S) (now : Option (List ℕ)) (counts : Counts) (new_state : S) (now' : Option (List ℕ)) : Type 0 where
-  pub finishes : (start : S) (before : Option (List ℕ)) (bytes : List ℕ) → Reached a start before bytes now old old_state → Finished a start before bytes now' new_state counts.lines counts.refused
+pub record Finishes {S : Type 0} (a : Answerer S) (old : Session) (old_state : S) (now : Option (List ℕ))
+    (counts : Counts) (new_state : S) (now' : Option (List ℕ)) : Type 0 where
+  pub finishes : (start : S) (before : Option (List ℕ)) (bytes : List ℕ) →
+      Reached a start before bytes now old old_state →
+      Finished a start before bytes now' new_state counts.lines counts.refused
 
 -- the fault is none of reading
 abbrev pub IsNoReadFault : Fault → Type 0
@@ -74,27 +83,72 @@ Leaves a start before bytes now WriteFault = Stopped a start before bytes now
 Leaves a start before bytes now _ = ⊥
 
 -- further bytes were read and answered
-pub record Turns {S : Type 0} (a : Answerer S) (old : Session) (old_state : S) (now : Option (List ℕ)) (new : Session) (new_state : S) (now' : Option (List ℕ)) (left left' : Option (List ℕ)) : Type 0 where
+pub record Turns {S : Type 0} (a : Answerer S) (old : Session) (old_state : S) (now : Option (List ℕ)) (new : Session)
+    (new_state : S) (now' : Option (List ℕ)) (left left' : Option (List ℕ)) : Type 0 where
   pub read : List ℕ
   pub consumes : Consumes left left' read
   pub is_ready : IsReady new
   pub more : old.input.taken < new.input.taken
-  pub reaches : (start : S) (before : Option (List ℕ)) (bytes : List ℕ) → Reached a start before bytes now old old_state → Reached a start before (bytes ++ read) now' new new_state
+  pub reaches : (start : S) (before : Option (List ℕ)) (bytes : List ℕ) →
+      Reached a start before bytes now old old_state → Reached a start before (bytes ++ read) now' new new_state
 
 -- the input is at its end, and all is answered and written, with these counts
-pub record Ends {S : Type 0} (a : Answerer S) (old : Session) (old_state : S) (now : Option (List ℕ)) (counts : Counts) (new_state : S) (now' : Option (List ℕ)) (left left' : Option (List ℕ)) : Type 0 where
+pub record Ends {S : Type 0} (a : Answerer S) (old : Session) (old_state : S) (now : Option (List ℕ)) (counts : Counts)
+    (new_state : S) (now' : Option (List ℕ)) (left left' : Option (List ℕ)) : Type 0 where
   pub consumes : Consumes left left' []
   pub at_end : IsAtEnd left'
   pub finishes : Finishes a old old_state now counts new_state now'
 
 -- a fault ended the run, after some further bytes
-pub record Fails {S : Type 0} (a : Answerer S) (old : Session) (old_state : S) (now now' : Option (List ℕ)) (left left' : Option (List ℕ)) (fault : Fault) : Type 0 where
+pub record Fails {S : Type 0} (a : Answerer S) (old : Session) (old_state : S) (now now' : Option (List ℕ))
+    (left left' : Option (List ℕ)) (fault : Fault) : Type 0 where
   pub read : List ℕ
   pub consumes : Consumes left left' read
-  pub leaves : (start : S) (before : Option (List ℕ)) (bytes : List ℕ) → Reached a start before bytes now old old_state → Leaves a start before (bytes ++ read) now' fault
+  pub leaves : (start : S) (before : Option (List ℕ)) (bytes : List ℕ) →
+      Reached a start before bytes now old old_state → Leaves a start before (bytes ++ read) now' fault
 
 -- what a fault leaves after a whole run
-pub record FailsAfter {S : Type 0} (a : Answerer S) (start : S) (before now : Option (List ℕ)) (left left' : Option (List ℕ)) (fault : Fault) : Type 0 where
+pub record FailsAfter {S : Type 0} (a : Answerer S) (start : S) (before now : Option (List ℕ))
+    (left left' : Option (List ℕ)) (fault : Fault) : Type 0 where
   pub bytes : List ℕ
   pub consumes : Consumes left left' bytes
   pub leaves : Leaves a start before bytes now fault
+
+-- a run between two steps: what its session holds, the state of its world, and what the writer has, where its bytes are
+-- known
+pub record Stage (S : Type 0) : Type 0 where
+  pub session : Session
+  pub state : S
+  pub written : Option (List ℕ)
+
+abbrev pub stage : {S : Type 0} → Session → S → Option (List ℕ) → Stage S
+stage session state written = record { session = session; state = state; written = written }
+
+-- from one stage to the next, what was answered stays answered
+abbrev pub MovesOn : {S : Type 0} → Answerer S → Stage S → Stage S → Type 0
+MovesOn a before after =
+    Advances a before.session before.state before.written after.session after.state after.written
+
+-- the run stopped behind the stage, and this was written
+abbrev pub HasStopped : {S : Type 0} → Answerer S → Stage S → Option (List ℕ) → Type 0
+HasStopped a before written = Stops a before.session before.state before.written written
+
+-- all that was read is answered and written
+abbrev pub HasFinished : {S : Type 0} → Answerer S → Stage S → Stage S → Type 0
+HasFinished a before after =
+    Finishes a before.session before.state before.written after.session.counts after.state after.written
+
+-- further bytes of what the reader had left were read and answered
+abbrev pub HasTurned : {S : Type 0} → Answerer S → Stage S → Stage S → Option (List ℕ) → Option (List ℕ) → Type 0
+HasTurned a before after left left' =
+    Turns a before.session before.state before.written after.session after.state after.written left left'
+
+-- the reader had nothing left, and all is answered and written
+abbrev pub HasEnded : {S : Type 0} → Answerer S → Stage S → Stage S → Option (List ℕ) → Option (List ℕ) → Type 0
+HasEnded a before after left left' =
+    Ends a before.session before.state before.written after.session.counts after.state after.written left left'
+
+-- a fault ended the run, when this was written and this was left
+abbrev pub HasFailed : {S : Type 0} → Answerer S → Stage S → Option (List ℕ) → Option (List ℕ) → Option (List ℕ) → Fault → Type 0
+HasFailed a before written left left' fault =
+    Fails a before.session before.state before.written written left left' fault

@@ -1,5 +1,6 @@
 // The part of the input that is held, and where its lines end.
-ghost use Rattle.std.specs.Prelude.{◌≡◌, ◌≤◌, ◌<◌, ◌+◌, [], ◌++◌, ◌||◌, nat_lt, MatchOption, OnOk, IfOk, IsErrOf, OnErr, false, length, take, drop, vec_len};
+ghost use Rattle.std.specs.Prelude.{◌≡◌, ◌≤◌, ◌<◌, ◌+◌, [], ◌++◌, ◌||◌, nat_lt, MatchOption, OnOk, IfOk, IsErrOf};
+ghost use Rattle.std.specs.Prelude.{OnErr, false, length, take, drop, vec_len};
 ghost use Rattle.std.specs.Io.{ReadsAtMost};
 ghost use Rattle.std.specs.Io.KnownBytes.{ReadConsumes};
 ghost use Rattle.inst_world.specs.Limits.{most_bytes, buffer_bytes};

@@ -35,7 +35,8 @@ impl Session {
     ghost use Rattle.inst_world.specs.Limits.{most_lines};
     ghost use Rattle.inst_world.specs.World.{answering};
     ghost use Rattle.inst_world.specs.LineBuffer.{held};
-    ghost use Rattle.inst_world.specs.Session.{IsAnswered, IsReady, TakesLine, Advances, Stops, AnswersLast, Finishes, IsNoReadFault, Turns, Ends, Fails};
+    ghost use Rattle.inst_world.specs.Session.{IsAnswered, IsReady, TakesLine, AnswersLast, IsNoReadFault, stage};
+    ghost use Rattle.inst_world.specs.Session.{MovesOn, HasStopped, HasFinished, HasTurned, HasEnded, HasFailed};
 
     /// A session that has read nothing.
     pub fn new(alloc: Global) -> Result<Session, Fault>
@@ -82,10 +83,12 @@ impl Session {
         world: &mut World,
         writer: &mut W,
     ) -> Result<(), Fault>
-        ensures ok { OnOk result (Advances answering self.old world.old (W.contents writer.old) self.new world.new (W.contents writer.new)) }
+        ensures ok { OnOk result (MovesOn answering (stage self.old world.old (W.contents writer.old))
+            (stage self.new world.new (W.contents writer.new))) }
         ensures done { OnOk result (NoNewline (held self.new.input) ⊎ (self.new.counts.lines ≡ most_lines)) }
         ensures taken { OnOk result (self.new.input.taken ≡ self.old.input.taken) }
-        ensures err { OnErr result (Stops answering self.old world.old (W.contents writer.old) (W.contents writer.new)) }
+        ensures err { OnErr result (HasStopped answering (stage self.old world.old (W.contents writer.old))
+            (W.contents writer.new)) }
         ensures fault { IfErr result IsNoReadFault }
     {
         while self.counts.lines < MOST_LINES {
@@ -120,8 +123,10 @@ impl Session {
         writer: &mut W,
     ) -> Result<(), Fault>
         requires { IsAnswered self.old }
-        ensures ok { OnOk result (Finishes answering self.old world.old (W.contents writer.old) self.new.counts world.new (W.contents writer.new)) }
-        ensures err { OnErr result (Stops answering self.old world.old (W.contents writer.old) (W.contents writer.new)) }
+        ensures ok { OnOk result (HasFinished answering (stage self.old world.old (W.contents writer.old))
+            (stage self.new world.new (W.contents writer.new))) }
+        ensures err { OnErr result (HasStopped answering (stage self.old world.old (W.contents writer.old))
+            (W.contents writer.new)) }
         ensures fault { IfErr result IsNoReadFault }
     {
         self.answer_last(alloc, world)?;
@@ -138,10 +143,14 @@ impl Session {
         writer: &mut W,
     ) -> Result<bool, Fault>
         requires { IsReady self.old }
-        ensures ok { IfOk result (λ more. MatchBool more
-            (Turns answering self.old world.old (W.contents writer.old) self.new world.new (W.contents writer.new) (R.remaining reader.old) (R.remaining reader.new))
-            (Ends answering self.old world.old (W.contents writer.old) self.new.counts world.new (W.contents writer.new) (R.remaining reader.old) (R.remaining reader.new))) }
-        ensures err { IfErr result (Fails answering self.old world.old (W.contents writer.old) (W.contents writer.new) (R.remaining reader.old) (R.remaining reader.new)) }
+        ensures ok { let before = stage self.old world.old (W.contents writer.old) in
+            let after = stage self.new world.new (W.contents writer.new) in
+            IfOk result (λ more. MatchBool more
+            (HasTurned answering before after (R.remaining reader.old) (R.remaining reader.new))
+            (HasEnded answering before after (R.remaining reader.old) (R.remaining reader.new))) }
+        ensures err { let before = stage self.old world.old (W.contents writer.old) in
+            IfErr result (HasFailed answering before (W.contents writer.new)
+            (R.remaining reader.old) (R.remaining reader.new)) }
     {
         if self.input.fill(reader)? == 0 {
             self.finish(alloc, world, writer)?;
