@@ -12,3 +12,4 @@ pub mod Pages
 pub mod Repeats
 pub mod Lines
 pub mod Living
+pub mod Rows
