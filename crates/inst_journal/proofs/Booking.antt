@@ -66,7 +66,7 @@ itself text = nat_list_eq_equiv.refl text
 closing : (before new : Option Outcome) (outcome : Outcome) → before ≡ None → new ≡ Some outcome → if_unbooked (or_else before new) 1 + 1 ≤ if_unbooked before 1
 closing before new outcome none some = rw (none, some) (omega arith)
 
-books_itself : (from : ℕ) (id : List ℕ) (outcome : Outcome) → books from id (Booked from id outcome) ≡ Some outcome
+pub books_itself : (from : ℕ) (id : List ℕ) (outcome : Outcome) → books from id (Booked from id outcome) ≡ Some outcome
 books_itself from id outcome = ap (λ b. cond b (Some outcome) None) (and_from (from == from) (same_text id id) (eq-eqb from from refl) (itself id))
 
 -- a booking closes the taken transfer that it is of

@@ -1,6 +1,6 @@
 -- How many events of each kind a sound history has at most.
 use Rattle.std.proofs.Common.{◌≡◌, ℕ, ◌+◌, ◌*◌, ◌^◌, ◌<◌, ◌≤◌, Bool, true, false, ◌==◌, cond, zero, suc, nat_lt, List, [], ◌∷◌, ◌++◌, Option, Some, None, is_some, is_none, ◌||◌, ◌&&◌, add-zero, sum_by, count_by, refl, sym, ap, ◌∙◌, arith, inl, inr}
-use Rattle.std.proofs.lemmas.Bool.{false≢true, lt-ltb, le-ltb, eq-eqb, ne_eqb, cases_eq, eqb-true, cases_Bool, and_parts}
+use Rattle.std.proofs.lemmas.Bool.{false≢true, le-ltb, eq-eqb, ne_eqb, cases_eq, eqb-true, cases_Bool, and_parts}
 use Rattle.std.proofs.lemmas.Bool.Decides.{nat_tests}
 use Rattle.std.proofs.lemmas.List.Sums.{sum_by-cons, sum_by-le-sum_by}
 use Rattle.std.proofs.Math.Nat.{mul-le-mul}

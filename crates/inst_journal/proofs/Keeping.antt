@@ -1,13 +1,13 @@
 -- What a command keeps fits the history before it.
 use Rattle.std.proofs.Common.{◌≡◌, ℕ, ◌+◌, ◌≤◌, Bool, true, false, ◌==◌, cond, nat_le, nat_lt, List, [], ◌∷◌, length, take, ◌⊎◌, inl, inr, Option, Some, None, Result, Ok, Err, refl, sym, ap, ◌∙◌, ◌<◌, arith, min, ◌&&◌}
-use Rattle.std.proofs.lemmas.Bool.{and_parts, leb-true, leb-false, ltb-true, ltb-false, eqb-false}
+use Rattle.std.proofs.lemmas.Bool.{and_parts, leb-true, leb-false, ltb-false, eqb-false}
 use Rattle.std.proofs.lemmas.List.{length-take}
 use Rattle.std.proofs.lemmas.Bool.Decides.{nat_tests}
 use Rattle.inst_base.specs.Moment.{is_moment}
 use Rattle.inst_base.specs.TimeLimit.{deadline_of, is_due, is_ahead}
 use Rattle.inst_base.specs.declared.fault.Fault.{Fault}
-use Rattle.inst_base.specs.declared.fault.Fault.TheVariants.{UnknownTransfer, Expired, Duplicate, Full}
-use Rattle.inst_settings.specs.Settings.{HubSettings, participants, is_participant, is_within_ceiling}
+use Rattle.inst_base.specs.declared.fault.Fault.TheVariants.{Expired, Duplicate, Full}
+use Rattle.inst_settings.specs.Settings.{HubSettings, is_participant, is_within_ceiling}
 use Rattle.inst_command.specs.Ask.{is_count, command_fits}
 use Rattle.inst_command.specs.declared.command.Command.{Command}
 use Rattle.inst_command.specs.declared.command.Command.TheVariants.{Fund, Defund, Submit, Confirm, Reject, Investigate, Fetch, Position, Statement}
@@ -20,7 +20,7 @@ use Rattle.inst_journal.specs.Booked.{is_taken, is_forwarded, booked}
 use Rattle.inst_journal.specs.Opened.{live_submissions}
 use Rattle.inst_journal.specs.Money.{available}
 use Rattle.inst_journal.specs.Keys.{is_fund_repeat, is_defund_repeat, is_submission_repeat, has_reference, fundings}
-use Rattle.inst_journal.specs.Reply.{is_new_funding, funding, fund, defund, submit, standing, still_pending, answer_forwarded, confirm, reject, investigate, unread, hand_out, handle, kept_events, history_after}
+use Rattle.inst_journal.specs.Reply.{is_new_funding, funding, fund, defund, submit, standing, still_pending, answer_forwarded, investigate, unread, hand_out, handle, kept_events, history_after}
 use Rattle.inst_journal.specs.Sound.{FitAfter, IsSound}
 use Rattle.inst_journal.proofs.Soundness.{sound_with}
 

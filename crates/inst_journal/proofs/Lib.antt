@@ -10,3 +10,11 @@ pub mod Places
 pub mod Reading
 pub mod Walking
 pub mod Carrying
+pub mod Finding
+pub mod Paging
+pub mod Repeating
+pub mod Telling
+pub mod KeyOnce
+pub mod Living
+pub mod Moving
+pub mod Leading

@@ -1,17 +1,18 @@
 -- Where each taken amount is, and what the position is as a signed sum.
-use Rattle.std.proofs.Common.{◌≡◌, ℕ, pos, ◌+ℤ◌, ◌-ℤ◌, ◌+◌, ◌-◌, ◌≤◌, List, [], ◌∷◌, sum_by, inl, inr, Option, Some, None, refl, arith}
+use Rattle.std.proofs.Common.{◌≡◌, ◌≢◌, ◌∙◌, ap, ℕ, pos, ◌+ℤ◌, ◌-ℤ◌, ◌+◌, ◌-◌, ◌≤◌, List, [], ◌∷◌, sum_by, inl, inr, Option, Some, None, refl, arith}
 use Rattle.std.proofs.lemmas.Int.{ints}
 use Rattle.inst_settings.specs.Settings.{HubSettings}
 use Rattle.inst_command.specs.declared.outcome.Outcome.{Outcome}
 use Rattle.inst_command.specs.declared.outcome.Outcome.TheVariants.{Accepted, Rejected, TimedOut}
 use Rattle.inst_journal.specs.declared.event.Event.{Event}
 use Rattle.inst_journal.specs.declared.event.Event.TheVariants.{Funded, Defunded, Taken, Forwarded, Booked, Fetched, Opened}
-use Rattle.inst_journal.specs.Booked.{own_booked}
+use Rattle.inst_journal.specs.Booked.{booked, own_booked}
 use Rattle.inst_journal.specs.Sums.{funded, defunded, credits, debits, debit, reservation, if_accepted, if_unbooked}
 use Rattle.inst_journal.specs.Money.{reserved, position}
-use Rattle.inst_journal.specs.Laws.{if_released, taking, release, released, IsOneOf, IsInOnePlace, IsNeverOverdrawn}
+use Rattle.inst_journal.specs.Laws.{if_released, taking, release, released, IsOneOf, IsInOnePlace, IsNeverOverdrawn, IsPlaced, IsWhereItIsBooked}
 use Rattle.inst_journal.specs.Sound.{IsSound}
 use Rattle.inst_journal.proofs.Covering.{covered}
+use Rattle.inst_journal.proofs.OwnBookings.{own_booked-booked}
 use Rattle.inst_journal.proofs.Pushing.{sum_by-both}
 use Rattle.std.proofs.lemmas.List.Sums.{sum_by-cons}
 
@@ -45,7 +46,8 @@ places_of J (Booked from id outcome) = refl
 places_of J (Fetched count) = refl
 places_of J Opened = refl
 
-sum_same : (f g : Event → ℕ) (xs : List Event) → ((x : Event) → f x ≡ g x) → sum_by f xs ≡ sum_by g xs
+-- sums of the same
+pub sum_same : (f g : Event → ℕ) (xs : List Event) → ((x : Event) → f x ≡ g x) → sum_by f xs ≡ sum_by g xs
 sum_same f g [] same = refl
 sum_same f g (x ∷ xs) same = omega (arith, sum_by-cons f x xs, sum_by-cons g x xs, same x, sum_same f g xs same)
 
@@ -59,3 +61,24 @@ all_in_one_place J = record {
       let whole : sum_by (λ e. reservation J e + debit J e + release J e) J ≡ sum_by taking J = sum_same _ _ J (places_of J) in
       omega (arith, first, second, whole);
 }
+
+placed : (J : List Event) (id : List ℕ) (to cents stamp : ℕ) (o : Option Outcome) → own_booked id J ≡ o → IsPlaced J (Taken id to cents stamp) (if_unbooked o cents) (if_accepted o cents)
+placed J id to cents stamp o e = record {
+  reservation_is = ap (λ b. if_unbooked b cents) e;
+  debit_is = ap (λ b. if_accepted b cents) e;
+}
+
+placed_nowhere : (J : List Event) (id : List ℕ) (to cents stamp : ℕ) (outcome : Outcome) → own_booked id J ≡ Some outcome → outcome ≢ Accepted → IsPlaced J (Taken id to cents stamp) 0 0
+placed_nowhere J id to cents stamp Accepted e other = absurd (other refl)
+placed_nowhere J id to cents stamp (Rejected reason) e other = placed J id to cents stamp (Some (Rejected reason)) e
+placed_nowhere J id to cents stamp TimedOut e other = placed J id to cents stamp (Some TimedOut) e
+
+-- a taken amount is where its booking puts it
+pub where_it_is_booked : (s : HubSettings) (who : ℕ) (J : List Event) → IsSound s who J → (id : List ℕ) (to cents stamp : ℕ) → IsWhereItIsBooked who J id to cents stamp
+where_it_is_booked s who J sound id to cents stamp =
+    let own : own_booked id J ≡ booked who id J = own_booked-booked s who J id sound in
+    record {
+      unbooked = λ e. placed J id to cents stamp None (own ∙ e);
+      accepted = λ e. placed J id to cents stamp (Some Accepted) (own ∙ e);
+      others = λ outcome e other. placed_nowhere J id to cents stamp outcome (own ∙ e) other;
+    }

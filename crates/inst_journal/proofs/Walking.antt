@@ -1,5 +1,5 @@
 -- One step of a walk over a history's fronts, and how many lines it gives.
-use Rattle.std.proofs.Common.{◌≡◌, ℕ, ◌+◌, ◌*◌, ◌<◌, ◌≤◌, Bool, true, ◌||◌, cond, List, [], ◌∷◌, ◌++◌, length, take, drop, get_or, Some, None, sum_by, count_by, refl, sym, ap, ◌∙◌, subst, arith, take-append-drop, add-one, drop-cons, append_assoc, length-append}
+use Rattle.std.proofs.Common.{◌≡◌, ℕ, ◌+◌, ◌*◌, ◌<◌, ◌≤◌, Bool, true, ◌||◌, cond, List, [], ◌∷◌, ◌++◌, length, take, drop, get_or, Some, None, sum_by, count_by, refl, sym, ap, ◌∙◌, subst, arith, take-append-drop, add-one, drop-cons, append_assoc, append-nil, length-append}
 use Rattle.std.proofs.lemmas.List.{take_more}
 use Rattle.std.proofs.lemmas.List.Sums.{sum_by-le-sum_by, sum_by-take-le}
 use Rattle.std.proofs.Math.Nat.{mul-le-mul}
@@ -7,7 +7,7 @@ use Rattle.inst_settings.specs.Settings.{HubSettings, IsSettings, participants}
 use Rattle.inst_command.specs.declared.line.Line.{Line}
 use Rattle.inst_journal.specs.declared.event.Event.{Event}
 use Rattle.inst_journal.specs.declared.event.Event.TheVariants.{Funded, Defunded, Taken, Forwarded, Booked, Fetched, Opened}
-use Rattle.inst_journal.specs.Keys.{is_funding, fundings}
+use Rattle.inst_journal.specs.Keys.{is_funding}
 use Rattle.inst_journal.specs.Money.{position}
 use Rattle.inst_journal.specs.Statement.{line_of, with_line, lines_after}
 use Rattle.inst_journal.specs.Sound.{FitAfter, IsSound}
@@ -81,9 +81,15 @@ lines_few s who J i lawful sound =
       lawful.places_most,
     )
 
-front_fits : (s : HubSettings) (who : ℕ) (before xs ys : List Event) → FitAfter s who before (xs ++ ys) → FitAfter s who before xs
+pub front_fits : (s : HubSettings) (who : ℕ) (before xs ys : List Event) → FitAfter s who before (xs ++ ys) → FitAfter s who before xs
 front_fits s who before [] ys fits = tt
 front_fits s who before (x ∷ xs) ys fits = (fits.0, front_fits s who (before ++ x ∷ []) xs ys fits.1)
+
+-- what comes after a front fits it
+pub rest_fits : (s : HubSettings) (who : ℕ) (before xs ys : List Event) → FitAfter s who before (xs ++ ys) → FitAfter s who (before ++ xs) ys
+rest_fits s who before [] ys fits = subst (λ (f : List Event). FitAfter s who f ys) (sym (append-nil before)) fits
+rest_fits s who before (x ∷ xs) ys fits =
+    subst (λ (f : List Event). FitAfter s who f ys) (append_assoc before (x ∷ []) xs) (rest_fits s who (before ++ x ∷ []) xs ys fits.1)
 
 -- a front of a sound history is sound
 pub sound_front : (s : HubSettings) (who : ℕ) (J : List Event) (i : ℕ) → IsSound s who J → IsSound s who (take i J)

@@ -1,6 +1,6 @@
 -- The laws of one participant's books: nothing is overdrawn, each taken amount is in one place, each transfer is booked
 -- once, and what a command keeps leaves the books sound. They are this hub's own promises.
-use Rattle.std.specs.Prelude.{◌≡◌, ℕ, pos, ◌+◌, ◌≤◌, ◌+ℤ◌, ◌-ℤ◌, true, List, Option, sum_by, count_by, is_some, ◌⊎◌}
+use Rattle.std.specs.Prelude.{◌≡◌, ◌≢◌, ℕ, pos, ◌+◌, ◌≤◌, ◌+ℤ◌, ◌-ℤ◌, true, List, Option, Some, None, sum_by, count_by, is_some, ◌⊎◌}
 use Rattle.inst_settings.specs.Settings.{HubSettings}
 use Rattle.inst_command.specs.Ask.{command_fits}
 use Rattle.inst_command.specs.declared.command.Command.{Command}
@@ -8,7 +8,7 @@ use Rattle.inst_command.specs.declared.outcome.Outcome.{Outcome}
 use Rattle.inst_command.specs.declared.outcome.Outcome.TheVariants.{Accepted, Rejected, TimedOut}
 use Rattle.inst_journal.specs.declared.event.Event.{Event}
 use Rattle.inst_journal.specs.declared.event.Event.TheVariants.{Taken}
-use Rattle.inst_journal.specs.Booked.{books, own_booked}
+use Rattle.inst_journal.specs.Booked.{books, booked, own_booked}
 use Rattle.inst_journal.specs.Sums.{net, funded, defunded, credits, debits, debit, reservation}
 use Rattle.inst_journal.specs.Money.{reserved, position, available}
 use Rattle.inst_journal.specs.Reply.{history_after}
@@ -57,6 +57,28 @@ pub record IsInOnePlace (J : List Event) : Type 0 where
 
 abbrev pub EachTakenAmountIsInOnePlace : Type 0
 EachTakenAmountIsInOnePlace = (J : List Event) → IsInOnePlace J
+
+-- what a participant has booked for its own transfer is what is booked under its own number
+abbrev pub AnOwnBookingHasTheOwnNumber : Type 0
+AnOwnBookingHasTheOwnNumber = (s : HubSettings) (who : ℕ) (J : List Event) → IsSound s who J → (id : List ℕ) →
+    own_booked id J ≡ booked who id J
+
+-- what of an amount is reserved and what is debited
+pub record IsPlaced (J : List Event) (event : Event) (reserved debited : ℕ) : Type 0 where
+  pub reservation_is : reservation J event ≡ reserved
+  pub debit_is : debit J event ≡ debited
+
+-- a taken amount is reserved while nothing is booked, debited once it is booked accepted, and neither after another
+-- outcome
+pub record IsWhereItIsBooked (who : ℕ) (J : List Event) (id : List ℕ) (to cents stamp : ℕ) : Type 0 where
+  pub unbooked : booked who id J ≡ None → IsPlaced J (Taken id to cents stamp) cents 0
+  pub accepted : booked who id J ≡ Some Accepted → IsPlaced J (Taken id to cents stamp) 0 cents
+  pub others : (outcome : Outcome) → booked who id J ≡ Some outcome → outcome ≢ Accepted →
+      IsPlaced J (Taken id to cents stamp) 0 0
+
+abbrev pub ATakenAmountIsWhereItIsBooked : Type 0
+ATakenAmountIsWhereItIsBooked = (s : HubSettings) (who : ℕ) (J : List Event) → IsSound s who J →
+    (id : List ℕ) (to cents stamp : ℕ) → IsWhereItIsBooked who J id to cents stamp
 
 -- a transfer is booked at most once
 abbrev pub ATransferIsBookedOnce : Type 0

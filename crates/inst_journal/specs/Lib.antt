@@ -8,3 +8,8 @@ pub mod Statement
 pub mod Reply
 pub mod Sound
 pub mod Laws
+pub mod Pages
+pub mod Repeats
+pub mod Lines
+pub mod Living
+pub mod Rows

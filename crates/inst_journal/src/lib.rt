@@ -12,6 +12,7 @@ mod money;
 mod opening;
 mod queries;
 mod reply;
+pub mod rows;
 mod statement;
 mod sums;
 #[cfg(test)]

@@ -1,0 +1,116 @@
+-- A repeat's contents are kept, and it is answered before anything else is asked of it.
+use Rattle.std.proofs.Common.{◌≡◌, ◌≢◌, ℕ, true, ◌==◌, ◌&&◌, List, ◌++◌, Option, refl, sym, ap, ◌∙◌, append-nil}
+use Rattle.std.specs.Cmp.Lexicographic.{same_text as text_same, nat_list_eq_equiv}
+use Rattle.std.proofs.lemmas.Bool.{false≢true, and_parts, and_from, eqb-true, eq-eqb, ne_eqb}
+use Rattle.inst_settings.specs.Settings.{HubSettings, same_text}
+use Rattle.inst_command.specs.declared.outcome.Outcome.{Outcome}
+use Rattle.inst_journal.specs.declared.event.Event.{Event}
+use Rattle.inst_journal.specs.declared.event.Event.TheVariants.{Funded, Defunded, Taken, Forwarded, Booked, Fetched, Opened}
+use Rattle.inst_command.specs.declared.command.Command.{Command}
+use Rattle.inst_command.specs.declared.command.Command.TheVariants.{Fund, Defund, Submit}
+use Rattle.inst_command.specs.declared.reply.Reply.{Reply}
+use Rattle.inst_command.specs.declared.reply.Reply.TheVariants.{Done}
+use Rattle.inst_command.specs.declared.submission.Submission.{Submission}
+use Rattle.inst_journal.specs.Keys.{is_this_fund, is_this_defund, is_this_submission, is_fund_repeat, is_defund_repeat, is_submission_repeat}
+use Rattle.inst_journal.specs.Repeats.{taken_of, taken_reply, IsTheVerySame, IsAnsweredOnly, IsAnsweredAgain}
+use Rattle.inst_journal.specs.Reply.{answered, fund, defund, submit, handle, kept_events, told}
+use Rattle.inst_journal.proofs.Finding.{found_is_there, there_is_found}
+
+itself : (text : List ℕ) → same_text text text ≡ true
+itself text = nat_list_eq_equiv.refl text
+
+number_itself : (n : ℕ) → (n == n) ≡ true
+number_itself n = eq-eqb n n refl
+
+this_fund : (reference : List ℕ) (cents : ℕ) (event : Event) → is_this_fund reference cents event ≡ true → event ≡ Funded reference cents
+this_fund reference cents (Funded other amount) same =
+    let parts = and_parts (same_text other reference) (amount == cents) same in
+    let text : other ≡ reference = text_same other reference (sym parts.0) in
+    let number : amount ≡ cents = eqb-true amount cents parts.1 in
+    cc
+this_fund reference cents (Defunded other amount) same = absurd (false≢true same)
+this_fund reference cents (Taken id to amount stamp) same = absurd (false≢true same)
+this_fund reference cents (Forwarded from id amount deadline) same = absurd (false≢true same)
+this_fund reference cents (Booked from id outcome) same = absurd (false≢true same)
+this_fund reference cents (Fetched count) same = absurd (false≢true same)
+this_fund reference cents Opened same = absurd (false≢true same)
+
+this_defund : (reference : List ℕ) (cents : ℕ) (event : Event) → is_this_defund reference cents event ≡ true → event ≡ Defunded reference cents
+this_defund reference cents (Defunded other amount) same =
+    let parts = and_parts (same_text other reference) (amount == cents) same in
+    let text : other ≡ reference = text_same other reference (sym parts.0) in
+    let number : amount ≡ cents = eqb-true amount cents parts.1 in
+    cc
+this_defund reference cents (Funded other amount) same = absurd (false≢true same)
+this_defund reference cents (Taken id to amount stamp) same = absurd (false≢true same)
+this_defund reference cents (Forwarded from id amount deadline) same = absurd (false≢true same)
+this_defund reference cents (Booked from id outcome) same = absurd (false≢true same)
+this_defund reference cents (Fetched count) same = absurd (false≢true same)
+this_defund reference cents Opened same = absurd (false≢true same)
+
+this_submission : (x : Submission) (event : Event) → is_this_submission x event ≡ true → event ≡ taken_of x
+this_submission x (Taken id to cents stamp) same =
+    let last = and_parts (same_text id x.id && (to == x.to) && (cents == x.cents)) (stamp == x.stamp) same in
+    let third = and_parts (same_text id x.id && (to == x.to)) (cents == x.cents) last.0 in
+    let first = and_parts (same_text id x.id) (to == x.to) third.0 in
+    let text : id ≡ x.id = text_same id x.id (sym first.0) in
+    let beneficiary : to ≡ x.to = eqb-true to x.to first.1 in
+    let amount : cents ≡ x.cents = eqb-true cents x.cents third.1 in
+    let moment : stamp ≡ x.stamp = eqb-true stamp x.stamp last.1 in
+    cc
+this_submission x (Funded other amount) same = absurd (false≢true same)
+this_submission x (Defunded other amount) same = absurd (false≢true same)
+this_submission x (Forwarded from id amount deadline) same = absurd (false≢true same)
+this_submission x (Booked from id outcome) same = absurd (false≢true same)
+this_submission x (Fetched count) same = absurd (false≢true same)
+this_submission x Opened same = absurd (false≢true same)
+
+submission_itself : (x : Submission) → is_this_submission x (taken_of x) ≡ true
+submission_itself x =
+    and_from (same_text x.id x.id && (x.to == x.to) && (x.cents == x.cents)) (x.stamp == x.stamp)
+    (and_from (same_text x.id x.id && (x.to == x.to)) (x.cents == x.cents)
+    (and_from (same_text x.id x.id) (x.to == x.to) (itself x.id) (number_itself x.to)) (number_itself x.cents)) (number_itself x.stamp)
+
+funding_itself : (reference : List ℕ) (cents : ℕ) → (same_text reference reference && (cents == cents)) ≡ true
+funding_itself reference cents = and_from (same_text reference reference) (cents == cents) (itself reference) (number_itself cents)
+
+-- a repeat is the very same
+pub the_very_same : (J : List Event) → IsTheVerySame J
+the_very_same J = record {
+  submission = λ x. (
+    found_is_there (is_this_submission x) (taken_of x) J (this_submission x),
+    there_is_found (is_this_submission x) (taken_of x) J (submission_itself x),
+  );
+  fund = λ reference cents. (
+    found_is_there (is_this_fund reference cents) (Funded reference cents) J (this_fund reference cents),
+    there_is_found (is_this_fund reference cents) (Funded reference cents) J (funding_itself reference cents),
+  );
+  defund = λ reference cents. (
+    found_is_there (is_this_defund reference cents) (Defunded reference cents) J (this_defund reference cents),
+    there_is_found (is_this_defund reference cents) (Defunded reference cents) J (funding_itself reference cents),
+  );
+}
+
+submit_again : (s : HubSettings) (who : ℕ) (J : List Event) (at : ℕ) (x : Submission) → is_submission_repeat x J ≡ true → x.to ≢ who → submit s who J at x ≡ answered (taken_reply s x)
+submit_again s who J at x repeat another = rw (ne_eqb x.to who another, repeat) refl
+
+fund_again : (s : HubSettings) (J : List Event) (reference : List ℕ) (cents : ℕ) → is_fund_repeat reference cents J ≡ true → fund s J reference cents ≡ answered (Done reference)
+fund_again s J reference cents repeat = rw repeat refl
+
+defund_again : (s : HubSettings) (J : List Event) (reference : List ℕ) (cents : ℕ) → is_defund_repeat reference cents J ≡ true → defund s J reference cents ≡ answered (Done reference)
+defund_again s J reference cents repeat = rw repeat refl
+
+-- what is answered only is told and leaves the history
+answered_only : (s : HubSettings) (who : ℕ) (J : List Event) (command : Command) (at : ℕ) (found : Option Outcome) (reply : Reply) → handle s who J command at found ≡ answered reply → IsAnsweredOnly s who J command at found reply
+answered_only s who J command at found reply same = record {
+  answer = ap told same;
+  kept_nothing = ap (λ h. J ++ kept_events h) same ∙ append-nil J;
+}
+
+-- a repeat is answered again
+pub answered_again : (s : HubSettings) (who : ℕ) (J : List Event) (at : ℕ) (found : Option Outcome) → IsAnsweredAgain s who J at found
+answered_again s who J at found = record {
+  submission = λ x repeat another. answered_only s who J (Submit x) at found (taken_reply s x) (submit_again s who J at x repeat another);
+  fund = λ reference cents repeat. answered_only s who J (Fund reference cents) at found (Done reference) (fund_again s J reference cents repeat);
+  defund = λ reference cents repeat. answered_only s who J (Defund reference cents) at found (Done reference) (defund_again s J reference cents repeat);
+}

@@ -1,0 +1,47 @@
+-- How the lines of a statement follow from one another: their numbers from 1, and each position from the one before
+-- it, as an account statement's entries lead from its opening balance to its closing balance. This hub's own promise.
+use Rattle.std.specs.Prelude.{◌≡◌, ℕ, ◌+◌, List, [], ◌∷◌, ◌++◌, Some, slice_get}
+use Rattle.inst_settings.specs.Settings.{HubSettings}
+use Rattle.inst_command.specs.declared.line.Line.{Line}
+use Rattle.inst_command.specs.declared.line.LineKind.{LineKind}
+use Rattle.inst_command.specs.declared.line.LineKind.TheVariants.{Funded, Defunded, Received, Paid}
+use Rattle.inst_journal.specs.declared.event.Event.{Event}
+use Rattle.inst_journal.specs.declared.event.Event.TheVariants.{Opened}
+use Rattle.inst_journal.specs.Money.{position}
+use Rattle.inst_journal.specs.Opened.{carried}
+use Rattle.inst_journal.specs.Statement.{statement}
+use Rattle.inst_journal.specs.Sound.{IsSound}
+
+-- what a line of this kind adds to the position
+abbrev pub raised : LineKind → ℕ → ℕ
+raised Funded cents = cents
+raised Received cents = cents
+raised Defunded cents = 0
+raised Paid cents = 0
+
+-- what a line of this kind takes from the position
+abbrev pub lowered : LineKind → ℕ → ℕ
+lowered Funded cents = 0
+lowered Received cents = 0
+lowered Defunded cents = cents
+lowered Paid cents = cents
+
+-- the lines lead from the position `before` to the position `last`, each from the position of the line before it
+abbrev pub Lead : ℕ → List Line → ℕ → Type 0
+Lead before [] last = before ≡ last
+Lead before (line ∷ lines) last =
+    (before + raised line.kind line.cents ≡ line.position + lowered line.kind line.cents)
+    × Lead line.position lines last
+
+-- the numbers count from 1
+abbrev pub LinesCountFromOne : Type 0
+LinesCountFromOne = (J : List Event) (k : ℕ) (line : Line) → slice_get (statement J) k ≡ Some line → line.number ≡ k + 1
+
+-- an opening begins a statement anew
+abbrev pub AnOpeningBeginsAStatement : Type 0
+AnOpeningBeginsAStatement = (J : List Event) → statement (J ++ Opened ∷ []) ≡ []
+
+-- a statement leads from the position at the last opening to the position
+abbrev pub AStatementLeadsToThePosition : Type 0
+AStatementLeadsToThePosition = (s : HubSettings) (who : ℕ) (J : List Event) → IsSound s who J →
+    Lead (position (carried J)) (statement J) (position J)

@@ -1,0 +1,50 @@
+-- What is live, and what an opening from the books leaves as it was: the money and the keys. It ends the life of what
+-- is booked, and gives back the fundings. This hub's own promises.
+use Rattle.std.specs.Prelude.{◌≡◌, ℕ, ◌≤◌, true, is_none, List, [], ◌∷◌, ◌++◌, None}
+use Rattle.inst_settings.specs.Settings.{HubSettings}
+use Rattle.inst_command.specs.declared.submission.Submission.{Submission}
+use Rattle.inst_journal.specs.declared.event.Event.{Event}
+use Rattle.inst_journal.specs.declared.event.Event.TheVariants.{Opened}
+use Rattle.inst_journal.specs.Booked.{is_taken, is_forwarded, booked}
+use Rattle.inst_journal.specs.Opened.{is_live, live_submissions, live_forwarded}
+use Rattle.inst_journal.specs.Keys.{is_fund_repeat, is_defund_repeat, is_submission_repeat, has_reference, fundings}
+use Rattle.inst_journal.specs.Money.{reserved, position, available}
+use Rattle.inst_journal.specs.Sound.{IsSound}
+
+-- what isn't booked is live, and no more is live than there are places
+pub record IsLivingWithin (s : HubSettings) (who : ℕ) (J : List Event) : Type 0 where
+  pub unbooked : (from : ℕ) (id : List ℕ) → booked from id J ≡ None → is_live from id J ≡ true
+  pub submissions : live_submissions who J ≤ s.places
+  pub forwarded : (from : ℕ) → live_forwarded from J ≤ s.places
+
+abbrev pub TheLiveHavePlaces : Type 0
+TheLiveHavePlaces = (s : HubSettings) (who : ℕ) (J : List Event) → IsSound s who J → IsLivingWithin s who J
+
+-- the money after an opening is the money before it
+pub record SameMoney (J K : List Event) : Type 0 where
+  pub position : position K ≡ position J
+  pub reserved : reserved K ≡ reserved J
+  pub available : available K ≡ available J
+
+-- what was kept is kept
+pub record SameKeys (J K : List Event) : Type 0 where
+  pub taken : (id : List ℕ) → is_taken id K ≡ is_taken id J
+  pub forwarded : (from : ℕ) (id : List ℕ) → is_forwarded from id K ≡ is_forwarded from id J
+  pub booked : (from : ℕ) (id : List ℕ) → booked from id K ≡ booked from id J
+  pub reference : (reference : List ℕ) → has_reference reference K ≡ has_reference reference J
+  pub submission : (x : Submission) → is_submission_repeat x K ≡ is_submission_repeat x J
+  pub fund : (reference : List ℕ) (cents : ℕ) →
+      is_fund_repeat reference cents K ≡ is_fund_repeat reference cents J
+  pub defund : (reference : List ℕ) (cents : ℕ) →
+      is_defund_repeat reference cents K ≡ is_defund_repeat reference cents J
+
+abbrev pub AnOpeningKeepsTheBooks : Type 0
+AnOpeningKeepsTheBooks = (J : List Event) → SameMoney J (J ++ Opened ∷ []) × SameKeys J (J ++ Opened ∷ [])
+
+-- exactly what isn't booked lives on, and all fundings are to be had again
+pub record BeginsAnew (J K : List Event) : Type 0 where
+  pub live : (from : ℕ) (id : List ℕ) → is_live from id K ≡ is_none (booked from id J)
+  pub fundings : fundings K ≡ 0
+
+abbrev pub AnOpeningGivesBack : Type 0
+AnOpeningGivesBack = (J : List Event) → BeginsAnew J (J ++ Opened ∷ [])

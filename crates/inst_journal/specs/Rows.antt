@@ -1,0 +1,134 @@
+-- The commands of the worked rows of one participant's history and their short forms, at a hub of three participants with
+-- two places and four fundings each, a time limit of ten seconds, and time stamps at most one second ahead. This hub's
+-- own choice.
+use Rattle.std.specs.Prelude.{ℕ, List, [], ◌∷◌, ◌++◌, codes, Option, Some, None, Result, Ok, Err}
+use Rattle.inst_base.specs.declared.fault.Fault.{Fault}
+use Rattle.inst_settings.specs.Settings.{HubSettings}
+use Rattle.inst_command.specs.declared.command.Command.{Command}
+use Rattle.inst_command.specs.declared.command.Command.TheVariants.{Fund, Submit, Confirm, Reject, Investigate, Fetch, Position as AskPosition, Statement as AskStatement}
+use Rattle.inst_command.specs.declared.outcome.Outcome.{Outcome}
+use Rattle.inst_command.specs.declared.outcome.Outcome.TheVariants.{Accepted}
+use Rattle.inst_command.specs.declared.outcome.State.{State as StateValue}
+use Rattle.inst_command.specs.declared.reply.Reply.{Reply}
+use Rattle.inst_command.specs.declared.reply.Reply.TheVariants.{Done, Taken as TakenReply, State, Position}
+use Rattle.inst_journal.specs.declared.event.Event.{Event}
+use Rattle.inst_journal.specs.declared.event.Event.TheVariants.{Forwarded, Opened}
+use Rattle.inst_journal.specs.Reply.{reply, history_after}
+
+abbrev pub settings : HubSettings
+settings = record {
+  codes = codes "AAAADEFF" ∷ codes "BBBBFRPP" ∷ codes "CCCCITMM" ∷ [];
+  places = 2;
+  fundings = 4;
+  limit = 10000;
+  margin = 0;
+  ahead = 1000;
+  ceiling = 99999999999;
+  base = 0;
+}
+
+-- the participants
+abbrev pub A : ℕ
+A = 0
+
+abbrev pub B : ℕ
+B = 1
+
+abbrev pub C : ℕ
+C = 2
+
+-- a command, when it is read, and what is found of its transfer
+pub record Asked : Type 0 where
+  pub command : Command
+  pub at : ℕ
+  pub found : Option Outcome
+
+-- what a participant is answered, command by command
+abbrev pub answers : ℕ → List Event → List Asked → List (Result Reply Fault)
+answers who J [] = []
+answers who J (asked ∷ rest) =
+    reply settings who J asked.command asked.at asked.found
+    ∷ answers who (history_after settings who J asked.command asked.at asked.found) rest
+
+-- the history after the commands
+abbrev pub after : ℕ → List Event → List Asked → List Event
+after who J [] = J
+after who J (asked ∷ rest) = after who (history_after settings who J asked.command asked.at asked.found) rest
+
+-- the hub is opened again
+abbrev pub opened : List Event → List Event
+opened J = J ++ Opened ∷ []
+
+abbrev pub ask : Command → ℕ → Option Outcome → Asked
+ask command at found = record { command = command; at = at; found = found }
+
+abbrev pub fund : List ℕ → ℕ → Asked
+fund reference cents = ask (Fund reference cents) 0 None
+
+-- a transfer to B, stamped 1000
+abbrev pub submit : List ℕ → ℕ → ℕ → Asked
+submit id cents at = ask (Submit (record { id = id; to = B; cents = cents; stamp = 1000 })) at None
+
+abbrev pub investigate : List ℕ → Option Outcome → Asked
+investigate id found = ask (Investigate id) 11000 found
+
+abbrev pub fetch : ℕ → Asked
+fetch max = ask (Fetch max) 1500 None
+
+abbrev pub position : Asked
+position = ask AskPosition 1500 None
+
+abbrev pub statement : Asked
+statement = ask (AskStatement 0 10) 1500 None
+
+abbrev pub done : List ℕ → Result Reply Fault
+done reference = Ok (Done reference)
+
+abbrev pub taken : List ℕ → Result Reply Fault
+taken id = Ok (TakenReply id 11000)
+
+abbrev pub state : ℕ → List ℕ → StateValue → Result Reply Fault
+state from id value = Ok (State from id value)
+
+abbrev pub money : ℕ → ℕ → ℕ → Result Reply Fault
+money position reserved available = Ok (Position position reserved available)
+
+abbrev pub refused : Fault → Result Reply Fault
+refused fault = Err fault
+
+-- A is funded and has submitted a transfer to B
+abbrev pub submitted : List Event
+submitted = after A [] (fund (codes "F1") 50000 ∷ submit (codes "T1") 20000 1000 ∷ [])
+
+-- and the transfer was accepted, and A has learnt of it
+abbrev pub accepted : List Event
+accepted = after A submitted (investigate (codes "T1") (Some Accepted) ∷ [])
+
+-- the submission and the funding again, and both keys with another amount
+abbrev pub again : List Asked
+again =
+    submit (codes "T1") 20000 99000
+    ∷ submit (codes "T1") 19999 1000
+    ∷ fund (codes "F1") 50000
+    ∷ fund (codes "F1") 49999
+    ∷ []
+
+-- both places are taken, and one of the transfers is accepted
+abbrev pub two_places : List Event
+two_places = after A accepted (submit (codes "T2") 100 1000 ∷ [])
+
+-- all four fundings are kept
+abbrev pub all_fundings : List Event
+all_fundings = after A [] (fund (codes "F1") 10 ∷ fund (codes "F2") 20 ∷ fund (codes "F3") 30 ∷ fund (codes "F4") 40 ∷ [])
+
+-- what came to B: two transfers of A's, and one of C's between them
+abbrev pub arrivals : List Event
+arrivals =
+    Forwarded A (codes "T1") 100 11000 ∷ Forwarded C (codes "T1") 200 11500 ∷ Forwarded A (codes "T2") 300 11200 ∷ []
+
+-- a confirmation and a rejection of A's transfer by B, where nothing is found
+abbrev pub confirmation : Asked
+confirmation = ask (Confirm A (codes "T1")) 10500 None
+
+abbrev pub rejection : Asked
+rejection = ask (Reject A (codes "T1") (codes "AC04")) 10500 None

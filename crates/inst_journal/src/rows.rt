@@ -1,0 +1,87 @@
+//! Worked rows of one participant's history, computed from the definitions.
+ghost use Rattle.std.specs.Prelude.{◌≡◌, List, [], ◌∷◌, ◌++◌, Some, None, Ok, codes};
+ghost use Rattle.inst_base.specs.declared.fault.Fault.{Fault};
+ghost use Rattle.inst_command.specs.declared.entry.Entry.{Entry};
+ghost use Rattle.inst_command.specs.declared.line.LineKind.{LineKind};
+ghost use Rattle.inst_command.specs.declared.outcome.Outcome.{Outcome};
+ghost use Rattle.inst_command.specs.declared.outcome.State.{State};
+ghost use Rattle.inst_command.specs.declared.reply.Reply.{Reply};
+ghost use Rattle.inst_journal.specs.declared.event.Event.{Event};
+ghost use Rattle.inst_journal.specs.Rows.{A, B, C, answers, after, opened, fund, submit, investigate, fetch, position, statement, done, taken, state, money, refused, submitted, accepted, again, two_places, all_fundings, arrivals, confirmation, rejection};
+
+/// What is pending at an opening stays reserved after it, and is settled when its outcome is learnt.
+pub fn carried_over_an_opening()
+    ensures { answers A (opened submitted) (position ∷ investigate (codes "T1") (Some Outcome.Accepted) ∷ position ∷ []) ≡
+        money 50000 20000 30000 ∷ state A (codes "T1") (State.Decided Outcome.Accepted) ∷ money 30000 0 30000 ∷ [] }
+{}
+
+/// Repeats and duplicates are known over an opening, of what is pending and of what is settled, and keep nothing.
+pub fn repeat_and_duplicate_over_an_opening()
+    ensures pending { answers A (opened submitted) again ≡
+        taken (codes "T1") ∷ refused Fault.Duplicate ∷ done (codes "F1") ∷ refused Fault.Duplicate ∷ [] }
+    ensures settled { answers A (opened accepted) again ≡
+        taken (codes "T1") ∷ refused Fault.Duplicate ∷ done (codes "F1") ∷ refused Fault.Duplicate ∷ [] }
+    ensures keeps_nothing { after A (opened accepted) again ≡ opened accepted }
+{}
+
+/// An opening gives back the place of what is settled and not that of what is pending.
+pub fn places_given_back()
+    ensures before { answers A two_places (submit (codes "T3") 100 1000 ∷ []) ≡ refused Fault.Full ∷ [] }
+    ensures after { answers A (opened two_places) (submit (codes "T3") 100 1000 ∷ submit (codes "T4") 100 1000 ∷ []) ≡
+        taken (codes "T3") ∷ refused Fault.Full ∷ [] }
+{}
+
+/// A statement begins anew at an opening: with the number 1, and from the position of the whole history.
+pub fn statement_begins_anew()
+    ensures { answers A (opened accepted) (statement ∷ fund (codes "F2") 1000 ∷ statement ∷ []) ≡
+        Ok (Reply.Statement []) ∷ done (codes "F2")
+        ∷ Ok (Reply.Statement (record {
+          number = 1;
+          kind = LineKind.Funded;
+          other = None;
+          id = codes "F2";
+          cents = 1000;
+          position = 31000;
+        } ∷ [])) ∷ [] }
+{}
+
+/// An outcome that was booked before an opening is answered again after it, whatever is found, and nothing is kept.
+pub fn outcome_answered_after_an_opening()
+    ensures answer { answers A (opened accepted) (investigate (codes "T1") (Some Outcome.TimedOut) ∷ []) ≡
+        state A (codes "T1") (State.Decided Outcome.Accepted) ∷ [] }
+    ensures keeps_nothing { after A (opened accepted) (investigate (codes "T1") (Some Outcome.TimedOut) ∷ []) ≡
+        opened accepted }
+{}
+
+/// With all fundings used a kept reference with another amount is a duplicate, and the same command a repeat. An opening
+/// gives the fundings back.
+pub fn duplicate_before_full()
+    ensures full { answers A all_fundings (fund (codes "F1") 11 ∷ fund (codes "F1") 10 ∷ fund (codes "F5") 50 ∷ []) ≡
+        refused Fault.Duplicate ∷ done (codes "F1") ∷ refused Fault.Full ∷ [] }
+    ensures opened { answers A (opened all_fundings) (fund (codes "F5") 50 ∷ []) ≡ done (codes "F5") ∷ [] }
+{}
+
+/// Pages come in the order of arrival, also over an opening.
+pub fn fetch_in_order_of_arrival()
+    ensures pages { answers B arrivals (fetch 2 ∷ fetch 2 ∷ fetch 2 ∷ []) ≡
+        Ok (Reply.Inbox (record { from = A; id = codes "T1"; cents = 100; deadline = 11000 }
+        ∷ record { from = C; id = codes "T1"; cents = 200; deadline = 11500 } ∷ []))
+        ∷ Ok (Reply.Inbox (record { from = A; id = codes "T2"; cents = 300; deadline = 11200 } ∷ []))
+        ∷ Ok (Reply.Inbox []) ∷ [] }
+    ensures kept { after B arrivals (fetch 2 ∷ fetch 2 ∷ fetch 2 ∷ []) ≡
+        arrivals ++ Event.Fetched 2 ∷ Event.Fetched 1 ∷ [] }
+    ensures over_an_opening { answers B (opened (after B arrivals (fetch 2 ∷ []))) (fetch 2 ∷ []) ≡
+        Ok (Reply.Inbox (record { from = A; id = codes "T2"; cents = 300; deadline = 11200 } ∷ [])) ∷ [] }
+{}
+
+/// A confirmation that leaves the transfer pending, since it was read in the margin, comes too late and keeps nothing.
+pub fn confirmed_in_the_margin()
+    ensures answer { answers B arrivals (confirmation ∷ []) ≡ refused Fault.Expired ∷ [] }
+    ensures keeps_nothing { after B arrivals (confirmation ∷ []) ≡ arrivals }
+{}
+
+/// A rejection that leaves the transfer pending says so and keeps nothing.
+pub fn rejected_while_pending()
+    ensures answer { answers B arrivals (rejection ∷ []) ≡ state A (codes "T1") State.Pending ∷ [] }
+    ensures keeps_nothing { after B arrivals (rejection ∷ []) ≡ arrivals }
+{}
