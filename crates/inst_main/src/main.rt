@@ -20,5 +20,5 @@ fn main(rt: HostRuntime) -> ExitCode {
     };
     let mut reader = rt.stdin();
     let mut writer = rt.stdout();
-    ExitCode::from(program(alloc, &words, &mut reader, &mut writer, &mut errors))
+    ExitCode::from(program(alloc, words, &mut reader, &mut writer, &mut errors))
 }

@@ -48,10 +48,11 @@ impl From<AllocError> for Ending {
 /// `reader` by one line to `writer`. Answers the exit status: 0 at the end of the input and after
 /// `--help`, 2 for a command line that is wrong, with a text on `errors`, and for bad settings, 3
 /// for a run that failed and where memory was wanting before it began. A fault is one line
-/// `fault <number> <name>` on `errors`. What `errors` doesn't take is lost.
+/// `fault <number> <name>` on `errors`. What `errors` doesn't take is lost. It reads line by line: its time
+/// is in the bytes of the input.
 pub fn program<R: Read, W: Write, E: Write>(
     alloc: Global,
-    words: &[String],
+    words: Vec<String>,
     reader: &mut R,
     writer: &mut W,
     errors: &mut E,
@@ -59,20 +60,20 @@ pub fn program<R: Read, W: Write, E: Write>(
     ensures status { (result ≡ 0) ⊎ ((result ≡ 2) ⊎ (result ≡ 3)) }
 
     // All the input is answered, or the words ask for a help text.
-    ensures served { result ≡ 0 → Serves (map string_bytes words.now)
+    ensures served { result ≡ 0 → Serves (map string_bytes words.items)
         (R.remaining reader.old) (R.remaining reader.new) (W.contents writer.old) (W.contents writer.new)
-        ⊎ ((reader.new ≡ reader.old) × AskForHelp (map string_bytes words.now)) }
+        ⊎ ((reader.new ≡ reader.old) × AskForHelp (map string_bytes words.items)) }
 
     // The words are wrong, or they are whole and the settings are refused.
     ensures refused { result ≡ 2 → (reader.new ≡ reader.old) × (writer.new ≡ writer.old)
-        × (AreWrong (map string_bytes words.now) ⊎ AreWhole (map string_bytes words.now)) }
+        × (AreWrong (map string_bytes words.items) ⊎ AreWhole (map string_bytes words.items)) }
 
     // Memory was wanting before a run, or a run has failed.
     ensures failed { result ≡ 3 → ((reader.new ≡ reader.old) × (writer.new ≡ writer.old))
-        ⊎ ((fault : SomeFault) × Fails (map string_bytes words.now)
+        ⊎ ((fault : SomeFault) × Fails (map string_bytes words.items)
         (R.remaining reader.old) (R.remaining reader.new) (W.contents writer.old) (W.contents writer.new) fault) }
 {
-    match serve(alloc, words, reader, writer) {
+    match serve(alloc, &words, reader, writer) {
         Ok(()) => 0,
         Err(Ending::Words(error)) => match error.kind() {
             ErrorKind::DisplayHelp | ErrorKind::DisplayVersion => {

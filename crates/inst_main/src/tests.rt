@@ -21,7 +21,7 @@ fn run(rt: &(impl Abort + AllocGlobal), words: &str, input: &str) -> Result<Ran,
     let mut reader = input.as_bytes();
     let mut output = Vec::new(rt.alloc());
     let mut errors = Vec::new(rt.alloc());
-    let status = program(rt.alloc(), &all, &mut reader, &mut output, &mut errors);
+    let status = program(rt.alloc(), all, &mut reader, &mut output, &mut errors);
     Ok(Ran {
         status,
         output,
@@ -102,7 +102,7 @@ fn ends_a_failed_run(rt: HostRuntime) -> Result<(), Fail> {
     let mut room = [0u8; 8];
     let mut writer = room.as_mut_slice();
     let mut told = Vec::new(rt.alloc());
-    let answer = program(rt.alloc(), &all, &mut reader, &mut writer, &mut told);
+    let answer = program(rt.alloc(), all, &mut reader, &mut writer, &mut told);
     assert_eq!(rt; answer, 3);
     assert!(rt; writer.is_empty());
     assert_eq!(rt; &room, b"{\"fault\"");
