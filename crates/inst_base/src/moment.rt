@@ -10,6 +10,13 @@ use std::marker::Model;
 pub const LAST: u64 = 2_199_023_255_551;
 
 /// A moment of a hub, in milliseconds past its base, 0 to 2^41 - 1.
+///
+/// ```text
+/// let stamp = Moment::new(1_000_000, 1_001_000)?; // 1,000 ms past the base
+/// let deadline = stamp.deadline(10_000);          // 11,000 ms past it
+/// Moment::new(0, 10_999)?.is_in_time(deadline)    // true
+/// Moment::new(0, 11_000)?.is_due(deadline)        // true
+/// ```
 #[derive(Clone, Copy, Debug, PartialEq, Eq, PartialOrd, Ord, Hash)]
 pub struct Moment {
     past_base: u64,

@@ -23,7 +23,16 @@ pub enum Kept {
     Final(Terms, Moment, Outcome, Moment),
 }
 
-/// A board that one holder has alone, with all roles. It knows all that is true of the places.
+/// A board that one holder has alone, with all roles. It knows all that is true of the places. Each call
+/// takes one look at one place.
+///
+/// ```text
+/// let mut board = PlainBoard::new(alloc, &settings)?;
+/// board.write_terms(place, &terms);
+/// board.open(place, deadline);
+/// board.decide(place, Wish::Accept, at) // Some(Outcome::Accepted), in time
+/// board.look(place)                     // Look::Decided(terms, Outcome::Accepted)
+/// ```
 #[derive(Drop)]
 pub struct PlainBoard {
     settings: Snapshot<Settings>,

@@ -6,6 +6,11 @@ use inst_base::Moment;
 use inst_settings::Settings;
 
 /// A command of a participant, with the clock's reading.
+///
+/// ```text
+/// let ask = Ask { who: 0, command: Command::Position, at: Moment::new(0, 1_000)? };
+/// ask.fits(&settings) // true where the hub has a participant
+/// ```
 #[derive(Clone, Copy, Debug, PartialEq, Eq)]
 pub struct Ask {
     /// The asker's number.

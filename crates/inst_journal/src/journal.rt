@@ -7,6 +7,12 @@ use std::alloc::Global;
 use std::marker::Model;
 
 /// One participant's history: its kept events, the oldest first.
+///
+/// ```text
+/// let mut journal = Journal::new(alloc);
+/// journal.push(Event::Funded { reference, cents })?; // 500 cents
+/// journal.position()                                 // 500
+/// ```
 #[derive(Debug, Drop)]
 pub struct Journal {
     events: Vec<Event>,

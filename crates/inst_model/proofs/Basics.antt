@@ -6,14 +6,12 @@ use Rattle.std.proofs.lemmas.Bool.{and_parts, and_from, eqb-true, eq-eqb}
 use Rattle.std.proofs.lemmas.Slice.Eq.{bytes_eq-Decides}
 use Rattle.std.proofs.lemmas.Option.{same_Some}
 use Rattle.inst_settings.specs.Settings.{same_text}
+pub use Rattle.inst_settings.proofs.Numbering.{same_text_refl}
 use Rattle.inst_journal.specs.Booked.{or_else, first_some, same_transfer}
 
 -- texts that test the same are equal
 pub same_text-true : (a b : List ℕ) → same_text a b ≡ true → a ≡ b
 same_text-true a b e = (bytes_eq-Decides a b).0 e
-
-pub same_text_refl : (a : List ℕ) → same_text a a ≡ true
-same_text_refl a = (bytes_eq-Decides a a).1 refl
 
 pub eqb_refl : (n : ℕ) → eqb n n ≡ true
 eqb_refl n = eq-eqb n n refl

@@ -11,7 +11,8 @@ abbrev pub number_of_code : List (List ℕ) → List ℕ → ℕ
 number_of_code [] code = 0
 number_of_code (first ∷ rest) code = cond (same_text code first) 0 (suc (number_of_code rest code))
 
-same_text_refl : (text : List ℕ) → same_text text text ≡ true
+-- a text is the same as itself
+pub same_text_refl : (text : List ℕ) → same_text text text ≡ true
 same_text_refl text = (bytes_eq-Decides text text).1 refl
 
 -- what no element passes, the one at an index doesn't

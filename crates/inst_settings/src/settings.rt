@@ -11,6 +11,12 @@ use inst_base::{Code, Fault};
 use std::marker::Model;
 
 /// The settings of a hub, in their ranges, with different codes.
+///
+/// ```text
+/// let codes = vec![in alloc; Code::new("AAAADEFF")?, Code::new("BBBBFRPP")?]?;
+/// let settings = Settings::check(codes, 256, 256, 10_000, 0, 1_000, 99_999_999_999, 0)?;
+/// settings.index_of(&Code::new("BBBBFRPP")?) // Some(1)
+/// ```
 #[derive(Debug, Drop)]
 pub struct Settings {
     codes: Vec<Code>,

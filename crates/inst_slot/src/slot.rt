@@ -12,7 +12,13 @@ use inst_settings::Settings;
 use std::alloc::Global;
 use std::marker::Model;
 
-/// The books of one participant. Its history is sound, always.
+/// The books of one participant. Its history is sound, always. A call walks the history, which the
+/// settings keep short.
+///
+/// ```text
+/// let mut slot = Slot::open(alloc, &settings, 0)?;
+/// slot.apply(&Ask { who: 0, command: Command::Position, at })? // a position of 0
+/// ```
 #[derive(Debug, Drop)]
 pub struct Slot {
     alloc: Global,

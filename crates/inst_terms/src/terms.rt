@@ -11,6 +11,12 @@ pub const BENEFICIARIES: u64 = 256;
 
 /// What stands in a place's terms words: the beneficiary's number, the amount and the originator's
 /// identifier of a transfer.
+///
+/// ```text
+/// let terms = Terms { to: 1, cents: Cents::new(50_000)?, id: Ident::new("T1")? };
+/// pack(&terms)                           // [12800001, 6356, 0, 0, 0]
+/// unpack(&[12800001, 6356, 0, 0, 0])     // Some(terms)
+/// ```
 #[derive(Clone, Copy, Debug, PartialEq, Eq)]
 pub struct Terms {
     pub to: u8,

@@ -14,6 +14,12 @@ use std::alloc::Global;
 use std::io::{Read, Write};
 
 /// Answers each line that the reader gives by one line to the writer, and says how many there were.
+///
+/// ```text
+/// let counts = run_lines(alloc, &settings, &mut input.as_bytes(), &mut output)?;
+/// counts.lines // as many lines as `input` has
+/// ```
+///
 /// A line ends by a newline, and the last one may lack it; a line of more than 4,096 bytes is answered
 /// `LineTooLong`. Whatever was answered is written and flushed before each read and at the end.
 ///

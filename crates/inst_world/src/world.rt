@@ -14,6 +14,12 @@ use std::alloc::Global;
 use std::marker::Model;
 
 /// All slots of a hub, for one thread.
+///
+/// ```text
+/// let mut world = World::open(alloc, &settings)?;
+/// world.answer(&ask)?           // the reply, a refusal too
+/// world.journal(0).position()   // what participant 0 has
+/// ```
 #[derive(Debug, Drop)]
 pub struct World {
     settings: Settings,
