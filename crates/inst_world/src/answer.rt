@@ -6,7 +6,7 @@ ghost use Rattle.inst_world.specs.Lines.{newline};
 ghost use Rattle.inst_world.specs.Answers.{AnswersLine};
 ghost use Rattle.inst_world.specs.World.{line_reply, after_line, is_refusal, answering, RepliesToLine};
 
-use crate::held_line::HeldLine;
+use crate::limits::MOST_LINE_BYTES;
 use crate::slots::refusals_told;
 use crate::world::World;
 use inst_base::Fault;
@@ -15,30 +15,31 @@ use inst_json::read_command;
 use inst_settings::Settings;
 use std::alloc::Global;
 
-/// Appends the reply to a line, and a newline, to `out`, and says whether it is a refusal. `Memory`
-/// comes where there is no room.
+/// Appends the reply to a line, and a newline, to `out`, and says whether it is a refusal. Of a line
+/// that is known to be too long only a part is given. `Memory` comes where there is no room.
 pub(crate) fn answer(
     alloc: Global,
     world: &mut World,
-    line: HeldLine<'_>,
+    is_long: bool,
+    line: &[u8],
     out: &mut Vec<u8>,
 ) -> Result<bool, Fault>
-    ensures ok { IfOk result (λ refused. AnswersLine answering line.entry.is_long line.entry.part.now world.old world.new out.old.items out.new.items refused) }
+    ensures ok { IfOk result (λ refused. AnswersLine answering is_long line.now world.old world.new out.old.items out.new.items refused) }
     ensures fault { OnErr result (IsErrOf result Fault.Memory) }
 {
-    let reply = reply_to(alloc, world, line)?;
+    let reply = reply_to(alloc, world, is_long, line)?;
     append_reply(alloc, world.settings(), &reply, out)
 }
 
-/// The reply to a line as it is held. The only error is `Memory`.
-fn reply_to(alloc: Global, world: &mut World, line: HeldLine<'_>) -> Result<Reply, Fault>
-    ensures ok { IfOk result (λ reply. RepliesToLine line.entry.is_long line.entry.part.now world.old world.new reply) }
+/// The reply to a line, of which a part is given. The only error is `Memory`.
+fn reply_to(alloc: Global, world: &mut World, is_long: bool, line: &[u8]) -> Result<Reply, Fault>
+    ensures ok { IfOk result (λ reply. RepliesToLine is_long line.now world.old world.new reply) }
     ensures only { IsOkUnless result Fault.Memory }
 {
-    if line.is_too_long() {
+    if is_long || line.len() > MOST_LINE_BYTES {
         return Ok(Reply::Refused(Fault::LineTooLong));
     }
-    reply_to_line(alloc, world, line.part)
+    reply_to_line(alloc, world, line)
 }
 
 /// Appends the text of a reply, and a newline, to `out`, and says whether it is a refusal.

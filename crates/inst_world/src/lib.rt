@@ -2,7 +2,6 @@
 #![tactic(auto)]
 
 mod answer;
-mod held_line;
 mod limits;
 mod line_buffer;
 mod replies;

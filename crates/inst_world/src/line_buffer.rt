@@ -1,13 +1,12 @@
 // The part of the input that is held, and where its lines end.
 ghost use Rattle.std.specs.Prelude.{◌≡◌, ◌≤◌, ◌<◌, ◌+◌, [], ◌++◌, ◌||◌, nat_lt, MatchOption, OnOk, IfOk, IsErrOf};
-ghost use Rattle.std.specs.Prelude.{OnErr, false, length, take, drop, vec_len};
+ghost use Rattle.std.specs.Prelude.{OnErr, false, length, drop, vec_len};
 ghost use Rattle.std.specs.Io.{ReadsAtMost};
 ghost use Rattle.std.specs.Io.KnownBytes.{ReadConsumes};
 ghost use Rattle.inst_world.specs.Limits.{most_bytes, buffer_bytes};
 ghost use Rattle.inst_world.specs.Lines.{NoNewline, BreaksAt};
 
-use crate::held_line::HeldLine;
-use crate::limits::{BUFFER_BYTES, MOST_BYTES};
+use crate::limits::{BUFFER_BYTES, MOST_BYTES, MOST_LINE_BYTES};
 use inst_base::Fault;
 use memchr::memchr;
 use std::alloc::{AllocError, Global};
@@ -75,16 +74,11 @@ impl LineBuffer {
         &self.bytes[self.start..self.end]
     }
 
-    /// The line that ends by this many of the bytes that are held.
-    pub fn line(&self, len: usize) -> HeldLine<'_>
-        requires { len ≤ length (held self.now) }
-        ensures is_long { result.exit.is_long ≡ self.now.is_long }
-        ensures part { result.exit.part.now ≡ take len (held self.now) }
+    /// Whether the front of a line that is too long was let go.
+    pub fn is_long(&self) -> bool
+        ensures { result ≡ self.now.is_long }
     {
-        HeldLine {
-            is_long: self.is_long,
-            part: &self.as_slice()[..len],
-        }
+        self.is_long
     }
 
     /// How many bytes are held.
@@ -99,6 +93,13 @@ impl LineBuffer {
         ensures { result ≡ (self.now.is_long || nat_lt 0 (length (held self.now))) }
     {
         self.is_long || self.start < self.end
+    }
+
+    /// Whether a line is too long that ends by this many of the bytes that are held.
+    pub fn is_too_long(&self, len: usize) -> bool
+        ensures { result ≡ (self.now.is_long || nat_lt most_line_bytes len) }
+    {
+        self.is_long || len > MOST_LINE_BYTES
     }
 
     /// Lets go of a line of which this many bytes are held, and of its newline.
@@ -120,7 +121,7 @@ impl LineBuffer {
         ensures room { self.new.end ≤ most_line_bytes }
         ensures taken { self.new.taken ≡ self.old.taken }
     {
-        if self.line(self.len()).is_too_long() {
+        if self.is_too_long(self.len()) {
             self.is_long = true;
             self.start = 0;
             self.end = 0;

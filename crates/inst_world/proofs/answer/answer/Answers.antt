@@ -11,6 +11,6 @@ returns-clause-ok c =
     let reply = c.in_ok-reply.reply in
     let out : List ℕ = c.args.out.now.items in
     IfOk-weaker c.append_reply.result _ _
-    (λ refused ok. answers_line c.args.line.is_long c.args.line.part.now c.args.world.now c.reply_to.new.world reply out c.append_reply.new.out.items refused c.in_ok-reply.ensures.ok
+    (λ refused ok. answers_line c.args.is_long c.args.line.now c.args.world.now c.reply_to.new.world reply out c.append_reply.new.out.items refused c.in_ok-reply.ensures.ok
     (ok.1 ∙ ap (λ s. out ++ (compact_text (reply_data s reply) ++ newline ∷ [])) c.settings.ensures) ok.0)
     (ok_both c.append_reply.result _ _ c.append_reply.ensures.refusal c.append_reply.ensures.ok)
