@@ -1,30 +1,77 @@
-// Guesses at the number of a code.
-ghost use Rattle.std.specs.Prelude.{◌<◌};
+// Which participants a code may belong to.
+ghost use Rattle.std.specs.Prelude.{◌≡◌, ◌<◌, ◌≤◌, length};
+ghost use Rattle.inst_settings.specs.Finder.{mark_of, bank_of, branch_of, mixed, with_one_more, holders_of, TellsAll};
 
 use inst_base::Code;
 
 /// How many marks there are: 16 for each of 256 participants, so that few codes share one.
 const MARKS: usize = 4096;
 
-/// For each mark the number of a participant whose code may have it. A guess is always tried.
+/// Whose codes have a mark.
+#[derive(Clone, Copy, Debug, PartialEq, Eq)]
+pub(crate) enum Holders {
+    Nobody,
+    /// The participant with this number.
+    Only(u8),
+    Several,
+}
+
+impl Holders {
+    /// With the participant of this number.
+    fn with(self, number: u8) -> Holders
+        ensures { result ≡ with_one_more self number }
+    {
+        match self {
+            Holders::Nobody => Holders::Only(number),
+            Holders::Only(_) | Holders::Several => Holders::Several,
+        }
+    }
+}
+
+/// The holders of each mark. A code whose mark nobody holds is no participant's.
 #[derive(Clone, Copy, Debug, Drop)]
 pub(crate) struct Finder {
-    guesses: [u8; MARKS],
+    table: [Holders; MARKS],
 }
 
 /// A number that differs for most codes, whether they differ in bank, country, place or branch.
 #[inline(always)]
 fn mark(code: &Code) -> usize
-    ensures { result < 4096 }
+    ensures value { result ≡ mark_of code.now }
+    ensures below { result < 4096 }
 {
-    let (bank, branch) = match code.text().as_bytes() {
-        [a, b, c, d, e, f, g, h] => (u64::from_be_bytes([*a, *b, *c, *d, *e, *f, *g, *h]), 0),
-        [a, b, c, d, e, f, g, h, i, j, k] => (
-            u64::from_be_bytes([*a, *b, *c, *d, *e, *f, *g, *h]),
-            u64::from_be_bytes([0, 0, 0, 0, 0, *i, *j, *k]),
-        ),
-        _ => (0, 0),
-    };
+    let text = code.text().as_bytes();
+    mixed(bank(text), branch(text))
+}
+
+/// The first eight characters: bank, country and place.
+#[inline(always)]
+fn bank(text: &[u8]) -> u64
+    requires { 8 ≤ length text.now }
+    ensures { result ≡ bank_of text.now }
+{
+    u64::from_be_bytes([
+        text[0], text[1], text[2], text[3], text[4], text[5], text[6], text[7],
+    ])
+}
+
+/// The three characters of a branch, or 0.
+#[inline(always)]
+fn branch(text: &[u8]) -> u64
+    ensures { result ≡ branch_of text.now }
+{
+    if text.len() < 11 {
+        return 0;
+    }
+    u64::from_be_bytes([0, 0, 0, 0, 0, text[8], text[9], text[10]])
+}
+
+/// The highest twelve bits of a sum of products.
+#[inline(always)]
+fn mixed(bank: u64, branch: u64) -> usize
+    ensures value { result ≡ mixed bank branch }
+    ensures below { result < 4096 }
+{
     let mixed = bank
         .wrapping_mul(0x9e37_79b9_7f4a_7c15)
         .wrapping_add(branch.wrapping_mul(0xc2b2_ae3d_27d4_eb4f));
@@ -32,20 +79,26 @@ fn mark(code: &Code) -> usize
 }
 
 impl Finder {
-    /// Guesses for these codes. Of more codes than 256 the last are not guessed.
-    pub(crate) fn new(codes: &[Code]) -> Finder {
-        let mut guesses = [0; MARKS];
-        let mut number = 0u8;
+    /// The holders of these codes' marks.
+    pub(crate) fn new(codes: &[Code]) -> Finder
+        requires { length codes.now ≤ 256 }
+        ensures { TellsAll codes.now result.table }
+    {
+        let mut table = [Holders::Nobody; MARKS];
+        let mut number = 0u16;
         for code in codes {
-            guesses[mark(code)] = number;
-            number = number.saturating_add(1);
+            let mark = mark(code);
+            table[mark] = table[mark].with(number as u8);
+            number += 1;
         }
-        Finder { guesses }
+        Finder { table }
     }
 
-    /// The number that the code may have.
+    /// Those who may have the code.
     #[inline(always)]
-    pub(crate) fn guess(&self, code: &Code) -> u8 {
-        self.guesses[mark(code)]
+    pub(crate) fn holders(&self, code: &Code) -> Holders
+        ensures { result ≡ holders_of code.now self.now.table }
+    {
+        self.table[mark(code)]
     }
 }

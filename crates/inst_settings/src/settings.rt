@@ -1,9 +1,9 @@
-ghost use Rattle.std.specs.Prelude.{◌≡◌, ◌<◌, ◌≤◌, Some, true, slice_get, IfOk, OnErr, IsOkUnless};
+ghost use Rattle.std.specs.Prelude.{◌≡◌, ◌≢◌, ◌<◌, ◌≤◌, Some, true, false, [], length, get_or, slice_get, IfOk, OnErr, IsOkUnless};
 ghost use Rattle.std.specs.Option.{option_copied};
 ghost use Rattle.inst_base.specs.Cents.{is_amount};
 
 use crate::codes::{are_different, index_of};
-use crate::finder::Finder;
+use crate::finder::{Finder, Holders};
 use crate::ranges::{
     MOST_AHEAD, MOST_BASE, MOST_CEILING, MOST_FUNDINGS, MOST_LIMIT, MOST_PARTICIPANTS, MOST_PLACES,
 };
@@ -32,6 +32,7 @@ pub struct Settings {
 
 impl Model for Settings {
     ghost use Rattle.inst_settings.specs.Settings.{HubSettings, IsSettings};
+    ghost use Rattle.inst_settings.specs.Finder.{TellsAll};
 
     ghost Value = { HubSettings };
 
@@ -55,7 +56,7 @@ impl Model for Settings {
       ahead = s.ahead;
       ceiling = s.ceiling;
       base = s.base;
-    }) };
+    }) × TellsAll s.codes.items s.finder.table };
 }
 
 impl Settings {
@@ -126,21 +127,24 @@ impl Settings {
         })
     }
 
-    /// The number of the participant with this code.
+    /// The number of the participant with this code. Most codes cost one look into a table, known or
+    /// not; those whose mark several participants share are searched for among all.
     pub fn index_of(&self, code: &Code) -> Option<u8>
         ensures { result ≡ index_of code.now self.now.codes }
     {
-        let guess = self.finder.guess(code);
-        if self.has_at(guess, code) {
-            return Some(guess);
+        match self.finder.holders(code) {
+            Holders::Nobody => None,
+            Holders::Only(number) => self.has_at(number, code).then_some(number),
+            Holders::Several => index_of(&self.codes, code).map(|index| index as u8),
         }
-        index_of(&self.codes, code).map(|index| index as u8)
     }
 
     /// Whether this number has this code.
     #[inline(always)]
     fn has_at(&self, number: u8, code: &Code) -> bool
-        ensures { result ≡ true → Some number ≡ index_of code.now self.now.codes }
+        ensures here { result ≡ true → Some number ≡ index_of code.now self.now.codes }
+        ensures elsewhere { result ≡ false → number < length self.now.codes
+            → get_or self.now.codes number [] ≢ code.now }
     {
         let number = usize::from(number);
         number < self.codes.len() && self.codes[number] == *code

@@ -1,5 +1,5 @@
 use crate::Settings;
-use crate::finder::Finder;
+use crate::finder::{Finder, Holders};
 use inst_base::{Code, Fault};
 use std::alloc::Global;
 use std::test::Fail;
@@ -191,7 +191,7 @@ fn bank_codes(alloc: Global, count: u32) -> Result<Vec<Code>, Fail> {
         let bank = banks[(index % 8) as usize];
         let country = countries[(index / 8 % 8) as usize];
         let place = 10 + index / 64;
-        let branch = 100 + index;
+        let branch = 100 + u64::from(index);
         let text = if index % 3 == 0 {
             format!(in alloc; "{bank}{country}{place}{branch}")?
         } else {
@@ -203,18 +203,19 @@ fn bank_codes(alloc: Global, count: u32) -> Result<Vec<Code>, Fail> {
 }
 
 #[test]
-fn most_codes_of_banks_are_guessed(rt: HostRuntime) -> Result<(), Fail> {
+fn most_codes_of_banks_have_a_mark_alone(rt: HostRuntime) -> Result<(), Fail> {
     let alloc = rt.alloc();
     for count in [1, 2, 16, 64, 128, 256] {
         let codes = bank_codes(alloc, count)?;
+        assert!(rt; codes.len() <= 256);
         let finder = Finder::new(&codes);
-        let mut guessed = 0u32;
-        for (number, code) in codes.iter().enumerate() {
-            if usize::from(finder.guess(code)) == number {
-                guessed = guessed.saturating_add(1);
+        let mut alone = 0u32;
+        for code in &codes {
+            if finder.holders(code) != Holders::Several {
+                alone = alone.saturating_add(1);
             }
         }
-        assert!(rt; guessed >= count - count / 16, "{guessed} of {count}");
+        assert!(rt; alone >= count - count / 16, "{alone} of {count}");
     }
     Ok(())
 }
