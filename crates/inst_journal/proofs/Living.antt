@@ -1,6 +1,7 @@
 -- What an opening leaves as it was, and what it gives back.
 use Rattle.std.proofs.Common.{◌≡◌, ℕ, ◌+◌, ◌-◌, Bool, true, false, ◌||◌, ◌&&◌, not, cond, List, [], ◌∷◌, ◌++◌, Option, Some, None, is_none, sum_by, count_by, refl, ap, ◌∙◌, add-zero}
 use Rattle.std.specs.List.{list_any}
+use Rattle.std.proofs.lemmas.Bool.{eq-eqb}
 use Rattle.inst_settings.specs.Settings.{HubSettings, same_text}
 use Rattle.inst_journal.specs.declared.event.Event.{Event}
 use Rattle.inst_journal.specs.declared.event.Event.TheVariants.{Funded, Defunded, Taken, Forwarded, Booked, Fetched, Opened}
@@ -8,6 +9,7 @@ use Rattle.inst_journal.specs.Booked.{or_else, first_some, takes, is_forwarded, 
 use Rattle.inst_journal.specs.Keys.{is_this_fund, is_this_defund, is_this_submission, refers, is_funding}
 use Rattle.inst_journal.specs.Living.{IsLivingWithin, SameMoney, SameKeys, BeginsAnew}
 use Rattle.inst_journal.specs.Money.{reserved, position}
+use Rattle.inst_journal.specs.Opened.{carried}
 use Rattle.inst_journal.specs.Sound.{IsSound}
 use Rattle.inst_journal.specs.Sums.{funding, defunding, funded, defunded, if_accepted, if_unbooked, credit, debit, reservation, credits, debits}
 use Rattle.inst_journal.proofs.Carrying.{carried_opened, current_opened, carried_unbooked}
@@ -26,6 +28,8 @@ or_else-none (Some x) = refl
 pub living_within : (s : HubSettings) (who : ℕ) (J : List Event) → IsSound s who J → IsLivingWithin s who J
 living_within s who J sound = record {
   unbooked = λ from id none. ap is_none (carried_unbooked from id J none);
+  counts_taken = λ id to cents stamp. refl;
+  counts_forwarded = λ from id cents deadline. ap (λ b. b && is_none (booked from id (carried J))) (eq-eqb from from refl);
   submissions = submissions_within s who J sound;
   forwarded = λ from. forwarded_within s who from J sound;
 }

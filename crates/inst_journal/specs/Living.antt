@@ -4,16 +4,21 @@ use Rattle.std.specs.Prelude.{◌≡◌, ℕ, ◌≤◌, true, is_none, List, []
 use Rattle.inst_settings.specs.Settings.{HubSettings}
 use Rattle.inst_command.specs.declared.submission.Submission.{Submission}
 use Rattle.inst_journal.specs.declared.event.Event.{Event}
-use Rattle.inst_journal.specs.declared.event.Event.TheVariants.{Opened}
+use Rattle.inst_journal.specs.declared.event.Event.TheVariants.{Taken, Forwarded, Opened}
 use Rattle.inst_journal.specs.Booked.{is_taken, is_forwarded, booked}
-use Rattle.inst_journal.specs.Opened.{is_live, live_submissions, live_forwarded}
+use Rattle.inst_journal.specs.Opened.{carried, is_live, takes_live, live_submissions, forwards_live, live_forwarded}
 use Rattle.inst_journal.specs.Keys.{is_fund_repeat, is_defund_repeat, is_submission_repeat, has_reference, fundings}
 use Rattle.inst_journal.specs.Money.{reserved, position, available}
 use Rattle.inst_journal.specs.Sound.{IsSound}
 
--- what isn't booked is live, and no more is live than there are places
+-- what isn't booked is live; a transfer counts as one of the live exactly where it is live, and they are no more than
+-- there are places
 pub record IsLivingWithin (s : HubSettings) (who : ℕ) (J : List Event) : Type 0 where
   pub unbooked : (from : ℕ) (id : List ℕ) → booked from id J ≡ None → is_live from id J ≡ true
+  pub counts_taken : (id : List ℕ) (to cents stamp : ℕ) →
+      takes_live who (carried J) (Taken id to cents stamp) ≡ is_live who id J
+  pub counts_forwarded : (from : ℕ) (id : List ℕ) (cents deadline : ℕ) →
+      forwards_live from (carried J) (Forwarded from id cents deadline) ≡ is_live from id J
   pub submissions : live_submissions who J ≤ s.places
   pub forwarded : (from : ℕ) → live_forwarded from J ≤ s.places
 

@@ -1,6 +1,6 @@
--- The commands of the worked rows of one participant's history and their short forms, at a hub of three participants with
--- two places and four fundings each, a time limit of ten seconds, and time stamps at most one second ahead. This hub's
--- own choice.
+-- The commands of the worked rows of one participant's history and their short forms, at a hub of three participants
+-- with two places and four fundings each, a time limit of ten seconds, and time stamps at most one second ahead. This
+-- hub's own choice.
 use Rattle.std.specs.Prelude.{ℕ, List, [], ◌∷◌, ◌++◌, codes, Option, Some, None, Result, Ok, Err}
 use Rattle.inst_base.specs.declared.fault.Fault.{Fault}
 use Rattle.inst_settings.specs.Settings.{HubSettings}
@@ -119,7 +119,8 @@ two_places = after A accepted (submit (codes "T2") 100 1000 ∷ [])
 
 -- all four fundings are kept
 abbrev pub all_fundings : List Event
-all_fundings = after A [] (fund (codes "F1") 10 ∷ fund (codes "F2") 20 ∷ fund (codes "F3") 30 ∷ fund (codes "F4") 40 ∷ [])
+all_fundings =
+    after A [] (fund (codes "F1") 10 ∷ fund (codes "F2") 20 ∷ fund (codes "F3") 30 ∷ fund (codes "F4") 40 ∷ [])
 
 -- what came to B: two transfers of A's, and one of C's between them
 abbrev pub arrivals : List Event

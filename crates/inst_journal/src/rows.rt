@@ -11,7 +11,8 @@ ghost use Rattle.inst_journal.specs.Rows.{A, B, C, answers, after, opened, fund,
 
 /// What is pending at an opening stays reserved after it, and is settled when its outcome is learnt.
 pub fn carried_over_an_opening()
-    ensures { answers A (opened submitted) (position ∷ investigate (codes "T1") (Some Outcome.Accepted) ∷ position ∷ []) ≡
+    ensures { answers A (opened submitted)
+        (position ∷ investigate (codes "T1") (Some Outcome.Accepted) ∷ position ∷ []) ≡
         money 50000 20000 30000 ∷ state A (codes "T1") (State.Decided Outcome.Accepted) ∷ money 30000 0 30000 ∷ [] }
 {}
 
@@ -53,8 +54,8 @@ pub fn outcome_answered_after_an_opening()
         opened accepted }
 {}
 
-/// With all fundings used a kept reference with another amount is a duplicate, and the same command a repeat. An opening
-/// gives the fundings back.
+/// With all fundings used a kept reference with another amount is a duplicate, and the same command a repeat. An
+/// opening gives the fundings back.
 pub fn duplicate_before_full()
     ensures full { answers A all_fundings (fund (codes "F1") 11 ∷ fund (codes "F1") 10 ∷ fund (codes "F5") 50 ∷ []) ≡
         refused Fault.Duplicate ∷ done (codes "F1") ∷ refused Fault.Full ∷ [] }
