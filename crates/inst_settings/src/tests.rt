@@ -184,7 +184,7 @@ fn codes_are_numbered_as_given(rt: HostRuntime) -> Result<(), Fail> {
 fn bank_codes(alloc: Global, count: u32) -> Result<Vec<Code>, Fail> {
     let countries = ["DE", "FR", "IT", "ES", "NL", "BE", "AT", "IE"];
     let banks = [
-        "DEUT", "BNPA", "UNCR", "BSCH", "INGB", "KRED", "RZBA", "AIBK",
+        "LERC", "MEIS", "NEUN", "PIRO", "RABE", "SPEC", "TAUB", "UHUX",
     ];
     let mut codes = Vec::new(alloc);
     for index in 0..count {
