@@ -1,12 +1,13 @@
 //! The reply to one line: all that a run knows of the world.
-ghost use Rattle.std.specs.Prelude.{◌≡◌, ◌++◌, ◌∷◌, [], true, IfOk, OnErr, OnOk, IsErrOf, IsOkUnless};
+ghost use Rattle.std.specs.Prelude.{◌≡◌, ◌≤◌, ◌++◌, ◌∷◌, [], true, length, take, IfOk, OnErr, OnOk, IsErrOf, IsOkUnless};
 ghost use Rattle.serde_json.specs.Written.{compact_text};
 ghost use Rattle.inst_json.specs.Replies.{reply_data, reply_can_be_written};
+ghost use Rattle.inst_world.specs.LineBuffer.{held};
 ghost use Rattle.inst_world.specs.Lines.{newline};
 ghost use Rattle.inst_world.specs.Answers.{AnswersLine};
 ghost use Rattle.inst_world.specs.World.{line_reply, after_line, is_refusal, answering, RepliesToLine};
 
-use crate::limits::MOST_LINE_BYTES;
+use crate::line_buffer::LineBuffer;
 use crate::slots::refusals_told;
 use crate::world::World;
 use inst_base::Fault;
@@ -15,31 +16,39 @@ use inst_json::read_command;
 use inst_settings::Settings;
 use std::alloc::Global;
 
-/// Appends the reply to a line, and a newline, to `out`, and says whether it is a refusal. Of a line
-/// that is known to be too long only a part is given. `Memory` comes where there is no room.
+/// Appends the reply to the line that ends by this many of the bytes that are held, and a newline, to
+/// `out`, and says whether it is a refusal. `Memory` comes where there is no room.
 pub(crate) fn answer(
     alloc: Global,
     world: &mut World,
-    is_long: bool,
-    line: &[u8],
+    input: &LineBuffer,
+    len: usize,
     out: &mut Vec<u8>,
 ) -> Result<bool, Fault>
-    ensures ok { IfOk result (λ refused. AnswersLine answering is_long line.now world.old world.new out.old.items out.new.items refused) }
+    requires { len ≤ length (held input.now) }
+    ensures ok { IfOk result (λ refused. AnswersLine answering input.now.is_long (take len (held input.now))
+        world.old world.new out.old.items out.new.items refused) }
     ensures fault { OnErr result (IsErrOf result Fault.Memory) }
 {
-    let reply = reply_to(alloc, world, is_long, line)?;
+    let reply = reply_to(alloc, world, input, len)?;
     append_reply(alloc, world.settings(), &reply, out)
 }
 
-/// The reply to a line, of which a part is given. The only error is `Memory`.
-fn reply_to(alloc: Global, world: &mut World, is_long: bool, line: &[u8]) -> Result<Reply, Fault>
-    ensures ok { IfOk result (λ reply. RepliesToLine is_long line.now world.old world.new reply) }
+/// The reply to a line as it is held. The only error is `Memory`.
+fn reply_to(
+    alloc: Global,
+    world: &mut World,
+    input: &LineBuffer,
+    len: usize,
+) -> Result<Reply, Fault>
+    requires { len ≤ length (held input.now) }
+    ensures ok { IfOk result (λ reply. RepliesToLine input.now.is_long (take len (held input.now)) world.old world.new reply) }
     ensures only { IsOkUnless result Fault.Memory }
 {
-    if is_long || line.len() > MOST_LINE_BYTES {
+    if input.is_too_long(len) {
         return Ok(Reply::Refused(Fault::LineTooLong));
     }
-    reply_to_line(alloc, world, line)
+    reply_to_line(alloc, world, &input.as_slice()[..len])
 }
 
 /// Appends the text of a reply, and a newline, to `out`, and says whether it is a refusal.

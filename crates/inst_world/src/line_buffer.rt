@@ -74,13 +74,6 @@ impl LineBuffer {
         &self.bytes[self.start..self.end]
     }
 
-    /// Whether the front of a line that is too long was let go.
-    pub fn is_long(&self) -> bool
-        ensures { result ≡ self.now.is_long }
-    {
-        self.is_long
-    }
-
     /// How many bytes are held.
     pub fn len(&self) -> usize
         ensures { result ≡ length (held self.now) }

@@ -67,9 +67,7 @@ impl Session {
         ensures ok { OnOk result (TakesLine answering len self.old self.new world.old world.new) }
         ensures fault { OnErr result (IsErrOf result Fault.Memory) }
     {
-        let is_long = self.input.is_long();
-        let line = &self.input.as_slice()[..len];
-        let is_refused = answer(alloc, world, is_long, line, &mut self.replies.bytes)?;
+        let is_refused = answer(alloc, world, &self.input, len, &mut self.replies.bytes)?;
         self.input.drop_line(len);
         self.counts.lines += 1;
         self.counts.refused += u64::from(is_refused);

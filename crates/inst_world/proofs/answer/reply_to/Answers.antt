@@ -1,14 +1,25 @@
-use Rattle.std.proofs.Common.{◌≤◌, length, arith}
+use Rattle.std.proofs.Common.{◌≡◌, ◌≤◌, ◌×◌, false, nat_lt, ℕ, List, length, take, sym, ap, ◌∙◌, ltb-false, arith}
+use Rattle.std.proofs.lemmas.Bool.{or_parts}
+use Rattle.std.proofs.lemmas.List.{length-take-le}
 use Rattle.std.proofs.lemmas.Result.{IfOk-weaker}
+use Rattle.inst_world.specs.LineBuffer.{held}
+use Rattle.inst_world.specs.World.{line_reply, after_line}
 use Rattle.inst_world.proofs.WorldLemmas.{replies_whole, ok_both}
 use Rattle.inst_world.proofs.answer.reply_to.Goals as goal
 
 pub returns-clause-ok : goal.returns-clause-ok
 returns-clause-ok c =
-    let line = c.args.line.now in
     let old = c.args.world.now in
     let new = c.reply_to_line.new.world in
-    let short : length c.args.line.now ≤ 4096 = omega arith in
-    rw c.if-is_long.false
-    (IfOk-weaker c.reply_to_line.result _ _ (λ reply ok. replies_whole old new line reply short ok.0 ok.1)
+    let all : List ℕ = held c.args.input.now in
+    let line : List ℕ = take c.args.len all in
+    let parts : (c.args.input.now.is_long ≡ false) × (nat_lt 4096 c.args.len ≡ false) =
+    or_parts c.args.input.now.is_long (nat_lt 4096 c.args.len) (sym c.is_too_long.ensures ∙ c.if-is_too_long.false) in
+    let fits : c.args.len ≤ 4096 = ltb-false 4096 c.args.len parts.1 in
+    let short : length line ≤ 4096 = omega (arith, fits, length-take-le c.args.len all c.requires) in
+    rw parts.0
+    (IfOk-weaker c.reply_to_line.result _ _
+    (λ reply ok. replies_whole old new line reply short
+    (ok.0 ∙ ap (λ (bytes : List ℕ). line_reply old (take c.args.len bytes)) c.as_slice.ensures)
+    (ok.1 ∙ ap (λ (bytes : List ℕ). after_line old (take c.args.len bytes)) c.as_slice.ensures))
     (ok_both c.reply_to_line.result _ _ c.reply_to_line.ensures.reply c.reply_to_line.ensures.after))
