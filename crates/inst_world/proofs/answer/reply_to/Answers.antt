@@ -1,4 +1,4 @@
-use Rattle.std.proofs.Common.{◌≡◌, ◌≤◌, ◌×◌, false, nat_lt, ℕ, List, length, take, sym, ap, ◌∙◌, ltb-false, arith}
+use Rattle.std.proofs.Common.{◌≡◌, ◌≤◌, false, nat_lt, ℕ, List, length, take, sym, ap, ◌∙◌, ltb-false, arith}
 use Rattle.std.proofs.lemmas.Bool.{or_parts}
 use Rattle.std.proofs.lemmas.List.{length-take-le}
 use Rattle.std.proofs.lemmas.Result.{IfOk-weaker}
