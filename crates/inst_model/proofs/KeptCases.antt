@@ -1,5 +1,5 @@
 -- The event that a command leaves in a history, case by case, with what the reply has tested.
-use Rattle.std.proofs.Common.{◌≡◌, ℕ, ◌+◌, Bool, true, false, eqb, ltb, leb, List, [], ◌∷◌, length, take, Option, Some, None, Result, Ok, Err, refl, inl, inr, ◌⊎◌}
+use Rattle.std.proofs.Common.{◌≡◌, ℕ, Bool, true, false, eqb, ltb, leb, List, [], ◌∷◌, length, take, Option, Some, None, Result, Ok, Err, refl, inl, inr, ◌⊎◌}
 use Rattle.std.proofs.lemmas.Bool.{cond-true}
 use Rattle.std.specs.Prelude.{if◌then◌else◌}
 use Rattle.inst_base.specs.TimeLimit.{deadline_of, is_ahead, is_due}
@@ -20,7 +20,7 @@ use Rattle.inst_journal.specs.Booked.{is_taken, is_forwarded, booked}
 use Rattle.inst_journal.specs.Money.{available}
 use Rattle.inst_journal.specs.Opened.{live_submissions}
 use Rattle.inst_journal.specs.Keys.{is_fund_repeat, is_defund_repeat, is_submission_repeat, has_reference, fundings}
-use Rattle.inst_journal.specs.Reply.{answered, keeping, is_new_funding, funding, kept_events, handle, standing, still_pending, answer_forwarded, hand_out, unread}
+use Rattle.inst_journal.specs.Reply.{answered, keeping, funding, kept_events, handle, standing, still_pending, answer_forwarded, hand_out, unread}
 use Rattle.inst_model.specs.Found.{found}
 
 -- why a funding or defunding is kept

@@ -1,21 +1,21 @@
 -- A party that learns of a decided transfer has it booked; what is pending is delivered, and nothing decided is.
-use Rattle.std.proofs.Common.{◌≡◌, ℕ, Bool, true, false, ◌&&◌, ◌||◌, not, is_none, cond, eqb, List, [], ◌∷◌, ◌++◌, Option, Some, None, refl, sym, ap, ◌∙◌, subst, inl, inr, ◌⊎◌}
+use Rattle.std.proofs.Common.{◌≡◌, ℕ, Bool, true, false, ◌&&◌, ◌||◌, not, is_none, cond, eqb, List, [], ◌∷◌, ◌++◌, Option, Some, None, refl, ap, ◌∙◌, inl, inr, ◌⊎◌}
 use Rattle.std.proofs.lemmas.Bool.{cond-true, or_left, or_right, eq-eqb}
 use Rattle.inst_settings.specs.Settings.{HubSettings}
 use Rattle.inst_command.specs.declared.outcome.Outcome.{Outcome}
 use Rattle.inst_command.specs.declared.step.Step.{Step}
 use Rattle.inst_command.specs.declared.step.Step.TheVariants.{Deliver, Learn, Expire}
 use Rattle.inst_journal.specs.declared.event.Event.{Event}
-use Rattle.inst_journal.specs.declared.event.Event.TheVariants.{Forwarded, Booked}
+use Rattle.inst_journal.specs.declared.event.Event.TheVariants.{Forwarded}
 use Rattle.inst_journal.specs.Booked.{is_forwarded, forwards, booked}
 use Rattle.inst_journal.proofs.Pushing.{list_any_push}
-use Rattle.inst_model.specs.Opening.{Opening, IsOpening}
+use Rattle.inst_model.specs.Opening.{Opening}
 use Rattle.inst_model.specs.Transfer.{Transfer, at_place, deadline}
-use Rattle.inst_model.specs.View.{Seen, comes, news, tells, sees}
+use Rattle.inst_model.specs.View.{comes, news, tells, sees}
 use Rattle.inst_model.specs.View.Seen.{Came}
 use Rattle.inst_model.specs.Kept.{with_entries}
 use Rattle.inst_model.specs.Hub.{decided, outcome, history}
-use Rattle.inst_model.specs.Trace.{is_some_entry, is_seen}
+use Rattle.inst_model.specs.Trace.{is_some_entry}
 use Rattle.inst_model.specs.Learning.{LearningBooks, ExpiryBooks, DeliveryForwards, NothingDecidedIsDelivered}
 use Rattle.inst_model.proofs.Basics.{eqb_refl, same_transfer_refl}
 use Rattle.inst_model.proofs.Growing.{booked_kept, booked_new}

@@ -1,5 +1,5 @@
 -- What is answered and what is booked is the outcome, which stays.
-use Rattle.std.proofs.Common.{◌≡◌, ℕ, Bool, true, false, cond, eqb, ltb, leb, List, [], ◌∷◌, ◌++◌, ◌+◌, take, Option, Some, None, Result, Ok, Err, refl, sym, subst, Contains}
+use Rattle.std.proofs.Common.{◌≡◌, ℕ, Bool, true, false, cond, eqb, ltb, leb, List, [], ◌∷◌, ◌++◌, take, Option, Some, None, Result, Ok, Err, refl, sym, subst, Contains}
 use Rattle.std.proofs.lemmas.Bool.{cond-true}
 use Rattle.std.proofs.lemmas.Option.{cond_some}
 use Rattle.inst_model.specs.Opening.{Opening, IsOpening, beginning}
@@ -24,7 +24,7 @@ use Rattle.inst_journal.specs.declared.event.Event.TheVariants.{Funded, Defunded
 use Rattle.inst_journal.specs.Booked.{is_taken, is_forwarded, books, booked, same_transfer}
 use Rattle.inst_journal.specs.Money.{available}
 use Rattle.inst_journal.specs.Opened.{live_submissions}
-use Rattle.inst_journal.specs.Keys.{is_fund_repeat, is_defund_repeat, is_submission_repeat, has_reference, fundings}
+use Rattle.inst_journal.specs.Keys.{is_submission_repeat}
 use Rattle.inst_journal.specs.Reply.{told, is_new_funding, funding, handle, standing, still_pending, hand_out, unread}
 use Rattle.inst_model.specs.Wants.{wants}
 use Rattle.inst_model.specs.Found.{found}

@@ -14,7 +14,7 @@ use Rattle.inst_journal.specs.Booked.{or_else, is_forwarded, forwards, same_tran
 use Rattle.inst_journal.proofs.Pushing.{list_any_push}
 use Rattle.inst_model.specs.Transfer.{Transfer, deadline}
 use Rattle.inst_base.specs.TimeLimit.{is_in_time_to_accept}
-use Rattle.inst_command.specs.Deciding.{timed_out_or, confirmed, rejected, expired}
+use Rattle.inst_command.specs.Deciding.{timed_out_or, confirmed, rejected}
 use Rattle.inst_model.specs.Wants.{ask_wants}
 use Rattle.inst_model.specs.Hub.{decided}
 use Rattle.inst_model.specs.Locality.{Touch, ask_on}

@@ -1,5 +1,5 @@
 -- Each outcome is in time for the reading that decided it.
-use Rattle.std.proofs.Common.{◌≡◌, ℕ, ◌+◌, ◌<◌, ◌≤◌, Bool, true, false, ◌&&◌, not, cond, eqb, ltb, List, ◌∷◌, Option, Some, None, ltb-true, ltb-false, refl, subst}
+use Rattle.std.proofs.Common.{◌≡◌, ℕ, ◌+◌, ◌<◌, Bool, true, false, ◌&&◌, not, cond, eqb, ltb, List, Option, Some, None, ltb-true, ltb-false, refl, subst}
 use Rattle.std.proofs.lemmas.Option.{same_Some}
 use Rattle.inst_settings.specs.Settings.{HubSettings}
 use Rattle.inst_command.specs.Deciding.{timed_out_or, confirmed, rejected, expired}
@@ -14,7 +14,7 @@ use Rattle.inst_journal.specs.declared.event.Event.{Event}
 use Rattle.inst_journal.specs.Booked.{or_else, same_transfer}
 use Rattle.inst_model.specs.Transfer.{Transfer, at_place, deadline, is_named}
 use Rattle.inst_model.specs.Wants.{is_addressed, ask_wants, step_wants, wants}
-use Rattle.inst_model.specs.Hub.{outcome, history}
+use Rattle.inst_model.specs.Hub.{history}
 use Rattle.inst_model.specs.InTime.{reading, IsInTime, EachOutcomeIsInTime}
 use Rattle.inst_model.proofs.Accepting.{when_true, wants_taken}
 

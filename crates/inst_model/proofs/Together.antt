@@ -2,9 +2,9 @@
 use Rattle.std.proofs.Common.{◌≡◌, ℕ, zero, true, false, ◌&&◌, cond, List, [], ◌∷◌, ◌++◌, Option, Some, None, is_none, refl, sym, ap, subst, ◌∙◌, inl, inr, append-nil, arith, sum_by}
 use Rattle.std.specs.List.{cons_option}
 use Rattle.std.proofs.lemmas.List.Sums.{sum_by_push}
-use Rattle.std.proofs.lemmas.Bool.{cases_Bool, cases_eq, and_parts, ne_eqb, true≢false, ltb-true}
+use Rattle.std.proofs.lemmas.Bool.{cases_Bool, cases_eq, and_parts, ne_eqb, true≢false}
 use Rattle.inst_model.specs.Opening.{Opening, IsOpening}
-use Rattle.inst_settings.specs.Settings.{HubSettings, same_text, participants, is_participant}
+use Rattle.inst_settings.specs.Settings.{HubSettings, same_text, is_participant}
 use Rattle.inst_command.specs.Ask.{command_fits}
 use Rattle.inst_command.specs.Step.{step_fits}
 use Rattle.inst_command.specs.declared.outcome.Outcome.{Outcome}

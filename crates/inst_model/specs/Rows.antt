@@ -16,28 +16,7 @@ use Rattle.inst_model.specs.Trace.{trace}
 use Rattle.inst_model.specs.Hub.{history}
 use Rattle.inst_model.specs.Opening.Opening.{First, FromBooks}
 use Rattle.inst_journal.specs.declared.event.Event.{Event}
-
-abbrev pub settings : HubSettings
-settings = record {
-  codes = codes "AAAADEFF" ∷ codes "BBBBFRPP" ∷ codes "CCCCITMM" ∷ [];
-  places = 2;
-  fundings = 4;
-  limit = 10000;
-  margin = 0;
-  ahead = 1000;
-  ceiling = 99999999999;
-  base = 0;
-}
-
--- the participants
-abbrev pub A : ℕ
-A = 0
-
-abbrev pub B : ℕ
-B = 1
-
-abbrev pub C : ℕ
-C = 2
+pub use Rattle.inst_journal.specs.Rows.{settings, A, B, C}
 
 abbrev pub ask : ℕ → Command → ℕ → Step
 ask who command at = Ask (record { who = who; command = command; at = at })
