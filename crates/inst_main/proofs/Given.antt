@@ -1,32 +1,55 @@
 -- The text of an option, the number that it writes, and what is known of words that give none.
-use Rattle.std.proofs.Common.{◌≡◌, ◌≢◌, ℕ, List, Option, Some, None, Result, Ok, Err, ok_or, option_map, IfOk, IfErr, IsErrAnd, Bor, refl, sym, subst, ◌∙◌, inl, inr}
-use Rattle.std.specs.Str.Parse.{digits_value, without_leading_plus}
-use Rattle.clap.specs.Words.{ReadsOne, first_of, first_value, one_text, rows_of}
+use Rattle.std.proofs.Common.{◌≡◌, ◌≢◌, ◌⊎◌, ◌<◌, ◌≤◌, ◌^◌, ℕ, List, Option, Some, None, Result, Ok, Err, ok_or, option_map, IfOk, IfErr, OnErr, IsErrAnd, Bor, refl, sym, subst, ◌∙◌, inl, inr, arith}
+use Rattle.std.specs.Str.Parse.{ParsesUnsigned, digits_value, without_leading_plus}
+use Rattle.std.proofs.lemmas.Bool.{cases_lt}
+use Rattle.clap.specs.Words.{ReadsOne, Row, first_of, first_value, one_text, rows_of}
 use Rattle.clap.specs.declared.parser.matches.Found.{Found}
 use Rattle.clap.proofs.WalkLemmas.{first_value-rows, one_text-rows}
 use Rattle.inst_base.specs.declared.fault.Fault.{Fault}
-use Rattle.inst_main.specs.Options.{AreWhole, Gives, faults_of}
+use Rattle.inst_main.specs.Options.{Gives, GivesNoneBelow, faults_of}
 use Rattle.clap.specs.Words.{HasKind, IsAmong, kind_of}
 use Rattle.clap.specs.declared.error.Error.{Error}
 use Rattle.clap.specs.declared.error.kind.ErrorKind.TheVariants.{OutOfMemory}
-use Rattle.inst_main.specs.Program.{IsOfKind, IsRefusal, IsUnbegun}
+use Rattle.inst_main.specs.Program.{IsOfKind, IsUnbegun}
 use Rattle.inst_main.specs.declared.program.Ending.{Ending}
 use Rattle.inst_main.specs.declared.program.Ending.TheVariants as ending
 
+-- what `get_one` answers of an option
 pub number_given : {E : Type 0} (reads : List ℕ → Result ℕ E → Type 0) (f : Found) (name : List ℕ) (r : Option ℕ) (fault : Fault) →
     (one_text f name ≡ None → r ≡ None) → ((text : List ℕ) → one_text f name ≡ Some text → ReadsOne reads text r) →
-    ((text : List ℕ) (n : ℕ) → reads text (Ok n) → n ≡ digits_value 10 (without_leading_plus text)) →
+    ((text : List ℕ) (q : Result ℕ E) → reads text q → ParsesUnsigned 64 10 text q) →
     IfOk (ok_or r fault) (Gives (rows_of f) name)
 number_given reads f name None fault none value digits = tt
 number_given reads f name (Some n) fault none value digits = at_text (one_text f name) refl where
   at_text : (o : Option (List ℕ)) → one_text f name ≡ o → Gives (rows_of f) name n
   at_text None e = absurd (let nothing = none e in cc)
-  at_text (Some text) e = (text, sym (one_text-rows f name) ∙ e, digits text n (value text e))
+  at_text (Some text) e =
+      let read = digits text (Ok n) (value text e) in
+      (text, sym (one_text-rows f name) ∙ e, read.0.0, read.1)
+
+-- and where it answers none
+pub none_given : {E : Type 0} (reads : List ℕ → Result ℕ E → Type 0) (f : Found) (name : List ℕ) (r : Option ℕ) (fault : Fault) →
+    ((text : List ℕ) → one_text f name ≡ Some text → ReadsOne reads text r) →
+    ((text : List ℕ) (q : Result ℕ E) → reads text q → ParsesUnsigned 64 10 text q) →
+    OnErr (ok_or r fault) (GivesNoneBelow (2 ^ 64) (rows_of f) name)
+none_given reads f name (Some n) fault value digits = tt
+none_given reads f name None fault value digits = λ n gives.
+    let refused = value gives.0 (one_text-rows f name ∙ gives.1) in
+    let unread = digits gives.0 (Err refused.0) refused.1 in
+    subst (λ m. 2 ^ 64 ≤ m) (sym gives.3) (at_value (cases_lt (digits_value 10 (without_leading_plus gives.0)) (2 ^ 64)) (λ below. unread (gives.2, below))) where
+      at_value : {m : ℕ} → (m < 2 ^ 64) ⊎ (2 ^ 64 ≤ m) → ¬ (m < 2 ^ 64) → 2 ^ 64 ≤ m
+      at_value (inl below) large = absurd (large below)
+      at_value (inr least) large = least
 
 pub text_given : (f : Found) (name : List ℕ) (r : Option (Bor (List ℕ))) (fault : Fault) → option_map (λ s. s.now) r ≡ first_value f name →
     IfOk (ok_or r fault) (λ text. first_of name (rows_of f) ≡ Some text.now)
 text_given f name None fault is = tt
 text_given f name (Some text) fault is = sym (first_value-rows f name) ∙ sym is
+
+pub none_text : (f : Found) (name : List ℕ) (r : Option (Bor (List ℕ))) (fault : Fault) → option_map (λ s. s.now) r ≡ first_value f name →
+    OnErr (ok_or r fault) (first_of name (rows_of f) ≡ None)
+none_text f name None fault is = sym (first_value-rows f name) ∙ sym is
+none_text f name (Some text) fault is = tt
 
 -- an error of the words tells one of their faults
 pub unbegun : (words : List (List ℕ)) (error : Error) (e : Ending) → HasKind (faults_of words) error → IsOfKind (kind_of error) e → IsUnbegun words e
@@ -35,10 +58,14 @@ unbegun words error (ending.Words other) (inr among) h =
     subst (λ kind. (kind ≢ OutOfMemory) × IsAmong kind (faults_of words)) (sym h.0) (h.1, among)
 unbegun words error (ending.Fault fault) has h = inl h.0
 
-pub unsettled : (words : List (List ℕ)) (fault : Fault) → AreWhole words → IsRefusal fault → IsUnbegun words (ending.Fault fault)
-unsettled words fault whole (inl memory) = inl memory
-unsettled words fault whole (inr bad) = inr (bad, whole)
-
 pub failed : {A : Type 0} (words : List (List ℕ)) (r : Result A Ending) (fault : Fault) → IsErrAnd r (λ e. e ≡ ending.Fault fault) → IsUnbegun words (ending.Fault fault) → IfErr r (IsUnbegun words)
 failed words (Ok x) fault h unbegun = tt
 failed words (Err e) fault h unbegun = subst (IsUnbegun words) (sym h) unbegun
+
+-- a number that is below no larger bound is below no smaller one
+pub none_lower : (lower bound : ℕ) (rows : List Row) (name : List ℕ) → lower ≤ bound → GivesNoneBelow bound rows name → GivesNoneBelow lower rows name
+none_lower lower bound rows name fits none n gives = let least = none n gives in omega arith
+
+pub on_err : {A E : Type 0} (r : Result A E) (P : Type 0) → P → OnErr r P
+on_err (Ok x) P p = tt
+on_err (Err e) P p = p

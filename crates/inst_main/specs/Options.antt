@@ -1,7 +1,7 @@
 -- The options of the program's command line, and the settings that their values choose. They are this hub's own choice.
-use Rattle.std.specs.Prelude.{◌≢◌, ◌⊎◌, ◌≡◌, ◌==◌, ◌-◌, ◌^◌, ℕ, true, List, ◌∷◌, [], Some, option_map, codes}
-use Rattle.std.specs.List.{slice_split}
-use Rattle.std.specs.Str.Parse.{digits_value, without_leading_plus}
+use Rattle.std.specs.Prelude.{◌≢◌, ◌⊎◌, ◌≡◌, ◌==◌, ◌≤◌, ◌-◌, ◌^◌, ℕ, true, List, ◌∷◌, [], Some, option_map, codes}
+use Rattle.std.specs.List.{list_all, slice_split}
+use Rattle.std.specs.Str.Parse.{IsNumeral, digits_value, without_leading_plus}
 use Rattle.clap.specs.Words.{App, IsAmong, Kinds, fault_of, Row, Rule, Text, first_of, one_of, new_app, new_rule}
 use Rattle.clap.specs.Words.{subcommand_of, with_rule, with_subcommand}
 use Rattle.clap.specs.Simple.{on_top}
@@ -9,7 +9,8 @@ use Rattle.clap.specs.declared.builder.action.ArgAction.TheVariants.{Set}
 use Rattle.clap.specs.declared.error.kind.ErrorKind.{ErrorKind}
 use Rattle.clap.specs.declared.error.kind.ErrorKind.TheVariants.{DisplayHelp, DisplayVersion}
 use Rattle.clap.specs.declared.builder.value_parser.ValueParser.TheVariants.{Unsigned}
-use Rattle.inst_settings.specs.Settings.{HubSettings}
+use Rattle.inst_base.specs.Text.{is_code}
+use Rattle.inst_settings.specs.Settings.{HubSettings, IsSettings}
 
 -- the participants' codes, which must be given
 abbrev pub participants_rule : Rule
@@ -38,7 +39,13 @@ command_line = with_subcommand (on_top (λ top. record top { subcommand_required
 
 -- the option of this name has a text that is the number in digits, which may follow a plus
 abbrev pub Gives : List Row → List ℕ → ℕ → Type 0
-Gives rows name n = (text : Text) × (one_of name rows ≡ Some text) × (n ≡ digits_value 10 (without_leading_plus text))
+Gives rows name n =
+    (text : Text) × (one_of name rows ≡ Some text) × IsNumeral 10 (without_leading_plus text)
+    × (n ≡ digits_value 10 (without_leading_plus text))
+
+-- the option of this name has no text that is a number below this one
+abbrev pub GivesNoneBelow : ℕ → List Row → List ℕ → Type 0
+GivesNoneBelow bound rows name = (n : ℕ) → Gives rows name n → bound ≤ n
 
 -- the texts between commas
 abbrev pub parts_of : List ℕ → List (List ℕ)
@@ -54,6 +61,15 @@ pub record Chooses (rows : List Row) (s : HubSettings) : Type 0 where
   pub ahead : Gives rows (codes "ahead") s.ahead
   pub ceiling : Gives rows (codes "ceiling") s.ceiling
   pub base : Gives rows (codes "base") s.base
+
+-- a hub can have these settings
+pub record AreGood (s : HubSettings) : Type 0 where
+  pub lawful : IsSettings s
+  pub codes_formed : list_all is_code s.codes ≡ true
+
+-- the options choose no settings that a hub can have
+abbrev pub ChooseNone : List Row → Type 0
+ChooseNone rows = (s : HubSettings) → Chooses rows s → ¬ (AreGood s)
 
 -- what is wrong with the words, where they are no whole command line, or that they ask for a help text
 abbrev pub faults_of : List (List ℕ) → Kinds
@@ -74,3 +90,8 @@ AreWhole words = faults_of words ≡ []
 -- the words choose these settings, as the options of the subcommand that they name
 abbrev pub AreChosen : List (List ℕ) → HubSettings → Type 0
 AreChosen words s = (rows : List Row) × (option_map (λ p. p.1) (subcommand_of command_line words) ≡ Some rows) × Chooses rows s
+
+-- the words are a whole command line and choose no settings that a hub can have
+pub record AreRefused (words : List (List ℕ)) : Type 0 where
+  pub whole : AreWhole words
+  pub none : (s : HubSettings) → AreChosen words s → ¬ (AreGood s)

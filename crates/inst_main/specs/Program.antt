@@ -11,7 +11,7 @@ use Rattle.inst_world.specs.Answers.{output}
 use Rattle.inst_world.specs.Lines.{lines_of}
 use Rattle.inst_world.specs.Session.{FailsAfter}
 use Rattle.inst_world.specs.World.{answering, opened}
-use Rattle.inst_main.specs.Options.{AreChosen, AreWhole, faults_of}
+use Rattle.inst_main.specs.Options.{AreChosen, AreRefused, AreWhole, faults_of}
 use Rattle.inst_main.specs.declared.program.Ending.{Ending}
 use Rattle.inst_main.specs.declared.program.Ending.TheVariants as ending
 
@@ -20,9 +20,9 @@ abbrev pub status_of : Fault → ℕ
 status_of BadSettings = 2
 status_of _ = 3
 
--- the faults that keep a run from beginning
-abbrev pub IsRefusal : Fault → Type 0
-IsRefusal fault = (fault ≡ Memory) ⊎ (fault ≡ BadSettings)
+-- the faults that keep a run from beginning: want of memory, and bad settings where the settings deserve it
+abbrev pub IsRefusal : Type 0 → Fault → Type 0
+IsRefusal deserved fault = (fault ≡ Memory) ⊎ ((fault ≡ BadSettings) × deserved)
 
 -- a hub of the settings that the words choose answered all that the reader had left, and wrote the replies alone
 pub record Serves (words : List (List ℕ)) (left left' held held' : Option (List ℕ)) : Type 0 where
@@ -46,10 +46,10 @@ abbrev pub IsOfKind : ErrorKind → Ending → Type 0
 IsOfKind kind (ending.Words error) = (kind_of error ≡ kind) × (kind ≢ OutOfMemory)
 IsOfKind kind (ending.Fault fault) = (fault ≡ Memory) × (kind ≡ OutOfMemory)
 
--- why no run begins: the words, memory, or settings that are refused though the words are whole
+-- why no run begins: the words, memory, or words that choose no settings that a hub can have
 abbrev pub IsUnbegun : List (List ℕ) → Ending → Type 0
 IsUnbegun words (ending.Words error) = (kind_of error ≢ OutOfMemory) × IsAmong (kind_of error) (faults_of words)
-IsUnbegun words (ending.Fault fault) = (fault ≡ Memory) ⊎ ((fault ≡ BadSettings) × AreWhole words)
+IsUnbegun words (ending.Fault fault) = IsRefusal (AreRefused words) fault
 
 -- no run has begun and all is untouched, or a run has failed
 abbrev pub IsEnding : List (List ℕ) → Type 0 → (Fault → Type 0) → Ending → Type 0

@@ -2,7 +2,7 @@
 use Rattle.std.specs.Prelude.{◌≡◌, ℕ, List, [], ◌∷◌, codes}
 use Rattle.clap.specs.declared.error.kind.ErrorKind.TheVariants.{DisplayHelp, MissingRequiredArgument, MissingSubcommand}
 use Rattle.inst_settings.specs.Settings.{HubSettings, settings_with}
-use Rattle.inst_main.specs.Options.{AreChosen, AreWhole, faults_of}
+use Rattle.inst_main.specs.Options.{AreChosen, AreGood, AreWhole, faults_of}
 
 -- `inst_main run --participants AAAADEFF,BBBBFRPP --places 2`
 abbrev pub small_hub : List (List ℕ)
@@ -15,6 +15,7 @@ small_settings = settings_with (codes "AAAADEFF" ∷ codes "BBBBFRPP" ∷ []) 2 
 pub record SmallHub : Type 0 where
   pub whole : AreWhole small_hub
   pub chosen : AreChosen small_hub small_settings
+  pub good : AreGood small_settings
 
 -- words that are no whole command line: `inst_main run`, `inst_main` and `inst_main --help`
 pub record NoHub : Type 0 where

@@ -1,7 +1,9 @@
-ghost use Rattle.std.specs.Prelude.{◌≡◌, OkIff, true, IfOk, IfErr, IsOkUnless, Some, false, map};
+ghost use Rattle.std.specs.Prelude.{◌≡◌, ◌^◌, OkIff, true, IfOk, IfErr, OnErr, IsOkUnless, Some, None, false, map};
+ghost use Rattle.std.specs.List.{list_all};
 ghost use Rattle.inst_base.specs.Text.{is_code};
 ghost use Rattle.clap.specs.Words.{app_of, first_of, found_of, rows_of, rule_of};
-ghost use Rattle.inst_main.specs.Options.{participants_rule, number_rule, command_line as the_command_line, Gives, Chooses, parts_of};
+ghost use Rattle.inst_main.specs.Options.{participants_rule, number_rule, command_line as the_command_line, parts_of};
+ghost use Rattle.inst_main.specs.Options.{Gives, GivesNoneBelow, Chooses, ChooseNone};
 ghost use Rattle.inst_main.specs.Program.{IsRefusal};
 ghost use Rattle.inst_settings.specs.Settings.{IsSettings};
 
@@ -92,7 +94,7 @@ fn number<'a>(alloc: Global, name: &'a str, value: &'a str, help: &'a str) -> Ar
 /// outside its range, the codes first.
 pub(crate) fn settings(alloc: Global, options: &ArgMatches<'_>) -> Result<Settings, Fault>
     ensures lawful { IfOk result (λ settings. IsSettings settings) }
-    ensures fault { IfErr result IsRefusal }
+    ensures fault { IfErr result (IsRefusal (ChooseNone (rows_of (found_of options.now)))) }
     ensures chosen { IfOk result (λ settings. Chooses (rows_of (found_of options.now)) settings) }
 {
     let participants = text(options, "participants")?;
@@ -110,6 +112,7 @@ pub(crate) fn settings(alloc: Global, options: &ArgMatches<'_>) -> Result<Settin
 /// The text of an option.
 fn text<'a>(options: &ArgMatches<'a>, name: &str) -> Result<&'a str, Fault>
     ensures text { IfOk result (λ text. first_of name.now (rows_of (found_of options.now)) ≡ Some text.now) }
+    ensures none { OnErr result (first_of name.now (rows_of (found_of options.now)) ≡ None) }
     ensures fault { IsOkUnless result Fault.BadSettings }
 {
     options.get_str(name).ok_or(Fault::BadSettings)
@@ -118,7 +121,7 @@ fn text<'a>(options: &ArgMatches<'a>, name: &str) -> Result<&'a str, Fault>
 /// The codes between the commas. Nothing is trimmed.
 fn codes(alloc: Global, text: &str) -> Result<Vec<Code>, Fault>
     ensures codes { IfOk result (λ codes. codes.items ≡ parts_of text.now) }
-    ensures fault { IfErr result IsRefusal }
+    ensures fault { IfErr result (IsRefusal (list_all is_code (parts_of text.now) ≡ false)) }
 {
     let parts = parts(alloc, text)?;
     let mut codes = Vec::new(alloc);
@@ -145,6 +148,7 @@ fn parts(alloc: Global, text: &str) -> Result<Vec<&str>, AllocError>
 /// The number of an option. The command line has read it as a whole number.
 fn whole(options: &ArgMatches<'_>, name: &str) -> Result<u64, Fault>
     ensures number { IfOk result (Gives (rows_of (found_of options.now)) name.now) }
+    ensures none { OnErr result (GivesNoneBelow (2 ^ 64) (rows_of (found_of options.now)) name.now) }
     ensures fault { IsOkUnless result Fault.BadSettings }
 {
     options.get_one::<u64>(name).ok_or(Fault::BadSettings)
@@ -152,6 +156,7 @@ fn whole(options: &ArgMatches<'_>, name: &str) -> Result<u64, Fault>
 
 fn medium(options: &ArgMatches<'_>, name: &str) -> Result<u32, Fault>
     ensures number { IfOk result (Gives (rows_of (found_of options.now)) name.now) }
+    ensures none { OnErr result (GivesNoneBelow (2 ^ 32) (rows_of (found_of options.now)) name.now) }
     ensures fault { IsOkUnless result Fault.BadSettings }
 {
     u32::try_from(whole(options, name)?).map_err(|_| Fault::BadSettings)
@@ -159,6 +164,7 @@ fn medium(options: &ArgMatches<'_>, name: &str) -> Result<u32, Fault>
 
 fn small(options: &ArgMatches<'_>, name: &str) -> Result<u16, Fault>
     ensures number { IfOk result (Gives (rows_of (found_of options.now)) name.now) }
+    ensures none { OnErr result (GivesNoneBelow (2 ^ 16) (rows_of (found_of options.now)) name.now) }
     ensures fault { IsOkUnless result Fault.BadSettings }
 {
     u16::try_from(whole(options, name)?).map_err(|_| Fault::BadSettings)

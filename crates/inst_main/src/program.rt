@@ -2,7 +2,7 @@ ghost use Rattle.std.specs.Prelude.{◌≡◌, ◌≢◌, ◌⊎◌, map, string
 ghost use Rattle.clap.specs.Words.{kind_of};
 ghost use Rattle.inst_base.specs.declared.fault.Fault.{Fault as SomeFault};
 ghost use Rattle.inst_settings.specs.Settings.{IsSettings};
-ghost use Rattle.inst_main.specs.Options.{AreChosen, AreWhole, AskForHelp, AreWrong};
+ghost use Rattle.inst_main.specs.Options.{AreChosen, AreRefused, AreWhole, AskForHelp, AreWrong};
 ghost use Rattle.inst_main.specs.Program.{status_of, Serves, Fails, IsEnding, IsUnbegun, IsOfKind};
 
 use crate::options::{command_line, settings};
@@ -64,9 +64,9 @@ pub fn program<R: Read, W: Write, E: Write>(
         (R.remaining reader.old) (R.remaining reader.new) (W.contents writer.old) (W.contents writer.new)
         ⊎ ((reader.new ≡ reader.old) × AskForHelp (map string_bytes words.items)) }
 
-    // The words are wrong, or they are whole and the settings are refused.
+    // The words are wrong, or they are whole and choose no settings that a hub can have.
     ensures refused { result ≡ 2 → (reader.new ≡ reader.old) × (writer.new ≡ writer.old)
-        × (AreWrong (map string_bytes words.items) ⊎ AreWhole (map string_bytes words.items)) }
+        × (AreWrong (map string_bytes words.items) ⊎ AreRefused (map string_bytes words.items)) }
 
     // Memory was wanting before a run, or a run has failed.
     ensures failed { result ≡ 3 → ((reader.new ≡ reader.old) × (writer.new ≡ writer.old))

@@ -2,7 +2,8 @@ use Rattle.std.proofs.Common.{◌≡◌, ◌∙◌, [], true, map, option_map, s
 use Rattle.clap.proofs.OnLiterals.{clap_on_literals}
 use Rattle.clap.specs.Words.{HasKind, HasMatchesOf, fault_of, found_of, is_simple, is_simple_and_free, rows_of, subcommand_of, subcommand_rows_of}
 use Rattle.inst_main.specs.Options.{AreWhole, command_line}
-use Rattle.inst_main.proofs.Given.{failed, unbegun, unsettled}
+use Rattle.inst_main.proofs.Given.{failed, unbegun}
+use Rattle.inst_main.proofs.Refused.{unsettled}
 use Rattle.inst_main.proofs.program.chosen.Goals as goal
 
 simple : is_simple command_line ≡ true
@@ -38,5 +39,8 @@ pub returns-in_err-settings-in-Some-clause-err : goal.returns-in_err-settings-in
 returns-in_err-settings-in-Some-clause-err c =
     let words = map string_bytes c.args.words.now in
     let whole : AreWhole words = (subst (λ app. is_simple_and_free app ≡ true → fault_of app words ≡ []) c.in_ok-command.ensures c.in-Ok.ensures.kinds) free in
+    let found : HasMatchesOf command_line words c.in-Ok.matches = subst (λ app. HasMatchesOf app words c.in-Ok.matches) c.in_ok-command.ensures c.in-Ok.ensures.matches in
+    let rows : subcommand_rows_of c.in-Ok.matches ≡ subcommand_of command_line words = (found simple).1 in
+    let at = sym (ap (option_map (λ p. p.1)) rows) ∙ sym c.subcommand.ensures.rows ∙ ap (option_map (λ p. rows_of (found_of p.1.now))) c.in-Some.is in
     failed words c.from_residual-in_err-settings-in-Some.result c.in_err-settings-in-Some.field-0.0 c.from_residual-in_err-settings-in-Some.ensures.1
-    (unsettled words _ whole c.in_err-settings-in-Some.ensures.fault)
+    (unsettled words (rows_of (found_of c.in-Some.options.now)) _ whole at c.in_err-settings-in-Some.ensures.fault)

@@ -1,7 +1,7 @@
-use Rattle.std.proofs.Common.{[], option_map, refl, unwrap_or, codes}
+use Rattle.std.proofs.Common.{rules, [], option_map, refl, unwrap_or, codes, arith}
 use Rattle.clap.specs.Words.{subcommand_of}
 use Rattle.clap.proofs.OnLiterals.{clap_on_literals}
-use Rattle.inst_main.specs.Options.{AreChosen, AreWhole, command_line}
+use Rattle.inst_main.specs.Options.{AreChosen, AreGood, AreWhole, command_line}
 use Rattle.inst_main.specs.Rows.{small_hub, small_settings}
 use Rattle.inst_main.proofs.rows.small_hub.Goals as goal
 
@@ -16,15 +16,36 @@ chosen = (
   refl,
   record {
     participants = (codes "AAAADEFF,BBBBFRPP", refl, refl);
-    places = (codes "2", refl, refl);
-    fundings = (codes "256", refl, refl);
-    limit = (codes "10000", refl, refl);
-    margin = (codes "0", refl, refl);
-    ahead = (codes "1000", refl, refl);
-    ceiling = (codes "99999999999", refl, refl);
-    base = (codes "0", refl, refl);
+    places = (codes "2", refl, search rules, refl);
+    fundings = (codes "256", refl, search rules, refl);
+    limit = (codes "10000", refl, search rules, refl);
+    margin = (codes "0", refl, search rules, refl);
+    ahead = (codes "1000", refl, search rules, refl);
+    ceiling = (codes "99999999999", refl, search rules, refl);
+    base = (codes "0", refl, search rules, refl);
   },
 )
 
+good : AreGood small_settings
+good = record {
+  lawful = record {
+    participants_some = omega arith;
+    participants_most = omega arith;
+    different = refl;
+    places_some = omega arith;
+    places_most = omega arith;
+    fundings_some = omega arith;
+    fundings_most = omega arith;
+    limit_some = omega arith;
+    limit_most = omega arith;
+    margin_below = omega arith;
+    ahead_most = omega arith;
+    ceiling_some = omega arith;
+    ceiling_most = omega arith;
+    base_most = omega arith;
+  };
+  codes_formed = refl;
+}
+
 pub returns : goal.returns
-returns c = record { whole = whole; chosen = chosen }
+returns c = record { whole = whole; chosen = chosen; good = good }

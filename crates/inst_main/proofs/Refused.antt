@@ -1,0 +1,120 @@
+-- Options that choose no settings that a hub can have, and the faults that say so.
+use Rattle.std.proofs.Common.{◌≡◌, ◌<◌, ◌≤◌, ◌^◌, ℕ, Bool, true, false, List, length, map, get_or, Some, Result, Ok, Err, option_map, IfErr, OnErr, OkIff, IsErrAnd, IsOkUnless, is_ok, Bor, ◌⊎◌, codes, refl, sym, ap, subst, ◌∙◌, inl, inr, arith}
+use Rattle.std.specs.List.{list_all}
+use Rattle.std.specs.Str.Parse.{digits_value, without_leading_plus}
+use Rattle.std.proofs.lemmas.Bool.{cases_lt}
+use Rattle.std.proofs.lemmas.List.{get_or-map, length-map}
+use Rattle.std.proofs.lemmas.List.Folds.{list_all_at}
+use Rattle.clap.specs.Words.{Row, subcommand_of}
+use Rattle.inst_base.specs.Text.{is_code}
+use Rattle.inst_base.specs.declared.fault.Fault.{Fault}
+use Rattle.inst_base.specs.declared.fault.Fault.TheVariants.{BadSettings}
+use Rattle.inst_settings.specs.Settings.{HubSettings, IsSettings, are_different}
+use Rattle.inst_main.specs.Options.{AreChosen, AreGood, AreWhole, ChooseNone, Chooses, Gives, GivesNoneBelow, command_line, parts_of}
+use Rattle.inst_main.specs.Program.{IsRefusal, IsUnbegun}
+use Rattle.inst_main.specs.declared.program.Ending.TheVariants as ending
+
+-- the number of an option is one
+pub given_one : (rows : List Row) (name : List ℕ) (n m : ℕ) → Gives rows name n → Gives rows name m → n ≡ m
+given_one rows name n m (text, at, numeral, is) (text', at', numeral', is') =
+    let same : text ≡ text' = cc in
+    is ∙ ap (λ (t : List ℕ). digits_value 10 (without_leading_plus t)) same ∙ sym is'
+
+-- and so are the settings that options choose: what one is in range of, the other is too
+pub chosen_one : (rows : List Row) (s t : HubSettings) → Chooses rows s → Chooses rows t → IsSettings s → IsSettings t
+chosen_one rows s t a b is =
+    let text : a.participants.0 ≡ b.participants.0 = cc (a.participants.1, b.participants.1) in
+    let codes_same : s.codes ≡ t.codes = a.participants.2 ∙ ap parts_of text ∙ sym b.participants.2 in
+    let places = given_one rows (codes "places") s.places t.places a.places b.places in
+    let fundings = given_one rows (codes "fundings") s.fundings t.fundings a.fundings b.fundings in
+    let limit = given_one rows (codes "limit") s.limit t.limit a.limit b.limit in
+    let margin = given_one rows (codes "margin") s.margin t.margin a.margin b.margin in
+    let ahead = given_one rows (codes "ahead") s.ahead t.ahead a.ahead b.ahead in
+    let ceiling = given_one rows (codes "ceiling") s.ceiling t.ceiling a.ceiling b.ceiling in
+    let base = given_one rows (codes "base") s.base t.base a.base b.base in record {
+      participants_some = subst (λ (all : List (List ℕ)). 1 ≤ length all) codes_same is.participants_some;
+      participants_most = subst (λ (all : List (List ℕ)). length all ≤ 256) codes_same is.participants_most;
+      different = subst (λ (all : List (List ℕ)). are_different all ≡ true) codes_same is.different;
+      places_some = subst (λ (n : ℕ). 1 ≤ n) places is.places_some;
+      places_most = subst (λ (n : ℕ). n ≤ 1024) places is.places_most;
+      fundings_some = subst (λ (n : ℕ). 1 ≤ n) fundings is.fundings_some;
+      fundings_most = subst (λ (n : ℕ). n ≤ 1024) fundings is.fundings_most;
+      limit_some = subst (λ (n : ℕ). 1 ≤ n) limit is.limit_some;
+      limit_most = subst (λ (n : ℕ). n ≤ 3600000) limit is.limit_most;
+      margin_below = subst (λ (n : ℕ). n < t.limit) margin (subst (λ (n : ℕ). s.margin < n) limit is.margin_below);
+      ahead_most = subst (λ (n : ℕ). n ≤ 60000) ahead is.ahead_most;
+      ceiling_some = subst (λ (n : ℕ). 1 ≤ n) ceiling is.ceiling_some;
+      ceiling_most = subst (λ (n : ℕ). n ≤ 99999999999) ceiling is.ceiling_most;
+      base_most = subst (λ (n : ℕ). n ≤ 2 ^ 62) base is.base_most;
+    }
+
+-- settings that are out of range are refused
+pub none_in_range : (rows : List Row) (t : HubSettings) → Chooses rows t → ¬ (IsSettings t) → ChooseNone rows
+none_in_range rows t chosen out s other good = out (chosen_one rows s t other chosen good.lawful)
+
+-- a number that is too large for its type is out of range
+pub no_places : (rows : List Row) → GivesNoneBelow (2 ^ 16) rows (codes "places") → ChooseNone rows
+no_places rows none s chosen good = let least = none s.places chosen.places in let most = good.lawful.places_most in omega arith
+
+pub no_fundings : (rows : List Row) → GivesNoneBelow (2 ^ 16) rows (codes "fundings") → ChooseNone rows
+no_fundings rows none s chosen good = let least = none s.fundings chosen.fundings in let most = good.lawful.fundings_most in omega arith
+
+pub no_limit : (rows : List Row) → GivesNoneBelow (2 ^ 32) rows (codes "limit") → ChooseNone rows
+no_limit rows none s chosen good = let least = none s.limit chosen.limit in let most = good.lawful.limit_most in omega arith
+
+pub no_margin : (rows : List Row) → GivesNoneBelow (2 ^ 32) rows (codes "margin") → ChooseNone rows
+no_margin rows none s chosen good =
+    let least = none s.margin chosen.margin in
+    let most = good.lawful.limit_most in
+    let below = good.lawful.margin_below in
+    omega arith
+
+pub no_ahead : (rows : List Row) → GivesNoneBelow (2 ^ 32) rows (codes "ahead") → ChooseNone rows
+no_ahead rows none s chosen good = let least = none s.ahead chosen.ahead in let most = good.lawful.ahead_most in omega arith
+
+pub no_ceiling : (rows : List Row) → GivesNoneBelow (2 ^ 64) rows (codes "ceiling") → ChooseNone rows
+no_ceiling rows none s chosen good = let least = none s.ceiling chosen.ceiling in let most = good.lawful.ceiling_most in omega arith
+
+pub no_base : (rows : List Row) → GivesNoneBelow (2 ^ 64) rows (codes "base") → ChooseNone rows
+no_base rows none s chosen good = let least = none s.base chosen.base in let most = good.lawful.base_most in omega arith
+
+-- a number that is too large for a smaller type, told as another error
+pub none_narrow : {E F : Type 0} (r : Result ℕ E) (q : Result ℕ F) (bound n : ℕ) (rows : List Row) (name : List ℕ) → is_ok q ≡ is_ok r → OkIff r (n < bound) n →
+    Gives rows name n → OnErr q (GivesNoneBelow bound rows name)
+none_narrow r (Ok y) bound n rows name same fits gives = tt
+none_narrow (Ok x) (Err e) bound n rows name same fits gives = absurd (cc)
+none_narrow (Err d) (Err e) bound n rows name same fits gives = λ m gives'.
+    subst (λ (k : ℕ). bound ≤ k) (given_one rows name n m gives gives') (at_least (cases_lt n bound) fits) where
+      at_least : (n < bound) ⊎ (bound ≤ n) → ¬ (n < bound) → bound ≤ n
+      at_least (inl below) large = absurd (large below)
+      at_least (inr least) large = least
+
+-- a text that is no code is one of the parts
+false_of : (b : Bool) → ¬ (b ≡ true) → b ≡ false
+false_of true other = absurd (other refl)
+false_of false other = refl
+
+pub other_code : (items : List (Bor (List ℕ))) (i : ℕ) (d : Bor (List ℕ)) (texts : List (List ℕ)) → i < length items → map (λ part. part.now) items ≡ texts →
+    ¬ (is_code (get_or items i d).now ≡ true) → list_all is_code texts ≡ false
+other_code items i d texts below same other =
+    let now = λ (part : Bor (List ℕ)). part.now in
+    let within : i < length (map now items) = omega (arith, length-map items now) in
+    let here : is_code (get_or (map now items) i d.now) ≡ false = ap is_code (get_or-map now items i d d.now below) ∙ false_of _ other in
+    subst (λ (all : List (List ℕ)). list_all is_code all ≡ false) same (list_all_at is_code (map now items) i d.now within here)
+
+-- bad settings that are passed on, with why
+pub passed_on : {A : Type 0} (P : Type 0) (r : Result A Fault) (fault : Fault) → IsErrAnd r (λ e. e ≡ fault) → fault ≡ BadSettings → P → IfErr r (IsRefusal P)
+passed_on P (Ok x) fault is bad p = tt
+passed_on P (Err e) fault is bad p = inr (is ∙ bad, p)
+
+pub refused_by : {A : Type 0} (P Q : Type 0) (r : Result A Fault) → IsOkUnless r BadSettings → (Q → P) → OnErr r Q → IfErr r (IsRefusal P)
+refused_by P Q (Ok x) bad weaker q = tt
+refused_by P Q (Err e) bad weaker q = inr (bad, weaker q)
+
+-- words whose options choose none are refused
+pub unsettled : (words : List (List ℕ)) (rows : List Row) (fault : Fault) → AreWhole words → option_map (λ p. p.1) (subcommand_of command_line words) ≡ Some rows →
+    IsRefusal (ChooseNone rows) fault → IsUnbegun words (ending.Fault fault)
+unsettled words rows fault whole at (inl memory) = inl memory
+unsettled words rows fault whole at (inr bad) = inr (bad.0, record { whole = whole; none = none }) where
+  none : (s : HubSettings) → AreChosen words s → ¬ (AreGood s)
+  none s (rows', at', chosen) = let same : rows' ≡ rows = cc in bad.1 s (subst (λ (r : List Row). Chooses r s) same chosen)
