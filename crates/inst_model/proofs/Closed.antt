@@ -9,7 +9,7 @@ use Rattle.inst_journal.specs.declared.event.Event.{Event}
 use Rattle.inst_journal.specs.declared.event.Event.TheVariants.{Taken, Booked}
 use Rattle.inst_journal.specs.Booked.{booked, is_forwarded}
 use Rattle.inst_journal.proofs.Carrying.{carried_unbooked}
-use Rattle.inst_model.specs.Closing.{is_telling, IsClosing, ClosingDecidesNothing, ClosingOnlyTells, ClosingCloses, ClosingAgainAddsNothing}
+use Rattle.inst_model.specs.Closing.{is_telling, IsClosing, ClosingDecidesNothing, ClosingOnlyTells, ClosingCloses, ClosingAgainAddsNothing, ClosingLeavesNothingToTell, NothingLeftIsClosed}
 use Rattle.inst_model.specs.Interleaving.{IsInterleaving}
 use Rattle.inst_model.specs.Fit.{BooksFit, BooksAreClosed}
 use Rattle.inst_model.specs.Opening.{Opening, IsOpening}
@@ -23,7 +23,7 @@ use Rattle.inst_model.proofs.Outcomes.{booked_is_the_outcome}
 use Rattle.inst_model.proofs.Sides.{forwarding_found, came_as_taken}
 use Rattle.inst_model.proofs.Telling.{OnlyTells, same_outcome, same_outcomes, only_told, by_telling}
 use Rattle.inst_model.proofs.Together.{together}
-use Rattle.inst_model.proofs.Told.{AllTold, all_told, each_append}
+use Rattle.inst_model.proofs.Told.{AllTold, all_told, quiet_told, each_append}
 use Rattle.inst_model.proofs.Transfers.{as_transfer}
 use Rattle.std.proofs.Common.{is_none}
 
@@ -102,3 +102,12 @@ add_nothing s O opened L M (step ∷ N) steps closes tells fits p =
 
 pub closing_again_adds_nothing : ClosingAgainAddsNothing
 closing_again_adds_nothing s O opened L M N steps closes again p = add_nothing s O opened L M N steps closes again.only_tells again.fits p
+
+pub closing_leaves_nothing_to_tell : ClosingLeavesNothingToTell
+closing_leaves_nothing_to_tell s O opened L M steps closes step tells fits p = nothing_new s O (M ++ L) (all_told s O opened L M steps closes) step tells p
+
+pub nothing_left_is_closed : NothingLeftIsClosed
+nothing_left_is_closed s O opened L steps quiet = record {
+  sound = (together s O opened L steps).sound;
+  closed = closed_books s O opened L (quiet_told s O opened L steps quiet);
+}

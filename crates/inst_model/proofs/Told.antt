@@ -1,9 +1,9 @@
 -- After a closing everyone is told: each party has booked what is decided, and what is pending has come.
 use Rattle.std.proofs.Common.{◌≡◌, ℕ, zero, suc, ◌<◌, true, false, List, [], ◌∷◌, ◌++◌, length, Option, Some, None, is_none, refl, sym, ap, subst, ◌∙◌, inl, inr, ◌⊎◌, arith, ltb-true, Contains}
 use Rattle.std.specs.List.{slice_get}
-use Rattle.std.proofs.lemmas.Bool.{cases_Bool, true≢false}
+use Rattle.std.proofs.lemmas.Bool.{cases_Bool, true≢false, and_from, lt-ltb}
 use Rattle.std.proofs.lemmas.Option.{same_Some}
-use Rattle.inst_settings.specs.Settings.{HubSettings, participants}
+use Rattle.inst_settings.specs.Settings.{HubSettings, participants, is_participant}
 use Rattle.inst_command.specs.declared.outcome.Outcome.{Outcome}
 use Rattle.inst_command.specs.declared.step.Step.{Step}
 use Rattle.inst_command.specs.declared.step.Step.TheVariants.{Ask, Deliver, Learn, Expire}
@@ -13,7 +13,7 @@ use Rattle.inst_journal.specs.Opened.{carried, is_live}
 use Rattle.inst_journal.proofs.Carrying.{carried_booked}
 use Rattle.inst_journal.proofs.Counting.{submissions_within}
 use Rattle.inst_journal.proofs.OwnBookings.{own_unforwarded}
-use Rattle.inst_model.specs.Closing.{is_telling, IsClosing}
+use Rattle.inst_model.specs.Closing.{is_telling, IsClosing, NothingIsLeftToTell}
 use Rattle.inst_model.specs.Interleaving.{IsInterleaving}
 use Rattle.inst_model.specs.Opening.{Opening, IsOpening}
 use Rattle.inst_model.specs.Transfer.{Transfer, transfers, live_transfers, at_place, transfer}
@@ -144,51 +144,67 @@ stands s O opened C steps from place x there =
       within = omega (arith, place_below (live_transfers from J) place x there, length_live from J, submissions_within s from J sound);
     }
 
-pub all_told : (s : HubSettings) (O : Opening) → IsOpening s O → (L M : List Step) → IsInterleaving s L → IsClosing s M → AllTold s O (M ++ L)
-all_told s O opened L M steps closes = record {
-  steps = all_steps;
+-- where what is pending at a place has come, and each party has learnt of each place, everyone is told
+told_of_places : (s : HubSettings) (O : Opening) → IsOpening s O → (C : List Step) → IsInterleaving s C
+    → ((from place : ℕ) (x : Transfer) → Stands s from place x → at_place from (history s O C from) place ≡ Some x → outcome s O C from x.id ≡ None → is_forwarded from x.id (history s O C x.to) ≡ true)
+    → ((who from place : ℕ) (x : Transfer) (o : Outcome) → who < participants s → Stands s from place x → at_place from (history s O C from) place ≡ Some x → outcome s O C from x.id ≡ Some o
+    → (who ≡ from) ⊎ (is_forwarded from x.id (history s O C who) ≡ true) → booked from x.id (history s O C who) ≡ Some o)
+    → AllTold s O C
+told_of_places s O opened C steps come learn = record {
+  steps = steps;
   originator = originator;
   beneficiary = beneficiary;
-  come = λ from place x there none.
-      let at = stands s O opened C all_steps from place x there in
-      done (Deliver from place x.to) (closes.delivers x.to from place at.beneficiary at.originator at.within) x there refl none;
+  come = λ from place x there none. come from place x (stands s O opened C steps from place x there) there none;
 }
   where
-    C : List Step
-    C = M ++ L
-
-    all_steps : IsInterleaving s (M ++ L)
-    all_steps = each_append _ M L closes.fits steps
-
-    done : (step : Step) → Contains M step → IsDone s O (M ++ L) step
-    done step there = Each_contains (IsDone s O (M ++ L)) M step (each_done s O opened L M closes.only_tells) there
-
     -- a party of a live transfer has learnt its outcome
-    learnt : (who from : ℕ) (id : List ℕ) (x : Transfer) (o : Outcome) → transfer id (history s O (M ++ L) from) ≡ Some x → is_live from id (history s O (M ++ L) from) ≡ true → outcome s O (M ++ L) from id ≡ Some o
-        → (who ≡ from) ⊎ ((x.to ≡ who) × (is_forwarded from id (history s O (M ++ L) who) ≡ true)) → booked from id (history s O (M ++ L) who) ≡ Some o
+    learnt : (who from : ℕ) (id : List ℕ) (x : Transfer) (o : Outcome) → transfer id (history s O C from) ≡ Some x → is_live from id (history s O C from) ≡ true → outcome s O C from id ≡ Some o
+        → (who ≡ from) ⊎ ((x.to ≡ who) × (is_forwarded from id (history s O C who) ≡ true)) → booked from id (history s O C who) ≡ Some o
     learnt who from id x o found live is party =
-        let named = identifiers_name s O (M ++ L) from id x found live in
-        let at = stands s O opened (M ++ L) all_steps from named.0 x named.1 in
+        let named = identifiers_name s O C from id x found live in
+        let at = stands s O opened C steps from named.0 x named.1 in
         let there : who < participants s = elim party [
           | inl own ↦ subst (λ w. w < participants s) (sym own) at.originator
           | inr came ↦ subst (λ w. w < participants s) came.0 at.beneficiary
         ] in
-        let to_x : (who ≡ from) ⊎ (is_forwarded from x.id (history s O (M ++ L) who) ≡ true) = elim party [
+        let to_x : (who ≡ from) ⊎ (is_forwarded from x.id (history s O C who) ≡ true) = elim party [
           | inl own ↦ inl own
-          | inr came ↦ inr (ap (λ (i : List ℕ). is_forwarded from i (history s O (M ++ L) who)) named.2 ∙ came.1)
+          | inr came ↦ inr (ap (λ (i : List ℕ). is_forwarded from i (history s O C who)) named.2 ∙ came.1)
         ] in
-        let of_x : booked from x.id (history s O (M ++ L) who) ≡ Some o =
-        done (Learn who from named.0) (closes.learns who from named.0 there at.originator at.within) x o named.1 (ap (λ (i : List ℕ). outcome s O (M ++ L) from i) named.2 ∙ is) to_x in
-        ap (λ (i : List ℕ). booked from i (history s O (M ++ L) who)) (sym named.2) ∙ of_x
+        let of_x : booked from x.id (history s O C who) ≡ Some o = learn who from named.0 x o there at named.1 (ap (λ (i : List ℕ). outcome s O C from i) named.2 ∙ is) to_x in
+        ap (λ (i : List ℕ). booked from i (history s O C who)) (sym named.2) ∙ of_x
 
-    originator : (from : ℕ) (id : List ℕ) (o : Outcome) → outcome s O (M ++ L) from id ≡ Some o → booked from id (history s O (M ++ L) from) ≡ Some o
-    originator from id o is = elim (cases_Bool (is_live from id (history s O (M ++ L) from))) [
-      | inl live ↦ let taken = decided_taken s O opened (M ++ L) from id o is in learnt from from id taken.0 o taken.1 live is (inl refl)
-      | inr settled ↦ booked_before s O opened (M ++ L) from from id o is settled
+    originator : (from : ℕ) (id : List ℕ) (o : Outcome) → outcome s O C from id ≡ Some o → booked from id (history s O C from) ≡ Some o
+    originator from id o is = elim (cases_Bool (is_live from id (history s O C from))) [
+      | inl live ↦ let taken = decided_taken s O opened C from id o is in learnt from from id taken.0 o taken.1 live is (inl refl)
+      | inr settled ↦ booked_before s O opened C from from id o is settled
     ]
 
-    beneficiary : (to from : ℕ) (id : List ℕ) (o : Outcome) → is_forwarded from id (history s O (M ++ L) to) ≡ true → outcome s O (M ++ L) from id ≡ Some o → booked from id (history s O (M ++ L) to) ≡ Some o
-    beneficiary to from id o came is = elim (cases_Bool (is_live from id (history s O (M ++ L) from))) [
-      | inl live ↦ let taken = (together s O opened (M ++ L) all_steps).taken to from id came in learnt to from id taken.0 o taken.1 live is (inr (taken.2, came))
-      | inr settled ↦ booked_before s O opened (M ++ L) to from id o is (live_together s O opened (M ++ L) all_steps to from id came ∙ settled)
+    beneficiary : (to from : ℕ) (id : List ℕ) (o : Outcome) → is_forwarded from id (history s O C to) ≡ true → outcome s O C from id ≡ Some o → booked from id (history s O C to) ≡ Some o
+    beneficiary to from id o came is = elim (cases_Bool (is_live from id (history s O C from))) [
+      | inl live ↦ let taken = (together s O opened C steps).taken to from id came in learnt to from id taken.0 o taken.1 live is (inr (taken.2, came))
+      | inr settled ↦ booked_before s O opened C to from id o is (live_together s O opened C steps to from id came ∙ settled)
     ]
+
+-- a closing tells everyone
+pub all_told : (s : HubSettings) (O : Opening) → IsOpening s O → (L M : List Step) → IsInterleaving s L → IsClosing s M → AllTold s O (M ++ L)
+all_told s O opened L M steps closes =
+    told_of_places s O opened (M ++ L) (each_append _ M L closes.fits steps)
+    (λ from place x at there none. done (Deliver from place x.to) (closes.delivers x.to from place at.beneficiary at.originator at.within) x there refl none)
+    (λ who from place x o one at there is party. done (Learn who from place) (closes.learns who from place one at.originator at.within) x o there is party)
+  where
+    done : (step : Step) → Contains M step → IsDone s O (M ++ L) step
+    done step there = Each_contains (IsDone s O (M ++ L)) M step (each_done s O opened L M closes.only_tells) there
+
+-- where nothing is left to tell everyone is told
+pub quiet_told : (s : HubSettings) (O : Opening) → IsOpening s O → (C : List Step) → IsInterleaving s C → NothingIsLeftToTell s O C → AllTold s O C
+quiet_told s O opened C steps quiet =
+    told_of_places s O opened C steps
+    (λ from place x at there none.
+    let same : history s O (Deliver from place x.to ∷ C) x.to ≡ history s O C x.to =
+    quiet (Deliver from place x.to) refl (and_from (is_participant s from) (is_participant s x.to) (lt-ltb from (participants s) at.originator) (lt-ltb x.to (participants s) at.beneficiary)) x.to in
+    ap (is_forwarded from x.id) (sym same) ∙ delivery_forwards s O C from place x there none)
+    (λ who from place x o one at there is party.
+    let same : history s O (Learn who from place ∷ C) who ≡ history s O C who =
+    quiet (Learn who from place) refl (and_from (is_participant s who) (is_participant s from) (lt-ltb who (participants s) one) (lt-ltb from (participants s) at.originator)) who in
+    ap (booked from x.id) (sym same) ∙ learning_books s O opened C who from place x o there is party)

@@ -4,6 +4,7 @@
 use Rattle.std.specs.Prelude.{◌≡◌, ℕ, pos, zero, suc, ◌<◌, Bool, true, false, List, [], ◌∷◌, ◌++◌, Contains}
 use Rattle.std.specs.List.{AllByRecursion}
 use Rattle.inst_settings.specs.Settings.{HubSettings, participants}
+use Rattle.inst_command.specs.Step.{step_fits}
 use Rattle.inst_command.specs.declared.step.Step.{Step}
 use Rattle.inst_command.specs.declared.step.Step.TheVariants.{Ask, Deliver, Learn, Expire}
 use Rattle.inst_journal.specs.declared.event.Event.{Event}
@@ -89,6 +90,20 @@ pub record AreClosed (s : HubSettings) (J : ℕ → List Event) : Type 0 where
 abbrev pub ClosingCloses : Type 0
 ClosingCloses = (s : HubSettings) (O : Opening) → IsOpening s O → (L M : List Step) → IsInterleaving s L →
     IsClosing s M → AreClosed s (history s O (M ++ L))
+
+-- no step that tells adds anything any more
+abbrev pub NothingIsLeftToTell : HubSettings → Opening → List Step → Type 0
+NothingIsLeftToTell s O L = (step : Step) → is_telling step ≡ true → step_fits s step ≡ true → (p : ℕ) →
+    history s O (step ∷ L) p ≡ history s O L p
+
+abbrev pub ClosingLeavesNothingToTell : Type 0
+ClosingLeavesNothingToTell = (s : HubSettings) (O : Opening) → IsOpening s O → (L M : List Step) → IsInterleaving s L →
+    IsClosing s M → NothingIsLeftToTell s O (M ++ L)
+
+-- wherever nothing is left to tell the books are closed, whatever steps led there
+abbrev pub NothingLeftIsClosed : Type 0
+NothingLeftIsClosed = (s : HubSettings) (O : Opening) → IsOpening s O → (L : List Step) → IsInterleaving s L →
+    NothingIsLeftToTell s O L → AreClosed s (history s O L)
 
 -- after a closing nothing is untold, and the positions sum to the net funding
 pub record IsSettledUp (s : HubSettings) (O : Opening) (L : List Step) : Type 0 where

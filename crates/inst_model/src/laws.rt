@@ -12,7 +12,7 @@ ghost use Rattle.inst_model.specs.SoundAndFit.{HistoriesAreSound, HistoriesFit};
 ghost use Rattle.inst_model.specs.AtTheOpening.{AnOpeningBeginsFromItsBooks};
 ghost use Rattle.inst_model.specs.LivePlaces.{TheLiveHaveTheirPlaces};
 ghost use Rattle.inst_model.specs.BothSides.{TheLiveAreTheSameOnBothSides, AtAnOpeningTheLiveHaveCome};
-ghost use Rattle.inst_model.specs.Closing.{ThereIsAClosing, ClosingCloses, ClosingDecidesNothing, ClosingOnlyTells, ClosingSettlesUp, ClosingAgainAddsNothing};
+ghost use Rattle.inst_model.specs.Closing.{ThereIsAClosing, ClosingCloses, ClosingDecidesNothing, ClosingOnlyTells, ClosingSettlesUp, ClosingAgainAddsNothing, ClosingLeavesNothingToTell, NothingLeftIsClosed};
 ghost use Rattle.inst_model.specs.NextOpening.{ClosedBooksCanOpen, TheNextBeginsWithTheOutcomes, AnOutcomeStaysOverTheNext, AHubOpensAgain, AnOutcomeStaysForGood};
 ghost use Rattle.inst_model.specs.StepByStep.{TheFirstThatWantsDecides, AViewGrowsByWhatIsSeen, AtMostOneEntryIsSeen, RepliesAreInTheTrace};
 
@@ -105,6 +105,8 @@ pub fn a_closing_closes_the_books()
     ensures only_tells { ClosingOnlyTells }
     ensures settles_up { ClosingSettlesUp }
     ensures again { ClosingAgainAddsNothing }
+    ensures nothing_left { ClosingLeavesNothingToTell }
+    ensures enough { NothingLeftIsClosed }
 {}
 
 /// Closed books can be opened again, up to 500 times, and an outcome stays through all openings.
