@@ -46,6 +46,7 @@ AHubOpensAgain = (s : HubSettings) (Ls : List (List Step)) → AreInterleavings 
 
 -- an outcome stays through all openings that follow
 abbrev pub AnOutcomeStaysForGood : Type 0
-AnOutcomeStaysForGood = (s : HubSettings) (later before : List (List Step)) (L K : List Step) (p : ℕ) (id : List ℕ) (o : Outcome) →
+AnOutcomeStaysForGood = (s : HubSettings) (later before : List (List Step)) (L K : List Step) →
+    (p : ℕ) (id : List ℕ) (o : Outcome) →
     AreInterleavings s (later ++ (L ∷ before)) → length (later ++ (L ∷ before)) ≤ 500 →
     outcome s (opening_after s before) L p id ≡ Some o → outcome s (opening_after s (later ++ (L ∷ before))) K p id ≡ Some o
