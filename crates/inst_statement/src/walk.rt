@@ -11,7 +11,8 @@ use std::alloc::Global;
 
 /// At most `count` lines after the first `skip` of the statement since the last opening, or `Memory`.
 /// One walk over the events, with the position carried along: each event costs a step that grows with
-/// the logarithm of the number of transfers, and only the lines that are given are kept.
+/// the logarithm of the number of transfers. Meanwhile the amount of each transfer is held, and of the
+/// lines those that are given.
 pub fn statement(
     alloc: Global,
     journal: &Journal,
