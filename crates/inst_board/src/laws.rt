@@ -69,7 +69,8 @@ pub fn a_decision_is_known<B: Board>()
     ensures { (margin : ℕ) → ADecisionIsKnown margin B.knows B.stood }
 {}
 
-/// Before the deadline an answer is wanted, from it on the time-out.
+/// Before the deadline an answer is wanted, an acceptance only before the margin; from the deadline on
+/// the time-out.
 pub fn each_wish_wants_by_its_reading()
     ensures { EachWishWantsByItsReading }
 {}

@@ -25,13 +25,14 @@ pub fn nothing_seen_goes_back()
     ensures { NothingSeenGoesBack }
 {}
 
-/// A place is accepted or rejected before its deadline, and timed out at it or after it.
+/// A place is accepted before its deadline by more than the margin, rejected before its deadline, and
+/// timed out at it or after it.
 pub fn each_outcome_is_in_time()
     ensures { EachOutcomeIsInTime }
 {}
 
-/// In time is before the deadline for an acceptance and a rejection, and at it or after it for a
-/// time-out.
+/// In time is before the deadline by more than the margin for an acceptance, before the deadline for a
+/// rejection, and at it or after it for a time-out.
 pub fn what_is_in_time()
     ensures { WhatIsInTime }
 {}
