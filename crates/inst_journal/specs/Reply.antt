@@ -1,14 +1,17 @@
 -- What a participant is answered, and what its history keeps of it: the first case that holds, in the one order of
 -- the refusals. Confirmations, rejections and investigations are the scheme's (EPC004-16, chapter 4: processing
 -- flow); the order, the repeats and the capacities are this hub's own choice.
-use Rattle.std.specs.Prelude.{ℕ, Bool, true, false, ◌==◌, nat_lt, nat_le, if◌then◌else◌, List, [], ◌∷◌, ◌++◌, length, take, drop, sum_by, Option, Some, None, Result, Ok, Err}
+use Rattle.std.specs.Prelude.{ℕ, Bool, true, false, ◌==◌, nat_lt, nat_le, if◌then◌else◌, List, [], ◌∷◌, ◌++◌, length}
+use Rattle.std.specs.Prelude.{take, drop, sum_by, Option, Some, None, Result, Ok, Err}
 use Rattle.std.specs.List.{filter_map}
 use Rattle.inst_base.specs.TimeLimit.{deadline_of, is_due, is_ahead}
 use Rattle.inst_base.specs.declared.fault.Fault.{Fault}
 use Rattle.inst_base.specs.declared.fault.Fault.TheVariants.{SelfTransfer, UnknownTransfer, Duplicate, StampAhead, Expired, Full, Shortage}
 use Rattle.inst_settings.specs.Settings.{HubSettings}
 use Rattle.inst_command.specs.declared.command.Command.{Command}
-use Rattle.inst_command.specs.declared.command.Command.TheVariants.{Fund, Defund, Submit, Confirm, Reject, Investigate, Fetch, Position as AskPosition, Statement as AskStatement}
+use Rattle.inst_command.specs.declared.command.Command.TheVariants.{Fund, Defund, Submit, Confirm, Reject}
+use Rattle.inst_command.specs.declared.command.Command.TheVariants.{Investigate, Fetch, Position as AskPosition}
+use Rattle.inst_command.specs.declared.command.Command.TheVariants.{Statement as AskStatement}
 use Rattle.inst_command.specs.declared.submission.Submission.{Submission}
 use Rattle.inst_command.specs.declared.entry.Entry.{Entry}
 use Rattle.inst_command.specs.declared.outcome.Outcome.{Outcome}

@@ -5,7 +5,9 @@ use Rattle.std.specs.Prelude.{ℕ, List, [], ◌∷◌, ◌++◌, codes, Option,
 use Rattle.inst_base.specs.declared.fault.Fault.{Fault}
 use Rattle.inst_settings.specs.Settings.{HubSettings}
 use Rattle.inst_command.specs.declared.command.Command.{Command}
-use Rattle.inst_command.specs.declared.command.Command.TheVariants.{Fund, Submit, Confirm, Reject, Investigate, Fetch, Position as AskPosition, Statement as AskStatement}
+use Rattle.inst_command.specs.declared.command.Command.TheVariants.{Fund, Submit, Confirm, Reject, Investigate, Fetch}
+use Rattle.inst_command.specs.declared.command.Command.TheVariants.{Position as AskPosition}
+use Rattle.inst_command.specs.declared.command.Command.TheVariants.{Statement as AskStatement}
 use Rattle.inst_command.specs.declared.outcome.Outcome.{Outcome}
 use Rattle.inst_command.specs.declared.outcome.Outcome.TheVariants.{Accepted}
 use Rattle.inst_command.specs.declared.outcome.State.{State as StateValue}

@@ -1,6 +1,8 @@
 //! The laws of one participant's books. Each is a function without a body whose contract is the law, so that the
 //! check proves it.
-ghost use Rattle.inst_journal.specs.Laws.{NothingIsOverdrawn, EachTakenAmountIsInOnePlace, AnOwnBookingHasTheOwnNumber, ATakenAmountIsWhereItIsBooked, ATransferIsBookedOnce, WhatIsKeptFits};
+ghost use Rattle.inst_journal.specs.Laws.{NothingIsOverdrawn, EachTakenAmountIsInOnePlace};
+ghost use Rattle.inst_journal.specs.Laws.{AnOwnBookingHasTheOwnNumber, ATakenAmountIsWhereItIsBooked};
+ghost use Rattle.inst_journal.specs.Laws.{ATransferIsBookedOnce, WhatIsKeptFits};
 ghost use Rattle.inst_journal.specs.Pages.{AnInboxIsInOrderOfArrival, AFetchHandsOutTheNextPage};
 ghost use Rattle.inst_journal.specs.Repeats.{ARepeatIsTheVerySame, ARepeatIsAnsweredAgain, WhatIsToldIsKept, AKeyIsKeptOnce};
 ghost use Rattle.inst_journal.specs.Lines.{LinesCountFromOne, AnOpeningBeginsAStatement, AStatementLeadsToThePosition};

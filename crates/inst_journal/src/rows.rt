@@ -7,7 +7,10 @@ ghost use Rattle.inst_command.specs.declared.outcome.Outcome.{Outcome};
 ghost use Rattle.inst_command.specs.declared.outcome.State.{State};
 ghost use Rattle.inst_command.specs.declared.reply.Reply.{Reply};
 ghost use Rattle.inst_journal.specs.declared.event.Event.{Event};
-ghost use Rattle.inst_journal.specs.Rows.{A, B, C, answers, after, opened, fund, submit, investigate, fetch, position, statement, done, taken, state, money, refused, submitted, accepted, again, two_places, all_fundings, arrivals, confirmation, rejection};
+ghost use Rattle.inst_journal.specs.Rows.{A, B, C, answers, after, opened, fund, submit, investigate, fetch};
+ghost use Rattle.inst_journal.specs.Rows.{position, statement, done, taken, state, money, refused, submitted};
+ghost use Rattle.inst_journal.specs.Rows.{accepted, again, two_places, all_fundings, arrivals, confirmation};
+ghost use Rattle.inst_journal.specs.Rows.{rejection};
 
 /// What is pending at an opening stays reserved after it, and is settled when its outcome is learnt.
 pub fn carried_over_an_opening()
