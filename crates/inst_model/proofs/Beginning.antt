@@ -84,7 +84,8 @@ pub beginning_accepted : (s : HubSettings) (O : Opening) → IsOpening s O → (
     (x : Transfer) × (transfer id (beginning O from) ≡ Some x) × (booked from id (beginning O x.to) ≡ Some Accepted) × (is_forwarded from id (beginning O x.to) ≡ true)
 beginning_accepted s O opened = beneficiary_booked s (beginning O) (beginning_sound s O opened) (beginning_closed s O opened)
 
-begins_carried : (O : Opening) (p : ℕ) → carried (beginning O p) ≡ beginning O p
+-- all of the beginning is carried
+pub begins_carried : (O : Opening) (p : ℕ) → carried (beginning O p) ≡ beginning O p
 begins_carried First p = refl
 begins_carried (FromBooks books) p = carried_opened (books p)
 

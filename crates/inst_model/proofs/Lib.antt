@@ -31,3 +31,12 @@ pub mod Closing
 pub mod Stepping
 pub mod Timely
 pub mod Learnt
+pub mod AtOpening
+pub mod Standing
+pub mod Strangers
+pub mod Sides
+pub mod Telling
+pub mod Told
+pub mod Closed
+pub mod Rounds
+pub mod Chain

@@ -29,14 +29,17 @@ filter-append p (x ∷ xs) ys = go (filter-append p xs ys) (p x)
     go later true = ap (λ rest. x ∷ rest) later
     go later false = later
 
+-- within an opening an event leaves the live transfers as they are, and may add one at their end
+pub live_grown : (p : ℕ) (J : List Event) (event : Event) → is_opening event ≡ false → live_transfers p (J ++ event ∷ []) ≡ live_transfers p J ++ filter (λ (y : Transfer). is_live p y.id J) (cons_option (terms event) [])
+live_grown p J event no_opening =
+    let live : List Event → Transfer → Bool = λ C y. is_none (booked p y.id C) in
+    let new : List Transfer = cons_option (terms event) [] in
+    ap (λ C. filter (live C) (transfers (J ++ event ∷ []))) (carried_push J event no_opening) ∙ ap (filter (live (carried J))) (transfers_push J event) ∙ filter-append (live (carried J)) (transfers J) new
+
 place_kept : (p k : ℕ) (x : Transfer) (J : List Event) (event : Event) → is_opening event ≡ false → at_place p J k ≡ Some x → at_place p (J ++ event ∷ []) k ≡ Some x
 place_kept p k x J event no_opening e =
-    let live : List Event → Transfer → Bool = λ C y. is_none (booked p y.id C) in
-    let T : List Transfer = transfers J in
-    let new : List Transfer = cons_option (terms event) [] in
-    let grown : live_transfers p (J ++ event ∷ []) ≡ filter (live (carried J)) T ++ filter (live (carried J)) new =
-    ap (λ C. filter (live C) (transfers (J ++ event ∷ []))) (carried_push J event no_opening) ∙ ap (filter (live (carried J))) (transfers_push J event) ∙ filter-append (live (carried J)) T new in
-    ap (λ U. slice_get U k) grown ∙ slice_get-append (filter (live (carried J)) T) (filter (live (carried J)) new) k x e
+    ap (λ U. slice_get U k) (live_grown p J event no_opening)
+    ∙ slice_get-append (live_transfers p J) (filter (λ (y : Transfer). is_live p y.id J) (cons_option (terms event) [])) k x e
 
 place_stays : (s : HubSettings) (O : Opening) (later L : List Step) (p k : ℕ) (x : Transfer) → at_place p (history s O L p) k ≡ Some x → at_place p (history s O (later ++ L) p) k ≡ Some x
 place_stays s O [] L p k x e = e

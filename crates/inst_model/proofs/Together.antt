@@ -147,3 +147,7 @@ both s O opened (step ∷ past) steps =
 
 pub together : (s : HubSettings) (O : Opening) → IsOpening s O → (L : List Step) → IsInterleaving s L → Together s (history s O L)
 together s O opened L steps = (both s O opened L steps).0
+
+-- what is forwarded is live on both sides or on neither
+pub live_together : (s : HubSettings) (O : Opening) → IsOpening s O → (L : List Step) → IsInterleaving s L → Living (history s O L)
+live_together s O opened L steps = (both s O opened L steps).1

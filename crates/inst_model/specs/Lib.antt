@@ -21,3 +21,8 @@ pub mod ClosedBooks
 pub mod StepByStep
 pub mod InTime
 pub mod Learning
+pub mod AtTheOpening
+pub mod LivePlaces
+pub mod BothSides
+pub mod Closing
+pub mod NextOpening

@@ -12,6 +12,11 @@ pub data Opening : Type 0 where
   First : Opening
   FromBooks : (books : ℕ → List Event) → Opening
 
+-- the book of p that the hub is opened from, which is empty the first time
+abbrev pub book : Opening → ℕ → List Event
+book First p = []
+book (FromBooks books) p = books p
+
 -- what the history of p begins with
 abbrev pub beginning : Opening → ℕ → List Event
 beginning First p = []

@@ -9,6 +9,11 @@ ghost use Rattle.inst_model.specs.InTime.{EachOutcomeIsInTime};
 ghost use Rattle.inst_model.specs.Learning.{LearningBooks, ExpiryBooks, DeliveryForwards, NothingDecidedIsDelivered};
 ghost use Rattle.inst_model.specs.Places.{PlacesName, IdentifiersName};
 ghost use Rattle.inst_model.specs.SoundAndFit.{HistoriesAreSound, HistoriesFit};
+ghost use Rattle.inst_model.specs.AtTheOpening.{AnOpeningBeginsFromItsBooks};
+ghost use Rattle.inst_model.specs.LivePlaces.{TheLiveHaveTheirPlaces};
+ghost use Rattle.inst_model.specs.BothSides.{TheLiveAreTheSameOnBothSides, AtAnOpeningTheLiveHaveCome};
+ghost use Rattle.inst_model.specs.Closing.{ThereIsAClosing, ClosingCloses, ClosingDecidesNothing, ClosingOnlyTells, ClosingAgainAddsNothing};
+ghost use Rattle.inst_model.specs.NextOpening.{ClosedBooksCanOpen, TheNextBeginsWithTheOutcomes, AnOutcomeStaysOverTheNext, AHubOpensAgain, AnOutcomeStaysForGood};
 ghost use Rattle.inst_model.specs.StepByStep.{TheFirstThatWantsDecides, AViewGrowsByWhatIsSeen, AtMostOneEntryIsSeen, RepliesAreInTheTrace};
 
 /// The first step that wants something decides, and a participant sees at most one entry of a step.
@@ -74,4 +79,38 @@ pub fn a_name_is_for_good()
 /// Books that are sound and closed, however they came about, sum to the net funding.
 pub fn closed_books_sum_to_the_net()
     ensures { ClosedBooksSumToTheNet }
+{}
+
+/// A hub begins from its books: nothing is untold, each statement is empty, and the money is the books'.
+pub fn an_opening_begins_from_its_books()
+    ensures { AnOpeningBeginsFromItsBooks }
+{}
+
+/// The live transfers of an originator have places, and keep them until the hub closes.
+pub fn the_live_have_their_places()
+    ensures { TheLiveHaveTheirPlaces }
+{}
+
+/// What is live is the same on both sides; at an opening all that is live has come, and is pending.
+pub fn the_live_are_the_same_on_both_sides()
+    ensures both { TheLiveAreTheSameOnBothSides }
+    ensures at_an_opening { AtAnOpeningTheLiveHaveCome }
+{}
+
+/// A closing tells everyone what there is to be told and decides nothing; the books are then sound and closed.
+pub fn a_closing_closes_the_books()
+    ensures there_is_one { ThereIsAClosing }
+    ensures closes { ClosingCloses }
+    ensures decides_nothing { ClosingDecidesNothing }
+    ensures only_tells { ClosingOnlyTells }
+    ensures again { ClosingAgainAddsNothing }
+{}
+
+/// Closed books can be opened again, up to 500 times, and an outcome stays through all openings.
+pub fn closed_books_open_again()
+    ensures opens { ClosedBooksCanOpen }
+    ensures begins { TheNextBeginsWithTheOutcomes }
+    ensures stays { AnOutcomeStaysOverTheNext }
+    ensures again { AHubOpensAgain }
+    ensures for_good { AnOutcomeStaysForGood }
 {}

@@ -1,0 +1,12 @@
+use Rattle.inst_model.proofs.Closed.{closing_closes, closing_decides_nothing, closing_only_tells, closing_again_adds_nothing}
+use Rattle.inst_model.proofs.Rounds.{there_is_a_closing}
+use Rattle.inst_model.proofs.laws.a_closing_closes_the_books.Goals as goal
+
+pub returns : goal.returns
+returns c = record {
+  there_is_one = there_is_a_closing;
+  closes = closing_closes;
+  decides_nothing = closing_decides_nothing;
+  only_tells = closing_only_tells;
+  again = closing_again_adds_nothing;
+}

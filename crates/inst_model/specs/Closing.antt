@@ -1,0 +1,93 @@
+-- How a hub is closed: each participant learns what is decided, and what is pending comes to its beneficiary (EPC004-16,
+-- chapter 4: both participants are told one outcome). Nothing is asked and nothing expires, for no reading is given. That a
+-- closing goes over all places is this hub's own choice; in which order, and how often, is left open.
+use Rattle.std.specs.Prelude.{◌≡◌, ℕ, zero, suc, ◌<◌, Bool, true, false, List, [], ◌∷◌, ◌++◌, Contains}
+use Rattle.std.specs.List.{AllByRecursion}
+use Rattle.inst_settings.specs.Settings.{HubSettings, participants}
+use Rattle.inst_command.specs.declared.step.Step.{Step}
+use Rattle.inst_command.specs.declared.step.Step.TheVariants.{Ask, Deliver, Learn, Expire}
+use Rattle.inst_journal.specs.declared.event.Event.{Event}
+use Rattle.inst_journal.specs.declared.event.Event.TheVariants.{Funded, Defunded, Taken, Forwarded, Booked, Fetched, Opened}
+use Rattle.inst_journal.specs.Sound.{IsSound}
+use Rattle.inst_model.specs.Interleaving.{IsInterleaving}
+use Rattle.inst_model.specs.Opening.{Opening, IsOpening}
+use Rattle.inst_model.specs.Fit.{BooksAreClosed}
+use Rattle.inst_model.specs.Hub.{outcome, history}
+
+-- whether the step tells a participant of a transfer, without a reading
+abbrev pub is_telling : Step → Bool
+is_telling (Ask ask) = false
+is_telling (Deliver from place to) = true
+is_telling (Learn who from place) = true
+is_telling (Expire who place at) = false
+
+-- the steps tell, and each participant is told of each place
+pub record IsClosing (s : HubSettings) (M : List Step) : Type 0 where
+  pub fits : IsInterleaving s M
+  pub only_tells : AllByRecursion (λ step. is_telling step ≡ true) M
+  pub delivers : (who from place : ℕ) → who < participants s → from < participants s → place < s.places →
+      Contains M (Deliver from place who)
+  pub learns : (who from place : ℕ) → who < participants s → from < participants s → place < s.places →
+      Contains M (Learn who from place)
+
+-- the participant `who` is told of the first places of the originator `from`
+abbrev pub of_places : ℕ → ℕ → ℕ → List Step
+of_places who from zero = []
+of_places who from (suc place) = Deliver from place who ∷ (Learn who from place ∷ of_places who from place)
+
+-- the participant `who` is told of so many places of each of the first originators
+abbrev pub of_originators : ℕ → ℕ → ℕ → List Step
+of_originators who places zero = []
+of_originators who places (suc from) = of_places who from places ++ of_originators who places from
+
+-- the first participants, by number, are told of so many places of each of so many originators
+abbrev pub of_participants : ℕ → ℕ → ℕ → List Step
+of_participants originators places zero = []
+of_participants originators places (suc who) =
+    of_originators who places originators ++ of_participants originators places who
+
+-- a closing: each participant by number is told of each place
+abbrev pub closing : HubSettings → List Step
+closing s = of_participants (participants s) s.places (participants s)
+
+abbrev pub ThereIsAClosing : Type 0
+ThereIsAClosing = (s : HubSettings) → IsClosing s (closing s)
+
+-- a closing decides nothing
+abbrev pub ClosingDecidesNothing : Type 0
+ClosingDecidesNothing = (s : HubSettings) (O : Opening) (L M : List Step) → IsClosing s M → (p : ℕ) (id : List ℕ) →
+    outcome s O (M ++ L) p id ≡ outcome s O L p id
+
+-- the event is a booking or a forwarding
+abbrev pub is_told : Event → Bool
+is_told (Forwarded from id cents deadline) = true
+is_told (Booked from id outcome) = true
+is_told (Funded reference cents) = false
+is_told (Defunded reference cents) = false
+is_told (Taken id to cents stamp) = false
+is_told (Fetched count) = false
+is_told Opened = false
+
+-- the history K is J and bookings and forwardings after it
+pub record OnlyTold (J K : List Event) : Type 0 where
+  pub events : List Event
+  pub appended : K ≡ J ++ events
+  pub told : AllByRecursion (λ event. is_told event ≡ true) events
+
+abbrev pub ClosingOnlyTells : Type 0
+ClosingOnlyTells = (s : HubSettings) (O : Opening) (L M : List Step) → IsClosing s M → (p : ℕ) →
+    OnlyTold (history s O L p) (history s O (M ++ L) p)
+
+-- after a closing each history is one that a participant can have, and together they are closed
+pub record AreClosed (s : HubSettings) (J : ℕ → List Event) : Type 0 where
+  pub sound : (p : ℕ) → IsSound s p (J p)
+  pub closed : BooksAreClosed s J
+
+abbrev pub ClosingCloses : Type 0
+ClosingCloses = (s : HubSettings) (O : Opening) → IsOpening s O → (L M : List Step) → IsInterleaving s L →
+    IsClosing s M → AreClosed s (history s O (M ++ L))
+
+-- whoever closes once more finds nothing to do
+abbrev pub ClosingAgainAddsNothing : Type 0
+ClosingAgainAddsNothing = (s : HubSettings) (O : Opening) → IsOpening s O → (L M N : List Step) → IsInterleaving s L →
+    IsClosing s M → IsClosing s N → (p : ℕ) → history s O (N ++ (M ++ L)) p ≡ history s O (M ++ L) p
