@@ -23,7 +23,7 @@ pub fn write_reply(alloc: Global, settings: &Settings, reply: &Reply) -> Result<
     ensures err { IfErr result (λ fault. fault ≡ Fault.Memory) }
 {
     let mut text = Vec::new(alloc);
-    append_text(alloc, settings, reply, &mut text)?;
+    append_text(settings, reply, &mut text)?;
     Ok(text)
 }
 

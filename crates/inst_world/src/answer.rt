@@ -31,7 +31,7 @@ pub(crate) fn answer(
     ensures fault { OnErr result (IsErrOf result Fault.Memory) }
 {
     let reply = reply_to(alloc, world, input, len)?;
-    append_reply(alloc, world.settings(), &reply, out)
+    append_reply(world.settings(), &reply, out)
 }
 
 /// The reply to a line as it is held. The only error is `Memory`.
@@ -53,7 +53,6 @@ fn reply_to(
 
 /// Appends the text of a reply, and a newline, to `out`, and says whether it is a refusal.
 fn append_reply(
-    alloc: Global,
     settings: &Settings,
     reply: &Reply,
     out: &mut Vec<u8>,
@@ -63,7 +62,7 @@ fn append_reply(
     ensures refusal { IfOk result (λ refused. refused ≡ is_refusal reply.now) }
     ensures fault { OnErr result (IsErrOf result Fault.Memory) }
 {
-    inst_json::append_reply(alloc, settings, reply, out)?;
+    inst_json::append_reply(settings, reply, out)?;
     out.push(b'\n')?;
     Ok(matches!(reply, Reply::Refused(_)))
 }
