@@ -3,3 +3,4 @@ pub mod Step
 pub mod Deciding
 pub mod LineText
 pub mod Laws
+pub mod Fitting
