@@ -16,7 +16,7 @@ use Rattle.inst_journal.specs.Repeats.{taken_of, taken_reply, IsTheVerySame, IsA
 use Rattle.inst_journal.specs.Reply.{answered, fund, defund, submit, handle, kept_events, told}
 use Rattle.inst_journal.proofs.Finding.{found_is_there, there_is_found}
 
-itself : (text : List ℕ) → same_text text text ≡ true
+pub itself : (text : List ℕ) → same_text text text ≡ true
 itself text = nat_list_eq_equiv.refl text
 
 number_itself : (n : ℕ) → (n == n) ≡ true
