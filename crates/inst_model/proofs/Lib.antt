@@ -31,3 +31,4 @@ pub mod Closing
 pub mod Stepping
 pub mod Timely
 pub mod Learnt
+pub mod Asking
