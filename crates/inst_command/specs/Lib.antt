@@ -4,3 +4,4 @@ pub mod Deciding
 pub mod LineText
 pub mod Layout
 pub mod Laws
+pub mod Fitting

@@ -1,14 +1,18 @@
 -- How the lines of a statement follow from one another: their numbers from 1, and each position from the one before
 -- it, as an account statement's entries lead from its opening balance to its closing balance. This hub's own promise.
-use Rattle.std.specs.Prelude.{◌≡◌, ℕ, ◌+◌, List, [], ◌∷◌, ◌++◌, Some, slice_get}
+use Rattle.std.specs.Prelude.{◌≡◌, ℕ, ◌+◌, ◌≤◌, List, [], ◌∷◌, ◌++◌, length, take, Option, Some, Ok, slice_get}
 use Rattle.inst_settings.specs.Settings.{HubSettings}
+use Rattle.inst_command.specs.declared.command.Command.TheVariants.{Statement as AskStatement}
 use Rattle.inst_command.specs.declared.line.Line.{Line}
 use Rattle.inst_command.specs.declared.line.LineKind.{LineKind}
 use Rattle.inst_command.specs.declared.line.LineKind.TheVariants.{Funded, Defunded, Received, Paid}
+use Rattle.inst_command.specs.declared.outcome.Outcome.{Outcome}
+use Rattle.inst_command.specs.declared.reply.Reply.TheVariants.{Statement}
 use Rattle.inst_journal.specs.declared.event.Event.{Event}
 use Rattle.inst_journal.specs.declared.event.Event.TheVariants.{Opened}
 use Rattle.inst_journal.specs.Money.{position}
 use Rattle.inst_journal.specs.Opened.{carried}
+use Rattle.inst_journal.specs.Reply.{reply, history_after}
 use Rattle.inst_journal.specs.Statement.{statement}
 use Rattle.inst_journal.specs.Sound.{IsSound}
 
@@ -45,3 +49,16 @@ AnOpeningBeginsAStatement = (J : List Event) → statement (J ++ Opened ∷ []) 
 abbrev pub AStatementLeadsToThePosition : Type 0
 AStatementLeadsToThePosition = (s : HubSettings) (who : ℕ) (J : List Event) → IsSound s who J →
     Lead (position (carried J)) (statement J) (position J)
+
+-- what a question for `count` lines after the first `skip` replies: the part of the statement that comes next
+pub record NextPart
+    (s : HubSettings) (who : ℕ) (J : List Event) (skip count at : ℕ) (found : Option Outcome) : Type 0 where
+  pub part : List Line
+  pub replied : reply s who J (AskStatement skip count) at found ≡ Ok (Statement part)
+  pub short : length part ≤ count
+  pub next : take skip (statement J) ++ part ≡ take (skip + count) (statement J)
+  pub same_history : history_after s who J (AskStatement skip count) at found ≡ J
+
+abbrev pub AStatementIsReadByParts : Type 0
+AStatementIsReadByParts = (s : HubSettings) (who : ℕ) (J : List Event) (skip count at : ℕ) (found : Option Outcome) →
+    NextPart s who J skip count at found

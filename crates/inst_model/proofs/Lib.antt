@@ -40,3 +40,4 @@ pub mod Told
 pub mod Closed
 pub mod Rounds
 pub mod Chain
+pub mod Asking

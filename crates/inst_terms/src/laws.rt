@@ -1,7 +1,7 @@
 //! The laws of a place's words. Each is a function without a body whose contract is the law, so that
 //! the check proves it.
 ghost use Rattle.inst_terms.specs.Laws.{DifferentTermsHaveDifferentWords, DifferentWordsHaveDifferentNumbers};
-ghost use Rattle.inst_terms.specs.Laws.{OneFinalWord, NothingSeenGoesBack, EachOutcomeIsInTime, WhatIsInTime};
+ghost use Rattle.inst_terms.specs.Laws.{OneFinalWord, OneDeadline, NothingSeenGoesBack, EachOutcomeIsInTime, WhatIsInTime};
 ghost use Rattle.inst_terms.specs.Laws.{EachOutcomeInTimeMayStand, WhatIsSeen};
 ghost use Rattle.inst_terms.specs.Rows.{WordsOfTheFormat};
 
@@ -18,6 +18,11 @@ pub fn different_words_have_different_numbers()
 /// Over all its words a place has one final word at most.
 pub fn one_final_word()
     ensures { OneFinalWord }
+{}
+
+/// The deadline of a place never changes.
+pub fn one_deadline()
+    ensures { OneDeadline }
 {}
 
 /// What could be seen of a place once can be seen from then on.
