@@ -1,9 +1,9 @@
 //! Each line is read as its tree is, whichever way it goes.
+use crate::LineReader;
 use crate::command::ask_of;
 use crate::line::{fields_of, scan_line};
 use crate::step::step_of;
 use crate::tests::{MOST, hub};
-use crate::{read_command, read_step};
 use inst_base::Fault;
 use inst_settings::Settings;
 use serde_json::Value;
@@ -133,15 +133,16 @@ const MEMBERS: [(&str, bool); 38] = [
     (r#","#, false),
 ];
 
-/// Asserts that a line is read as its tree is.
+/// Asserts that a line is read as its tree is, by a reader that may have read others.
 fn assert_alike(
     rt: &impl Abort,
     alloc: Global,
+    reader: &mut LineReader,
     settings: &Settings,
     line: &[u8],
 ) -> Result<(), Fail> {
-    let command = read_command(alloc, settings, line);
-    let step = read_step(alloc, settings, line);
+    let command = reader.read_command(settings, line);
+    let step = reader.read_step(settings, line);
     match Value::from_slice(alloc, line) {
         Ok(value) => {
             let fields = fields_of(&value);
@@ -208,11 +209,12 @@ fn with_byte(alloc: Global, bytes: &[u8], at: usize, other: u8) -> Result<Vec<u8
 fn keys_in_any_order_are_read_in_one_pass(rt: HostRuntime) -> Result<(), Fail> {
     let alloc = rt.alloc();
     let hub = hub(alloc, MOST, 0)?;
+    let mut reader = LineReader::new(alloc);
     for members in LINES {
         for first in 0..members.len() {
             let line = line_of(alloc, members, first, None, false)?;
             assert!(rt; scan_line(line.as_bytes()).is_some(), "{line}");
-            assert_alike(&rt, alloc, &hub, line.as_bytes())?;
+            assert_alike(&rt, alloc, &mut reader, &hub, line.as_bytes())?;
         }
     }
     Ok(())
@@ -222,12 +224,13 @@ fn keys_in_any_order_are_read_in_one_pass(rt: HostRuntime) -> Result<(), Fail> {
 fn more_members_count_as_in_the_tree(rt: HostRuntime) -> Result<(), Fail> {
     let alloc = rt.alloc();
     let hub = hub(alloc, MOST, 0)?;
+    let mut reader = LineReader::new(alloc);
     for members in LINES {
         for (more, is_scanned) in MEMBERS {
             for is_behind in [false, true] {
                 let line = line_of(alloc, members, 0, Some(more), is_behind)?;
                 assert_eq!(rt; scan_line(line.as_bytes()).is_some(), is_scanned, "{line}");
-                assert_alike(&rt, alloc, &hub, line.as_bytes())?;
+                assert_alike(&rt, alloc, &mut reader, &hub, line.as_bytes())?;
             }
         }
     }
@@ -238,6 +241,7 @@ fn more_members_count_as_in_the_tree(rt: HostRuntime) -> Result<(), Fail> {
 fn white_space_and_strange_bytes_at_every_place(rt: HostRuntime) -> Result<(), Fail> {
     let alloc = rt.alloc();
     let hub = hub(alloc, MOST, 0)?;
+    let mut reader = LineReader::new(alloc);
     for members in LINES {
         let line = line_of(alloc, members, 0, None, false)?;
         for at in 0..line.len() {
@@ -245,7 +249,7 @@ fn white_space_and_strange_bytes_at_every_place(rt: HostRuntime) -> Result<(), F
                 b' ', b'\t', b'\n', b'\r', 0x0b, b'"', b',', b'}', b'0', 0xc3,
             ] {
                 let line = with_byte(alloc, line.as_bytes(), at, other)?;
-                assert_alike(&rt, alloc, &hub, &line)?;
+                assert_alike(&rt, alloc, &mut reader, &hub, &line)?;
             }
         }
     }
@@ -256,14 +260,15 @@ fn white_space_and_strange_bytes_at_every_place(rt: HostRuntime) -> Result<(), F
 fn every_cut_of_a_line(rt: HostRuntime) -> Result<(), Fail> {
     let alloc = rt.alloc();
     let hub = hub(alloc, MOST, 0)?;
+    let mut reader = LineReader::new(alloc);
     for members in LINES {
         let line = line_of(alloc, members, 0, None, false)?;
         for at in 0..line.len() {
-            assert_alike(&rt, alloc, &hub, &line.as_bytes()[..at])?;
+            assert_alike(&rt, alloc, &mut reader, &hub, &line.as_bytes()[..at])?;
         }
         for tail in [" ", "\r", " \t\n", "x", ",", "}", "{}"] {
             let line = format!(in alloc; "{line}{tail}")?;
-            assert_alike(&rt, alloc, &hub, line.as_bytes())?;
+            assert_alike(&rt, alloc, &mut reader, &hub, line.as_bytes())?;
         }
     }
     for line in [
@@ -280,7 +285,7 @@ fn every_cut_of_a_line(rt: HostRuntime) -> Result<(), Fail> {
         "{,}",
         "{{}}",
     ] {
-        assert_alike(&rt, alloc, &hub, line.as_bytes())?;
+        assert_alike(&rt, alloc, &mut reader, &hub, line.as_bytes())?;
     }
     Ok(())
 }

@@ -3,7 +3,7 @@ use Rattle.inst_json.specs.Refusals.{◌>>=◌}
 use Rattle.inst_scan.specs.Fields.{fields_of}
 use Rattle.inst_json.specs.Commands.{ask_of}
 use Rattle.inst_json.specs.Lines.{command_of_line}
-use Rattle.inst_json.proofs.read.read_command.Goals as goal
+use Rattle.inst_json.proofs.read.LineReader.read_command.Goals as goal
 
 pub returns-in-Some-clause-value : goal.returns-in-Some-clause-value
 unfolding command_of_line

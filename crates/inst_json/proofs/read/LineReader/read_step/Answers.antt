@@ -3,7 +3,7 @@ use Rattle.inst_json.specs.Refusals.{◌>>=◌}
 use Rattle.inst_scan.specs.Fields.{fields_of}
 use Rattle.inst_json.specs.Steps.{step_of}
 use Rattle.inst_json.specs.Lines.{step_of_line}
-use Rattle.inst_json.proofs.read.read_step.Goals as goal
+use Rattle.inst_json.proofs.read.LineReader.read_step.Goals as goal
 
 pub returns-in-Some-clause-value : goal.returns-in-Some-clause-value
 unfolding step_of_line
