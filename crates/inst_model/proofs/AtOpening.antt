@@ -15,11 +15,11 @@ use Rattle.inst_model.specs.Untold.{sum_below, if_untold, untold_by}
 use Rattle.inst_model.proofs.Sums.{sum_by_zeros, each_of}
 
 -- what is booked as it was decided isn't untold
-none_untold : (o : Option Outcome) (cents : ℕ) → if_untold o o cents ≡ 0
+pub none_untold : (o : Option Outcome) (cents : ℕ) → if_untold o o cents ≡ 0
 none_untold None cents = refl
 none_untold (Some o) cents = refl
 
-zeros_below : (n : ℕ) (f : ℕ → ℕ) → ((p : ℕ) → f p ≡ 0) → sum_below n f ≡ 0
+pub zeros_below : (n : ℕ) (f : ℕ → ℕ) → ((p : ℕ) → f p ≡ 0) → sum_below n f ≡ 0
 zeros_below zero f none = refl
 zeros_below (suc n) f none = omega (arith, zeros_below n f none, none n)
 

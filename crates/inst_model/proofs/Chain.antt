@@ -32,7 +32,7 @@ closed_books_can_open s O opened L M steps closes few =
     record { sound = closed.sound; closed = closed.closed; few = λ p. omega (arith, same_openings s O (M ++ L) p, few p) }
 
 -- where everyone is told, the originator has booked what is decided and nothing else
-books_say : (s : HubSettings) (O : Opening) → IsOpening s O → (C : List Step) → AllTold s O C → (p : ℕ) (id : List ℕ) → booked p id (history s O C p) ≡ outcome s O C p id
+pub books_say : (s : HubSettings) (O : Opening) → IsOpening s O → (C : List Step) → AllTold s O C → (p : ℕ) (id : List ℕ) → booked p id (history s O C p) ≡ outcome s O C p id
 books_say s O opened C told p id = go (booked p id (history s O C p)) (outcome s O C p id) refl refl
   where
     go : (here there : Option Outcome) → booked p id (history s O C p) ≡ here → outcome s O C p id ≡ there → here ≡ there

@@ -41,3 +41,4 @@ pub mod Closed
 pub mod Rounds
 pub mod Chain
 pub mod Asking
+pub mod SettledUp

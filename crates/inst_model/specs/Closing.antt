@@ -1,18 +1,21 @@
 -- How a hub is closed: each participant learns what is decided, and what is pending comes to its beneficiary (EPC004-16,
 -- chapter 4: both participants are told one outcome). Nothing is asked and nothing expires, for no reading is given. That a
 -- closing goes over all places is this hub's own choice; in which order, and how often, is left open.
-use Rattle.std.specs.Prelude.{◌≡◌, ℕ, zero, suc, ◌<◌, Bool, true, false, List, [], ◌∷◌, ◌++◌, Contains}
+use Rattle.std.specs.Prelude.{◌≡◌, ℕ, pos, zero, suc, ◌<◌, Bool, true, false, List, [], ◌∷◌, ◌++◌, Contains}
 use Rattle.std.specs.List.{AllByRecursion}
 use Rattle.inst_settings.specs.Settings.{HubSettings, participants}
 use Rattle.inst_command.specs.declared.step.Step.{Step}
 use Rattle.inst_command.specs.declared.step.Step.TheVariants.{Ask, Deliver, Learn, Expire}
 use Rattle.inst_journal.specs.declared.event.Event.{Event}
 use Rattle.inst_journal.specs.declared.event.Event.TheVariants.{Funded, Defunded, Taken, Forwarded, Booked, Fetched, Opened}
+use Rattle.inst_journal.specs.Money.{position}
 use Rattle.inst_journal.specs.Sound.{IsSound}
+use Rattle.inst_journal.specs.Sums.{net}
 use Rattle.inst_model.specs.Interleaving.{IsInterleaving}
 use Rattle.inst_model.specs.Opening.{Opening, IsOpening}
 use Rattle.inst_model.specs.Fit.{BooksAreClosed}
 use Rattle.inst_model.specs.Hub.{outcome, history}
+use Rattle.inst_model.specs.Untold.{total, signed_total, untold}
 
 -- whether the step tells a participant of a transfer, without a reading
 abbrev pub is_telling : Step → Bool
@@ -86,6 +89,15 @@ pub record AreClosed (s : HubSettings) (J : ℕ → List Event) : Type 0 where
 abbrev pub ClosingCloses : Type 0
 ClosingCloses = (s : HubSettings) (O : Opening) → IsOpening s O → (L M : List Step) → IsInterleaving s L →
     IsClosing s M → AreClosed s (history s O (M ++ L))
+
+-- after a closing nothing is untold, and the positions sum to the net funding
+pub record IsSettledUp (s : HubSettings) (O : Opening) (L : List Step) : Type 0 where
+  pub all_told : untold s O L ≡ 0
+  pub sum : pos (total s (λ p. position (history s O L p))) ≡ signed_total s (λ p. net (history s O L p))
+
+abbrev pub ClosingSettlesUp : Type 0
+ClosingSettlesUp = (s : HubSettings) (O : Opening) → IsOpening s O → (L M : List Step) → IsInterleaving s L →
+    IsClosing s M → IsSettledUp s O (M ++ L)
 
 -- whoever closes once more finds nothing to do
 abbrev pub ClosingAgainAddsNothing : Type 0

@@ -12,7 +12,7 @@ ghost use Rattle.inst_model.specs.SoundAndFit.{HistoriesAreSound, HistoriesFit};
 ghost use Rattle.inst_model.specs.AtTheOpening.{AnOpeningBeginsFromItsBooks};
 ghost use Rattle.inst_model.specs.LivePlaces.{TheLiveHaveTheirPlaces};
 ghost use Rattle.inst_model.specs.BothSides.{TheLiveAreTheSameOnBothSides, AtAnOpeningTheLiveHaveCome};
-ghost use Rattle.inst_model.specs.Closing.{ThereIsAClosing, ClosingCloses, ClosingDecidesNothing, ClosingOnlyTells, ClosingAgainAddsNothing};
+ghost use Rattle.inst_model.specs.Closing.{ThereIsAClosing, ClosingCloses, ClosingDecidesNothing, ClosingOnlyTells, ClosingSettlesUp, ClosingAgainAddsNothing};
 ghost use Rattle.inst_model.specs.NextOpening.{ClosedBooksCanOpen, TheNextBeginsWithTheOutcomes, AnOutcomeStaysOverTheNext, AHubOpensAgain, AnOutcomeStaysForGood};
 ghost use Rattle.inst_model.specs.StepByStep.{TheFirstThatWantsDecides, AViewGrowsByWhatIsSeen, AtMostOneEntryIsSeen, RepliesAreInTheTrace};
 
@@ -104,6 +104,7 @@ pub fn a_closing_closes_the_books()
     ensures closes { ClosingCloses }
     ensures decides_nothing { ClosingDecidesNothing }
     ensures only_tells { ClosingOnlyTells }
+    ensures settles_up { ClosingSettlesUp }
     ensures again { ClosingAgainAddsNothing }
 {}
 

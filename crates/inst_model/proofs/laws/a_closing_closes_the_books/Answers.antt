@@ -1,4 +1,5 @@
 use Rattle.inst_model.proofs.Closed.{closing_closes, closing_decides_nothing, closing_only_tells, closing_again_adds_nothing}
+use Rattle.inst_model.proofs.SettledUp.{closing_settles_up}
 use Rattle.inst_model.proofs.Rounds.{there_is_a_closing}
 use Rattle.inst_model.proofs.laws.a_closing_closes_the_books.Goals as goal
 
@@ -8,5 +9,6 @@ returns c = record {
   closes = closing_closes;
   decides_nothing = closing_decides_nothing;
   only_tells = closing_only_tells;
+  settles_up = closing_settles_up;
   again = closing_again_adds_nothing;
 }

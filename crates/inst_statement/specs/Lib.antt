@@ -1,0 +1,5 @@
+pub mod Name
+pub mod Someones
+pub mod Entry
+pub mod Kept
+pub mod Page
