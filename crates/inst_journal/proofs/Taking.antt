@@ -26,7 +26,8 @@ use Rattle.inst_journal.proofs.Repeating.{itself, the_very_same}
 abbrev Keeps : List Event → Event → Type 0 → Result Handled Fault → Type 0
 Keeps J event P h = (J ++ kept_events h ≡ J ++ event ∷ []) ↔ P
 
-either : (J : List Event) (event : Event) (P : Type 0) (b : Bool) (x y : Result Handled Fault) → (b ≡ true → Keeps J event P x) → (b ≡ false → Keeps J event P y) → Keeps J event P (cond b x y)
+either : (J : List Event) (event : Event) (P : Type 0) (b : Bool) (x y : Result Handled Fault)
+    → (b ≡ true → Keeps J event P x) → (b ≡ false → Keeps J event P y) → Keeps J event P (cond b x y)
 either J event P true x y first second = first refl
 either J event P false x y first second = second refl
 
@@ -110,7 +111,8 @@ funds_where s J reference cents =
     funding_where s J reference (Funded reference cents) (MayFund s J reference) _ (is_fund_repeat reference cents J) (λ p. p)
     (fund_referred J reference cents) (kept_now J (Funded reference cents) (MayFund s J reference) (Done reference))
 
-defunds_where : (s : HubSettings) (J : List Event) (reference : List ℕ) (cents : ℕ) → Keeps J (Defunded reference cents) (MayDefund s J reference cents) (defund s J reference cents)
+defunds_where : (s : HubSettings) (J : List Event) (reference : List ℕ) (cents : ℕ)
+    → Keeps J (Defunded reference cents) (MayDefund s J reference cents) (defund s J reference cents)
 defunds_where s J reference cents =
     let event : Event = Defunded reference cents in
     let P : Type 0 = MayDefund s J reference cents in

@@ -7,7 +7,10 @@ ghost use Rattle.inst_command.specs.declared.outcome.Outcome.{Outcome};
 ghost use Rattle.inst_command.specs.declared.outcome.State.{State};
 ghost use Rattle.inst_command.specs.declared.reply.Reply.{Reply};
 ghost use Rattle.inst_journal.specs.declared.event.Event.{Event};
-ghost use Rattle.inst_journal.specs.Rows.{A, B, C, answers, after, opened, fund, defund, submit, too_much, investigate, fetch, position, statement, done, taken, state, money, refused, submitted, accepted, again, two_places, all_fundings, all_with_a_defunding, arrivals, confirmation, rejection};
+ghost use Rattle.inst_journal.specs.Rows.{A, B, C, answers, after, opened, fund, defund, submit, too_much};
+ghost use Rattle.inst_journal.specs.Rows.{investigate, fetch, position, statement, done, taken, state, money};
+ghost use Rattle.inst_journal.specs.Rows.{refused, submitted, accepted, again, two_places, all_fundings};
+ghost use Rattle.inst_journal.specs.Rows.{all_with_a_defunding, arrivals, confirmation, rejection};
 
 /// What is pending at an opening stays reserved after it, and is settled when its outcome is learnt.
 pub fn carried_over_an_opening()

@@ -34,8 +34,10 @@ use Rattle.inst_model.proofs.Histories.{history_step}
 use Rattle.inst_model.proofs.Outcomes.{outcome_later, booked_outcome}
 
 -- what is found is told and booked, where nothing else is booked
-told : (s : HubSettings) (who : ℕ) (J : List Event) (command : Command) (at from : ℕ) (id : List ℕ) (pending : Result ReplyValue Fault) (there : Option Outcome) (o : Outcome)
-    → TellsTheOutcome s who J command at from id pending → there ≡ Some o → (known : Option Outcome) → booked from id J ≡ known → ((q : Outcome) → known ≡ Some q → q ≡ o)
+told : (s : HubSettings) (who : ℕ) (J : List Event) (command : Command) (at from : ℕ) (id : List ℕ)
+    (pending : Result ReplyValue Fault) (there : Option Outcome) (o : Outcome)
+    → TellsTheOutcome s who J command at from id pending → there ≡ Some o
+    → (known : Option Outcome) → booked from id J ≡ known → ((q : Outcome) → known ≡ Some q → q ≡ o)
     → (reply s who J command at there ≡ Ok (State from id (Decided o))) × (booked from id (history_after s who J command at there) ≡ Some o)
 told s who J command at from id pending there o tells is None unknown same =
     let leads = tells.new o unknown in (
@@ -50,7 +52,8 @@ told s who J command at from id pending there o tells is (Some q) known same =
     )
 
 -- an ask that finds the outcome
-asked : (s : HubSettings) (O : Opening) → IsOpening s O → (past : List Step) (who : ℕ) (command : Command) (at from : ℕ) (id : List ℕ) (o : Outcome) (pending : Result ReplyValue Fault)
+asked : (s : HubSettings) (O : Opening) → IsOpening s O → (past : List Step) (who : ℕ) (command : Command)
+    (at from : ℕ) (id : List ℕ) (o : Outcome) (pending : Result ReplyValue Fault)
     → TellsTheOutcome s who (history s O past who) command at from id pending
     → ((outcomes : ℕ → List ℕ → Option Outcome) → found outcomes who (history s O past who) command ≡ outcomes from id)
     → IsTold s O past who command at from id o
