@@ -32,3 +32,4 @@ pub mod Stepping
 pub mod Timely
 pub mod Learnt
 pub mod Asking
+pub mod Deciders

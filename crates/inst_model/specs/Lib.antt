@@ -20,4 +20,5 @@ pub mod Places
 pub mod ClosedBooks
 pub mod StepByStep
 pub mod InTime
+pub mod Deciders
 pub mod Learning
