@@ -1,12 +1,11 @@
 -- What a line of a statement tells is in the history.
-use Rattle.std.proofs.Common.{◌≡◌, ℕ, zero, suc, ◌+◌, Bool, true, false, ◌==◌, ◌&&◌, cond, List, [], ◌∷◌, ◌++◌, inl, inr, Option, Some, None, slice_get, refl, sym, ap, ◌∙◌, subst, Contains}
+use Rattle.std.proofs.Common.{◌≡◌, ℕ, zero, suc, ◌+◌, Bool, true, false, ◌==◌, cond, List, [], ◌∷◌, ◌++◌, Option, Some, None, slice_get, refl, sym, ◌∙◌, subst, Contains}
 use Rattle.std.specs.Cmp.Lexicographic.{same_text as text_same}
 use Rattle.std.proofs.lemmas.Bool.{and_parts, eqb-true}
 use Rattle.std.proofs.lemmas.Option.{cond_some, none-some, same_Some}
 use Rattle.std.proofs.lemmas.List.Elements.{Contains-append_left, Contains-append_right, Contains-push}
 use Rattle.inst_settings.specs.Settings.{same_text}
 use Rattle.inst_command.specs.declared.line.Line.{Line}
-use Rattle.inst_command.specs.declared.line.LineKind.TheVariants.{Received, Paid}
 use Rattle.inst_command.specs.declared.outcome.Outcome.TheVariants.{Accepted, Rejected, TimedOut}
 use Rattle.inst_journal.specs.declared.event.Event.{Event}
 use Rattle.inst_journal.specs.declared.event.Event.TheVariants.{Funded, Defunded, Taken, Forwarded, Booked, Fetched, Opened}
@@ -14,7 +13,7 @@ use Rattle.inst_journal.specs.Booked.{or_else, first_some, forwards, is_forwarde
 use Rattle.inst_journal.specs.Lines.{IsOf}
 use Rattle.inst_journal.specs.Money.{position}
 use Rattle.inst_journal.specs.Opened.{carried, current}
-use Rattle.inst_journal.specs.Statement.{received, paid, accepted, line_of, with_line, lines_after, statement}
+use Rattle.inst_journal.specs.Statement.{received, paid, line_of, with_line, lines_after, statement}
 use Rattle.inst_journal.proofs.Carrying.{carried_front}
 
 first_is_there : (x : Event) (xs : List Event) → Contains (x ∷ xs) x

@@ -1,5 +1,5 @@
 -- A party that asks after a transfer is answered its outcome and has it booked.
-use Rattle.std.proofs.Common.{◌≡◌, ℕ, true, cond, List, [], ◌∷◌, ◌++◌, Option, Some, None, Result, Ok, Err, refl, ap, ◌∙◌}
+use Rattle.std.proofs.Common.{◌≡◌, ℕ, cond, List, [], ◌∷◌, Option, Some, None, Result, Ok, Err, refl, ap, ◌∙◌}
 use Rattle.std.proofs.lemmas.Bool.{cond-true}
 use Rattle.inst_base.specs.declared.fault.Fault.{Fault}
 use Rattle.inst_base.specs.declared.fault.Fault.TheVariants.{Expired}
@@ -9,7 +9,6 @@ use Rattle.inst_command.specs.declared.command.Command.{Command}
 use Rattle.inst_command.specs.declared.command.Command.TheVariants.{Confirm, Reject, Investigate}
 use Rattle.inst_command.specs.declared.outcome.Outcome.{Outcome}
 use Rattle.inst_command.specs.declared.outcome.State.TheVariants.{Pending, Decided}
-use Rattle.inst_command.specs.declared.reply.Answer.{Answer}
 use Rattle.inst_command.specs.declared.reply.Answer.TheVariants.{Reply}
 use Rattle.inst_command.specs.declared.reply.Reply.{Reply as ReplyValue}
 use Rattle.inst_command.specs.declared.reply.Reply.TheVariants.{State}
@@ -21,12 +20,12 @@ use Rattle.inst_journal.specs.Booked.{is_taken, is_forwarded, booked}
 use Rattle.inst_journal.specs.Reply.{reply, history_after}
 use Rattle.inst_journal.proofs.Answering.{told_the_outcome}
 use Rattle.inst_model.specs.Found.{found}
-use Rattle.inst_model.specs.Hub.{decided, outcome, history}
+use Rattle.inst_model.specs.Hub.{outcome, history}
 use Rattle.inst_model.specs.Kept.{with_entries}
 use Rattle.inst_model.specs.Learning.{IsTold, AskingTells}
 use Rattle.inst_model.specs.Opening.{Opening, IsOpening}
 use Rattle.inst_model.specs.Trace.{as_reply}
-use Rattle.inst_model.specs.View.{Seen, sees}
+use Rattle.inst_model.specs.View.{sees}
 use Rattle.inst_model.specs.View.Seen.{Asked}
 use Rattle.inst_model.proofs.Basics.{eqb_refl}
 use Rattle.inst_model.proofs.Growing.{booked_new}
