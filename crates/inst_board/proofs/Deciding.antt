@@ -43,7 +43,8 @@ module _ (margin : ℕ) where
         again c d k (stood c k) second later two.standing found found' two.learns two.answers
         (known_more b c k found more (answered a b k (stood a k) first at one.standing found one.learns one.answers))
 
-    of_reading : (b c : B) (k : Place) (stood : Outcome → Type 0) (wish : Wish) (at : ℕ) (o : Outcome) (p : Standing) → Learns margin knows b k p c → Answers margin stood wish at p (Some o)
+    of_reading : (b c : B) (k : Place) (stood : Outcome → Type 0) (wish : Wish) (at : ℕ) (o : Outcome) (p : Standing)
+        → Learns margin knows b k p c → Answers margin stood wish at p (Some o)
         → stood o ⊎ ((t : Terms) × (d : ℕ) × Learns margin knows b k (final t d o at) c)
     of_reading b c k stood wish at o unused l h = absurd h
     of_reading b c k stood wish at o (pending t d) l h = let no : ⊥ = let e : Some o ≡ None = h.0 in cc in absurd no

@@ -1,12 +1,11 @@
 -- Each test of what fits, in numbers.
-use Rattle.std.proofs.Common.{◌≡◌, ◌↔◌, ℕ, ◌+◌, ◌<◌, ◌≤◌, Bool, true, ◌&&◌, nat_lt, nat_le, length, refl}
+use Rattle.std.proofs.Common.{◌≡◌, ◌↔◌, ℕ, ◌+◌, ◌<◌, ◌≤◌, Bool, true, ◌&&◌, nat_lt, nat_le, refl}
 use Rattle.std.proofs.lemmas.Bool.{and_parts, and_from, leb-true, le-leb, ltb-true, lt-ltb}
 use Rattle.inst_base.specs.Moment.{is_moment}
 use Rattle.inst_base.specs.TimeLimit.{deadline_of}
 use Rattle.inst_settings.specs.Settings.{HubSettings, participants, is_participant, is_within_ceiling}
-use Rattle.inst_command.specs.declared.ask.Ask.{Ask}
 use Rattle.inst_command.specs.declared.submission.Submission.{Submission}
-use Rattle.inst_command.specs.Ask.{is_count, command_fits, ask_fits}
+use Rattle.inst_command.specs.Ask.{is_count, command_fits}
 use Rattle.inst_command.specs.Fitting.{IsNumbered, MayMove, MayBeAskedFor, MayBeSubmitted, CommandsFit, StepsFit}
 
 at_most : (a b : ℕ) → (nat_le a b ≡ true) ↔ (a ≤ b)

@@ -2,8 +2,8 @@
 -- stamp is in its range. This hub's own promise.
 use Rattle.std.specs.Prelude.{◌≡◌, ◌↔◌, ℕ, ◌+◌, ◌<◌, ◌≤◌, true, List, length}
 use Rattle.inst_settings.specs.Settings.{HubSettings}
-use Rattle.inst_command.specs.declared.command.Command.{Command}
-use Rattle.inst_command.specs.declared.command.Command.TheVariants.{Fund, Defund, Submit, Confirm, Reject, Investigate, Fetch, Position, Statement}
+use Rattle.inst_command.specs.declared.command.Command.TheVariants.{Fund, Defund, Submit, Confirm, Reject}
+use Rattle.inst_command.specs.declared.command.Command.TheVariants.{Investigate, Fetch, Position, Statement}
 use Rattle.inst_command.specs.declared.ask.Ask.{Ask}
 use Rattle.inst_command.specs.declared.step.Step.TheVariants.{Ask as AskStep, Deliver, Learn, Expire}
 use Rattle.inst_command.specs.declared.submission.Submission.{Submission}

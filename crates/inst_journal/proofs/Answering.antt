@@ -1,19 +1,15 @@
 -- What a party is told of a transfer that it asks after.
-use Rattle.std.proofs.Common.{◌≡◌, ℕ, true, false, List, [], ◌∷◌, ◌++◌, Option, Some, None, Result, Ok, Err, refl, ap, ◌∙◌, append-nil}
+use Rattle.std.proofs.Common.{◌≡◌, ℕ, List, [], ◌++◌, Option, Some, None, Result, Err, refl, ap, ◌∙◌, append-nil}
 use Rattle.inst_base.specs.declared.fault.Fault.{Fault}
 use Rattle.inst_base.specs.declared.fault.Fault.TheVariants.{UnknownTransfer, Expired}
 use Rattle.inst_settings.specs.Settings.{HubSettings}
 use Rattle.inst_command.specs.declared.command.Command.{Command}
 use Rattle.inst_command.specs.declared.command.Command.TheVariants.{Confirm, Reject, Investigate}
 use Rattle.inst_command.specs.declared.outcome.Outcome.{Outcome}
-use Rattle.inst_command.specs.declared.outcome.State.TheVariants.{Pending, Decided}
-use Rattle.inst_command.specs.declared.reply.Reply.{Reply}
-use Rattle.inst_command.specs.declared.reply.Reply.TheVariants.{State}
 use Rattle.inst_journal.specs.declared.event.Event.{Event}
-use Rattle.inst_journal.specs.declared.event.Event.TheVariants.{Booked}
 use Rattle.inst_journal.specs.declared.handle.Handled.{Handled}
 use Rattle.inst_journal.specs.Answering.{LeadsTo, TellsTheOutcome, IsToldTheOutcome, IsToldNothing}
-use Rattle.inst_journal.specs.Booked.{is_taken, is_forwarded, booked}
+use Rattle.inst_journal.specs.Booked.{booked}
 use Rattle.inst_journal.specs.Reply.{handle, standing, still_pending, told, kept_events}
 
 -- what a command is handled as says where it leads to

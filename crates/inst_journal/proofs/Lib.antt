@@ -20,3 +20,4 @@ pub mod Moving
 pub mod Leading
 pub mod Taking
 pub mod Answering
+pub mod Showing

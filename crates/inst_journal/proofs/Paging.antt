@@ -11,7 +11,6 @@ use Rattle.inst_command.specs.declared.outcome.Outcome.{Outcome}
 use Rattle.inst_journal.specs.declared.event.Event.{Event}
 use Rattle.inst_journal.specs.declared.event.Event.TheVariants.{Funded, Defunded, Taken, Forwarded, Booked, Fetched, Opened}
 use Rattle.inst_command.specs.declared.entry.Entry.{Entry}
-use Rattle.inst_command.specs.declared.line.Line.{Line}
 use Rattle.inst_command.specs.declared.reply.Reply.TheVariants.{Inbox}
 use Rattle.inst_journal.specs.Booked.{is_forwarding}
 use Rattle.inst_journal.specs.Lines.{NextPart}

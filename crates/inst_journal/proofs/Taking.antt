@@ -1,6 +1,6 @@
 -- A command is kept exactly where nothing stands against it.
 use Rattle.std.proofs.Common.{◌≡◌, ◌≢◌, ◌↔◌, ℕ, ◌+◌, Bool, true, false, ◌==◌, cond, nat_le, nat_lt, List, [], ◌∷◌, ◌++◌, length, Option, Result, Ok, Err, refl, sym, ap, ◌∙◌, arith, length-append}
-use Rattle.std.proofs.lemmas.Bool.{true≢false, false≢true, eqb-true, eqb-false, ltb-true, ltb-false, leb-true, leb-false, not-true, not-false}
+use Rattle.std.proofs.lemmas.Bool.{true≢false, eqb-true, eqb-false, ltb-true, ltb-false, leb-true, leb-false, not-true, not-false}
 use Rattle.inst_base.specs.TimeLimit.{deadline_of, is_in_time, is_due, is_ahead}
 use Rattle.inst_base.specs.declared.fault.Fault.{Fault}
 use Rattle.inst_base.specs.declared.fault.Fault.TheVariants.{SelfTransfer, Duplicate, StampAhead, Expired, Full, Shortage}
@@ -27,7 +27,8 @@ use Rattle.inst_journal.proofs.Repeating.{the_very_same}
 abbrev Keeps : List Event → Event → Type 0 → Result Handled Fault → Type 0
 Keeps J event P h = (J ++ kept_events h ≡ J ++ event ∷ []) ↔ P
 
-either : (J : List Event) (event : Event) (P : Type 0) (b : Bool) (x y : Result Handled Fault) → (b ≡ true → Keeps J event P x) → (b ≡ false → Keeps J event P y) → Keeps J event P (cond b x y)
+either : (J : List Event) (event : Event) (P : Type 0) (b : Bool) (x y : Result Handled Fault)
+    → (b ≡ true → Keeps J event P x) → (b ≡ false → Keeps J event P y) → Keeps J event P (cond b x y)
 either J event P true x y first second = first refl
 either J event P false x y first second = second refl
 
@@ -111,7 +112,8 @@ funds_where s J reference cents =
     funding_where s J reference (Funded reference cents) (MayFund s J reference) _ (is_fund_repeat reference cents J) (λ p. p)
     (fund_referred J reference cents) (kept_now J (Funded reference cents) (MayFund s J reference) (Done reference))
 
-defunds_where : (s : HubSettings) (J : List Event) (reference : List ℕ) (cents : ℕ) → Keeps J (Defunded reference cents) (MayDefund s J reference cents) (defund s J reference cents)
+defunds_where : (s : HubSettings) (J : List Event) (reference : List ℕ) (cents : ℕ)
+    → Keeps J (Defunded reference cents) (MayDefund s J reference cents) (defund s J reference cents)
 defunds_where s J reference cents =
     let event : Event = Defunded reference cents in
     let P : Type 0 = MayDefund s J reference cents in

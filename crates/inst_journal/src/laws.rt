@@ -7,7 +7,8 @@ ghost use Rattle.inst_journal.specs.Pages.{AnInboxIsInOrderOfArrival, AFetchHand
 ghost use Rattle.inst_journal.specs.Repeats.{ARepeatIsTheVerySame, ARepeatIsAnsweredAgain, WhatIsToldIsKept, AKeyIsKeptOnce};
 ghost use Rattle.inst_journal.specs.Taking.{ACommandIsKeptWhereItMay};
 ghost use Rattle.inst_journal.specs.Answering.{APartyIsToldTheOutcome, OthersAreToldNothing};
-ghost use Rattle.inst_journal.specs.Lines.{LinesCountFromOne, AnOpeningBeginsAStatement, AStatementLeadsToThePosition, AStatementIsReadByParts};
+ghost use Rattle.inst_journal.specs.Lines.{LinesCountFromOne, AnOpeningBeginsAStatement};
+ghost use Rattle.inst_journal.specs.Lines.{AStatementLeadsToThePosition, AStatementIsReadByParts, ALineTellsAnEvent};
 ghost use Rattle.inst_journal.specs.Living.{TheLiveHavePlaces, AnOpeningKeepsTheBooks, AnOpeningGivesBack};
 
 /// No position and nothing available is ever below 0.
@@ -81,6 +82,12 @@ pub fn a_statement_leads_to_the_position()
     ensures anew { AnOpeningBeginsAStatement }
     ensures positions { AStatementLeadsToThePosition }
     ensures parts { AStatementIsReadByParts }
+{}
+
+/// A line tells what the books have: a funding, a defunding, or a transfer that is booked accepted, with the other
+/// participant, the key and the amount.
+pub fn a_line_tells_an_event()
+    ensures { ALineTellsAnEvent }
 {}
 
 /// A transfer without an outcome is live, and no more are live than there are places.

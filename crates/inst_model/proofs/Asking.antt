@@ -1,5 +1,5 @@
 -- A party that asks after a transfer is answered its outcome and has it booked.
-use Rattle.std.proofs.Common.{◌≡◌, ℕ, true, cond, List, [], ◌∷◌, ◌++◌, Option, Some, None, Result, Ok, Err, refl, ap, ◌∙◌}
+use Rattle.std.proofs.Common.{◌≡◌, ℕ, cond, List, [], ◌∷◌, Option, Some, None, Result, Ok, Err, refl, ap, ◌∙◌}
 use Rattle.std.proofs.lemmas.Bool.{cond-true}
 use Rattle.inst_base.specs.declared.fault.Fault.{Fault}
 use Rattle.inst_base.specs.declared.fault.Fault.TheVariants.{Expired}
@@ -9,7 +9,6 @@ use Rattle.inst_command.specs.declared.command.Command.{Command}
 use Rattle.inst_command.specs.declared.command.Command.TheVariants.{Confirm, Reject, Investigate}
 use Rattle.inst_command.specs.declared.outcome.Outcome.{Outcome}
 use Rattle.inst_command.specs.declared.outcome.State.TheVariants.{Pending, Decided}
-use Rattle.inst_command.specs.declared.reply.Answer.{Answer}
 use Rattle.inst_command.specs.declared.reply.Answer.TheVariants.{Reply}
 use Rattle.inst_command.specs.declared.reply.Reply.{Reply as ReplyValue}
 use Rattle.inst_command.specs.declared.reply.Reply.TheVariants.{State}
@@ -21,12 +20,12 @@ use Rattle.inst_journal.specs.Booked.{is_taken, is_forwarded, booked}
 use Rattle.inst_journal.specs.Reply.{reply, history_after}
 use Rattle.inst_journal.proofs.Answering.{told_the_outcome}
 use Rattle.inst_model.specs.Found.{found}
-use Rattle.inst_model.specs.Hub.{decided, outcome, history}
+use Rattle.inst_model.specs.Hub.{outcome, history}
 use Rattle.inst_model.specs.Kept.{with_entries}
 use Rattle.inst_model.specs.Learning.{IsTold, AskingTells}
 use Rattle.inst_model.specs.Opening.{Opening, IsOpening}
 use Rattle.inst_model.specs.Trace.{as_reply}
-use Rattle.inst_model.specs.View.{Seen, sees}
+use Rattle.inst_model.specs.View.{sees}
 use Rattle.inst_model.specs.View.Seen.{Asked}
 use Rattle.inst_model.proofs.Basics.{eqb_refl}
 use Rattle.inst_model.proofs.Growing.{booked_new}
@@ -34,8 +33,10 @@ use Rattle.inst_model.proofs.Histories.{history_step}
 use Rattle.inst_model.proofs.Outcomes.{outcome_later, booked_outcome}
 
 -- what is found is told and booked, where nothing else is booked
-told : (s : HubSettings) (who : ℕ) (J : List Event) (command : Command) (at from : ℕ) (id : List ℕ) (pending : Result ReplyValue Fault) (there : Option Outcome) (o : Outcome)
-    → TellsTheOutcome s who J command at from id pending → there ≡ Some o → (known : Option Outcome) → booked from id J ≡ known → ((q : Outcome) → known ≡ Some q → q ≡ o)
+told : (s : HubSettings) (who : ℕ) (J : List Event) (command : Command) (at from : ℕ) (id : List ℕ)
+    (pending : Result ReplyValue Fault) (there : Option Outcome) (o : Outcome)
+    → TellsTheOutcome s who J command at from id pending → there ≡ Some o
+    → (known : Option Outcome) → booked from id J ≡ known → ((q : Outcome) → known ≡ Some q → q ≡ o)
     → (reply s who J command at there ≡ Ok (State from id (Decided o))) × (booked from id (history_after s who J command at there) ≡ Some o)
 told s who J command at from id pending there o tells is None unknown same =
     let leads = tells.new o unknown in (
@@ -50,7 +51,8 @@ told s who J command at from id pending there o tells is (Some q) known same =
     )
 
 -- an ask that finds the outcome
-asked : (s : HubSettings) (O : Opening) → IsOpening s O → (past : List Step) (who : ℕ) (command : Command) (at from : ℕ) (id : List ℕ) (o : Outcome) (pending : Result ReplyValue Fault)
+asked : (s : HubSettings) (O : Opening) → IsOpening s O → (past : List Step) (who : ℕ) (command : Command)
+    (at from : ℕ) (id : List ℕ) (o : Outcome) (pending : Result ReplyValue Fault)
     → TellsTheOutcome s who (history s O past who) command at from id pending
     → ((outcomes : ℕ → List ℕ → Option Outcome) → found outcomes who (history s O past who) command ≡ outcomes from id)
     → IsTold s O past who command at from id o

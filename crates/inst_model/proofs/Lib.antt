@@ -42,3 +42,4 @@ pub mod Rounds
 pub mod Chain
 pub mod Asking
 pub mod SettledUp
+pub mod Deciders

@@ -52,7 +52,8 @@ abbrev pub IsTold : HubSettings → Opening → List Step → ℕ → Command �
 IsTold s O past who command at from id o =
     let ask : AskValue = record { who = who; command = command; at = at } in
     outcome s O (Ask ask ∷ past) from id ≡ Some o →
-    (answer s O past (Ask ask) ≡ Reply (State from id (Decided o))) × (booked from id (history s O (Ask ask ∷ past) who) ≡ Some o)
+    (answer s O past (Ask ask) ≡ Reply (State from id (Decided o)))
+    × (booked from id (history s O (Ask ask ∷ past) who) ≡ Some o)
 
 -- a beneficiary that confirms or rejects what has come to it, and an originator that investigates what it has taken
 pub record EachPartyIsTold (s : HubSettings) (O : Opening) (past : List Step) (who at : ℕ) (o : Outcome) : Type 0 where
