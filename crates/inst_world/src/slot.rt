@@ -1,9 +1,10 @@
+//! The world's slots answer four commands until they stand over boards.
 ghost use Rattle.std.specs.Prelude.{◌≡◌, true, [], IfOk, OnErr, IsOkUnless};
 ghost use Rattle.inst_settings.specs.Settings.{IsSettings, participants};
 ghost use Rattle.inst_command.specs.Ask.{ask_fits};
 ghost use Rattle.inst_journal.specs.Reply.{kept_events};
 ghost use Rattle.inst_journal.specs.Sound.{IsSound};
-ghost use Rattle.inst_slot.specs.Book.{is_served, handle_ask, own_reply, AppliesUnlessMemory};
+ghost use Rattle.inst_world.specs.Book.{is_served, handle_ask, own_reply, AppliesUnlessMemory};
 
 use inst_base::Fault;
 use inst_command::{Ask, Command, Reply};
@@ -30,7 +31,7 @@ pub struct Slot {
 impl Model for Slot {
     ghost use Rattle.inst_settings.specs.Settings.{IsSettings};
     ghost use Rattle.inst_journal.specs.Sound.{IsSound};
-    ghost use Rattle.inst_slot.specs.Book.{Book};
+    ghost use Rattle.inst_world.specs.Book.{Book};
 
     ghost Value = { Book };
 
