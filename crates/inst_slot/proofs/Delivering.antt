@@ -1,12 +1,12 @@
 -- What a delivery forwards fits the history, and keeps what the books have to do with the board.
-use Rattle.std.proofs.Common.{◌≡◌, ◌≢◌, ℕ, zero, suc, ◌+◌, ◌<◌, ◌≤◌, arith, Bool, true, false, not, ◌||◌, ◌&&◌, ◌==◌, cond, List, [], ◌∷◌, ◌++◌, length, length-append, count_by, sum_by, inl, inr, ◌⊎◌, ⊎_elim, refl, sym, ap, ◌∙◌, subst, Option, Some, None, is_none, is_some, append-nil}
+use Rattle.std.proofs.Common.{◌≡◌, ◌≢◌, ℕ, zero, suc, ◌+◌, ◌<◌, ◌≤◌, arith, Bool, true, false, not, ◌&&◌, ◌==◌, cond, List, [], ◌∷◌, ◌++◌, length, length-append, count_by, ⊎_elim, refl, sym, ap, ◌∙◌, subst, Option, Some, None, is_none, is_some}
 use Rattle.std.specs.Prelude.{Contains, slice_get, map, nat_eq, nat_lt}
 use Rattle.std.specs.List.{list_any, filter, filter_map, cons_option, IsDistinct, AllByRecursion}
 use Rattle.std.proofs.lemmas.List.Elements.{Contains-append_left, Contains-append_right, Contains-append_cases, filter_map-append}
 use Rattle.std.proofs.lemmas.List.{map-append}
 use Rattle.std.proofs.lemmas.List.Sums.{sum_by-cons}
 use Rattle.std.proofs.lemmas.Map.Steps.{length-le_from_distinct_below}
-use Rattle.std.proofs.lemmas.Bool.{and_parts, and_from, or_cases, cases_Bool, eqb-true, eq-eqb, ltb-true, false≢true}
+use Rattle.std.proofs.lemmas.Bool.{and_parts, and_from, or_cases, eqb-true, eq-eqb, ltb-true, false≢true}
 use Rattle.std.specs.Cmp.Lexicographic.{same_text as text_same, nat_list_eq_equiv}
 use Rattle.inst_settings.specs.Settings.{HubSettings, same_text, participants}
 use Rattle.inst_command.specs.declared.entry.Entry.{Entry}
@@ -18,28 +18,28 @@ use Rattle.inst_board.specs.declared.look.Look.TheVariants.{Unused, Pending as L
 use Rattle.inst_board.specs.declared.about.About.{About}
 use Rattle.inst_board.specs.declared.about.About.TheVariants.{Opened, HasTerms}
 use Rattle.inst_board.specs.declared.about.Fact.{Fact}
-use Rattle.inst_board.specs.Standing.{Standing, Says, is_place, IsPlace, about}
+use Rattle.inst_board.specs.Standing.{Standing, Says, IsPlace, about}
 use Rattle.inst_board.specs.Laws.{KnowsOpening}
 use Rattle.inst_board.specs.Learning.{Looks}
 use Rattle.inst_journal.specs.declared.event.Event.{Event}
 use Rattle.inst_journal.specs.declared.event.Event.TheVariants.{Funded, Defunded, Taken, Forwarded, Booked, Fetched, Opened as OpenedEvent}
-use Rattle.inst_journal.specs.Booked.{is_taken, is_forwarded, booked, forwards, same_transfer}
+use Rattle.inst_journal.specs.Booked.{is_forwarded, booked, forwards, same_transfer}
 use Rattle.inst_journal.specs.Opened.{carried, is_live, live_taken, forwards_live, live_forwarded}
-use Rattle.inst_journal.specs.Reply.{inbox, entry_of}
+use Rattle.inst_journal.specs.Reply.{inbox}
 use Rattle.inst_journal.specs.Sound.{Fits, IsSound, ForwardedFits}
 use Rattle.inst_journal.proofs.Soundness.{sound_induction}
 use Rattle.inst_journal.proofs.KeyOnce.{forwarded_once, none_counted}
-use Rattle.inst_journal.proofs.Counting.{count_push, stranger_unbooked}
+use Rattle.inst_journal.proofs.Counting.{stranger_unbooked}
 use Rattle.inst_journal.proofs.Carrying.{carried_unbooked}
 use Rattle.inst_journal.proofs.Pushing.{sum_by_push}
 use Rattle.inst_slot.specs.declared.arrival.Arrival.{Arrival}
-use Rattle.inst_slot.specs.Book.{Book, place_at, terms_to, live_inbox, arrived_at}
-use Rattle.inst_slot.specs.LawfulBoard.{IsTakenAt, IsLawfulBoard, AllAreAdopted}
+use Rattle.inst_slot.specs.Book.{Book, place_at, terms_to, live_inbox}
+use Rattle.inst_slot.specs.LawfulBoard.{IsLawfulBoard, AllAreAdopted}
 use Rattle.inst_slot.specs.Telling.{delivery, with_delivery}
 use Rattle.inst_slot.proofs.Growing.{live_inbox_more, live_taken_still, live_push, still_booked, booked_cases}
-use Rattle.inst_slot.proofs.Keeping.{same_terms, kept_opening, arrived_still, lies_with_arrival}
+use Rattle.inst_slot.proofs.Keeping.{same_terms, kept_opening, lies_with_arrival}
 use Rattle.inst_slot.proofs.Looking.{looked_on, saw_pending, saw_same, saw_own_pending}
-use Rattle.inst_slot.proofs.Learning.{if_some, contains_any, itself_forwards, taken_below, taken_contains, arrival_forwarded}
+use Rattle.inst_slot.proofs.Learning.{if_some, taken_below, taken_contains}
 
 not_true : (b : Bool) → not b ≡ true → b ≡ false
 not_true true h = absurd (false≢true h)

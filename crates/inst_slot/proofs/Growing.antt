@@ -1,15 +1,14 @@
 -- What one more event does to the live transfers of a history and to what is booked.
 use Rattle.std.proofs.Common.{◌≡◌, ℕ, zero, suc, ◌<◌, Bool, true, false, cond, List, [], ◌∷◌, ◌++◌, length, inl, inr, ◌⊎◌, ⊎_elim, refl, sym, ap, ◌∙◌, subst, arith, Option, Some, None, is_none, append-nil}
 use Rattle.std.specs.Prelude.{slice_get, Contains, Result, Ok, Err, OnOk, OnErr}
-use Rattle.std.specs.List.{filter, filter_map, cons_option}
-use Rattle.std.proofs.lemmas.List.Elements.{filter-append, filter_map-append, Contains-append_left, Contains-append_right}
-use Rattle.std.proofs.lemmas.Bool.{false≢true, cases_Bool}
+use Rattle.std.specs.List.{filter, cons_option}
+use Rattle.std.proofs.lemmas.List.Elements.{filter-append, filter_map-append, Contains-append_right}
 use Rattle.inst_base.specs.declared.fault.Fault.{Fault}
 use Rattle.inst_settings.specs.Settings.{HubSettings}
 use Rattle.inst_command.specs.declared.entry.Entry.{Entry}
 use Rattle.inst_command.specs.declared.outcome.Outcome.{Outcome}
 use Rattle.inst_journal.specs.declared.event.Event.{Event}
-use Rattle.inst_journal.specs.declared.event.Event.TheVariants.{Funded, Defunded, Taken, Forwarded, Booked, Fetched, Opened}
+use Rattle.inst_journal.specs.declared.event.Event.TheVariants.{Forwarded, Booked}
 use Rattle.inst_journal.specs.Booked.{booked, books, or_else}
 use Rattle.inst_journal.specs.Opened.{is_opening, carried, is_live, takes_live, live_taken}
 use Rattle.inst_journal.specs.Reply.{inbox, entry_of}

@@ -1,13 +1,11 @@
 -- What a participant's books have to do with its board is kept as the board is learnt of and the history grows.
-use Rattle.std.proofs.Common.{◌≡◌, ◌≢◌, ℕ, zero, suc, ◌+◌, ◌<◌, ◌==◌, ◌&&◌, cond, Bool, true, false, List, [], ◌∷◌, ◌++◌, length, length-append, inl, inr, ◌⊎◌, ⊎_elim, refl, sym, ap, ◌∙◌, subst, arith, Option, Some, None, is_none}
-use Rattle.std.specs.Prelude.{slice_get, Contains, map, ◌↔◌}
-use Rattle.std.proofs.lemmas.List.Elements.{Contains-append_left, Contains-append_right, Contains-append_cases}
-use Rattle.std.proofs.lemmas.List.{map-append}
+use Rattle.std.proofs.Common.{◌≡◌, ℕ, zero, suc, ◌<◌, ◌==◌, cond, Bool, true, false, List, [], ◌∷◌, ◌++◌, length, inl, inr, ◌⊎◌, ⊎_elim, refl, sym, ap, ◌∙◌, subst, arith, Option, Some, None}
+use Rattle.std.specs.Prelude.{slice_get, Contains}
+use Rattle.std.proofs.lemmas.List.Elements.{Contains-append_right}
 use Rattle.std.proofs.lemmas.Bool.{and_parts, eqb-true}
 use Rattle.std.specs.Cmp.Lexicographic.{same_text as text_same}
 use Rattle.inst_base.specs.TimeLimit.{deadline_of}
 use Rattle.inst_settings.specs.Settings.{HubSettings, same_text}
-use Rattle.inst_command.specs.declared.entry.Entry.{Entry}
 use Rattle.inst_command.specs.declared.outcome.Outcome.{Outcome}
 use Rattle.inst_terms.specs.declared.terms.Terms.{Terms}
 use Rattle.inst_board.specs.declared.place.Place.{Place}
@@ -18,16 +16,15 @@ use Rattle.inst_board.specs.Standing.{Standing, unused, pending, final, Says, ab
 use Rattle.inst_board.specs.Laws.{KnowsOpening}
 use Rattle.inst_board.specs.Learning.{Learns, IsAnswer}
 use Rattle.inst_journal.specs.declared.event.Event.{Event}
-use Rattle.inst_journal.specs.declared.event.Event.TheVariants.{Funded, Defunded, Taken, Forwarded, Booked, Fetched}
-use Rattle.inst_journal.specs.Booked.{booked, books, or_else, first_some, same_transfer}
+use Rattle.inst_journal.specs.declared.event.Event.TheVariants.{Taken, Booked}
+use Rattle.inst_journal.specs.Booked.{booked, books, or_else, same_transfer}
 use Rattle.inst_journal.specs.Opened.{carried, is_opening, is_live, takes_live, live_taken}
 use Rattle.inst_journal.specs.Reply.{entry_of}
 use Rattle.inst_journal.proofs.FirstSome.{first_some-append}
 use Rattle.inst_slot.specs.declared.arrival.Arrival.{Arrival}
 use Rattle.inst_slot.specs.Book.{Book, place_at, terms_to, live_inbox, index_of, arrived_at}
-use Rattle.inst_slot.specs.LawfulBoard.{IsTakenAt, LiesAt, KnowsEnd, IsLawfulBoard}
-use Rattle.inst_slot.specs.Telling.{with_delivery}
-use Rattle.inst_slot.proofs.Growing.{snoc_cases, slice_get_left, live_taken_push, live_taken_still, live_push, live_inbox_still, live_inbox_more, still_booked, booked_cases}
+use Rattle.inst_slot.specs.LawfulBoard.{LiesAt, KnowsEnd, IsLawfulBoard}
+use Rattle.inst_slot.proofs.Growing.{slice_get_left, live_taken_still, live_push, live_inbox_still}
 
 only_one : {A : Type 0} (a b : A) → Contains (a ∷ []) b → a ≡ b
 only_one a b (zero, below, is) = is
@@ -119,6 +116,20 @@ lies_still book K from id index same lies = ⊎_elim
         cents = own.1.cents;
         stamp = own.1.stamp;
         there = ap (λ (l : List Event). slice_get l index) same ∙ own.1.there;
+      },
+    ))
+    (λ arrived. inr arrived) lies
+
+pub lies_after_taking : (book : Book) (e : Event) (from : ℕ) (id : List ℕ) (index : ℕ) → live_taken book.who (book.events ++ e ∷ []) ≡ live_taken book.who book.events ++ e ∷ [] → LiesAt book from id index
+    → LiesAt (with_events book (book.events ++ e ∷ [])) from id index
+lies_after_taking book e from id index more lies = ⊎_elim
+    (λ own. inl (
+      own.0,
+      record {
+        to = own.1.to;
+        cents = own.1.cents;
+        stamp = own.1.stamp;
+        there = ap (λ (l : List Event). slice_get l index) more ∙ slice_get_left (live_taken book.who book.events) e (Taken id own.1.to own.1.cents own.1.stamp) index own.1.there;
       },
     ))
     (λ arrived. inr arrived) lies

@@ -1,10 +1,10 @@
 -- What a lesson books fits the history, and keeps what the books have to do with the board.
-use Rattle.std.proofs.Common.{◌≡◌, ◌≢◌, ℕ, zero, suc, ◌<◌, arith, Bool, true, false, ◌||◌, ◌&&◌, ◌==◌, cond, List, [], ◌∷◌, ◌++◌, length, inl, inr, ◌⊎◌, ⊎_elim, refl, sym, ap, ◌∙◌, subst, Option, Some, None, is_none}
-use Rattle.std.specs.Prelude.{Contains, slice_get, map}
+use Rattle.std.proofs.Common.{◌≡◌, ℕ, zero, suc, ◌<◌, arith, Bool, true, false, ◌||◌, ◌&&◌, ◌==◌, cond, List, [], ◌∷◌, length, inl, inr, ◌⊎◌, ⊎_elim, refl, sym, ap, ◌∙◌, subst, Option, Some, None, is_none}
+use Rattle.std.specs.Prelude.{Contains, map}
 use Rattle.std.specs.List.{list_any, filter, cons_option}
 use Rattle.std.proofs.lemmas.List.Elements.{Contains-append_right}
 use Rattle.std.specs.Cmp.Lexicographic.{nat_list_eq_equiv}
-use Rattle.std.proofs.lemmas.Bool.{and_parts, and_from, or_cases, eqb-true, eq-eqb, false≢true}
+use Rattle.std.proofs.lemmas.Bool.{and_parts, or_cases, eqb-true, eq-eqb, false≢true}
 use Rattle.inst_settings.specs.Settings.{HubSettings, same_text}
 use Rattle.inst_command.specs.declared.entry.Entry.{Entry}
 use Rattle.inst_command.specs.declared.outcome.Outcome.{Outcome}
@@ -23,11 +23,11 @@ use Rattle.inst_journal.specs.Opened.{carried, takes_live, live_taken, is_live}
 use Rattle.inst_journal.specs.Reply.{inbox, entry_of}
 use Rattle.inst_journal.specs.Sound.{Fits, BookedFits}
 use Rattle.inst_slot.specs.declared.arrival.Arrival.{Arrival}
-use Rattle.inst_slot.specs.Book.{Book, place_at, terms_to, arrived_at, is_at, live_inbox}
+use Rattle.inst_slot.specs.Book.{Book, place_at, terms_to, arrived_at, is_at}
 use Rattle.inst_slot.specs.LawfulBoard.{IsTakenAt, LiesAt, IsLawfulBoard}
 use Rattle.inst_slot.specs.Telling.{is_party, lesson, with_event}
 use Rattle.inst_slot.proofs.Growing.{slice_get_at, filtered}
-use Rattle.inst_slot.proofs.Keeping.{ArrivedAt, arrival_at}
+use Rattle.inst_slot.proofs.Keeping.{arrival_at}
 use Rattle.inst_slot.proofs.Looking.{saw_own, saw_decided_same, looked_booking}
 
 pub if_some : {A : Type 0} (b : Bool) (x e : A) → cond b (Some x) None ≡ Some e → (b ≡ true) × (x ≡ e)

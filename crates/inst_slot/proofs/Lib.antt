@@ -3,3 +3,6 @@ pub mod Keeping
 pub mod Looking
 pub mod Learning
 pub mod Delivering
+pub mod Deciding
+pub mod Settling
+pub mod Entering

@@ -1,27 +1,24 @@
 -- What a look and a decision do to what a participant's books have to do with its board.
-use Rattle.std.proofs.Common.{◌≡◌, ◌≢◌, ℕ, Bool, true, false, List, [], ◌∷◌, ◌++◌, inl, inr, ◌⊎◌, ⊎_elim, refl, sym, ap, ◌∙◌, subst, Option, Some, None, is_none}
-use Rattle.std.specs.Prelude.{Contains}
+use Rattle.std.proofs.Common.{◌≡◌, ℕ, List, [], ◌∷◌, ◌++◌, inl, inr, ◌⊎◌, ⊎_elim, refl, sym, ap, ◌∙◌, subst, Option, Some, None}
 use Rattle.inst_settings.specs.Settings.{HubSettings}
 use Rattle.inst_command.specs.declared.outcome.Outcome.{Outcome}
 use Rattle.inst_terms.specs.declared.terms.Terms.{Terms}
 use Rattle.inst_board.specs.declared.place.Place.{Place}
 use Rattle.inst_board.specs.declared.wish.Wish.{Wish}
 use Rattle.inst_board.specs.declared.look.Look.{Look}
-use Rattle.inst_board.specs.declared.look.Look.TheVariants.{Unused, Pending as LookPending, Decided as LookDecided}
-use Rattle.inst_board.specs.declared.about.About.{About}
+use Rattle.inst_board.specs.declared.look.Look.TheVariants.{Pending as LookPending, Decided as LookDecided}
 use Rattle.inst_board.specs.declared.about.About.TheVariants.{Opened, HasTerms, Due, Decided}
 use Rattle.inst_board.specs.declared.about.Fact.{Fact}
-use Rattle.inst_board.specs.Standing.{Standing, unused, pending, final, Says, Shows, about, look_of}
+use Rattle.inst_board.specs.Standing.{Standing, unused, pending, final, Says, about, look_of}
 use Rattle.inst_board.specs.Laws.{KnowsOpening}
-use Rattle.inst_board.specs.Learning.{Learns, Looks, Decides, Answers, IsAnswer}
-use Rattle.inst_board.specs.Wish.{wanted}
+use Rattle.inst_board.specs.Learning.{Learns, Looks, Decides, Answers}
 use Rattle.inst_journal.specs.declared.event.Event.{Event}
 use Rattle.inst_journal.specs.declared.event.Event.TheVariants.{Booked}
-use Rattle.inst_journal.specs.Booked.{booked, books, same_transfer}
+use Rattle.inst_journal.specs.Booked.{booked}
 use Rattle.inst_slot.specs.Book.{Book, place_at}
 use Rattle.inst_slot.specs.LawfulBoard.{LiesAt, KnowsEnd, IsLawfulBoard}
 use Rattle.inst_slot.proofs.Growing.{still_booked, newly_booked, booked_cases}
-use Rattle.inst_slot.proofs.Keeping.{SameTransfers, same_transfers, same_after, with_events, moved, learnt_own, learnt_answer, same_terms, same_end, KnowsLying, lying, booked_key}
+use Rattle.inst_slot.proofs.Keeping.{SameTransfers, same_transfers, same_after, with_events, moved, learnt_own, learnt_answer, same_terms, same_end, lying, booked_key}
 
 module _ {B : Type 0} (settings : B → HubSettings) (knows : B → Fact → Type 0) (has_role : B → ℕ → Type 0) where
   -- a booking of an outcome that is known

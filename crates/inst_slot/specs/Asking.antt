@@ -1,14 +1,13 @@
 -- What a command does to a participant's books and its board. A confirmation, a rejection or an investigation of a
 -- transfer with nothing booked gets the board's decision of its place; a submission that is taken opens the next place;
 -- nothing else changes the board. This hub's own choice.
-use Rattle.std.specs.Prelude.{◌≡◌, ◌⊎◌, ℕ, Bool, true, false, ◌&&◌, ◌||◌, is_some, is_none, nat_lt, List, [], ◌∷◌, ◌++◌, length, position, Option, Some, None, Result, Err}
+use Rattle.std.specs.Prelude.{◌≡◌, ◌⊎◌, ℕ, Bool, true, false, ◌&&◌, ◌||◌, is_none, nat_lt, List, ◌∷◌, ◌++◌, length, position, Option, Some, None, Result, Err}
 use Rattle.inst_base.specs.TimeLimit.{deadline_of}
 use Rattle.inst_base.specs.declared.fault.Fault.{Fault}
 use Rattle.inst_base.specs.declared.fault.Fault.TheVariants.{Memory}
-use Rattle.inst_settings.specs.Settings.{HubSettings}
 use Rattle.inst_command.specs.declared.ask.Ask.{Ask}
 use Rattle.inst_command.specs.declared.command.Command.{Command}
-use Rattle.inst_command.specs.declared.command.Command.TheVariants.{Fund, Defund, Submit, Confirm, Reject, Investigate, Fetch, Position, Statement}
+use Rattle.inst_command.specs.declared.command.Command.TheVariants.{Confirm, Reject, Investigate}
 use Rattle.inst_command.specs.declared.outcome.Outcome.{Outcome}
 use Rattle.inst_command.specs.declared.reply.Reply.{Reply}
 use Rattle.inst_board.specs.declared.place.Place.{Place}
@@ -58,13 +57,14 @@ AsksAdopted book (Confirm from id) = IsAdopted book from id
 AsksAdopted book (Reject from id reason) = IsAdopted book from id
 AsksAdopted book _ = Unit {0}
 
--- From the board b to the board c the place was looked at, and then this is an answer that a decision of it allows for
--- the wish at the reading
+-- From the board b to the board c the place was looked at, and then, of the same holder, this is an answer that a decision
+-- of it allows for the wish at the reading
 pub record Finds {B : Type 0} (margin : ℕ) (knows : B → Fact → Type 0) (has_role : B → ℕ → Type 0)
-    (stood : B → Place → Outcome → Type 0) (b : B) (k : Place) (wish : Wish) (at : ℕ) (found : Option Outcome) (c : B)
-    : Type 0 where
+    (stood : B → Place → Outcome → Type 0) (stays : B → B → Type 0) (b : B) (k : Place) (wish : Wish) (at : ℕ)
+    (found : Option Outcome) (c : B) : Type 0 where
   pub look : Look
   pub between : B
+  pub same_holder : stays b between
   pub looks : Looks margin knows has_role stood b k look between
   pub decides : Decides margin knows stood between k wish at found c
 
@@ -110,21 +110,21 @@ Enters margin knows b book ask result c new =
 
 -- An ask that decides the place k: it is answered as the books demand for what it finds there; or memory was refused, and
 -- the books and the place stay as they were
-abbrev pub Settles : {B : Type 0} → ℕ → (B → Fact → Type 0) → (B → ℕ → Type 0) → (B → Place → Outcome → Type 0) → B → Book →
-    Ask → Place → Wish → Result Reply Fault → B → Book → Type 0
-Settles margin knows has_role stood b book ask k wish result c new =
+abbrev pub Settles : {B : Type 0} → ℕ → (B → Fact → Type 0) → (B → ℕ → Type 0) → (B → Place → Outcome → Type 0) →
+    (B → B → Type 0) → B → Book → Ask → Place → Wish → Result Reply Fault → B → Book → Type 0
+Settles margin knows has_role stood stays b book ask k wish result c new =
     ((found : Option Outcome) × (result ≡ told (handle_ask book ask found)) × (new ≡ book_after book ask found)
-    × Finds margin knows has_role stood b k wish ask.at found c)
+    × Finds margin knows has_role stood stays b k wish ask.at found c)
     ⊎ ((result ≡ Err Memory) × (new ≡ book) × OnlyLooks margin knows has_role stood b k wish ask.at c)
 
 -- an ask of the participant is answered, with or without the board
-abbrev pub AppliesTo : {B : Type 0} → ℕ → (B → Fact → Type 0) → (B → ℕ → Type 0) → (B → Place → Outcome → Type 0) → B → Book →
-    Ask → Option (Place × Wish) → Result Reply Fault → B → Book → Type 0
-AppliesTo margin knows has_role stood b book ask None result c new = Enters margin knows b book ask result c new
-AppliesTo margin knows has_role stood b book ask (Some asked) result c new =
-    Settles margin knows has_role stood b book ask asked.0 asked.1 result c new
+abbrev pub AppliesTo : {B : Type 0} → ℕ → (B → Fact → Type 0) → (B → ℕ → Type 0) → (B → Place → Outcome → Type 0) →
+    (B → B → Type 0) → B → Book → Ask → Option (Place × Wish) → Result Reply Fault → B → Book → Type 0
+AppliesTo margin knows has_role stood stays b book ask None result c new = Enters margin knows b book ask result c new
+AppliesTo margin knows has_role stood stays b book ask (Some asked) result c new =
+    Settles margin knows has_role stood stays b book ask asked.0 asked.1 result c new
 
-abbrev pub Applies : {B : Type 0} → ℕ → (B → Fact → Type 0) → (B → ℕ → Type 0) → (B → Place → Outcome → Type 0) → B → Book →
-    Ask → Result Reply Fault → B → Book → Type 0
-Applies margin knows has_role stood b book ask result c new =
-    AppliesTo margin knows has_role stood b book ask (request book ask.command) result c new
+abbrev pub Applies : {B : Type 0} → ℕ → (B → Fact → Type 0) → (B → ℕ → Type 0) → (B → Place → Outcome → Type 0) →
+    (B → B → Type 0) → B → Book → Ask → Result Reply Fault → B → Book → Type 0
+Applies margin knows has_role stood stays b book ask result c new =
+    AppliesTo margin knows has_role stood stays b book ask (request book ask.command) result c new

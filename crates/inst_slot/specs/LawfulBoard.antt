@@ -1,7 +1,7 @@
 -- What a participant's books have to do with what its board's holder knows, between any two calls of its slot. The live
 -- transfers of its own are the places that it opened; a forwarded one is known once its place was found; what is booked
 -- is known; and what only its slot can have answered is booked. This hub's own choice.
-use Rattle.std.specs.Prelude.{◌≡◌, ◌⊎◌, ℕ, ◌<◌, true, is_some, List, length, slice_get, map, Contains, Option, Some}
+use Rattle.std.specs.Prelude.{◌≡◌, ◌⊎◌, ℕ, ◌<◌, true, is_some, List, length, slice_get, map, Contains, Some}
 use Rattle.inst_base.specs.TimeLimit.{deadline_of}
 use Rattle.inst_settings.specs.Settings.{HubSettings}
 use Rattle.inst_command.specs.declared.outcome.Outcome.{Outcome}

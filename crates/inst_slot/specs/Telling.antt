@@ -14,7 +14,6 @@ use Rattle.inst_journal.specs.declared.event.Event.{Event}
 use Rattle.inst_journal.specs.declared.event.Event.TheVariants.{Taken, Forwarded, Booked}
 use Rattle.inst_journal.specs.Booked.{is_forwarded, booked}
 use Rattle.inst_journal.specs.Opened.{live_taken}
-use Rattle.inst_slot.specs.declared.arrival.Arrival.{Arrival}
 use Rattle.inst_slot.specs.Book.{Book, place_at, arrived_at, is_at}
 use Rattle.inst_slot.specs.Asking.{Finds, OnlyLooks}
 
@@ -55,15 +54,23 @@ abbrev pub Keeps : Bool → Book → Book → Result Bool Fault → Book → Typ
 Keeps is_new old after result new =
     ((result ≡ Ok is_new) × (new ≡ after)) ⊎ ((result ≡ Err Memory) × (new ≡ old) × (is_new ≡ true))
 
--- the identifier of the transfer that the event takes, where nothing is booked of it
-abbrev pub if_unbooked : Book → Option Event → Option (List ℕ)
-if_unbooked book (Some (Taken id to cents stamp)) =
-    if is_none (booked book.who id book.events) then Some id else None
-if_unbooked book _ = None
+-- the identifier of the transfer that the event takes
+abbrev pub taken_id : Event → Option (List ℕ)
+taken_id (Taken id to cents stamp) = Some id
+taken_id _ = None
+
+abbrev pub taken_by : Option Event → Option (List ℕ)
+taken_by None = None
+taken_by (Some event) = taken_id event
+
+-- the identifier, where nothing is booked of the own transfer that it names
+abbrev pub if_unbooked : Book → Option (List ℕ) → Option (List ℕ)
+if_unbooked book None = None
+if_unbooked book (Some id) = if is_none (booked book.who id book.events) then Some id else None
 
 -- the identifier of the participant's live transfer at this index, where nothing is booked of it
 abbrev pub unbooked_at : Book → ℕ → Option (List ℕ)
-unbooked_at book index = if_unbooked book (slice_get (live_taken book.who book.events) index)
+unbooked_at book index = if_unbooked book (taken_by (slice_get (live_taken book.who book.events) index))
 
 -- the event that books the outcome, if any
 abbrev pub booking : ℕ → List ℕ → Option Outcome → Option Event
@@ -72,16 +79,16 @@ booking from id (Some outcome) = Some (Booked from id outcome)
 
 -- An expiry of an own transfer with nothing booked, if any: it books what is found at its place; or memory was refused,
 -- and the book and the place stay as they were. Of no such transfer it does nothing
-abbrev pub ExpiresFor : {B : Type 0} → ℕ → (B → Fact → Type 0) → (B → ℕ → Type 0) → (B → Place → Outcome → Type 0) → B → Book →
-    ℕ → ℕ → Option (List ℕ) → Result Bool Fault → B → Book → Type 0
-ExpiresFor margin knows has_role stood b book index at None result c new = (result ≡ Ok false) × (new ≡ book) × (c ≡ b)
-ExpiresFor margin knows has_role stood b book index at (Some id) result c new =
+abbrev pub ExpiresFor : {B : Type 0} → ℕ → (B → Fact → Type 0) → (B → ℕ → Type 0) → (B → Place → Outcome → Type 0) →
+    (B → B → Type 0) → B → Book → ℕ → ℕ → Option (List ℕ) → Result Bool Fault → B → Book → Type 0
+ExpiresFor margin knows has_role stood stays b book index at None result c new = (result ≡ Ok false) × (new ≡ book) × (c ≡ b)
+ExpiresFor margin knows has_role stood stays b book index at (Some id) result c new =
     ((found : Option Outcome) × (result ≡ Ok (is_some found)) × (new ≡ with_event book (booking book.who id found))
-    × Finds margin knows has_role stood b (place_at book.who index) Expire at found c)
+    × Finds margin knows has_role stood stays b (place_at book.who index) Expire at found c)
     ⊎ ((result ≡ Err Memory) × (new ≡ book)
     × OnlyLooks margin knows has_role stood b (place_at book.who index) Expire at c)
 
-abbrev pub Expires : {B : Type 0} → ℕ → (B → Fact → Type 0) → (B → ℕ → Type 0) → (B → Place → Outcome → Type 0) → B → Book →
-    ℕ → ℕ → Result Bool Fault → B → Book → Type 0
-Expires margin knows has_role stood b book index at result c new =
-    ExpiresFor margin knows has_role stood b book index at (unbooked_at book index) result c new
+abbrev pub Expires : {B : Type 0} → ℕ → (B → Fact → Type 0) → (B → ℕ → Type 0) → (B → Place → Outcome → Type 0) →
+    (B → B → Type 0) → B → Book → ℕ → ℕ → Result Bool Fault → B → Book → Type 0
+Expires margin knows has_role stood stays b book index at result c new =
+    ExpiresFor margin knows has_role stood stays b book index at (unbooked_at book index) result c new

@@ -31,7 +31,7 @@ pub(crate) fn find<B: Board>(
 ) -> Result<Option<Outcome>, Fault>
     requires margin { margin ≡ (B.settings board.old).margin }
     requires may { MayDecide B.knows B.has_role board.old place wish }
-    ensures found { IfOk result (λ found. Finds (B.settings board.old).margin B.knows B.has_role B.stood board.old place wish at found board.new) }
+    ensures found { IfOk result (λ found. Finds (B.settings board.old).margin B.knows B.has_role B.stood B.stays board.old place wish at found board.new) }
     ensures room { IfOk result (λ found. is_some found ≡ true → 0 < journal.new.room) }
     ensures err { OnErr result (OnlyLooks (B.settings board.old).margin B.knows B.has_role B.stood board.old place wish at board.new) }
     ensures only { IsOkUnless result Fault.Memory }

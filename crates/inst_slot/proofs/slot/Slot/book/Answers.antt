@@ -1,4 +1,4 @@
-use Rattle.std.proofs.Common.{◌≡◌, sym, subst, ℕ, List}
+use Rattle.std.proofs.Common.{sym, subst}
 use Rattle.inst_journal.specs.Sound.{Fits}
 use Rattle.inst_slot.specs.Book.{Book}
 use Rattle.inst_slot.proofs.Growing.{kept_sound}
