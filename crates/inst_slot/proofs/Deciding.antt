@@ -1,5 +1,5 @@
 -- What a command asks the board to decide, the slot may decide; and what it finds is booked.
-use Rattle.std.proofs.Common.{◌≡◌, ℕ, suc, ◌<◌, arith, ◌+◌, Bool, true, false, not, ◌||◌, ◌&&◌, cond, List, [], ◌∷◌, length, inl, inr, refl, sym, ap, ◌∙◌, subst, Option, Some, None, is_none, is_some}
+use Rattle.std.proofs.Common.{◌≡◌, ◌⊎◌, ℕ, suc, ◌<◌, arith, ◌+◌, Bool, true, false, not, ◌||◌, ◌&&◌, cond, List, [], ◌∷◌, length, inl, inr, refl, sym, ap, ◌∙◌, subst, Option, Some, None, is_none, is_some}
 use Rattle.std.specs.Prelude.{slice_get, position, get_or, nat_lt, Result, Err}
 use Rattle.std.specs.List.{list_any, filter, position_or_len}
 use Rattle.std.proofs.lemmas.List.Sums.{length-filter}
@@ -86,6 +86,7 @@ module _ {B : Type 0} (settings : B → HubSettings) (knows : B → Fact → Typ
     pub lies : LiesAt book asked.0.owner id asked.0.index
     pub none : booked asked.0.owner id book.events ≡ None
     pub may : MayDecide knows has_role b asked.0 asked.1
+    pub mine : (asked.1 ≡ Expire) ⊎ (may.terms.to ≡ book.who)
     pub kept : (at : ℕ) (found : Option Outcome) → kept_events (handle book.settings book.who book.events command at found) ≡ kept_event (booking asked.0.owner id found)
 
   may_answer : (b : B) (book : Book) (from : ℕ) (id : List ℕ) (index : ℕ) (wish : Wish) → IsLawfulBoard settings knows has_role b book → arrived_at from id book.arrivals ≡ Some index
@@ -95,6 +96,11 @@ module _ {B : Type 0} (settings : B → HubSettings) (knows : B → Fact → Typ
       let t : Terms = terms_to book.who x.arrival.entry.cents x.arrival.entry.id in
       let kn = subst (λ (n : ℕ). KnowsOpening knows b (place_at n index) t x.arrival.entry.deadline) x.from_is (was.forwarded_known x.arrival index x.there x.index_is) in
       record { terms = t; deadline = x.arrival.entry.deadline; opened = kn.opened; has_terms = kn.terms; due = kn.due; party = party t refl was.role }
+
+  mine_answer : (b : B) (book : Book) (from : ℕ) (id : List ℕ) (index : ℕ) (wish : Wish) (was : IsLawfulBoard settings knows has_role b book) (at : arrived_at from id book.arrivals ≡ Some index)
+      (party : (t : Terms) → t.to ≡ book.who → has_role b t.to → IsParty (has_role b) wish (place_at from index) t) → (may_answer b book from id index wish was at party).terms.to ≡ book.who
+  unfolding may_answer
+  mine_answer b book from id index wish was at party = refl
 
   pub may_expire : (b : B) (book : Book) (id : List ℕ) (index : ℕ) → IsLawfulBoard settings knows has_role b book → IsTakenAt book id index → MayDecide knows has_role b (place_at book.who index) Expire
   may_expire b book id index was t =
@@ -115,6 +121,7 @@ module _ {B : Type 0} (settings : B → HubSettings) (knows : B → Fact → Typ
         lies = inr w.at;
         none = w.none;
         may = may_answer b book from id w.index Accept was w.at (λ t to role. role);
+        mine = inr (mine_answer b book from id w.index Accept was w.at (λ t to role. role));
         kept = λ at found. standing_kept from id (Err Expired) (booked from id book.events) found (is_forwarded from id book.events) (forwarded_at b book from id w.index was w.at) w.none refl;
       } in
       subst (λ (x : Place × Wish). IsAsked b book (Confirm from id) x) (sym w.asked_is) r
@@ -125,6 +132,7 @@ module _ {B : Type 0} (settings : B → HubSettings) (knows : B → Fact → Typ
         lies = inr w.at;
         none = w.none;
         may = may_answer b book from id w.index (WishReject reason) was w.at (λ t to role. role);
+        mine = inr (mine_answer b book from id w.index (WishReject reason) was w.at (λ t to role. role));
         kept = λ at found. standing_kept from id (still_pending from id) (booked from id book.events) found (is_forwarded from id book.events) (forwarded_at b book from id w.index was w.at) w.none refl;
       } in
       subst (λ (x : Place × Wish). IsAsked b book (Reject from id reason) x) (sym w.asked_is) r
@@ -136,6 +144,7 @@ module _ {B : Type 0} (settings : B → HubSettings) (knows : B → Fact → Typ
         lies = inl (refl, t);
         none = w.none;
         may = may_expire b book id w.index was t;
+        mine = inl refl;
         kept = λ at found. standing_kept book.who id (still_pending book.who id) (booked book.who id book.events) found (is_taken id book.events) (taken_is book id w.index t) w.none refl;
       } in
       subst (λ (x : Place × Wish). IsAsked b book (Investigate id) x) (sym w.asked_is) r

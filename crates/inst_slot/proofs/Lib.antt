@@ -6,3 +6,5 @@ pub mod Delivering
 pub mod Deciding
 pub mod Settling
 pub mod Entering
+pub mod Refusing
+pub mod Others

@@ -1,7 +1,7 @@
 -- What a participant's books have to do with what its board's holder knows, between any two calls of its slot. The live
 -- transfers of its own are the places that it opened; a forwarded one is known once its place was found; what is booked
 -- is known; and what only its slot can have answered is booked. This hub's own choice.
-use Rattle.std.specs.Prelude.{◌≡◌, ◌⊎◌, ℕ, ◌<◌, true, is_some, List, length, slice_get, map, Contains, Some}
+use Rattle.std.specs.Prelude.{◌≡◌, ◌≢◌, ◌⊎◌, ℕ, ◌<◌, true, is_some, List, length, slice_get, map, Contains, Some}
 use Rattle.inst_base.specs.TimeLimit.{deadline_of}
 use Rattle.inst_settings.specs.Settings.{HubSettings}
 use Rattle.inst_command.specs.declared.outcome.Outcome.{Outcome}
@@ -58,6 +58,11 @@ pub record IsLawfulBoard {B : Type 0} (settings : B → HubSettings) (knows : B 
       is_live from id book.events ≡ true → KnowsEnd knows b book from id outcome
   pub answered : (k : Place) (t : Terms) (outcome : Outcome) → t.to ≡ book.who → IsAnswer outcome →
       knows b (about k (HasTerms t)) → knows b (about k (Decided outcome)) → booked k.owner t.id book.events ≡ Some outcome
+
+-- the books of every other participant over the same board have to do with it what they had
+abbrev pub KeepsOthers : {B : Type 0} → (B → HubSettings) → (B → Fact → Type 0) → (B → ℕ → Type 0) → B → ℕ → B → Type 0
+KeepsOthers settings knows has_role b who c = (book : Book) → book.who ≢ who → IsLawfulBoard settings knows has_role b book →
+    IsLawfulBoard settings knows has_role c book
 
 -- the place of this transfer was found, if it is live and was forwarded
 abbrev pub IsAdopted : Book → ℕ → List ℕ → Type 0

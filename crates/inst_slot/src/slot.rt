@@ -1,14 +1,14 @@
-ghost use Rattle.std.specs.Prelude.{◌≡◌, ◌<◌, [], ◌++◌, ◌∷◌, true, false, is_some, IfOk, OnErr, OnOk, IsOkUnless, Some, None, position};
+ghost use Rattle.std.specs.Prelude.{◌≡◌, ◌≢◌, IfErr, ◌<◌, [], ◌++◌, ◌∷◌, true, false, is_some, IfOk, OnErr, OnOk, IsOkUnless, Some, None, position};
 ghost use Rattle.inst_settings.specs.Settings.{IsSettings, is_participant};
 ghost use Rattle.inst_command.specs.Ask.{ask_fits};
 ghost use Rattle.inst_board.specs.declared.look.Look.{Look};
-ghost use Rattle.inst_board.specs.Learning.{Looks};
+ghost use Rattle.inst_board.specs.Learning.{Looks, KnowTheSame};
 ghost use Rattle.inst_journal.specs.Booked.{takes, booked};
 ghost use Rattle.inst_journal.specs.Opened.{live_taken};
 ghost use Rattle.inst_journal.specs.Sound.{IsSound, Fits};
 ghost use Rattle.inst_journal.specs.Reply.{kept_events};
 ghost use Rattle.inst_slot.specs.Book.{arrived_at};
-ghost use Rattle.inst_slot.specs.LawfulBoard.{IsLawfulBoard, AllAreAdopted};
+ghost use Rattle.inst_slot.specs.LawfulBoard.{IsLawfulBoard, KeepsOthers, AllAreAdopted};
 ghost use Rattle.inst_slot.specs.Asking.{wish_for, request, decides, AsksAdopted, handle_ask, book_after, Opens, Enters, Settles, Applies};
 ghost use Rattle.inst_slot.specs.Telling.{delivery, with_delivery, is_party, lesson, with_event, Keeps, taken_by, unbooked_at, ExpiresFor, Expires};
 
@@ -335,7 +335,12 @@ impl Slot {
         requires adopted { AsksAdopted self.old ask.now.command }
         ensures applies { Applies (B.settings board.old).margin B.knows B.has_role B.stood B.stays board.old self.old ask.now result board.new self.new }
         ensures decides { is_some (request self.old ask.now.command) ≡ decides self.old ask.now.command }
+        ensures err { OnErr result (self.new ≡ self.old) }
+        ensures refused { IfErr result (λ fault. fault ≢ Fault.Memory → KnowTheSame B.knows board.old board.new) }
         ensures lawful { IsLawfulBoard B.settings B.knows B.has_role board.new self.new }
+        ensures others { KeepsOthers B.settings B.knows B.has_role board.old self.old.who board.new }
+        ensures same { (self.new.settings ≡ self.old.settings) × (self.new.who ≡ self.old.who) }
+        ensures adopted { AllAreAdopted self.old → AllAreAdopted self.new }
         ensures stays { B.stays board.old board.new }
     {
         match self.request(&ask.command) {
@@ -352,6 +357,9 @@ impl Slot {
         ensures delivers { (look : Look) × Looks (B.settings board.old).margin B.knows B.has_role B.stood board.old place look board.new
             × Keeps (is_some (delivery self.old place look)) self.old (with_delivery self.old place (delivery self.old place look)) result self.new }
         ensures lawful { IsLawfulBoard B.settings B.knows B.has_role board.new self.new }
+        ensures others { KeepsOthers B.settings B.knows B.has_role board.old self.old.who board.new }
+        ensures same { (self.new.settings ≡ self.old.settings) × (self.new.who ≡ self.old.who) }
+        ensures adopted { AllAreAdopted self.old → AllAreAdopted self.new }
         ensures stays { B.stays board.old board.new }
     {
         let look = board.look(place);
@@ -371,6 +379,9 @@ impl Slot {
         ensures learns { (look : Look) × Looks (B.settings board.old).margin B.knows B.has_role B.stood board.old place look board.new
             × Keeps (is_some (lesson self.old place look)) self.old (with_event self.old (lesson self.old place look)) result self.new }
         ensures lawful { IsLawfulBoard B.settings B.knows B.has_role board.new self.new }
+        ensures others { KeepsOthers B.settings B.knows B.has_role board.old self.old.who board.new }
+        ensures same { (self.new.settings ≡ self.old.settings) × (self.new.who ≡ self.old.who) }
+        ensures adopted { AllAreAdopted self.old → AllAreAdopted self.new }
         ensures stays { B.stays board.old board.new }
     {
         let look = board.look(place);
@@ -429,6 +440,9 @@ impl Slot {
         requires lawful { IsLawfulBoard B.settings B.knows B.has_role board.old self.old }
         ensures expires { Expires (B.settings board.old).margin B.knows B.has_role B.stood B.stays board.old self.old index at result board.new self.new }
         ensures lawful { IsLawfulBoard B.settings B.knows B.has_role board.new self.new }
+        ensures others { KeepsOthers B.settings B.knows B.has_role board.old self.old.who board.new }
+        ensures same { (self.new.settings ≡ self.old.settings) × (self.new.who ≡ self.old.who) }
+        ensures adopted { AllAreAdopted self.old → AllAreAdopted self.new }
         ensures stays { B.stays board.old board.new }
     {
         match self.unbooked_at(index) {
