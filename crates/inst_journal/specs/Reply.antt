@@ -154,8 +154,8 @@ reply s who J command at found = told (handle s who J command at found)
 abbrev pub history_after : HubSettings → ℕ → List Event → Command → ℕ → Option Outcome → List Event
 history_after s who J command at found = J ++ kept_events (handle s who J command at found)
 
--- whether the reply to the command is a copy of entries or lines, which takes memory
-abbrev pub copies : Command → Bool
-copies (Fetch max) = true
-copies (AskStatement skip count) = true
-copies _ = false
+-- whether the reply to the command is a copy of unread entries or of lines, which takes memory
+abbrev pub copies : List Event → Command → Bool
+copies J (Fetch max) = nat_lt 0 (length (unread J))
+copies J (AskStatement skip count) = true
+copies J _ = false

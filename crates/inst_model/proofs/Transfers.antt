@@ -203,4 +203,3 @@ each_to_participant s who J sound =
 
 pub each_place_found : (s : HubSettings) (who : ℕ) (J : List Event) → IsSound s who J → Each (λ (x : Transfer). transfer x.id J ≡ Some x) (transfers J)
 each_place_found = each_found
-

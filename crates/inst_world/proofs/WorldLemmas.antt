@@ -19,7 +19,7 @@ use Rattle.inst_journal.specs.declared.handle.Handled.{Handled}
 use Rattle.inst_journal.specs.Reply.{is_new_funding, funding, submit, told}
 use Rattle.inst_json.specs.Replies.{reply_can_be_written}
 use Rattle.inst_json.specs.Lines.{command_of_line}
-use Rattle.inst_slot.specs.Book.{is_served}
+use Rattle.inst_world.specs.Book.{is_served}
 use Rattle.serde_json.specs.Written.{compact_text}
 use Rattle.inst_command.specs.declared.reply.Reply.TheVariants.{Refused}
 use Rattle.inst_json.specs.Replies.{reply_data}

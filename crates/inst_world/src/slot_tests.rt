@@ -1,7 +1,7 @@
 // Worked rows on one slot: the participant 0 of three, with 2 places and 4 fundings.
 ghost use Rattle.std.specs.Prelude.{◌≡◌};
 
-use crate::Slot;
+use crate::slot::Slot;
 use inst_base::{Cents, Code, Fault, Ident, Moment};
 use inst_command::{Ask, Command, Outcome, Reply, Submission};
 use inst_journal::Event;
