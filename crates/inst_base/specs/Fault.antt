@@ -1,5 +1,5 @@
--- The refusals of the hub, by the number and the name that a participant reads. The order of the
--- first fourteen is the order in which a line and a command are checked: this hub's own choice.
+-- The refusals of the hub, by the number and the name that a participant reads, and the sentence that explains each. The
+-- order of the first fourteen is the order in which a line and a command are checked: this hub's own choice.
 use Rattle.std.specs.Prelude.{◌≡◌, ◌⊎◌, ℕ, List, Result, Err, codes}
 use Rattle.inst_base.specs.declared.fault.Fault.{Fault}
 use Rattle.inst_base.specs.declared.fault.Fault.TheVariants.{NotJson, BadField, BadIdentifier, BadAmount, BadMoment}
@@ -48,6 +48,27 @@ name_of BadSettings = codes "BadSettings"
 name_of LineTooLong = codes "LineTooLong"
 name_of ReadFault = codes "ReadFault"
 name_of WriteFault = codes "WriteFault"
+
+-- what a refusal means, as a sentence
+abbrev pub meaning_of : Fault → List ℕ
+meaning_of NotJson = codes "the line is no JSON text"
+meaning_of BadField = codes "the line is no object, its command is unknown, or a field is missing or of another form"
+meaning_of BadIdentifier = codes "an identifier or a reference isn't 1 to 35 characters of the basic Latin set"
+meaning_of BadAmount = codes "the amount isn't 1 cent to the ceiling"
+meaning_of BadMoment = codes "a moment is outside those of the hub, or the deadline is past the last one"
+meaning_of UnknownParticipant = codes "no participant has the code"
+meaning_of SelfTransfer = codes "a transfer may not go to its own originator"
+meaning_of UnknownTransfer = codes "the asker has no part in the transfer"
+meaning_of Duplicate = codes "the key is kept with other contents"
+meaning_of StampAhead = codes "the time stamp lies too far ahead of the reading"
+meaning_of Expired = codes "the reading is too late"
+meaning_of Full = codes "all places or all fundings are used"
+meaning_of Shortage = codes "the amount is above what is available"
+meaning_of Memory = codes "memory was refused"
+meaning_of BadSettings = codes "the settings are outside their ranges"
+meaning_of LineTooLong = codes "the line has more than 4,096 bytes"
+meaning_of ReadFault = codes "the input failed, or went past the limits of a run"
+meaning_of WriteFault = codes "the output failed, or took no byte"
 
 -- what is returned is what is wanted, unless memory was refused
 abbrev pub IsUnlessMemory : {X : Type 0} → Result X Fault → Result X Fault → Type 0

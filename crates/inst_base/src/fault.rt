@@ -2,65 +2,48 @@ ghost use Rattle.std.specs.Prelude.{◌≡◌};
 ghost use Rattle.inst_base.specs.declared.fault.Fault.TheVariants.{Memory};
 
 use std::alloc::{AllocError, AllocFailed};
-use thiserror::Error;
+use std::error::Error;
+use std::fmt::{self, Display, Formatter};
 
 /// Why a line, a command or a run is refused. The first fourteen are in the order in which the
 /// checks are made; the last four stand outside commands.
-#[derive(Clone, Copy, Debug, PartialEq, Eq, Hash, Error)]
+#[derive(Clone, Copy, Debug, PartialEq, Eq, Hash)]
 pub enum Fault {
     /// The line is no JSON text.
-    #[error("the line is no JSON text")]
     NotJson,
     /// No object, an unknown command, or a field that is missing or of another form.
-    #[error("the line is no object, its command is unknown, or a field is missing or of another form")]
     BadField,
     /// An identifier or a funding reference that isn't 1 to 35 characters of the basic Latin set.
-    #[error("an identifier or a reference isn't 1 to 35 characters of the basic Latin set")]
     BadIdentifier,
     /// An amount outside 1 cent to the ceiling.
-    #[error("the amount isn't 1 cent to the ceiling")]
     BadAmount,
     /// A moment outside the moments of the hub, or a deadline past the last one.
-    #[error("a moment is outside those of the hub, or the deadline is past the last one")]
     BadMoment,
     /// A well-formed code that no participant has.
-    #[error("no participant has the code")]
     UnknownParticipant,
     /// A submission to its own originator.
-    #[error("a transfer may not go to its own originator")]
     SelfTransfer,
     /// A transfer that the asker has no part in.
-    #[error("the asker has no part in the transfer")]
     UnknownTransfer,
     /// The key is kept with other contents.
-    #[error("the key is kept with other contents")]
     Duplicate,
     /// A time stamp too far ahead of the reading.
-    #[error("the time stamp lies too far ahead of the reading")]
     StampAhead,
     /// A submission read at or after its deadline, or a confirmation read in the margin before it.
-    #[error("the reading is too late")]
     Expired,
     /// All places, or all fundings, are used.
-    #[error("all places or all fundings are used")]
     Full,
     /// The amount is above what is available.
-    #[error("the amount is above what is available")]
     Shortage,
     /// A growth was refused.
-    #[error("memory was refused")]
     Memory,
     /// Settings outside their ranges.
-    #[error("the settings are outside their ranges")]
     BadSettings,
     /// A line of more than 4,096 bytes.
-    #[error("the line has more than 4,096 bytes")]
     LineTooLong,
     /// The input failed, or went past the limits of a run.
-    #[error("the input failed, or went past the limits of a run")]
     ReadFault,
     /// The output failed, or took no byte.
-    #[error("the output failed, or took no byte")]
     WriteFault,
 }
 
@@ -100,6 +83,45 @@ impl Fault {
         }
     }
 }
+
+/// A sentence without a full stop, for whoever reads a log.
+impl Display for Fault {
+    ghost use Rattle.std.specs.Prelude.{Some};
+    ghost use Rattle.inst_base.specs.Fault.{meaning_of};
+
+    ghost output = { λ fault. Some (meaning_of fault) };
+
+    fn fmt<W: fmt::Write>(&self, f: &mut Formatter<W>) -> fmt::Result {
+        f.write_str(match self {
+            Fault::NotJson => "the line is no JSON text",
+            Fault::BadField => {
+                "the line is no object, its command is unknown, or a field is missing or of another form"
+            }
+            Fault::BadIdentifier => {
+                "an identifier or a reference isn't 1 to 35 characters of the basic Latin set"
+            }
+            Fault::BadAmount => "the amount isn't 1 cent to the ceiling",
+            Fault::BadMoment => {
+                "a moment is outside those of the hub, or the deadline is past the last one"
+            }
+            Fault::UnknownParticipant => "no participant has the code",
+            Fault::SelfTransfer => "a transfer may not go to its own originator",
+            Fault::UnknownTransfer => "the asker has no part in the transfer",
+            Fault::Duplicate => "the key is kept with other contents",
+            Fault::StampAhead => "the time stamp lies too far ahead of the reading",
+            Fault::Expired => "the reading is too late",
+            Fault::Full => "all places or all fundings are used",
+            Fault::Shortage => "the amount is above what is available",
+            Fault::Memory => "memory was refused",
+            Fault::BadSettings => "the settings are outside their ranges",
+            Fault::LineTooLong => "the line has more than 4,096 bytes",
+            Fault::ReadFault => "the input failed, or went past the limits of a run",
+            Fault::WriteFault => "the output failed, or took no byte",
+        })
+    }
+}
+
+impl Error for Fault {}
 
 impl From<AllocError> for Fault {
     ghost from_gives = { λ _ fault. fault ≡ Memory };

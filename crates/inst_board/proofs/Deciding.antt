@@ -1,6 +1,6 @@
 -- What was decided stays so, over any board.
 use Rattle.std.proofs.Common.{◌≡◌, ℕ, Some, None, IfSome, sym, refl, ap, ◌∙◌, subst, inl, inr}
-use Rattle.std.specs.Prelude.{Option}
+use Rattle.std.specs.Prelude.{◌⊎◌, Option}
 use Rattle.inst_command.specs.declared.outcome.Outcome.{Outcome}
 use Rattle.inst_terms.specs.declared.terms.Terms.{Terms}
 use Rattle.inst_board.specs.declared.place.Place.{Place}
@@ -10,7 +10,7 @@ use Rattle.inst_board.specs.declared.about.About.TheVariants.{Opened, HasTerms, 
 use Rattle.inst_board.specs.declared.about.Fact.{Fact}
 use Rattle.inst_board.specs.Standing.{Standing, unused, pending, final, Says, about}
 use Rattle.inst_board.specs.Learning.{Learns, Answers, MayDecide, IsParty}
-use Rattle.inst_board.specs.Laws.{KnowsMore, DecidedOnce}
+use Rattle.inst_board.specs.Laws.{KnowsMore, DecidedOnce, EachDecisionIsOfItsReading}
 
 module _ (margin : ℕ) where
   -- what is known as decided is answered
@@ -42,6 +42,24 @@ module _ (margin : ℕ) where
     decided_once stood a b c d k first second at later found found' one more two =
         again c d k (stood c k) second later two.standing found found' two.learns two.answers
         (known_more b c k found more (answered a b k (stood a k) first at one.standing found one.learns one.answers))
+
+    of_reading : (b c : B) (k : Place) (stood : Outcome → Type 0) (wish : Wish) (at : ℕ) (o : Outcome) (p : Standing)
+        → Learns margin knows b k p c → Answers margin stood wish at p (Some o)
+        → stood o ⊎ ((t : Terms) × (d : ℕ) × Learns margin knows b k (final t d o at) c)
+    of_reading b c k stood wish at o unused l h = absurd h
+    of_reading b c k stood wish at o (pending t d) l h = let no : ⊥ = let e : Some o ≡ None = h.0 in cc in absurd no
+    of_reading b c k stood wish at o (final t d q m) l h =
+        let same : o ≡ q = let e : Some o ≡ Some q = h.0 in cc in
+        elim h.1 [
+          | inl was ↦ inl (subst stood (sym same) was)
+          | inr new ↦
+              let stands : final t d q m ≡ final t d o at = ap (λ (x : Outcome). final t d x m) (sym same) ∙ ap (λ (n : ℕ). final t d o n) new.1 in
+              inr (t, d, subst (λ (x : Standing). Learns margin knows b k x c) stands l)
+        ]
+
+    -- an outcome that is new is of this reading
+    pub decided_now : (stood : B → Place → Outcome → Type 0) → EachDecisionIsOfItsReading margin knows stood
+    decided_now stood b c k wish at o h = of_reading b c k (stood b k) wish at o h.standing h.learns h.answers
 
   party_still : (before later : ℕ → Type 0) (wish : Wish) (k : Place) (t : Terms) → ((p : ℕ) → before p → later p) → IsParty before wish k t → IsParty later wish k t
   party_still before later Accept k t keeps h = keeps t.to h

@@ -14,6 +14,7 @@ use Rattle.inst_board.specs.declared.about.About.TheVariants.{Opened, HasTerms, 
 use Rattle.inst_board.specs.declared.plain.Kept.{Kept}
 use Rattle.inst_board.specs.declared.plain.Kept.TheVariants.{Pending, Final}
 use Rattle.inst_board.specs.Standing.{Standing, unused, pending, final, IsLawful, Says, Shows}
+use Rattle.inst_board.specs.Laws.{ShowsItsWords}
 use Rattle.inst_board.specs.Learning.{Learns, Decides}
 use Rattle.inst_board.specs.Wish.{wanted}
 use Rattle.inst_board.specs.Plain.{Contents, kept_at, standing_of, standing_at, plain_knows, plain_stood, Becomes}
@@ -102,3 +103,13 @@ module _ (margin : ℕ) where
         learns = learns_written b k (Final t d o at) c becomes' (due, wanted_in_time wish d at o wants) (stays_true (standing_at b k) t d at o before);
         answers = (refl, inr (wants, refl));
       }
+
+-- a place shows what its words have
+pub shows_its_words : ShowsItsWords
+shows_its_words = record { truly = shows_says 0; no_deadline = same_shown }
+  where
+    same_shown : (t : Terms) (d e : ℕ) (o : Outcome) (moment : ℕ) (a : About) → Shows (final t d o moment) a → Shows (final t e o moment) a
+    same_shown t d e o moment Opened h = h
+    same_shown t d e o moment (HasTerms s) h = h
+    same_shown t d e o moment (Due f) h = h
+    same_shown t d e o moment (Decided q) h = h

@@ -16,7 +16,7 @@ use Rattle.inst_board.specs.declared.look.Look.TheVariants.{Unused, Pending, Dec
 use Rattle.inst_board.specs.declared.about.About.{About}
 use Rattle.inst_board.specs.declared.about.About.TheVariants.{Opened, HasTerms, Due, Decided}
 use Rattle.inst_board.specs.declared.about.Fact.{Fact}
-use Rattle.inst_board.specs.Standing.{Standing, pending, final, IsPlace, IsLawful, Says, look_of, about}
+use Rattle.inst_board.specs.Standing.{Standing, pending, final, IsPlace, IsLawful, Says, Shows, look_of, about}
 use Rattle.inst_board.specs.Wish.{wanted}
 use Rattle.inst_board.specs.Learning.{Learns, KnowsTruly, KnowTheSame, MayDecide, Looks, Decides}
 use Rattle.inst_board.specs.Plain.{Contents, number_of, standing_at, plain_knows, plain_stood, after, outcome_of}
@@ -150,6 +150,12 @@ EachDecisionIsInTime {B} margin knows stood = (b c : B) (k : Place) (wish : Wish
     knows b (about k (Due deadline)) →
     Decides margin knows stood b k wish at found c → IsDecidedInTime margin stood b k wish deadline at found
 
+-- an outcome that is answered stood before, where that could be, or the place stands as decided at this reading
+abbrev pub EachDecisionIsOfItsReading : {B : Type 0} → ℕ → (B → Fact → Type 0) → (B → Place → Outcome → Type 0) → Type 0
+EachDecisionIsOfItsReading {B} margin knows stood = (b c : B) (k : Place) (wish : Wish) (at : ℕ) (o : Outcome) →
+    Decides margin knows stood b k wish at (Some o) c →
+    stood b k o ⊎ ((t : Terms) × (deadline : ℕ) × Learns margin knows b k (final t deadline o at) c)
+
 -- the beneficiary that answers in time, and knows no outcome, is answered what it wanted, or that it was timed out
 abbrev pub OwnAnswersStand : {B : Type 0} → ℕ → (B → Fact → Type 0) → (B → ℕ → Type 0) → (B → Place → Outcome → Type 0) →
     Type 0
@@ -178,6 +184,12 @@ abbrev pub StandingsFollowTheWordLaw : Type 0
 StandingsFollowTheWordLaw = (margin : ℕ) (t : Terms) (deadline : ℕ) →
     (IsLawful margin (pending t deadline) ↔ AreLawful margin (PendingWord deadline ∷ [])) ×
     ((o : Outcome) (moment : ℕ) → IsLawful margin (final t deadline o moment) ↔ AreLawful margin (PendingWord deadline ∷ FinalWord o moment ∷ []))
+
+-- what a place shows is true of it; a decided one shows the same whatever its deadline was, since its word has none
+pub record ShowsItsWords : Type 0 where
+  pub truly : (p : Standing) (a : About) → Shows p a → Says p a
+  pub no_deadline : (t : Terms) (d e : ℕ) (o : Outcome) (moment : ℕ) (a : About) →
+      Shows (final t d o moment) a → Shows (final t e o moment) a
 
 -- the settings have so many places of each participant
 abbrev pub WhichPlacesThereAre : Type 0

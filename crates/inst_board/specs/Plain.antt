@@ -50,10 +50,13 @@ plain_knows board fact = Says (standing_at board fact.place) fact.about
 -- nothing is known of a place that the settings don't have
 pub known_is_place : (board : Contents) (place : Place) (a : About) → plain_knows board (about place a) →
     IsPlace board.settings place
-known_is_place board place a = elim (is_place board.settings place) as (λ has. Says (standing_of (if has then kept_or_unused (slice_get board.kept (number_of board.settings place)) else Unused)) a → IsTrue has) [
-  | true ↦ λ _. refl
-  | false ↦ λ says. absurd says
-]
+known_is_place board place a = elim (is_place board.settings place) as (λ has.
+    let kept : Kept = if has then kept_or_unused (slice_get board.kept (number_of board.settings place)) else Unused in
+    Says (standing_of kept) a → IsTrue has
+    ) [
+      | true ↦ λ _. refl
+      | false ↦ λ says. absurd says
+    ]
 
 -- the terms written to a place that isn't opened
 abbrev pub plain_wrote : Contents → Place → Terms → Type 0
@@ -66,7 +69,10 @@ plain_stood board place outcome = Says (standing_at board place) (Decided outcom
 -- what a place is after a wish was read at the moment
 abbrev pub after : ℕ → Wish → ℕ → Standing → Standing
 after margin wish at unused = unused
-after margin wish at (pending terms deadline) = elim (wanted margin wish deadline at) [ None ↦ pending terms deadline | Some outcome ↦ final terms deadline outcome at ]
+after margin wish at (pending terms deadline) = elim (wanted margin wish deadline at) [
+  | None ↦ pending terms deadline
+  | Some outcome ↦ final terms deadline outcome at
+]
 after margin wish at (final terms deadline outcome moment) = final terms deadline outcome moment
 
 -- the outcome that stands

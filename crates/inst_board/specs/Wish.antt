@@ -1,6 +1,6 @@
 -- What becomes of a pending transfer when a wish is read: before the deadline what the beneficiary answers, as in the
--- rulebook (EPC004-16, chapter 4: positive and negative confirmation); at the deadline or after it the time-out,
--- whoever asks, which is this hub's own choice.
+-- rulebook (EPC004-16, chapter 4: positive and negative confirmation), of an acceptance in the margin nothing; at the
+-- deadline or after it the time-out, whoever asks. The margin and the time-out are this hub's own choice.
 use Rattle.std.specs.Prelude.{ℕ, Option}
 use Rattle.inst_command.specs.declared.outcome.Outcome.{Outcome}
 use Rattle.inst_command.specs.Deciding.{confirmed, rejected, expired}

@@ -58,7 +58,8 @@ pub trait Board {
         requires written { (terms : Terms) × wrote self.old place terms }
         requires deadline { 1 ≤ deadline }
 
-        ensures opened { (terms : Terms) → wrote self.old place terms → Learns (settings self.old).margin knows self.old place (pending terms deadline) self.new }
+        ensures opened { (terms : Terms) → wrote self.old place terms →
+            Learns (settings self.old).margin knows self.old place (pending terms deadline) self.new }
         ensures others { KeepsWritten wrote self.old (λ k. k ≢ place) self.new }
         ensures stays { stays self.old self.new };
 
@@ -89,7 +90,8 @@ pub trait Board {
     ghost stays_roles: { (a b : Self) (p : ℕ) → stays a b → has_role a p ↔ has_role b p };
 
     /// The beneficiary's holder knows what it answered: else only the time-out may have stood.
-    ghost stood_seldom: { (b : Self) (k : Place) (t : Terms) (o : Outcome) → knows b (about k (HasTerms t)) → has_role b t.to → stood b k o → knows b (about k (Decided o)) ⊎ (o ≡ TimedOut) };
+    ghost stood_seldom: { (b : Self) (k : Place) (t : Terms) (o : Outcome) → knows b (about k (HasTerms t)) → has_role b t.to →
+        stood b k o → knows b (about k (Decided o)) ⊎ (o ≡ TimedOut) };
 
     /// What the holder knows of a place is true of one standing.
     ghost knows_one: { (b : Self) (k : Place) → (p : Standing) × ((a : About) → knows b (about k a) → Says p a) };

@@ -10,7 +10,8 @@ ghost use Rattle.inst_board.specs.Laws.{KnowsMore, KnowsOpening, CanOpen, Decide
 ghost use Rattle.inst_board.specs.Laws.{OnlyTheBeneficiaryAnswers, EachPartyMayDecide, AnOpeningIsKnown, ALookIsKnown};
 ghost use Rattle.inst_board.specs.Laws.{ALookShowsWhatIsKnown, OwnOpeningsAreKnown, OwnAnswersAreKnown};
 ghost use Rattle.inst_board.specs.Laws.{ADecisionIsKnown, EachWishWantsByItsReading, EachDecisionIsInTime};
-ghost use Rattle.inst_board.specs.Laws.{OwnAnswersStand, WhatIsKnownStaysTrue, StandingsFollowTheWordLaw};
+ghost use Rattle.inst_board.specs.Laws.{EachDecisionIsOfItsReading, OwnAnswersStand, WhatIsKnownStaysTrue};
+ghost use Rattle.inst_board.specs.Laws.{StandingsFollowTheWordLaw, ShowsItsWords};
 ghost use Rattle.inst_board.specs.Laws.{WhichPlacesThereAre, EachPlaceHasItsNumber, PlainDecidesExactly};
 ghost use Rattle.inst_board.specs.Laws.{PlainLooksExactly, PlainOpensExactly, WhatIsDecidedIsInTime};
 
@@ -69,7 +70,8 @@ pub fn a_decision_is_known<B: Board>()
     ensures { (margin : ℕ) → ADecisionIsKnown margin B.knows B.stood }
 {}
 
-/// Before the deadline an answer is wanted, from it on the time-out.
+/// Before the deadline an answer is wanted, an acceptance only before the margin; from the deadline on
+/// the time-out.
 pub fn each_wish_wants_by_its_reading()
     ensures { EachWishWantsByItsReading }
 {}
@@ -77,6 +79,11 @@ pub fn each_wish_wants_by_its_reading()
 /// Over any board a new outcome is in time.
 pub fn each_decision_is_in_time<B: Board>()
     ensures { (margin : ℕ) → EachDecisionIsInTime margin B.knows B.stood }
+{}
+
+/// Over any board a new outcome was decided at the reading of the wish.
+pub fn each_decision_is_of_its_reading<B: Board>()
+    ensures { (margin : ℕ) → EachDecisionIsOfItsReading margin B.knows B.stood }
 {}
 
 /// Over any board an answer in time stands, unless the transfer was timed out before it.
@@ -92,6 +99,11 @@ pub fn what_is_known_stays_true<B: Board>()
 /// A place stands as its words may.
 pub fn standings_follow_the_word_law()
     ensures { StandingsFollowTheWordLaw }
+{}
+
+/// What a place shows is true of it, and a decided place shows nothing of its deadline.
+pub fn a_place_shows_its_words()
+    ensures { ShowsItsWords }
 {}
 
 /// A participant of the settings has places from 0 to one less than their number.

@@ -179,7 +179,8 @@ impl Board for PlainBoard {
         requires deadline { 1 ≤ deadline }
 
         ensures exact { (terms : Terms) → plain_wrote self.old place terms → Becomes self.old place (Kept.Pending terms deadline) self.new }
-        ensures opened { (terms : Terms) → plain_wrote self.old place terms → Learns self.old.settings.margin plain_knows self.old place (pending terms deadline) self.new }
+        ensures opened { (terms : Terms) → plain_wrote self.old place terms →
+            Learns self.old.settings.margin plain_knows self.old place (pending terms deadline) self.new }
         ensures others { KeepsWritten plain_wrote self.old (λ k. k ≢ place) self.new }
         ensures stays { self.new.settings ≡ self.old.settings }
     {

@@ -1,3 +1,4 @@
 pub mod Widths
 pub mod Latin
 pub mod Telling
+pub mod Fitting

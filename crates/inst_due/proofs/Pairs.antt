@@ -68,6 +68,13 @@ takes_out s n d k updates e l =
     but false false = refl
 
 -- the least pair, where it is due
+pub first_of_all : (s : BTreeSet (ℕ × ℕ)) (first : ℕ × ℕ) → IsTrue (contains pair_cmp s first) → IsLowerBound pair_cmp s first → IsFirst s.keys (λ pair. true) first
+first_of_all s first there least = record {
+  there = has_is s first.0 first.1 ∙ there;
+  passing = refl;
+  least = λ d k has_it passes. sym (greater_test first (d, k)) ∙ least (d, k) (sym (has_is s d k) ∙ has_it);
+}
+
 pub first_is_due : (s : BTreeSet (ℕ × ℕ)) (first : ℕ × ℕ) (at : ℕ) → IsTrue (contains pair_cmp s first) → IsLowerBound pair_cmp s first → is_due first.0 at ≡ true → IsFirst s.keys (λ pair. is_due pair.0 at) first
 first_is_due s first at there least due = record {
   there = has_is s first.0 first.1 ∙ there;

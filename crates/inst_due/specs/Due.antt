@@ -16,6 +16,11 @@ has pairs deadline index = list_any (is_of deadline index) pairs
 abbrev pub comes_before : ℕ × ℕ → ℕ × ℕ → Bool
 comes_before one other = nat_lt one.0 other.0 || (nat_eq one.0 other.0 && nat_lt one.1 other.1)
 
+-- whether a pair comes after this one, or after none
+abbrev pub comes_after : Option (ℕ × ℕ) → ℕ × ℕ → Bool
+comes_after None pair = true
+comes_after (Some before) pair = comes_before before pair
+
 -- the set `after` has the pairs of `before`, and this one
 abbrev pub Adds : List (ℕ × ℕ) → List (ℕ × ℕ) → ℕ → ℕ → Type 0
 Adds before after deadline index =

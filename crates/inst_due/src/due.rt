@@ -1,7 +1,7 @@
 ghost use Rattle.std.specs.Prelude.{◌≡◌, [], true, false, OnOk, OnErr, IsOkUnless};
 ghost use Rattle.std.specs.Bool.{OnFalse};
 ghost use Rattle.inst_base.specs.TimeLimit.{is_due};
-ghost use Rattle.inst_due.specs.Due.{has, comes_before, Adds, TakesOut, IsLeast};
+ghost use Rattle.inst_due.specs.Due.{has, comes_before, comes_after, Adds, TakesOut, IsLeast};
 
 use inst_base::{Fault, Moment};
 use std::alloc::Global;
@@ -78,9 +78,19 @@ impl Due {
         }
     }
 
-    /// The first pair after this one, which need not be in the set. The cost grows with the logarithm
-    /// of the number of pairs.
-    pub fn next_after(&self, pair: (Moment, u16)) -> Option<(Moment, u16)>
+    /// The first pair after this one, which need not be in the set; of `None`, the first of all. The cost
+    /// grows with the logarithm of the number of pairs.
+    pub fn next_after(&self, pair: Option<(Moment, u16)>) -> Option<(Moment, u16)>
+        ensures { IsLeast self.now (comes_after pair) result }
+    {
+        match pair {
+            None => Some(*self.pairs.first()?),
+            Some(pair) => self.above(pair),
+        }
+    }
+
+    /// The first pair after this one.
+    fn above(&self, pair: (Moment, u16)) -> Option<(Moment, u16)>
         ensures { IsLeast self.now (comes_before pair) result }
     {
         self.pairs

@@ -17,10 +17,11 @@ fn pairs_come_by_deadline_and_then_by_place(rt: HostRuntime) -> Result<(), Fault
     due.add(early, 1)?;
     assert_eq!(rt; due.first_due(moment(10_999)?), None);
     assert_eq!(rt; due.first_due(early), Some((early, 1)));
-    assert_eq!(rt; due.next_after((early, 0)), Some((early, 1)));
-    assert_eq!(rt; due.next_after((early, 1)), Some((early, 2)));
-    assert_eq!(rt; due.next_after((early, 2)), Some((late, 0)));
-    assert_eq!(rt; due.next_after((late, 0)), None);
+    assert_eq!(rt; due.next_after(None), Some((early, 1)));
+    assert_eq!(rt; due.next_after(Some((early, 0))), Some((early, 1)));
+    assert_eq!(rt; due.next_after(Some((early, 1))), Some((early, 2)));
+    assert_eq!(rt; due.next_after(Some((early, 2))), Some((late, 0)));
+    assert_eq!(rt; due.next_after(Some((late, 0))), None);
     Ok(())
 }
 

@@ -1,21 +1,22 @@
 -- A sound history has no more bookings than taken and forwarded transfers.
 use Rattle.std.proofs.Common.{◌≡◌, ℕ, ◌+◌, ◌≤◌, Bool, true, false, ◌==◌, cond, List, [], ◌∷◌, ◌++◌, inl, inr, Option, Some, None, sum_by, count_by, refl, sym, ap, ◌∙◌, subst, arith}
 use Rattle.std.specs.List.{list_any}
-use Rattle.std.specs.Cmp.Lexicographic.{same_text as text_same, nat_list_eq_equiv}
+use Rattle.std.specs.Cmp.Lexicographic.{same_text as text_same}
 use Rattle.std.proofs.lemmas.Bool.{eqb-true, eq-eqb, and_parts, and_from, or_cases, false≢true}
 use Rattle.std.proofs.lemmas.List.Sums.{sum_by-cons, sum_by-le-sum_by}
 use Rattle.inst_settings.specs.Settings.{HubSettings, same_text}
+use Rattle.inst_settings.proofs.Numbering.{same_text_refl}
 use Rattle.inst_command.specs.declared.outcome.Outcome.{Outcome}
 use Rattle.inst_journal.specs.declared.event.Event.{Event}
 use Rattle.inst_journal.specs.declared.event.Event.TheVariants.{Funded, Defunded, Taken, Forwarded, Booked, Fetched, Opened}
-use Rattle.inst_journal.specs.Booked.{or_else, takes, is_taken, forwards, books, booked, own_booked, is_submission, submissions, is_forwarding}
+use Rattle.inst_journal.specs.Booked.{or_else, takes, is_taken, forwards, books, booked, own_booked, is_forwarding}
 use Rattle.inst_journal.specs.Sums.{if_unbooked}
 use Rattle.inst_journal.specs.Sound.{Fits, IsSound}
 use Rattle.inst_journal.proofs.Pushing.{sum_by_push, first_some_push}
 use Rattle.inst_journal.proofs.Soundness.{sound_induction}
 use Rattle.inst_journal.proofs.OwnBookings.{own_booked-booked}
 use Rattle.inst_journal.proofs.Covering.{own_push}
-use Rattle.inst_journal.proofs.Counting.{count_push}
+use Rattle.inst_journal.proofs.Counting.{count_push, is_submission, submissions}
 
 -- whether the event books anything
 abbrev pub is_booking : Event → Bool
@@ -59,15 +60,11 @@ smaller f g p (x ∷ xs) le less any = elim (or_cases (p x) (list_any p xs) any)
   | inr later ↦ omega (arith, sum_by-cons f x xs, sum_by-cons g x xs, le x, smaller f g p xs le less later)
 ]
 
--- a text is itself
-itself : (text : List ℕ) → same_text text text ≡ true
-itself text = nat_list_eq_equiv.refl text
-
 closing : (before new : Option Outcome) (outcome : Outcome) → before ≡ None → new ≡ Some outcome → if_unbooked (or_else before new) 1 + 1 ≤ if_unbooked before 1
 closing before new outcome none some = rw (none, some) (omega arith)
 
 pub books_itself : (from : ℕ) (id : List ℕ) (outcome : Outcome) → books from id (Booked from id outcome) ≡ Some outcome
-books_itself from id outcome = ap (λ b. cond b (Some outcome) None) (and_from (from == from) (same_text id id) (eq-eqb from from refl) (itself id))
+books_itself from id outcome = ap (λ b. cond b (Some outcome) None) (and_from (from == from) (same_text id id) (eq-eqb from from refl) (same_text_refl id))
 
 -- a booking closes the taken transfer that it is of
 taken_closed : (s : HubSettings) (who : ℕ) (J : List Event) (id : List ℕ) (outcome : Outcome) → IsSound s who J → Fits s who J (Booked who id outcome)

@@ -9,7 +9,7 @@ use Rattle.inst_base.specs.declared.cents.TheConstants.{MOST_CENTS}
 use Rattle.inst_settings.specs.Settings.{HubSettings, IsSettings, participants, same_text}
 use Rattle.inst_journal.specs.declared.event.Event.{Event}
 use Rattle.inst_journal.specs.declared.event.Event.TheVariants.{Funded, Defunded, Taken, Forwarded, Booked, Fetched, Opened}
-use Rattle.inst_journal.specs.Booked.{or_else, is_taken, takes, is_forwarded, forwards, books, booked, same_transfer, is_submission, submissions, is_forwarding, forwards_from, forwarded_from}
+use Rattle.inst_journal.specs.Booked.{or_else, is_taken, takes, is_forwarded, forwards, books, booked, same_transfer, is_forwarding}
 use Rattle.inst_journal.specs.Opened.{current}
 use Rattle.inst_journal.specs.Keys.{is_funding, fundings}
 use Rattle.inst_journal.specs.Sound.{Fits, IsSound}
@@ -19,6 +19,24 @@ use Rattle.inst_journal.proofs.OwnBookings.{own_unforwarded}
 use Rattle.inst_journal.proofs.Carrying.{carried_push, carried_opened, current_push, current_opened, carried_booked, carried_unbooked}
 use Rattle.inst_journal.proofs.Pushing.{sum_by_push, sum_by-both, list_any_push, first_some_push}
 use Rattle.inst_journal.proofs.Soundness.{sound_induction}
+
+-- whether the event is a taken submission
+abbrev pub is_submission : Event → Bool
+is_submission (Taken id to cents stamp) = true
+is_submission _ = false
+
+-- how many submissions are taken
+abbrev pub submissions : List Event → ℕ
+submissions J = count_by is_submission J
+
+-- whether the event forwards a transfer of this originator
+abbrev pub forwards_from : ℕ → Event → Bool
+forwards_from from (Forwarded other id cents deadline) = other == from
+forwards_from from _ = false
+
+-- how many transfers of this originator were forwarded
+abbrev pub forwarded_from : ℕ → List Event → ℕ
+forwarded_from from J = count_by (forwards_from from) J
 
 pub count_push : (p : Event → Bool) (J : List Event) (event : Event) → count_by p (J ++ event ∷ []) ≡ count_by p J + cond (p event) 1 0
 count_push p J event = sum_by_push (λ e. cond (p e) 1 0) J event

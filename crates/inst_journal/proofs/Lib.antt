@@ -18,3 +18,6 @@ pub mod KeyOnce
 pub mod Living
 pub mod Moving
 pub mod Leading
+pub mod Taking
+pub mod Answering
+pub mod Showing

@@ -1,10 +1,11 @@
 -- What one more event of a sound history does to the position.
 use Rattle.std.proofs.Common.{◌≡◌, ◌≢◌, ℕ, ◌+◌, ◌-◌, ◌≤◌, Bool, true, false, ◌==◌, ◌&&◌, ◌||◌, cond, List, [], ◌∷◌, ◌++◌, inl, inr, Option, Some, None, sum_by, refl, sym, ap, ◌∙◌, subst, arith}
 use Rattle.std.specs.List.{list_any}
-use Rattle.std.specs.Cmp.Lexicographic.{same_text as text_same, nat_list_eq_equiv}
+use Rattle.std.specs.Cmp.Lexicographic.{same_text as text_same}
 use Rattle.std.proofs.lemmas.Bool.{cases_Bool, cases_eq, and_parts, and_from, eqb-true, eq-eqb, ne_eqb, false≢true}
 use Rattle.std.proofs.lemmas.List.Sums.{sum_by-cons}
 use Rattle.inst_settings.specs.Settings.{HubSettings, same_text}
+use Rattle.inst_settings.proofs.Numbering.{same_text_refl}
 use Rattle.inst_command.specs.declared.outcome.Outcome.{Outcome}
 use Rattle.inst_journal.specs.declared.event.Event.{Event}
 use Rattle.inst_journal.specs.declared.event.Event.TheVariants.{Funded, Defunded, Taken, Forwarded, Booked, Fetched, Opened}
@@ -26,9 +27,6 @@ abbrev pub coming : Event → ℕ
 coming (Forwarded from id cents deadline) = cents
 coming _ = 0
 
-itself : (text : List ℕ) → same_text text text ≡ true
-itself text = nat_list_eq_equiv.refl text
-
 -- a name that isn't another's: the other isn't it either
 other_way : (from : ℕ) (id : List ℕ) (other_from : ℕ) (other : List ℕ) → same_transfer from id other_from other ≡ false → same_transfer other_from other from id ≡ false
 other_way from id other_from other another = elim (cases_Bool (same_transfer other_from other from id)) [
@@ -37,7 +35,7 @@ other_way from id other_from other another = elim (cases_Bool (same_transfer oth
       let originator : other_from ≡ from = sym (eqb-true from other_from key.0) in
       let text : other ≡ id = sym (text_same id other (sym key.1)) in
       let back : same_transfer from id other_from other ≡ true =
-      and_from (other_from == from) (same_text other id) (eq-eqb other_from from originator) (ap (λ i. same_text i id) text ∙ itself id) in
+      and_from (other_from == from) (same_text other id) (eq-eqb other_from from originator) (ap (λ i. same_text i id) text ∙ same_text_refl id) in
       absurd (false≢true (sym another ∙ back))
   | inr apart ↦ apart
 ]

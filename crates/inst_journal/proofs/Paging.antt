@@ -1,5 +1,6 @@
--- A page is the next of the arrivals, and keeping it moves the mark past it.
-use Rattle.std.proofs.Common.{◌≡◌, ℕ, zero, suc, ◌+◌, ◌≤◌, false, List, [], ◌∷◌, ◌++◌, length, take, sum_by, Option, None, Ok, refl, sym, ap, ◌∙◌, arith, append-nil, take-append-drop}
+-- A page is the next of the arrivals, and keeping it moves the mark past it; a part of a statement is the next of its
+-- lines.
+use Rattle.std.proofs.Common.{◌≡◌, ℕ, zero, suc, ◌+◌, ◌≤◌, false, List, [], ◌∷◌, ◌++◌, length, take, drop, sum_by, Option, None, Ok, refl, sym, ap, ◌∙◌, arith, append-nil, take-append-drop}
 use Rattle.std.specs.List.{filter_map}
 use Rattle.std.proofs.Math.Seq.{take-add}
 use Rattle.std.proofs.lemmas.Bool.{false≢true}
@@ -12,8 +13,10 @@ use Rattle.inst_journal.specs.declared.event.Event.TheVariants.{Funded, Defunded
 use Rattle.inst_command.specs.declared.entry.Entry.{Entry}
 use Rattle.inst_command.specs.declared.reply.Reply.TheVariants.{Inbox}
 use Rattle.inst_journal.specs.Booked.{is_forwarding}
+use Rattle.inst_journal.specs.Lines.{NextPart}
 use Rattle.inst_journal.specs.Pages.{IsInOrderOfArrival, read_so_far, NextPage}
 use Rattle.inst_journal.specs.Reply.{entry_of, inbox, handed_out, unread, hand_out, told, kept_events}
+use Rattle.inst_journal.specs.Statement.{statement, statement_part}
 use Rattle.inst_journal.proofs.Pushing.{sum_by_push}
 
 no_entry : (event : Event) → is_forwarding event ≡ false → entry_of event ≡ None
@@ -87,3 +90,13 @@ next_page s who J max at found =
       none_only_at_the_end = λ one none.
           sym (sym (take-append-drop mark (inbox J)) ∙ ap (λ rest. read_so_far J ++ rest) (none_left max (unread J) one none) ∙ nothing_more (read_so_far J));
     }
+
+-- a part of a statement is what comes after the lines that are skipped
+pub next_part : (s : HubSettings) (who : ℕ) (J : List Event) (skip count at : ℕ) (found : Option Outcome) → NextPart s who J skip count at found
+next_part s who J skip count at found = record {
+  part = statement_part J skip count;
+  replied = refl;
+  short = omega (arith, length-take count (drop skip (statement J)));
+  next = sym (take-add skip count (statement J));
+  same_history = append-nil J;
+}

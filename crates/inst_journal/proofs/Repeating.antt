@@ -1,8 +1,9 @@
 -- A repeat's contents are kept, and it is answered before anything else is asked of it.
 use Rattle.std.proofs.Common.{◌≡◌, ◌≢◌, ℕ, true, ◌==◌, ◌&&◌, List, ◌++◌, Option, refl, sym, ap, ◌∙◌, append-nil}
-use Rattle.std.specs.Cmp.Lexicographic.{same_text as text_same, nat_list_eq_equiv}
+use Rattle.std.specs.Cmp.Lexicographic.{same_text as text_same}
 use Rattle.std.proofs.lemmas.Bool.{false≢true, and_parts, and_from, eqb-true, eq-eqb, ne_eqb}
 use Rattle.inst_settings.specs.Settings.{HubSettings, same_text}
+use Rattle.inst_settings.proofs.Numbering.{same_text_refl}
 use Rattle.inst_command.specs.declared.outcome.Outcome.{Outcome}
 use Rattle.inst_journal.specs.declared.event.Event.{Event}
 use Rattle.inst_journal.specs.declared.event.Event.TheVariants.{Funded, Defunded, Taken, Forwarded, Booked, Fetched, Opened}
@@ -15,9 +16,6 @@ use Rattle.inst_journal.specs.Keys.{is_this_fund, is_this_defund, is_this_submis
 use Rattle.inst_journal.specs.Repeats.{taken_of, taken_reply, IsTheVerySame, IsAnsweredOnly, IsAnsweredAgain}
 use Rattle.inst_journal.specs.Reply.{answered, fund, defund, submit, handle, kept_events, told}
 use Rattle.inst_journal.proofs.Finding.{found_is_there, there_is_found}
-
-itself : (text : List ℕ) → same_text text text ≡ true
-itself text = nat_list_eq_equiv.refl text
 
 number_itself : (n : ℕ) → (n == n) ≡ true
 number_itself n = eq-eqb n n refl
@@ -69,10 +67,10 @@ submission_itself : (x : Submission) → is_this_submission x (taken_of x) ≡ t
 submission_itself x =
     and_from (same_text x.id x.id && (x.to == x.to) && (x.cents == x.cents)) (x.stamp == x.stamp)
     (and_from (same_text x.id x.id && (x.to == x.to)) (x.cents == x.cents)
-    (and_from (same_text x.id x.id) (x.to == x.to) (itself x.id) (number_itself x.to)) (number_itself x.cents)) (number_itself x.stamp)
+    (and_from (same_text x.id x.id) (x.to == x.to) (same_text_refl x.id) (number_itself x.to)) (number_itself x.cents)) (number_itself x.stamp)
 
 funding_itself : (reference : List ℕ) (cents : ℕ) → (same_text reference reference && (cents == cents)) ≡ true
-funding_itself reference cents = and_from (same_text reference reference) (cents == cents) (itself reference) (number_itself cents)
+funding_itself reference cents = and_from (same_text reference reference) (cents == cents) (same_text_refl reference) (number_itself cents)
 
 -- a repeat is the very same
 pub the_very_same : (J : List Event) → IsTheVerySame J

@@ -1,7 +1,7 @@
 -- Which transfers a history has taken, forwarded and booked. A transfer is named by its originator and its
 -- identifier (EPC004-16, chapter 4, attributes: the originator's reference); that each side books an outcome is
 -- this hub's own choice.
-use Rattle.std.specs.Prelude.{ℕ, Bool, true, false, ◌&&◌, ◌==◌, not, if◌then◌else◌, List, [], ◌∷◌, Option, Some, None, count_by}
+use Rattle.std.specs.Prelude.{ℕ, Bool, true, false, ◌&&◌, ◌==◌, not, if◌then◌else◌, List, [], ◌∷◌, Option, Some, None}
 use Rattle.std.specs.List.{list_any}
 use Rattle.inst_settings.specs.Settings.{same_text}
 use Rattle.inst_command.specs.declared.outcome.Outcome.{Outcome}
@@ -58,25 +58,7 @@ books_own J id _ = None
 abbrev pub own_booked : List ℕ → List Event → Option Outcome
 own_booked id J = first_some (books_own J id) J
 
--- whether the event is a taken submission
-abbrev pub is_submission : Event → Bool
-is_submission (Taken id to cents stamp) = true
-is_submission _ = false
-
--- how many submissions are taken
-abbrev pub submissions : List Event → ℕ
-submissions J = count_by is_submission J
-
 -- whether the event is a forwarded transfer
 abbrev pub is_forwarding : Event → Bool
 is_forwarding (Forwarded from id cents deadline) = true
 is_forwarding _ = false
-
--- whether the event forwards a transfer of this originator
-abbrev pub forwards_from : ℕ → Event → Bool
-forwards_from from (Forwarded other id cents deadline) = other == from
-forwards_from from _ = false
-
--- how many transfers of this originator were forwarded
-abbrev pub forwarded_from : ℕ → List Event → ℕ
-forwarded_from from J = count_by (forwards_from from) J

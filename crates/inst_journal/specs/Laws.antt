@@ -52,7 +52,8 @@ released J = sum_by (release J) J
 
 -- each taken amount is reserved, debited or released, and only one of them, and so are all of them together
 pub record IsInOnePlace (J : List Event) : Type 0 where
-  pub each : (id : List ℕ) (to cents stamp : ℕ) → IsOneOf cents (reservation J (Taken id to cents stamp)) (debit J (Taken id to cents stamp)) (release J (Taken id to cents stamp))
+  pub each : (id : List ℕ) (to cents stamp : ℕ) →
+      IsOneOf cents (reservation J (Taken id to cents stamp)) (debit J (Taken id to cents stamp)) (release J (Taken id to cents stamp))
   pub all : reserved J + debits J + released J ≡ sum_by taking J
 
 abbrev pub EachTakenAmountIsInOnePlace : Type 0

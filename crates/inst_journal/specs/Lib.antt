@@ -11,5 +11,7 @@ pub mod Laws
 pub mod Pages
 pub mod Repeats
 pub mod Lines
+pub mod Taking
+pub mod Answering
 pub mod Living
 pub mod Rows

@@ -1,7 +1,7 @@
 -- What a history carries over an opening from the books: the events up to and with the last Opened. A transfer that is
 -- booked there is settled and keeps its name alone; each other one is live. This hub's own choice.
 use Rattle.std.specs.Prelude.{ℕ, Bool, true, false, ◌&&◌, ◌==◌, is_none, if◌then◌else◌, List, [], ◌∷◌, count_by}
-use Rattle.std.specs.List.{list_any}
+use Rattle.std.specs.List.{list_any, filter}
 use Rattle.inst_journal.specs.declared.event.Event.{Event}
 use Rattle.inst_journal.specs.declared.event.Event.TheVariants.{Taken, Forwarded, Opened}
 use Rattle.inst_journal.specs.Booked.{booked}
@@ -36,6 +36,10 @@ is_live from id J = is_none (booked from id (carried J))
 abbrev pub takes_live : ℕ → List Event → Event → Bool
 takes_live who booking (Taken id to cents stamp) = is_none (booked who id booking)
 takes_live who booking _ = false
+
+-- the events that took its own live transfers, in the order of their places
+abbrev pub live_taken : ℕ → List Event → List Event
+live_taken who J = filter (takes_live who (carried J)) J
 
 -- how many of its own transfers are live
 abbrev pub live_submissions : ℕ → List Event → ℕ

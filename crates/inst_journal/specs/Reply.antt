@@ -1,14 +1,17 @@
 -- What a participant is answered, and what its history keeps of it: the first case that holds, in the one order of
 -- the refusals. Confirmations, rejections and investigations are the scheme's (EPC004-16, chapter 4: processing
 -- flow); the order, the repeats and the capacities are this hub's own choice.
-use Rattle.std.specs.Prelude.{ℕ, Bool, true, false, ◌==◌, nat_lt, nat_le, if◌then◌else◌, List, [], ◌∷◌, ◌++◌, length, take, drop, sum_by, Option, Some, None, Result, Ok, Err}
+use Rattle.std.specs.Prelude.{ℕ, Bool, true, false, ◌==◌, nat_lt, nat_le, if◌then◌else◌, List, [], ◌∷◌, ◌++◌, length}
+use Rattle.std.specs.Prelude.{take, drop, sum_by, Option, Some, None, Result, Ok, Err}
 use Rattle.std.specs.List.{filter_map}
 use Rattle.inst_base.specs.TimeLimit.{deadline_of, is_due, is_ahead}
 use Rattle.inst_base.specs.declared.fault.Fault.{Fault}
 use Rattle.inst_base.specs.declared.fault.Fault.TheVariants.{SelfTransfer, UnknownTransfer, Duplicate, StampAhead, Expired, Full, Shortage}
 use Rattle.inst_settings.specs.Settings.{HubSettings}
 use Rattle.inst_command.specs.declared.command.Command.{Command}
-use Rattle.inst_command.specs.declared.command.Command.TheVariants.{Fund, Defund, Submit, Confirm, Reject, Investigate, Fetch, Position as AskPosition, Statement as AskStatement}
+use Rattle.inst_command.specs.declared.command.Command.TheVariants.{Fund, Defund, Submit, Confirm, Reject}
+use Rattle.inst_command.specs.declared.command.Command.TheVariants.{Investigate, Fetch, Position as AskPosition}
+use Rattle.inst_command.specs.declared.command.Command.TheVariants.{Statement as AskStatement}
 use Rattle.inst_command.specs.declared.submission.Submission.{Submission}
 use Rattle.inst_command.specs.declared.entry.Entry.{Entry}
 use Rattle.inst_command.specs.declared.outcome.Outcome.{Outcome}
@@ -151,8 +154,8 @@ reply s who J command at found = told (handle s who J command at found)
 abbrev pub history_after : HubSettings → ℕ → List Event → Command → ℕ → Option Outcome → List Event
 history_after s who J command at found = J ++ kept_events (handle s who J command at found)
 
--- whether the reply to the command is a copy of entries or lines, which takes memory
-abbrev pub copies : Command → Bool
-copies (Fetch max) = true
-copies (AskStatement skip count) = true
-copies _ = false
+-- whether the reply to the command is a copy of unread entries or of lines, which takes memory
+abbrev pub copies : List Event → Command → Bool
+copies J (Fetch max) = nat_lt 0 (length (unread J))
+copies J (AskStatement skip count) = true
+copies J _ = false

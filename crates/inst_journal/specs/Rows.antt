@@ -5,7 +5,8 @@ use Rattle.std.specs.Prelude.{ℕ, List, [], ◌∷◌, ◌++◌, codes, Option,
 use Rattle.inst_base.specs.declared.fault.Fault.{Fault}
 use Rattle.inst_settings.specs.Settings.{HubSettings}
 use Rattle.inst_command.specs.declared.command.Command.{Command}
-use Rattle.inst_command.specs.declared.command.Command.TheVariants.{Fund, Submit, Confirm, Reject, Investigate, Fetch, Position as AskPosition, Statement as AskStatement}
+use Rattle.inst_command.specs.declared.command.Command.TheVariants.{Fund, Defund, Submit, Confirm, Reject, Investigate}
+use Rattle.inst_command.specs.declared.command.Command.TheVariants.{Fetch, Position as AskPosition, Statement as AskStatement}
 use Rattle.inst_command.specs.declared.outcome.Outcome.{Outcome}
 use Rattle.inst_command.specs.declared.outcome.Outcome.TheVariants.{Accepted}
 use Rattle.inst_command.specs.declared.outcome.State.{State as StateValue}
@@ -65,9 +66,16 @@ ask command at found = record { command = command; at = at; found = found }
 abbrev pub fund : List ℕ → ℕ → Asked
 fund reference cents = ask (Fund reference cents) 0 None
 
+abbrev pub defund : List ℕ → ℕ → Asked
+defund reference cents = ask (Defund reference cents) 0 None
+
 -- a transfer to B, stamped 1000
 abbrev pub submit : List ℕ → ℕ → ℕ → Asked
 submit id cents at = ask (Submit (record { id = id; to = B; cents = cents; stamp = 1000 })) at None
+
+-- a submission of more than A has
+abbrev pub too_much : ℕ → List ℕ → ℕ → ℕ → Asked
+too_much to id stamp at = ask (Submit (record { id = id; to = to; cents = 99999; stamp = stamp })) at None
 
 abbrev pub investigate : List ℕ → Option Outcome → Asked
 investigate id found = ask (Investigate id) 11000 found
@@ -121,6 +129,11 @@ two_places = after A accepted (submit (codes "T2") 100 1000 ∷ [])
 abbrev pub all_fundings : List Event
 all_fundings =
     after A [] (fund (codes "F1") 10 ∷ fund (codes "F2") 20 ∷ fund (codes "F3") 30 ∷ fund (codes "F4") 40 ∷ [])
+
+-- three fundings and a defunding are kept
+abbrev pub all_with_a_defunding : List Event
+all_with_a_defunding =
+    after A [] (fund (codes "F1") 10 ∷ fund (codes "F2") 20 ∷ fund (codes "F3") 30 ∷ defund (codes "D1") 5 ∷ [])
 
 -- what came to B: two transfers of A's, and one of C's between them
 abbrev pub arrivals : List Event

@@ -25,8 +25,8 @@ pub struct Handled {
 
 /// What a command of the participant `who`, read at `at`, is answered on its events, and the event
 /// that they keep of it, where its transfer is found to have the outcome `found`. Refused by the
-/// first of `SelfTransfer` to `Shortage` that holds; only a fetch and a statement may answer
-/// `Memory`. Each call walks the events, some of them more than once.
+/// first of `SelfTransfer` to `Shortage` that holds; only a statement, and a fetch where something is
+/// unread, may answer `Memory`. Each call walks the events, some of them more than once.
 #[tactic(auto, using(crate::proofs::Keeping::history_after_sound))]
 pub fn handle_command(
     alloc: Global,
@@ -41,7 +41,7 @@ pub fn handle_command(
     requires sound { IsSound settings.now who events.now }
     requires fits { command_fits settings.now command.now ≡ true }
     ensures reply { IsUnlessMemory result (handle settings.now who events.now command.now at found) }
-    ensures no_memory { copies command.now ≡ false → result ≡ handle settings.now who events.now command.now at found }
+    ensures no_memory { copies events.now command.now ≡ false → result ≡ handle settings.now who events.now command.now at found }
 
     // With the kept event the history is sound again.
     ensures sound { IsSound settings.now who (history_after settings.now who events.now command.now at found) }

@@ -1,9 +1,14 @@
 //! The laws of one participant's books. Each is a function without a body whose contract is the law, so that the
 //! check proves it.
-ghost use Rattle.inst_journal.specs.Laws.{NothingIsOverdrawn, EachTakenAmountIsInOnePlace, AnOwnBookingHasTheOwnNumber, ATakenAmountIsWhereItIsBooked, ATransferIsBookedOnce, WhatIsKeptFits};
+ghost use Rattle.inst_journal.specs.Laws.{NothingIsOverdrawn, EachTakenAmountIsInOnePlace};
+ghost use Rattle.inst_journal.specs.Laws.{AnOwnBookingHasTheOwnNumber, ATakenAmountIsWhereItIsBooked};
+ghost use Rattle.inst_journal.specs.Laws.{ATransferIsBookedOnce, WhatIsKeptFits};
 ghost use Rattle.inst_journal.specs.Pages.{AnInboxIsInOrderOfArrival, AFetchHandsOutTheNextPage};
 ghost use Rattle.inst_journal.specs.Repeats.{ARepeatIsTheVerySame, ARepeatIsAnsweredAgain, WhatIsToldIsKept, AKeyIsKeptOnce};
-ghost use Rattle.inst_journal.specs.Lines.{LinesCountFromOne, AnOpeningBeginsAStatement, AStatementLeadsToThePosition};
+ghost use Rattle.inst_journal.specs.Taking.{ACommandIsKeptWhereItMay};
+ghost use Rattle.inst_journal.specs.Answering.{APartyIsToldTheOutcome, OthersAreToldNothing};
+ghost use Rattle.inst_journal.specs.Lines.{LinesCountFromOne, AnOpeningBeginsAStatement};
+ghost use Rattle.inst_journal.specs.Lines.{AStatementLeadsToThePosition, AStatementIsReadByParts, ALineTellsAnEvent};
 ghost use Rattle.inst_journal.specs.Living.{TheLiveHavePlaces, AnOpeningKeepsTheBooks, AnOpeningGivesBack};
 
 /// No position and nothing available is ever below 0.
@@ -53,6 +58,19 @@ pub fn what_is_told_is_kept()
     ensures { WhatIsToldIsKept }
 {}
 
+/// A submission is taken, and a fund or defund command done anew, exactly where nothing stands against it: the key is
+/// new, there is room, the amount is available, and a submission is read before its deadline.
+pub fn a_command_is_kept_where_it_may()
+    ensures { ACommandIsKeptWhereItMay }
+{}
+
+/// Who confirms, rejects or investigates a transfer of its own is told the outcome that it has booked, else the one
+/// that is found, and has this booked; others are told nothing.
+pub fn a_party_is_told_the_outcome()
+    ensures party { APartyIsToldTheOutcome }
+    ensures others { OthersAreToldNothing }
+{}
+
 /// A funding reference and a transfer's identifier are each kept once.
 pub fn a_key_is_kept_once()
     ensures { AKeyIsKeptOnce }
@@ -63,6 +81,13 @@ pub fn a_statement_leads_to_the_position()
     ensures numbers { LinesCountFromOne }
     ensures anew { AnOpeningBeginsAStatement }
     ensures positions { AStatementLeadsToThePosition }
+    ensures parts { AStatementIsReadByParts }
+{}
+
+/// A line tells what the books have: a funding, a defunding, or a transfer that is booked accepted, with the other
+/// participant, the key and the amount.
+pub fn a_line_tells_an_event()
+    ensures { ALineTellsAnEvent }
 {}
 
 /// A transfer without an outcome is live, and no more are live than there are places.

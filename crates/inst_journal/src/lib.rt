@@ -8,6 +8,7 @@ mod handle;
 mod journal;
 mod keys;
 pub mod laws;
+mod live;
 mod money;
 mod opening;
 mod queries;

@@ -1,5 +1,5 @@
 //! Questions for the position, the inbox and the statement.
-ghost use Rattle.std.specs.Prelude.{◌≡◌, ◌≤◌, true, take, length, sum_by, IfOk, IsOkUnless};
+ghost use Rattle.std.specs.Prelude.{◌≡◌, ◌≤◌, true, take, length, sum_by, IfOk, IsOk};
 ghost use Rattle.inst_base.specs.Fault.{IsUnlessMemory};
 ghost use Rattle.inst_settings.specs.Settings.{IsSettings};
 ghost use Rattle.inst_command.specs.Ask.{is_count};
@@ -71,17 +71,29 @@ fn inbox(alloc: Global, events: &[Event]) -> Result<Vec<Entry>, AllocError>
     events.iter().filter_map(entry_of).collect(alloc)
 }
 
-/// The next unread forwarded transfers, at most `max` of them.
+/// How many transfers were forwarded.
+fn arrivals(events: &[Event]) -> usize
+    ensures { result ≡ length (inbox events.now) }
+{
+    events.iter().filter_map(entry_of).count()
+}
+
+/// The next unread forwarded transfers, at most `max` of them. It takes no memory where all are read.
 fn unread(alloc: Global, events: &[Event], max: u32) -> Result<Vec<Entry>, AllocError>
     requires { sum_by handed_out events.now ≤ length (inbox events.now) }
-    ensures { IfOk result (λ entries. entries.items ≡ take max (unread events.now)) }
+    ensures ok { IfOk result (λ entries. entries.items ≡ take max (unread events.now)) }
+    ensures none { length (unread events.now) ≡ 0 → IsOk result }
 {
+    let read = handed_out(events);
+    if arrivals(events) == read {
+        return Ok(Vec::new(alloc));
+    }
     let inbox = inbox(alloc, events)?;
-    let rest = &inbox[handed_out(events)..];
+    let rest = &inbox[read..];
     rest[..rest.len().min(max as usize)].to_vec(alloc)
 }
 
-/// Hands out the next unread forwarded transfers, at most `max` of them.
+/// Hands out the next unread forwarded transfers, at most `max` of them. `Memory` only where there are some.
 pub(crate) fn fetch(
     alloc: Global,
     settings: &Settings,
@@ -91,7 +103,8 @@ pub(crate) fn fetch(
 ) -> Result<Handled, Fault>
     requires count { is_count max ≡ true }
     requires sound { IsSound settings.now who events.now }
-    ensures { IsUnlessMemory result (hand_out (take max (unread events.now))) }
+    ensures reply { IsUnlessMemory result (hand_out (take max (unread events.now))) }
+    ensures none { length (unread events.now) ≡ 0 → result ≡ hand_out (take max (unread events.now)) }
 {
     let entries = unread(alloc, events, max)?;
     let count = entries.len() as u32;

@@ -13,8 +13,8 @@ use inst_command::{Command, Outcome, Reply};
 use inst_settings::Settings;
 use std::alloc::Global;
 
-/// The reply to a command, as `handle_command` gives it. It keeps nothing. Only a fetch and a statement
-/// may answer `Memory`.
+/// The reply to a command, as `handle_command` gives it. It keeps nothing. Only a statement,
+/// and a fetch where something is unread, may answer `Memory`.
 pub fn reply_of(
     alloc: Global,
     settings: &Settings,
@@ -28,7 +28,7 @@ pub fn reply_of(
     requires sound { IsSound settings.now who journal.now.events }
     requires fits { command_fits settings.now command.now ≡ true }
     ensures reply { IsUnlessMemory result (reply settings.now who journal.now.events command.now at found) }
-    ensures no_memory { copies command.now ≡ false → result ≡ reply settings.now who journal.now.events command.now at found }
+    ensures no_memory { copies journal.now.events command.now ≡ false → result ≡ reply settings.now who journal.now.events command.now at found }
 {
     let events = journal.events();
     Ok(handle_command(alloc, settings, who, events, command, at, found)?.reply)

@@ -7,7 +7,10 @@ ghost use Rattle.inst_command.specs.declared.outcome.Outcome.{Outcome};
 ghost use Rattle.inst_command.specs.declared.outcome.State.{State};
 ghost use Rattle.inst_command.specs.declared.reply.Reply.{Reply};
 ghost use Rattle.inst_journal.specs.declared.event.Event.{Event};
-ghost use Rattle.inst_journal.specs.Rows.{A, B, C, answers, after, opened, fund, submit, investigate, fetch, position, statement, done, taken, state, money, refused, submitted, accepted, again, two_places, all_fundings, arrivals, confirmation, rejection};
+ghost use Rattle.inst_journal.specs.Rows.{A, B, C, answers, after, opened, fund, defund, submit, too_much};
+ghost use Rattle.inst_journal.specs.Rows.{investigate, fetch, position, statement, done, taken, state, money};
+ghost use Rattle.inst_journal.specs.Rows.{refused, submitted, accepted, again, two_places, all_fundings};
+ghost use Rattle.inst_journal.specs.Rows.{all_with_a_defunding, arrivals, confirmation, rejection};
 
 /// What is pending at an opening stays reserved after it, and is settled when its outcome is learnt.
 pub fn carried_over_an_opening()
@@ -60,6 +63,31 @@ pub fn duplicate_before_full()
     ensures full { answers A all_fundings (fund (codes "F1") 11 ∷ fund (codes "F1") 10 ∷ fund (codes "F5") 50 ∷ []) ≡
         refused Fault.Duplicate ∷ done (codes "F1") ∷ refused Fault.Full ∷ [] }
     ensures opened { answers A (opened all_fundings) (fund (codes "F5") 50 ∷ []) ≡ done (codes "F5") ∷ [] }
+{}
+
+/// A submission that meets several refusals gets the first: to itself, an identifier that is kept, a stamp ahead, a
+/// reading at the deadline, no place, more than is available.
+pub fn submission_refused_by_the_first()
+    ensures full { answers A two_places
+        (too_much A (codes "T1") 2001 1000 ∷ too_much B (codes "T1") 2001 1000 ∷ too_much B (codes "T3") 2001 1000
+        ∷ too_much B (codes "T3") 1000 11000 ∷ too_much B (codes "T3") 1000 10999 ∷ []) ≡
+        refused Fault.SelfTransfer ∷ refused Fault.Duplicate ∷ refused Fault.StampAhead
+        ∷ refused Fault.Expired ∷ refused Fault.Full ∷ [] }
+    ensures opened { answers A (opened two_places)
+        (too_much B (codes "T3") 2000 1000 ∷ too_much B (codes "T3") 1000 10999 ∷ []) ≡
+        refused Fault.Shortage ∷ refused Fault.Shortage ∷ [] }
+{}
+
+/// A defunding that meets several refusals gets the first: a reference that is kept, no funding left, more than is
+/// available. Fund and defund commands use the same fundings and keep their references together.
+pub fn defunding_refused_by_the_first()
+    ensures full { answers A all_with_a_defunding
+        (defund (codes "F1") 99 ∷ defund (codes "F5") 99 ∷ fund (codes "D1") 5 ∷ fund (codes "F5") 1
+        ∷ defund (codes "D1") 5 ∷ []) ≡
+        refused Fault.Duplicate ∷ refused Fault.Full ∷ refused Fault.Duplicate ∷ refused Fault.Full
+        ∷ done (codes "D1") ∷ [] }
+    ensures opened { answers A (opened all_with_a_defunding) (defund (codes "D2") 56 ∷ defund (codes "D2") 55 ∷ []) ≡
+        refused Fault.Shortage ∷ done (codes "D2") ∷ [] }
 {}
 
 /// Pages come in the order of arrival, also over an opening.

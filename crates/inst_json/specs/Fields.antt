@@ -1,15 +1,12 @@
 -- What a line's fields hold, or that one doesn't hold what it must. What a field must hold is this hub's own choice.
-use Rattle.std.specs.Prelude.{ℕ, nat_le, List, Bool, true, false, Result, Ok, Err, if◌then◌else◌}
+use Rattle.std.specs.Prelude.{ℕ, nat_lt, List, Bool, true, false, Result, Ok, Err, if◌then◌else◌}
 use Rattle.inst_base.specs.Text.{code_of, reason_of}
 use Rattle.inst_base.specs.declared.fault.Fault.{Fault}
 use Rattle.inst_base.specs.declared.fault.Fault.TheVariants.{BadField}
+use Rattle.inst_settings.specs.Settings.{most_places}
 use Rattle.inst_command.specs.Ask.{is_count}
 use Rattle.inst_scan.specs.Fields.{Found, missing, text, whole, other}
 use Rattle.inst_json.specs.Refusals.{◌>>=◌}
-
--- the last place that a line can name
-abbrev pub last_place : ℕ
-last_place = 1023
 
 -- a text
 abbrev pub text_in : Found → Result (List ℕ) Fault
@@ -46,8 +43,8 @@ count_in field = do
   count ← whole_in field
   if is_count count then Ok count else Err BadField
 
--- a place, 0 to 1,023
+-- a place that some hub may have, 0 to 1,023
 unfoldable pub place_in : Found → Result ℕ Fault
 place_in field = do
   place ← whole_in field
-  if nat_le place last_place then Ok place else Err BadField
+  if nat_lt place most_places then Ok place else Err BadField

@@ -19,6 +19,6 @@ mod tests;
 mod verb;
 mod write;
 
-pub use read::{read_command, read_step};
+pub use read::{LineReader, read_command, read_step};
 pub use reply::append_reply;
 pub use write::{write_answer, write_reply};

@@ -10,9 +10,10 @@ ghost use Rattle.inst_json.specs.Replies.{entry_data, inbox_data, statement_data
 
 use crate::piece::{Piece, append};
 use crate::reply::code_text;
-use inst_command::{Entry, Line, line_text};
+use inst_command::{Entry, Line, LineText};
 use inst_settings::Settings;
-use std::alloc::{AllocError, Global};
+use std::alloc::AllocError;
+use std::io::Write;
 
 pub(crate) fn append_inbox(
     out: &mut Vec<u8>,
@@ -72,7 +73,6 @@ fn append_entry<'a>(
 }
 
 pub(crate) fn append_statement(
-    alloc: Global,
     out: &mut Vec<u8>,
     settings: &Settings,
     lines: &[Line],
@@ -83,28 +83,20 @@ pub(crate) fn append_statement(
     append(out, &[Piece::Text("{\"lines\":[")])?;
     for (index, line) in lines.iter().enumerate() {
         append_comma(out, index)?;
-        append_line(alloc, out, settings, line)?;
+        append_line(out, settings, line)?;
     }
     append(out, &[Piece::Text("],\"reply\":\"statement\"}")])
 }
 
 /// Puts a statement line at the end of the text, as a text of JSON.
-fn append_line(
-    alloc: Global,
-    out: &mut Vec<u8>,
-    settings: &Settings,
-    line: &Line,
-) -> Result<(), AllocError>
+fn append_line(out: &mut Vec<u8>, settings: &Settings, line: &Line) -> Result<(), AllocError>
     requires { line_fits settings.now line.now ≡ true }
     ensures { OnOk result (out.new.items
         ≡ out.old.items ++ compact_text (string (line_text settings.now line.now))) }
 {
-    let Ok(line) = line_text(alloc, settings, line) else {
-        return Err(AllocError);
-    };
-    let line = line.as_str();
-    append(
-        out,
-        &[Piece::Text("\""), Piece::Text(line), Piece::Text("\"")],
-    )
+    let text = LineText::new(settings, line);
+    match write!(out, "\"{text}\"") {
+        Ok(()) => Ok(()),
+        Err(_) => Err(AllocError),
+    }
 }

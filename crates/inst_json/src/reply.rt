@@ -13,28 +13,22 @@ use crate::piece::{Piece, append};
 use inst_base::{Fault, Ident, Reason};
 use inst_command::{Outcome, Reply, State};
 use inst_settings::Settings;
-use std::alloc::{AllocError, Global};
+use std::alloc::AllocError;
 
 /// Puts the line of a reply, without its newline, at the end of `out`: compact JSON with the keys in
 /// byte order. Moments are absolute milliseconds, and amounts are cents. `Memory` is the only fault;
 /// then a part of the line may stand at the end.
-pub fn append_reply(
-    alloc: Global,
-    settings: &Settings,
-    reply: &Reply,
-    out: &mut Vec<u8>,
-) -> Result<(), Fault>
+pub fn append_reply(settings: &Settings, reply: &Reply, out: &mut Vec<u8>) -> Result<(), Fault>
     requires { reply_can_be_written settings.now reply.now ≡ true }
     ensures text { OnOk result (out.new.items ≡ out.old.items ++ compact_text (reply_data settings.now reply.now)) }
     ensures err { IfErr result (λ fault. fault ≡ Fault.Memory) }
 {
-    append_text(alloc, settings, reply, out)?;
+    append_text(settings, reply, out)?;
     Ok(())
 }
 
 /// Puts the text of a reply at the end of `out`.
 pub(crate) fn append_text(
-    alloc: Global,
     settings: &Settings,
     reply: &Reply,
     out: &mut Vec<u8>,
@@ -53,7 +47,7 @@ pub(crate) fn append_text(
             reserved,
             available,
         } => append_position(out, *position, *reserved, *available),
-        Reply::Statement { lines } => append_statement(alloc, out, settings, lines.as_slice()),
+        Reply::Statement { lines } => append_statement(out, settings, lines.as_slice()),
         Reply::Refused(fault) => append_refused(out, *fault),
     }
 }

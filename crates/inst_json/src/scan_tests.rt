@@ -1,9 +1,10 @@
 //! Each line is read as its tree is, whichever way it goes.
+use crate::LineReader;
 use crate::command::ask_of;
 use crate::line::{fields_of, scan_line};
 use crate::step::step_of;
-use crate::{read_command, read_step};
-use inst_base::{Code, Fault};
+use crate::tests::{MOST, hub};
+use inst_base::Fault;
 use inst_settings::Settings;
 use serde_json::Value;
 use std::alloc::Global;
@@ -132,34 +133,16 @@ const MEMBERS: [(&str, bool); 38] = [
     (r#","#, false),
 ];
 
-/// A hub of AAAADEFF, BBBBFRPP and CCCCITMM.
-fn hub(alloc: Global) -> Result<Settings, Fail> {
-    let codes = [
-        Code::new("AAAADEFF")?,
-        Code::new("BBBBFRPP")?,
-        Code::new("CCCCITMM")?,
-    ];
-    Ok(Settings::check(
-        codes.to_vec(alloc)?,
-        256,
-        256,
-        10_000,
-        0,
-        1000,
-        99_999_999_999,
-        0,
-    )?)
-}
-
-/// Asserts that a line is read as its tree is.
+/// Asserts that a line is read as its tree is, by a reader that may have read others.
 fn assert_alike(
     rt: &impl Abort,
     alloc: Global,
+    reader: &mut LineReader,
     settings: &Settings,
     line: &[u8],
 ) -> Result<(), Fail> {
-    let command = read_command(alloc, settings, line);
-    let step = read_step(alloc, settings, line);
+    let command = reader.read_command(settings, line);
+    let step = reader.read_step(settings, line);
     match Value::from_slice(alloc, line) {
         Ok(value) => {
             let fields = fields_of(&value);
@@ -217,36 +200,21 @@ fn line_of(
 
 /// The bytes with another before the one at a place.
 fn with_byte(alloc: Global, bytes: &[u8], at: usize, other: u8) -> Result<Vec<u8>, Fail> {
-    let mut line = Vec::new(alloc);
-    for (place, byte) in bytes.iter().enumerate() {
-        if place == at {
-            line.push(other)?;
-        }
-        line.push(*byte)?;
-    }
-    Ok(line)
-}
-
-/// The bytes before a place.
-fn cut(alloc: Global, bytes: &[u8], at: usize) -> Result<Vec<u8>, Fail> {
-    let mut line = Vec::new(alloc);
-    for (place, byte) in bytes.iter().enumerate() {
-        if place < at {
-            line.push(*byte)?;
-        }
-    }
+    let mut line = bytes.to_vec(alloc)?;
+    line.insert(at, other)?;
     Ok(line)
 }
 
 #[test]
 fn keys_in_any_order_are_read_in_one_pass(rt: HostRuntime) -> Result<(), Fail> {
     let alloc = rt.alloc();
-    let hub = hub(alloc)?;
+    let hub = hub(alloc, MOST, 0)?;
+    let mut reader = LineReader::new(alloc);
     for members in LINES {
         for first in 0..members.len() {
             let line = line_of(alloc, members, first, None, false)?;
             assert!(rt; scan_line(line.as_bytes()).is_some(), "{line}");
-            assert_alike(&rt, alloc, &hub, line.as_bytes())?;
+            assert_alike(&rt, alloc, &mut reader, &hub, line.as_bytes())?;
         }
     }
     Ok(())
@@ -255,13 +223,14 @@ fn keys_in_any_order_are_read_in_one_pass(rt: HostRuntime) -> Result<(), Fail> {
 #[test]
 fn more_members_count_as_in_the_tree(rt: HostRuntime) -> Result<(), Fail> {
     let alloc = rt.alloc();
-    let hub = hub(alloc)?;
+    let hub = hub(alloc, MOST, 0)?;
+    let mut reader = LineReader::new(alloc);
     for members in LINES {
         for (more, is_scanned) in MEMBERS {
             for is_behind in [false, true] {
                 let line = line_of(alloc, members, 0, Some(more), is_behind)?;
                 assert_eq!(rt; scan_line(line.as_bytes()).is_some(), is_scanned, "{line}");
-                assert_alike(&rt, alloc, &hub, line.as_bytes())?;
+                assert_alike(&rt, alloc, &mut reader, &hub, line.as_bytes())?;
             }
         }
     }
@@ -271,7 +240,8 @@ fn more_members_count_as_in_the_tree(rt: HostRuntime) -> Result<(), Fail> {
 #[test]
 fn white_space_and_strange_bytes_at_every_place(rt: HostRuntime) -> Result<(), Fail> {
     let alloc = rt.alloc();
-    let hub = hub(alloc)?;
+    let hub = hub(alloc, MOST, 0)?;
+    let mut reader = LineReader::new(alloc);
     for members in LINES {
         let line = line_of(alloc, members, 0, None, false)?;
         for at in 0..line.len() {
@@ -279,7 +249,7 @@ fn white_space_and_strange_bytes_at_every_place(rt: HostRuntime) -> Result<(), F
                 b' ', b'\t', b'\n', b'\r', 0x0b, b'"', b',', b'}', b'0', 0xc3,
             ] {
                 let line = with_byte(alloc, line.as_bytes(), at, other)?;
-                assert_alike(&rt, alloc, &hub, &line)?;
+                assert_alike(&rt, alloc, &mut reader, &hub, &line)?;
             }
         }
     }
@@ -289,15 +259,16 @@ fn white_space_and_strange_bytes_at_every_place(rt: HostRuntime) -> Result<(), F
 #[test]
 fn every_cut_of_a_line(rt: HostRuntime) -> Result<(), Fail> {
     let alloc = rt.alloc();
-    let hub = hub(alloc)?;
+    let hub = hub(alloc, MOST, 0)?;
+    let mut reader = LineReader::new(alloc);
     for members in LINES {
         let line = line_of(alloc, members, 0, None, false)?;
         for at in 0..line.len() {
-            assert_alike(&rt, alloc, &hub, &cut(alloc, line.as_bytes(), at)?)?;
+            assert_alike(&rt, alloc, &mut reader, &hub, &line.as_bytes()[..at])?;
         }
         for tail in [" ", "\r", " \t\n", "x", ",", "}", "{}"] {
             let line = format!(in alloc; "{line}{tail}")?;
-            assert_alike(&rt, alloc, &hub, line.as_bytes())?;
+            assert_alike(&rt, alloc, &mut reader, &hub, line.as_bytes())?;
         }
     }
     for line in [
@@ -314,7 +285,7 @@ fn every_cut_of_a_line(rt: HostRuntime) -> Result<(), Fail> {
         "{,}",
         "{{}}",
     ] {
-        assert_alike(&rt, alloc, &hub, line.as_bytes())?;
+        assert_alike(&rt, alloc, &mut reader, &hub, line.as_bytes())?;
     }
     Ok(())
 }

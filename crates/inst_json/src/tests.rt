@@ -13,14 +13,14 @@ use std::alloc::Global;
 use std::process::Abort;
 use std::test::Fail;
 
-const MOST: u64 = 99_999_999_999;
+pub const MOST: u64 = 99_999_999_999;
 
 const LAST: u64 = 2_199_023_255_551;
 
 const HIGH_BASE: u64 = 4_611_686_018_427_387_904;
 
 /// A hub of AAAADEFF, BBBBFRPP and CCCCITMM, numbered 0, 1 and 2, with a limit of 10,000 ms.
-fn hub(alloc: Global, ceiling: u64, base: u64) -> Result<Settings, Fail>
+pub fn hub(alloc: Global, ceiling: u64, base: u64) -> Result<Settings, Fail>
     ensures { IfOk result (λ s. participants s ≡ 3) }
 {
     let codes = [
@@ -569,8 +569,10 @@ fn writes_inboxes(rt: HostRuntime) -> Result<(), Fail> {
     let two = Answer::Reply(Reply::Inbox {
         entries: Entries::new(vec![in alloc; first, second]?),
     });
-    let line =
-        r#"{"entries":[{"cents":100,"deadline":11000,"from":"AAAADEFF","id":"T1"},{"cents":100,"deadline":11000,"from":"CCCCITMM","id":"O'B, (1)"}],"reply":"inbox"}"#;
+    let line = "{\"entries\":[\
+        {\"cents\":100,\"deadline\":11000,\"from\":\"AAAADEFF\",\"id\":\"T1\"},\
+        {\"cents\":100,\"deadline\":11000,\"from\":\"CCCCITMM\",\"id\":\"O'B, (1)\"}],\
+        \"reply\":\"inbox\"}";
     assert_writes(&rt, alloc, &hub, &two, line)?;
     Ok(())
 }
@@ -614,8 +616,10 @@ fn writes_statements(rt: HostRuntime) -> Result<(), Fail> {
     let two = Answer::Reply(Reply::Statement {
         lines: Lines::new(vec![in alloc; received, funded]?),
     });
-    let line =
-        r#"{"lines":["     1 IN  AAAADEFF    T1                                        20000                20000","     2 FND             F1                                        50000                70000"],"reply":"statement"}"#;
+    let line = "{\"lines\":[\
+        \"     1 IN  AAAADEFF    T1                                        20000                20000\",\
+        \"     2 FND             F1                                        50000                70000\"],\
+        \"reply\":\"statement\"}";
     assert_writes(&rt, alloc, &hub, &two, line)?;
     Ok(())
 }

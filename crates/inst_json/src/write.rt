@@ -23,7 +23,7 @@ pub fn write_reply(alloc: Global, settings: &Settings, reply: &Reply) -> Result<
     ensures err { IfErr result (λ fault. fault ≡ Fault.Memory) }
 {
     let mut text = Vec::new(alloc);
-    append_text(alloc, settings, reply, &mut text)?;
+    append_text(settings, reply, &mut text)?;
     Ok(text)
 }
 
@@ -43,26 +43,20 @@ pub fn write_answer(alloc: Global, settings: &Settings, answer: &Answer) -> Resu
     }
 }
 
+/// Whether a step brought anything new, as its line.
 fn new_text(alloc: Global, new: bool) -> Result<Vec<u8>, AllocError>
     ensures { IfOk result (λ bytes. bytes.items ≡ compact_text (new_data new)) }
 {
     let mut text = Vec::new(alloc);
-    append_new(&mut text, new)?;
-    Ok(text)
-}
-
-/// Puts whether a step brought anything new at the end of `out`.
-fn append_new(out: &mut Vec<u8>, new: bool) -> Result<(), AllocError>
-    ensures { OnOk result (out.new.items ≡ out.old.items ++ compact_text (new_data new)) }
-{
     append(
-        out,
+        &mut text,
         &[
             Piece::Text("{\"new\":"),
             Piece::Text(bool_name(new)),
             Piece::Text(",\"reply\":\"step\"}"),
         ],
-    )
+    )?;
+    Ok(text)
 }
 
 fn bool_name(value: bool) -> &'static str

@@ -33,12 +33,14 @@ fn run(rt: &(impl Abort + AllocGlobal), words: &str, input: &str) -> Result<Ran,
 fn serves_lines(rt: HostRuntime) -> Result<(), Fail> {
     let words = "inst_main run --participants AAAADEFF,BBBBFRPP --places 1";
     let position = "{\"available\":0,\"position\":0,\"reply\":\"position\",\"reserved\":0}\n";
+    let refused = "{\"fault\":\"BadField\",\"number\":2,\"reply\":\"refused\"}\n";
     for (input, output) in [
         ("", ""),
         (
             "{\"at\":0,\"cmd\":\"position\",\"who\":\"BBBBFRPP\"}\n",
             position,
         ),
+        ("[]\n", refused),
     ] {
         let ran = run(&rt, words, input)?;
         assert_eq!(rt; ran.status, 0);

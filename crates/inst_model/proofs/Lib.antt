@@ -40,4 +40,6 @@ pub mod Told
 pub mod Closed
 pub mod Rounds
 pub mod Chain
+pub mod Asking
 pub mod SettledUp
+pub mod Deciders

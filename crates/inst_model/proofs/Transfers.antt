@@ -7,7 +7,7 @@ use Rattle.std.proofs.lemmas.Option.{cond_some, same_Some}
 use Rattle.inst_settings.specs.Settings.{HubSettings, same_text, participants}
 use Rattle.inst_journal.specs.declared.event.Event.{Event}
 use Rattle.inst_journal.specs.declared.event.Event.TheVariants.{Funded, Defunded, Taken, Forwarded, Booked, Fetched, Opened}
-use Rattle.inst_journal.specs.Booked.{or_else, is_taken, submissions, is_submission}
+use Rattle.inst_journal.specs.Booked.{or_else, is_taken}
 use Rattle.inst_journal.specs.Sound.{Fits, IsSound}
 use Rattle.inst_journal.specs.Opened.{is_live}
 use Rattle.inst_journal.proofs.Soundness.{sound_induction}
@@ -203,14 +203,3 @@ each_to_participant s who J sound =
 
 pub each_place_found : (s : HubSettings) (who : ℕ) (J : List Event) → IsSound s who J → Each (λ (x : Transfer). transfer x.id J ≡ Some x) (transfers J)
 each_place_found = each_found
-
--- as many transfers as submissions
-pub length-transfers : (J : List Event) → length (transfers J) ≡ submissions J
-length-transfers [] = refl
-length-transfers (Taken id to cents stamp ∷ J) = omega (arith, length-transfers J, sum_by-cons (λ e. cond (is_submission e) 1 0) (Taken id to cents stamp) J)
-length-transfers (Funded reference cents ∷ J) = omega (arith, length-transfers J, sum_by-cons (λ e. cond (is_submission e) 1 0) (Funded reference cents) J)
-length-transfers (Defunded reference cents ∷ J) = omega (arith, length-transfers J, sum_by-cons (λ e. cond (is_submission e) 1 0) (Defunded reference cents) J)
-length-transfers (Forwarded from id cents deadline ∷ J) = omega (arith, length-transfers J, sum_by-cons (λ e. cond (is_submission e) 1 0) (Forwarded from id cents deadline) J)
-length-transfers (Booked from id o ∷ J) = omega (arith, length-transfers J, sum_by-cons (λ e. cond (is_submission e) 1 0) (Booked from id o) J)
-length-transfers (Fetched count ∷ J) = omega (arith, length-transfers J, sum_by-cons (λ e. cond (is_submission e) 1 0) (Fetched count) J)
-length-transfers (Opened ∷ J) = omega (arith, length-transfers J, sum_by-cons (λ e. cond (is_submission e) 1 0) Opened J)

@@ -1,16 +1,22 @@
 -- What each side is told (EPC004-16, chapter 4: both participants are told one outcome): a party that learns of a decided
--- transfer has it booked, an originator whose transfer expires has it booked, and what is pending comes to its beneficiary,
--- which nothing does that is decided. That each is a step of its own is this hub's own choice.
+-- transfer or asks after it has it booked, an originator whose transfer expires has it booked, and what is pending comes to
+-- its beneficiary, which nothing does that is decided. That each is a step of its own is this hub's own choice.
 use Rattle.std.specs.Prelude.{◌≡◌, ◌⊎◌, ℕ, true, false, List, ◌∷◌, Some, None}
 use Rattle.inst_settings.specs.Settings.{HubSettings}
+use Rattle.inst_command.specs.declared.ask.Ask.{Ask as AskValue}
+use Rattle.inst_command.specs.declared.command.Command.{Command}
+use Rattle.inst_command.specs.declared.command.Command.TheVariants.{Confirm, Reject, Investigate}
 use Rattle.inst_command.specs.declared.outcome.Outcome.{Outcome}
+use Rattle.inst_command.specs.declared.outcome.State.TheVariants.{Decided}
+use Rattle.inst_command.specs.declared.reply.Answer.TheVariants.{Reply}
+use Rattle.inst_command.specs.declared.reply.Reply.TheVariants.{State}
 use Rattle.inst_command.specs.declared.step.Step.{Step}
-use Rattle.inst_command.specs.declared.step.Step.TheVariants.{Deliver, Learn, Expire}
-use Rattle.inst_journal.specs.Booked.{is_forwarded, booked}
+use Rattle.inst_command.specs.declared.step.Step.TheVariants.{Ask, Deliver, Learn, Expire}
+use Rattle.inst_journal.specs.Booked.{is_taken, is_forwarded, booked}
 use Rattle.inst_model.specs.Opening.{Opening, IsOpening}
 use Rattle.inst_model.specs.Transfer.{Transfer, at_place}
 use Rattle.inst_model.specs.Hub.{outcome, history}
-use Rattle.inst_model.specs.Trace.{is_seen}
+use Rattle.inst_model.specs.Trace.{answer, is_seen}
 
 -- a party that learns of a decided transfer has its outcome booked
 abbrev pub LearningBooks : Type 0
@@ -40,3 +46,24 @@ NothingDecidedIsDelivered =
     (s : HubSettings) (O : Opening) (past : List Step) (p place q : ℕ) (x : Transfer) (o : Outcome) →
     at_place p (history s O past p) place ≡ Some x → outcome s O past p x.id ≡ Some o →
     is_seen s O past (Deliver p place q) q ≡ false
+
+-- once the ask is answered the transfer has this outcome, and then the asker is answered it and has it booked
+abbrev pub IsTold : HubSettings → Opening → List Step → ℕ → Command → ℕ → ℕ → List ℕ → Outcome → Type 0
+IsTold s O past who command at from id o =
+    let ask : AskValue = record { who = who; command = command; at = at } in
+    outcome s O (Ask ask ∷ past) from id ≡ Some o →
+    (answer s O past (Ask ask) ≡ Reply (State from id (Decided o)))
+    × (booked from id (history s O (Ask ask ∷ past) who) ≡ Some o)
+
+-- a beneficiary that confirms or rejects what has come to it, and an originator that investigates what it has taken
+pub record EachPartyIsTold (s : HubSettings) (O : Opening) (past : List Step) (who at : ℕ) (o : Outcome) : Type 0 where
+  pub confirmed : (from : ℕ) (id : List ℕ) → is_forwarded from id (history s O past who) ≡ true →
+      IsTold s O past who (Confirm from id) at from id o
+  pub rejected : (from : ℕ) (id reason : List ℕ) → is_forwarded from id (history s O past who) ≡ true →
+      IsTold s O past who (Reject from id reason) at from id o
+  pub investigated : (id : List ℕ) → is_taken id (history s O past who) ≡ true →
+      IsTold s O past who (Investigate id) at who id o
+
+abbrev pub AskingTells : Type 0
+AskingTells = (s : HubSettings) (O : Opening) → IsOpening s O → (past : List Step) (who at : ℕ) (o : Outcome) →
+    EachPartyIsTold s O past who at o

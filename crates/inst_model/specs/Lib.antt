@@ -20,6 +20,7 @@ pub mod Places
 pub mod ClosedBooks
 pub mod StepByStep
 pub mod InTime
+pub mod Deciders
 pub mod Learning
 pub mod AtTheOpening
 pub mod LivePlaces

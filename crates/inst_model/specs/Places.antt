@@ -23,4 +23,5 @@ PlacesName =
 abbrev pub IdentifiersName : Type 0
 IdentifiersName =
     (s : HubSettings) (O : Opening) (L : List Step) (p : ℕ) (id : List ℕ) (x : Transfer) →
-    transfer id (history s O L p) ≡ Some x → is_live p id (history s O L p) ≡ true → (place : ℕ) × (at_place p (history s O L p) place ≡ Some x) × (x.id ≡ id)
+    transfer id (history s O L p) ≡ Some x → is_live p id (history s O L p) ≡ true →
+    (place : ℕ) × (at_place p (history s O L p) place ≡ Some x) × (x.id ≡ id)

@@ -36,7 +36,8 @@ tells outcomes from p J (Some x) =
     if (p == from) || is_forwarded from x.id J then news from x.id (outcomes from x.id) (booked from x.id J) else []
 
 -- what p sees of a step, with the histories and outcomes before it and the outcomes after it
-abbrev pub sees : HubSettings → (ℕ → List Event) → (ℕ → List ℕ → Option Outcome) → (ℕ → List ℕ → Option Outcome) → Step → ℕ → List Seen
+abbrev pub sees : HubSettings → (ℕ → List Event) → (ℕ → List ℕ → Option Outcome) → (ℕ → List ℕ → Option Outcome) →
+    Step → ℕ → List Seen
 sees s J before after (Ask ask) p =
     if ask.who == p then Asked ask.command ask.at (found after p (J p) ask.command) ∷ [] else []
 sees s J before after (Deliver from place to) p =

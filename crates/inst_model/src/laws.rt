@@ -6,7 +6,9 @@ ghost use Rattle.inst_model.specs.ClosedBooks.{ClosedBooksSumToTheNet};
 ghost use Rattle.inst_model.specs.Conservation.{MoneyIsConserved};
 ghost use Rattle.inst_model.specs.Locality.{OutcomeIsLocal};
 ghost use Rattle.inst_model.specs.InTime.{EachOutcomeIsInTime};
-ghost use Rattle.inst_model.specs.Learning.{LearningBooks, ExpiryBooks, DeliveryForwards, NothingDecidedIsDelivered};
+ghost use Rattle.inst_model.specs.Deciders.{EachOutcomeIsAPartys};
+ghost use Rattle.inst_model.specs.Learning.{LearningBooks, ExpiryBooks, AskingTells};
+ghost use Rattle.inst_model.specs.Learning.{DeliveryForwards, NothingDecidedIsDelivered};
 ghost use Rattle.inst_model.specs.Places.{PlacesName, IdentifiersName};
 ghost use Rattle.inst_model.specs.SoundAndFit.{HistoriesAreSound, HistoriesFit};
 ghost use Rattle.inst_model.specs.AtTheOpening.{AnOpeningBeginsFromItsBooks};
@@ -41,10 +43,17 @@ pub fn each_outcome_is_in_time()
     ensures { EachOutcomeIsInTime }
 {}
 
-/// Who learns has it booked, and what is pending comes to its beneficiary.
+/// A transfer is accepted by its beneficiary's confirmation alone, rejected by its beneficiary's rejection alone, and
+/// timed out at a step of one of its parties.
+pub fn each_outcome_is_a_partys()
+    ensures { EachOutcomeIsAPartys }
+{}
+
+/// Who learns has it booked, who asks is told it and has it booked, and what is pending comes to its beneficiary.
 pub fn what_is_decided_is_learnt()
     ensures learnt { LearningBooks }
     ensures expired { ExpiryBooks }
+    ensures asked { AskingTells }
     ensures delivered { DeliveryForwards }
     ensures undelivered { NothingDecidedIsDelivered }
 {}

@@ -1,17 +1,21 @@
 -- A table that tells for a text whether it may be a participant's code (BIC, ISO 9362), and whose: texts are mixed
 -- into 4,096 marks, and each mark has no participant, one or several. This hub's own choice.
-use Rattle.std.specs.Prelude.{◌≡◌, ℕ, ◌+◌, ◌*◌, ◌/◌, ◌%◌, ◌^◌, ◌<◌, Bool, true, false, nat_eq, nat_lt, if◌then◌else◌, List, [], ◌∷◌, length, get_or, slice_index}
+use Rattle.std.specs.Prelude.{◌≡◌, ℕ, ◌+◌, ◌*◌, ◌/◌, ◌%◌, ◌^◌, ◌<◌, Bool, true, false, nat_eq, nat_lt, if◌then◌else◌}
+use Rattle.std.specs.Prelude.{List, [], ◌∷◌, length, get_or, slice_index}
 use Rattle.std.specs.Int.{from_be_bytes, w64}
 use Rattle.inst_settings.specs.declared.finder.Holders.{Holders}
 use Rattle.inst_settings.specs.declared.finder.Holders.TheVariants.{Nobody, Only, Several}
 
 -- the first eight characters: bank, country and place
 unfoldable pub bank_of : List ℕ → ℕ
-bank_of code = from_be_bytes w64 (slice_index code 0 ∷ slice_index code 1 ∷ slice_index code 2 ∷ slice_index code 3 ∷ slice_index code 4 ∷ slice_index code 5 ∷ slice_index code 6 ∷ slice_index code 7 ∷ [])
+bank_of code = from_be_bytes w64 (
+    slice_index code 0 ∷ slice_index code 1 ∷ slice_index code 2 ∷ slice_index code 3
+    ∷ slice_index code 4 ∷ slice_index code 5 ∷ slice_index code 6 ∷ slice_index code 7 ∷ [])
 
 -- the three characters of a branch, or 0
 unfoldable pub branch_of : List ℕ → ℕ
-branch_of code = if nat_lt (length code) 11 then 0 else from_be_bytes w64 (0 ∷ 0 ∷ 0 ∷ 0 ∷ 0 ∷ slice_index code 8 ∷ slice_index code 9 ∷ slice_index code 10 ∷ [])
+branch_of code = if nat_lt (length code) 11 then 0
+    else from_be_bytes w64 (0 ∷ 0 ∷ 0 ∷ 0 ∷ 0 ∷ slice_index code 8 ∷ slice_index code 9 ∷ slice_index code 10 ∷ [])
 
 -- the mark that a bank and a branch are mixed into
 unfoldable pub mixed : ℕ → ℕ → ℕ

@@ -44,13 +44,17 @@ abbrev pub are_different : List (List ℕ) → Bool
 are_different [] = true
 are_different (code ∷ codes) = not (list_any (λ other. same_text other code) codes) && are_different codes
 
+-- the most places that an originator may have
+abbrev pub most_places : ℕ
+most_places = 1024
+
 -- the settings are in their ranges
 pub record IsSettings (s : HubSettings) : Type 0 where
   pub participants_some : 1 ≤ length s.codes
   pub participants_most : length s.codes ≤ 256
   pub different : are_different s.codes ≡ true
   pub places_some : 1 ≤ s.places
-  pub places_most : s.places ≤ 1024
+  pub places_most : s.places ≤ most_places
   pub fundings_some : 1 ≤ s.fundings
   pub fundings_most : s.fundings ≤ 1024
   pub limit_some : 1 ≤ s.limit

@@ -1,44 +1,42 @@
--- What a contract sees of a slot: the settings of its hub, the number of its participant, and its history. That a
--- participant's books stand by themselves is this hub's own choice.
-use Rattle.std.specs.Prelude.{◌≡◌, ◌⊎◌, ◌++◌, ℕ, Bool, true, false, List, None, Result, Err}
-use Rattle.inst_base.specs.declared.fault.Fault.{Fault}
-use Rattle.inst_base.specs.declared.fault.Fault.TheVariants.{Memory}
+-- What a contract sees of a slot: the settings of its hub, the number of its participant, its history, and where the
+-- live transfers lie that were forwarded to it. That a participant's books stand by themselves is this hub's own choice.
+use Rattle.std.specs.Prelude.{ℕ, Bool, false, ◌==◌, if◌then◌else◌, List, Option, Some, None}
+use Rattle.std.specs.List.{filter}
 use Rattle.inst_settings.specs.Settings.{HubSettings}
-use Rattle.inst_command.specs.declared.ask.Ask.{Ask}
-use Rattle.inst_command.specs.declared.command.Command.{Command}
-use Rattle.inst_command.specs.declared.command.Command.TheVariants.{Fund, Defund, Submit, Position}
-use Rattle.inst_command.specs.declared.reply.Reply.{Reply}
+use Rattle.inst_command.specs.declared.entry.Entry.{Entry}
+use Rattle.inst_terms.specs.declared.terms.Terms.{Terms}
+use Rattle.inst_board.specs.declared.place.Place.{Place}
 use Rattle.inst_journal.specs.declared.event.Event.{Event}
-use Rattle.inst_journal.specs.declared.handle.Handled.{Handled}
-use Rattle.inst_journal.specs.Reply.{handle, kept_events, told}
+use Rattle.inst_journal.specs.Booked.{same_transfer, first_some}
+use Rattle.inst_journal.specs.Opened.{is_live}
+use Rattle.inst_journal.specs.Reply.{inbox}
+use Rattle.inst_slot.specs.declared.arrival.Arrival.{Arrival}
 
 pub record Book : Type 0 where
   pub settings : HubSettings
   pub who : ℕ
   pub events : List Event
+  pub arrivals : List Arrival
 
--- whether slots take the command: they have no board of outcome words yet, so that no transfer is confirmed,
--- forwarded or found to be decided
-abbrev pub is_served : Command → Bool
-is_served (Fund reference cents) = true
-is_served (Defund reference cents) = true
-is_served (Submit submission) = true
-is_served Position = true
-is_served _ = false
+abbrev pub place_at : ℕ → ℕ → Place
+place_at owner index = record { owner = owner; index = index }
 
--- what an ask of the participant is answered, and what its history keeps of it
-abbrev pub handle_ask : Book → Ask → Result Handled Fault
-handle_ask book ask = handle book.settings book.who book.events ask.command ask.at None
+abbrev pub terms_to : ℕ → ℕ → List ℕ → Terms
+terms_to to cents id = record { to = to; cents = cents; id = id }
 
--- what an ask of the participant is replied, or why it is refused
-abbrev pub own_reply : Book → Ask → Result Reply Fault
-own_reply book ask = told (handle_ask book ask)
+-- the forwarded transfers that are live, in order of arrival
+abbrev pub live_inbox : List Event → List Entry
+live_inbox J = filter (λ entry. is_live entry.from entry.id J) (inbox J)
 
--- the book after an ask of its participant
-abbrev pub book_after : Book → Ask → Book
-book_after book ask = record book { events = book.events ++ kept_events (handle_ask book ask) }
+-- the index of the place, where the arrival is of this transfer and its place was found
+abbrev pub index_of : ℕ → List ℕ → Arrival → Option ℕ
+index_of from id arrival = if same_transfer from id arrival.entry.from arrival.entry.id then arrival.index else None
 
--- an ask is answered as the books demand, and they keep what they are to keep, unless memory was refused
-abbrev pub AppliesUnlessMemory : Book → Book → Ask → Result Reply Fault → Type 0
-AppliesUnlessMemory old new ask result =
-    (result ≡ Err Memory) ⊎ ((result ≡ own_reply old ask) × (new ≡ book_after old ask))
+-- the index of the place from which the transfer was forwarded
+abbrev pub arrived_at : ℕ → List ℕ → List Arrival → Option ℕ
+arrived_at from id arrivals = first_some (index_of from id) arrivals
+
+-- whether it is this index
+abbrev pub is_at : ℕ → Option ℕ → Bool
+is_at index None = false
+is_at index (Some other) = other == index

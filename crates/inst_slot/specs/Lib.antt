@@ -1,1 +1,4 @@
 pub mod Book
+pub mod LawfulBoard
+pub mod Asking
+pub mod Telling

@@ -1,8 +1,9 @@
-//! A participant's slot: its books, and what its commands are answered on them.
+//! A participant's slot: its books, and what its commands are answered on them, over any board.
 #![tactic(auto)]
 
+mod arrival;
+mod finding;
 mod slot;
-#[cfg(test)]
-mod tests;
 
+pub use arrival::Arrival;
 pub use slot::Slot;

@@ -66,6 +66,12 @@ module _ (margin : ℕ) where
     | inr more ↦ leads_between Unused words h j i more (Final p u) (Final o t) isp iso
   ]
 
+  pub one_deadline : (words : List Word) → IsLawful margin words → (i j d e : ℕ) → slice_get words i ≡ Some (Pending d) → slice_get words j ≡ Some (Pending e) → d ≡ e
+  one_deadline words h i j d e isd ise = elim (cases_lt i j) [
+    | inl less ↦ sym (leads_between Unused words h i j (omega arith) (Pending d) (Pending e) isd ise)
+    | inr more ↦ leads_between Unused words h j i more (Pending e) (Pending d) ise isd
+  ]
+
   -- where the words begin after a pending one, or that one stands among them
   abbrev Decider : Word → List Word → ℕ → Outcome → ℕ → Type 0
   Decider Unused ws i o t = (j : ℕ) × (d : ℕ) × (j < i) × (slice_get ws j ≡ Some (Pending d)) × (1 ≤ d) × InTime margin o d t

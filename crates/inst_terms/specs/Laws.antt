@@ -23,6 +23,11 @@ abbrev pub OneFinalWord : Type 0
 OneFinalWord = (margin : ℕ) (words : List Word) → IsLawful margin words → (i j : ℕ) (o p : Outcome) (t u : ℕ) →
     slice_get words i ≡ Some (Final o t) → slice_get words j ≡ Some (Final p u) → Final o t ≡ Final p u
 
+-- a place has one deadline, for as long as it is pending
+abbrev pub OneDeadline : Type 0
+OneDeadline = (margin : ℕ) (words : List Word) → IsLawful margin words → (i j deadline other : ℕ) →
+    slice_get words i ≡ Some (Pending deadline) → slice_get words j ≡ Some (Pending other) → deadline ≡ other
+
 -- what was seen of a place is seen of it from then on, or more
 abbrev pub NothingSeenGoesBack : Type 0
 NothingSeenGoesBack = (margin : ℕ) (words : List Word) → IsLawful margin words → (i j : ℕ) → i ≤ j → (v w : Word) →

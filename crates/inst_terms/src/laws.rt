@@ -1,7 +1,7 @@
 //! The laws of a place's words. Each is a function without a body whose contract is the law, so that
 //! the check proves it.
 ghost use Rattle.inst_terms.specs.Laws.{DifferentTermsHaveDifferentWords, DifferentWordsHaveDifferentNumbers};
-ghost use Rattle.inst_terms.specs.Laws.{OneFinalWord, NothingSeenGoesBack, EachOutcomeIsInTime, WhatIsInTime};
+ghost use Rattle.inst_terms.specs.Laws.{OneFinalWord, OneDeadline, NothingSeenGoesBack, EachOutcomeIsInTime, WhatIsInTime};
 ghost use Rattle.inst_terms.specs.Laws.{EachOutcomeInTimeMayStand, WhatIsSeen};
 ghost use Rattle.inst_terms.specs.Rows.{WordsOfTheFormat};
 
@@ -20,18 +20,24 @@ pub fn one_final_word()
     ensures { OneFinalWord }
 {}
 
+/// The deadline of a place never changes.
+pub fn one_deadline()
+    ensures { OneDeadline }
+{}
+
 /// What could be seen of a place once can be seen from then on.
 pub fn nothing_seen_goes_back()
     ensures { NothingSeenGoesBack }
 {}
 
-/// A place is accepted or rejected before its deadline, and timed out at it or after it.
+/// A place is accepted before its deadline by more than the margin, rejected before its deadline, and
+/// timed out at it or after it.
 pub fn each_outcome_is_in_time()
     ensures { EachOutcomeIsInTime }
 {}
 
-/// In time is before the deadline for an acceptance and a rejection, and at it or after it for a
-/// time-out.
+/// In time is before the deadline by more than the margin for an acceptance, before the deadline for a
+/// rejection, and at it or after it for a time-out.
 pub fn what_is_in_time()
     ensures { WhatIsInTime }
 {}

@@ -25,7 +25,7 @@ refusals-push a s (y ∷ xs) x = let h : _ ≡ _ = refusals-push a (state_after_
 
 -- a line is too long where its front was let go, or the part held is too long
 pub is_too_long-front : (is_long : Bool) (front part : List ℕ) → IsFront is_long front → (is_long ≡ true) ⊎ (most_line_bytes < length part) → is_too_long (front ++ part) ≡ true
-is_too_long-front true front part h why = lt-ltb _ _ (let long : 4096 < length front = h.0 in omega (arith, length-append front part))
+is_too_long-front true front part h why = lt-ltb _ _ (let long : most_line_bytes < length front = h.0 in omega (arith, length-append front part))
 is_too_long-front false front part h (inl is) = absurd (false≢true is)
 is_too_long-front false front part h (inr long) = lt-ltb _ _ (omega (arith, length-append front part))
 

@@ -50,12 +50,12 @@ held-moved xs start e below within =
 -- a line that is too long is let go
 pub room-dropped : (was_long : Bool) (held : List ℕ) → NoNewline held → (was_long || nat_lt most_line_bytes (length held)) ≡ true → MakesRoom was_long held true []
 room-dropped true held none long = record {
-  line = λ front h. (front ++ held, (let l : 4096 < length front = h.0 in omega (arith, length-append front held), NoNewline-append front held h.1 none), append-nil _);
+  line = λ front h. (front ++ held, (let l : most_line_bytes < length front = h.0 in omega (arith, length-append front held), NoNewline-append front held h.1 none), append-nil _);
   no_newline = tt;
   idle = λ is empty. absurd (true≢false is);
 }
 room-dropped false held none long =
-    let l : 4096 < length held = ltb-true _ _ long in
+    let l : most_line_bytes < length held = ltb-true _ _ long in
     record {
       line = λ front h. (held, (l, none), append-nil held ∙ ap (λ (t : List ℕ). t ++ held) (sym h));
       no_newline = tt;

@@ -4,7 +4,7 @@ use Rattle.std.proofs.lemmas.List.{append-nil, take_all, take_at}
 use Rattle.std.proofs.lemmas.Bool.{false≢true}
 use Rattle.std.specs.Io.KnownBytes.{Appends, Consumes, Keeps}
 use Rattle.inst_world.specs.Lines.{newline, lines_of, whole_lines_of, whole_lines_within, NoNewline}
-use Rattle.inst_world.specs.Limits.{most_lines, most_bytes}
+use Rattle.inst_world.specs.Limits.{most_line_bytes, most_lines, most_bytes}
 use Rattle.inst_world.specs.Answers.{Answerer, reply_to, state_after_line, is_refused, output, state_after, refusals, IsFront, MakesRoom, AnswersLine}
 use Rattle.inst_world.specs.Replies.{WritesPart, WritesFirst}
 use Rattle.inst_world.specs.Progress.{Splits, Progress, Stopped, Finished, CutOff}
@@ -69,7 +69,7 @@ lines_of-closed bytes lines rest s none some =
     ∙ sym (lines_of-split bytes lines rest s)
 
 some_in_line : (is_long : Bool) (front held : List ℕ) → IsFront is_long front → (is_long ≡ true) ⊎ (0 < length held) → 0 < length (front ++ held)
-some_in_line true front held h why = let long : 4096 < length front = h.0 in omega (arith, length-append front held)
+some_in_line true front held h why = let long : most_line_bytes < length front = h.0 in omega (arith, length-append front held)
 some_in_line false front held h (inl is) = absurd (false≢true is)
 some_in_line false front held h (inr some) = omega (arith, length-append front held)
 

@@ -9,7 +9,7 @@ use Rattle.inst_world.specs.declared.session.Session.{Session}
 use Rattle.inst_world.specs.declared.session.Counts.{Counts}
 use Rattle.inst_world.specs.declared.line_buffer.LineBuffer.{LineBuffer}
 use Rattle.inst_world.specs.Lines.{newline, NoNewline, BreaksAt}
-use Rattle.inst_world.specs.Limits.{most_lines, most_bytes}
+use Rattle.inst_world.specs.Limits.{most_line_bytes, most_lines, most_bytes}
 use Rattle.inst_world.specs.Answers.{Answerer, AnswersLine, MakesRoom, output, state_after, refusals}
 use Rattle.inst_world.specs.LineBuffer.{held, Fills, FillFails}
 use Rattle.inst_world.specs.Replies.{WritesPart, WritesFirst}
@@ -269,7 +269,7 @@ module _ {S : Type 0} (a : Answerer S) where
       → WritesFirst now' now'' answered.replies.bytes.items sent.replies.bytes.items → sent.replies.bytes.items ≡ []
       → new.replies ≡ sent.replies → new.counts ≡ sent.counts → new.input.taken ≡ sent.input.taken
       → MakesRoom sent.input.is_long (held sent.input) new.input.is_long (held new.input)
-      → new.input.end ≤ 4096
+      → new.input.end ≤ most_line_bytes
       → (sent.counts.lines ≡ most_lines → (sent.input.is_long || nat_lt 0 (length (held sent.input))) ≡ false)
       → Turns a old s now new s' now'' left left'
   turn-goes_on old middle answered sent new s s' now now' now'' left left' n same_replies same_counts f some d same_taken same_input same_counts' w none same_replies' same_counts'' same_taken' room space limit =

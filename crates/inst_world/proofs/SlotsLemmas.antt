@@ -10,7 +10,7 @@ use Rattle.inst_command.specs.declared.ask.Ask.{Ask}
 use Rattle.inst_command.specs.declared.reply.Reply.{Reply}
 use Rattle.inst_command.specs.declared.reply.Reply.TheVariants.{Refused}
 use Rattle.inst_journal.specs.declared.event.Event.{Event}
-use Rattle.inst_slot.specs.Book.{Book, is_served, own_reply, book_after, AppliesUnlessMemory}
+use Rattle.inst_world.specs.Book.{Book, is_served, own_reply, book_after, AppliesUnlessMemory}
 use Rattle.inst_world.specs.World.{Hub, book_at, as_reply, refusals_told, reply_to_ask, after_ask}
 use Rattle.inst_world.specs.Slots.{AreSlots, histories, IsHub}
 

@@ -19,7 +19,7 @@ use Rattle.inst_journal.specs.declared.handle.Handled.{Handled}
 use Rattle.inst_journal.specs.Reply.{is_new_funding, funding, submit, told}
 use Rattle.inst_json.specs.Replies.{reply_can_be_written}
 use Rattle.inst_json.specs.Lines.{command_of_line}
-use Rattle.inst_slot.specs.Book.{is_served}
+use Rattle.inst_world.specs.Book.{is_served}
 use Rattle.serde_json.specs.Written.{compact_text}
 use Rattle.inst_command.specs.declared.reply.Reply.TheVariants.{Refused}
 use Rattle.inst_json.specs.Replies.{reply_data}
@@ -27,6 +27,7 @@ use Rattle.inst_world.specs.Lines.{newline}
 use Rattle.inst_world.specs.Answers.{is_too_long, reply_to, is_refused, AnswersLine}
 use Rattle.inst_world.proofs.AnswersLemmas.{is_too_long-front}
 use Rattle.inst_world.specs.World.{any_line_reply, after_any_line, RepliesToLine, answering, reply_line, too_long_line, is_refused_line, is_refusal, Hub, book_of, as_reply, reply_to_ask, reply_to_read, after_read, line_reply, after_line}
+use Rattle.inst_world.specs.Limits.{most_line_bytes}
 
 abbrev CanBeTold : HubSettings → Result Handled Fault → Type 0
 CanBeTold s h = reply_can_be_written s (as_reply (told h)) ≡ true
@@ -85,9 +86,9 @@ unfolding after_line
 settings-after_line hub line = read_settings hub (command_of_line hub.settings line)
 
 -- a line that is read whole is answered as one of any length
-pub replies_whole : (old new : Hub) (line : List ℕ) (reply : Reply) → length line ≤ 4096 → reply ≡ line_reply old line → new ≡ after_line old line → RepliesToLine false line old new reply
+pub replies_whole : (old new : Hub) (line : List ℕ) (reply : Reply) → length line ≤ most_line_bytes → reply ≡ line_reply old line → new ≡ after_line old line → RepliesToLine false line old new reply
 replies_whole old new line reply short reply_is new_is =
-    let whole : is_too_long line ≡ false = le-ltb 4096 (length line) short in
+    let whole : is_too_long line ≡ false = le-ltb most_line_bytes (length line) short in
     record {
       told = λ front none. reply_is ∙ sym (ap (λ b. cond b (Refused LineTooLong) (line_reply old line)) whole) ∙ sym (ap (λ f. any_line_reply old (f ++ line)) none);
       after = λ front none. new_is ∙ sym (ap (λ b. cond b old (after_line old line)) whole) ∙ sym (ap (λ f. after_any_line old (f ++ line)) none);
@@ -96,7 +97,7 @@ replies_whole old new line reply short reply_is new_is =
     }
 
 -- a line that is too long is refused
-pub replies_too_long : (is_long : Bool) (hub : Hub) (part : List ℕ) → (is_long ≡ true) ⊎ (4096 < length part) → RepliesToLine is_long part hub hub (Refused LineTooLong)
+pub replies_too_long : (is_long : Bool) (hub : Hub) (part : List ℕ) → (is_long ≡ true) ⊎ (most_line_bytes < length part) → RepliesToLine is_long part hub hub (Refused LineTooLong)
 replies_too_long is_long hub part why = record {
   told = λ front is_front. sym (ap (λ b. cond b (Refused LineTooLong) (line_reply hub (front ++ part))) (is_too_long-front is_long front part is_front why));
   after = λ front is_front. sym (ap (λ b. cond b hub (after_line hub (front ++ part))) (is_too_long-front is_long front part is_front why));

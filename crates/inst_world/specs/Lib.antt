@@ -1,6 +1,7 @@
 pub mod Limits
 pub mod Lines
 pub mod Answers
+pub mod Book
 pub mod World
 pub mod Slots
 pub mod LineBuffer

@@ -14,7 +14,8 @@ use Rattle.inst_world.specs.Progress.{Progress, Stopped, Finished, CutOff}
 -- the session has come this far in the bytes that were read
 pub record Reached {S : Type 0} (a : Answerer S) (start : S) (before : Option (List ℕ)) (bytes : List ℕ)
     (now : Option (List ℕ)) (session : Session) (state : S) : Type 0 where
-  pub progress : Progress a start before bytes now session.replies.bytes.items state session.input.is_long (held session.input) session.counts.lines session.counts.refused
+  pub progress : Progress a start before bytes now session.replies.bytes.items state
+      session.input.is_long (held session.input) session.counts.lines session.counts.refused
   pub taken_is : session.input.taken ≡ length bytes
 
 -- no whole line is held, and after the last line that a run may have nothing is

@@ -3,7 +3,7 @@
 use Rattle.std.specs.Prelude.{◌≡◌, ℕ, ◌+◌, List, [], ◌∷◌, length, map}
 use Rattle.inst_settings.specs.Settings.{HubSettings, IsSettings, participants}
 use Rattle.inst_journal.specs.declared.event.Event.{Event}
-use Rattle.inst_slot.specs.Book.{Book}
+use Rattle.inst_world.specs.Book.{Book}
 
 -- the slots of the participants from `first` on
 abbrev pub AreSlots : HubSettings → ℕ → List Book → Type 0

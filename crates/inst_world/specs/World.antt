@@ -11,7 +11,7 @@ use Rattle.inst_command.specs.declared.reply.Reply.TheVariants.{Done, Taken, Sta
 use Rattle.inst_journal.specs.declared.event.Event.{Event}
 use Rattle.inst_json.specs.Lines.{command_of_line}
 use Rattle.inst_json.specs.Replies.{reply_data, refused_data, reply_can_be_written}
-use Rattle.inst_slot.specs.Book.{Book, is_served, own_reply, book_after}
+use Rattle.inst_world.specs.Book.{Book, is_served, own_reply, book_after}
 use Rattle.inst_world.specs.Answers.{Answerer, is_too_long, IsFront}
 
 -- books: the participants' histories, in the order of their numbers

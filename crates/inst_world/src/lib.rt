@@ -9,6 +9,9 @@ mod replies;
 mod rows;
 mod run;
 mod session;
+mod slot;
+#[cfg(test)]
+mod slot_tests;
 mod slots;
 #[cfg(test)]
 mod tests;

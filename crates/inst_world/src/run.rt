@@ -77,6 +77,6 @@ pub(crate) fn answer_lines<R: Read, W: Write>(
         (R.remaining reader.old) (R.remaining reader.new)) }
 {
     let mut session = Session::new(alloc)?;
-    while session.turn(alloc, world, reader, writer)? {}
+    while session.turn(world, reader, writer)? {}
     Ok(session.counts)
 }

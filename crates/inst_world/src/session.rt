@@ -8,6 +8,7 @@ use crate::line_buffer::{LineBuffer, find_newline};
 use crate::replies::ReplyBuffer;
 use crate::world::World;
 use inst_base::Fault;
+use inst_json::LineReader;
 use std::alloc::Global;
 use std::io::{Read, Write};
 
@@ -23,6 +24,7 @@ pub struct Counts {
 /// What a run holds between its reads.
 #[derive(Drop)]
 pub struct Session {
+    pub reader: LineReader,
     pub input: LineBuffer,
     pub replies: ReplyBuffer,
     pub counts: Counts,
@@ -50,6 +52,7 @@ impl Session {
     {
         let input = LineBuffer::new(alloc).map_err(|_| Fault::Memory)?;
         Ok(Session {
+            reader: LineReader::new(alloc),
             input,
             replies: ReplyBuffer::new(alloc),
             counts: Counts {
@@ -61,13 +64,19 @@ impl Session {
 
     /// Answers the rest of a line, of which this many bytes are held, and lets go of it and of its
     /// newline. `Memory` comes where there is no room for the reply.
-    fn answer_line(&mut self, alloc: Global, world: &mut World, len: usize) -> Result<(), Fault>
+    fn answer_line(&mut self, world: &mut World, len: usize) -> Result<(), Fault>
         requires within { len ≤ length (held self.old.input) }
         requires room { self.old.counts.lines < most_lines }
         ensures ok { OnOk result (TakesLine answering len self.old self.new world.old world.new) }
         ensures fault { OnErr result (IsErrOf result Fault.Memory) }
     {
-        let is_refused = answer(alloc, world, &self.input, len, &mut self.replies.bytes)?;
+        let is_refused = answer(
+            &mut self.reader,
+            world,
+            &self.input,
+            len,
+            &mut self.replies.bytes,
+        )?;
         self.input.drop_line(len);
         self.counts.lines += 1;
         self.counts.refused += u64::from(is_refused);
@@ -76,12 +85,7 @@ impl Session {
 
     /// Answers the lines that are held whole, up to `MOST_LINES` in all. `Memory` comes as from
     /// `answer_line`, and `WriteFault` as from `write_if_full`.
-    fn answer_held<W: Write>(
-        &mut self,
-        alloc: Global,
-        world: &mut World,
-        writer: &mut W,
-    ) -> Result<(), Fault>
+    fn answer_held<W: Write>(&mut self, world: &mut World, writer: &mut W) -> Result<(), Fault>
         ensures ok { OnOk result (MovesOn answering (stage self.old world.old (W.contents writer.old))
             (stage self.new world.new (W.contents writer.new))) }
         ensures done { OnOk result (NoNewline (held self.new.input) ⊎ (self.new.counts.lines ≡ most_lines)) }
@@ -94,14 +98,14 @@ impl Session {
             let Some(len) = find_newline(self.input.as_slice()) else {
                 return Ok(());
             };
-            self.answer_line(alloc, world, len)?;
+            self.answer_line(world, len)?;
             self.replies.write_if_full(writer)?;
         }
         Ok(())
     }
 
     /// Answers a last line with no newline, if there is one. `Memory` comes as from `answer_line`.
-    fn answer_last(&mut self, alloc: Global, world: &mut World) -> Result<(), Fault>
+    fn answer_last(&mut self, world: &mut World) -> Result<(), Fault>
         requires { IsAnswered self.old }
         ensures ok { OnOk result (AnswersLast answering self.old self.new world.old world.new) }
         ensures fault { OnErr result (IsErrOf result Fault.Memory) }
@@ -110,17 +114,12 @@ impl Session {
             return Ok(());
         }
         let len = self.input.len();
-        self.answer_line(alloc, world, len)
+        self.answer_line(world, len)
     }
 
     /// Answers a last line with no newline, and delivers what is left. `Memory` and `WriteFault`
     /// come as from `answer_last` and `deliver`.
-    fn finish<W: Write>(
-        &mut self,
-        alloc: Global,
-        world: &mut World,
-        writer: &mut W,
-    ) -> Result<(), Fault>
+    fn finish<W: Write>(&mut self, world: &mut World, writer: &mut W) -> Result<(), Fault>
         requires { IsAnswered self.old }
         ensures ok { OnOk result (HasFinished answering (stage self.old world.old (W.contents writer.old))
             (stage self.new world.new (W.contents writer.new))) }
@@ -128,7 +127,7 @@ impl Session {
             (W.contents writer.new)) }
         ensures fault { IfErr result IsNoReadFault }
     {
-        self.answer_last(alloc, world)?;
+        self.answer_last(world)?;
         self.replies.deliver(writer)
     }
 
@@ -136,7 +135,6 @@ impl Session {
     /// too. Says whether the input may go on.
     pub fn turn<R: Read, W: Write>(
         &mut self,
-        alloc: Global,
         world: &mut World,
         reader: &mut R,
         writer: &mut W,
@@ -152,10 +150,10 @@ impl Session {
             (R.remaining reader.old) (R.remaining reader.new)) }
     {
         if self.input.fill(reader)? == 0 {
-            self.finish(alloc, world, writer)?;
+            self.finish(world, writer)?;
             return Ok(false);
         }
-        self.answer_held(alloc, world, writer)?;
+        self.answer_held(world, writer)?;
         self.replies.deliver(writer)?;
         if self.counts.lines == MOST_LINES && self.input.is_in_line() {
             return Err(Fault::ReadFault);

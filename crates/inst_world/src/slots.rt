@@ -2,14 +2,14 @@
 ghost use Rattle.std.specs.Prelude.{◌≡◌, ℕ, ◌<◌, true, [], length, replicate, slice_set, slice_index_or, IfOk, OnErr, IsOkUnless};
 ghost use Rattle.inst_settings.specs.Settings.{IsSettings, participants};
 ghost use Rattle.inst_command.specs.Ask.{ask_fits};
-ghost use Rattle.inst_slot.specs.Book.{Book, is_served, own_reply, book_after};
+ghost use Rattle.inst_world.specs.Book.{Book, is_served, own_reply, book_after};
 ghost use Rattle.inst_world.specs.World.{as_reply, refusals_told, book_at};
 ghost use Rattle.inst_world.specs.Slots.{AreSlots, IsHub, histories};
 
+use crate::slot::Slot;
 use inst_base::Fault;
 use inst_command::{Ask, Reply};
 use inst_settings::Settings;
-use inst_slot::Slot;
 use std::alloc::Global;
 
 /// One slot for each participant, with no history.

@@ -152,7 +152,7 @@ fn malformed_lines(rt: HostRuntime) -> Result<(), Fail> {
     let mut long = Vec::new(rt.alloc());
     long.resize(4_097, b' ')?;
     let mut huge = Vec::new(rt.alloc());
-    huge.resize(200_000, b'{')?;
+    huge.resize(20_971_520, b'{')?;
     run(
         &rt,
         &[

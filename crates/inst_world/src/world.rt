@@ -4,12 +4,12 @@ ghost use Rattle.inst_command.specs.Ask.{ask_fits};
 ghost use Rattle.inst_journal.specs.Sound.{IsSound};
 ghost use Rattle.inst_world.specs.World.{opened, book_of, reply_to_ask, after_ask};
 
+use crate::slot::Slot;
 use crate::slots;
 use inst_base::Fault;
 use inst_command::{Ask, Reply};
 use inst_journal::Journal;
 use inst_settings::Settings;
-use inst_slot::Slot;
 use std::alloc::Global;
 use std::marker::Model;
 

@@ -2,5 +2,5 @@ use Rattle.std.proofs.Common.{arith}
 use Rattle.inst_journal.proofs.Reading.{inbox_short}
 use Rattle.inst_journal.proofs.queries.unread.Goals as goal
 
-pub handed_out-requires : goal.handed_out-requires
-handed_out-requires c = omega (arith, inbox_short c.args.events.now)
+pub handed_out-read-requires : goal.handed_out-read-requires
+handed_out-read-requires c = omega (arith, inbox_short c.args.events.now)

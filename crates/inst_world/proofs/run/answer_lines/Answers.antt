@@ -1,15 +1,26 @@
+use Rattle.std.proofs.Common.{◌≡◌, sym, subst}
+use Rattle.inst_base.specs.declared.fault.Fault.TheVariants.{Memory}
 use Rattle.std.proofs.lemmas.Bool.{MatchBool-at_true, MatchBool-at_false}
 use Rattle.std.proofs.lemmas.Result.{err_from_is_err_and}
 use Rattle.inst_world.specs.World.{answering}
 use Rattle.inst_world.specs.Session.{FailsAfter}
 use Rattle.inst_world.proofs.SessionLemmas.{err_passed}
-use Rattle.inst_world.proofs.RunLemmas.{runs-start, runs-turn, runs-end, runs-fail}
+use Rattle.inst_world.proofs.RunLemmas.{runs-start, runs-turn, runs-end, runs-fail, fails-at_once}
 use Rattle.inst_world.proofs.run.answer_lines.Goals as goal
 
 pub loop-session-init : goal.loop-session-init
 loop-session-init g c =
     let made = c.in_ok-session.ensures in
     runs-start answering _ _ _ c.in_ok-session.session made.ready made.input made.is_long made.taken made.lines made.refused
+
+pub returns-in_err-session-clause-err : goal.returns-in_err-session-clause-err
+returns-in_err-session-clause-err g c =
+    let written = g.W.Write.contents c.args.writer.now in
+    let left = g.R.Read.remaining c.args.reader.now in
+    let is : c.in_err-session.field-0.0 ≡ Memory = cc (c.in_err-session.ensures.fault) in
+    err_passed (FailsAfter answering c.args.world.now written written left left) c.from_residual.result _
+    (err_from_is_err_and c.from_residual.result c.from_residual.ensures.1)
+    (subst (FailsAfter answering c.args.world.now written written left left) (sym is) (fails-at_once answering _ _ _))
 
 pub returns-in_err-turn-clause-err : goal.returns-in_err-turn-clause-err
 returns-in_err-turn-clause-err g c =

@@ -3,6 +3,7 @@ use Rattle.std.proofs.lemmas.List.{with_items_is, length-take-le, length-drop}
 use borrow.Rule.Slice.PartMut.{put_mid}
 use Rattle.inst_world.proofs.BufferLemmas.{held-read, length-put_mid}
 use Rattle.inst_world.proofs.line_buffer.LineBuffer.fill.Goals as goal
+use Rattle.inst_world.specs.Limits.{buffer_bytes}
 
 pub returns-clause-ok : goal.returns-clause-ok
 returns-clause-ok g c =
@@ -13,8 +14,8 @@ returns-clause-ok g c =
     let end : ℕ = c.args.self.now.end in
     let k : ℕ = (end + c.min-room.result) - end in
     let old = c.args.self.now in
-    let whole : length xs ≡ 65536 = c.deref_mut.ensures.len ∙ old.size in
-    let limited : c.min-room.result ≤ 65536 - end = omega (arith, c.min-room.ensures, c.max.ensures) in
+    let whole : length xs ≡ buffer_bytes = c.deref_mut.ensures.len ∙ old.size in
+    let limited : c.min-room.result ≤ buffer_bytes - end = omega (arith, c.min-room.ensures, c.max.ensures) in
     let within : end + k ≤ length xs = omega (arith, old.within) in
     let room : length new ≡ k = c.read_bytes.auto.buf ∙ length-take-le _ _ (omega (arith, length-drop end xs)) in
     let few : n ≤ length new = omega (arith, c.in_ok-count.ensures.bound) in

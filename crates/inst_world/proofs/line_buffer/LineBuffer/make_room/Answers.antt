@@ -2,10 +2,11 @@ use Rattle.std.proofs.Common.{◌≤◌, ◌-◌, ℕ, List, ◌||◌, nat_lt, a
 use Rattle.std.proofs.lemmas.Bool.{or_parts}
 use Rattle.inst_world.proofs.BufferLemmas.{room-dropped, room-kept, held-moved}
 use Rattle.inst_world.proofs.line_buffer.LineBuffer.make_room.Goals as goal
+use Rattle.inst_world.specs.Limits.{most_line_bytes}
 
 pub returns-then-is_too_long-clause-kept : goal.returns-then-is_too_long-clause-kept
 returns-then-is_too_long-clause-kept c =
-    room-dropped _ _ c.requires (ap (λ (k : ℕ). c.args.self.now.is_long || nat_lt 4096 k) (sym c.len.ensures) ∙ sym c.is_too_long.ensures ∙ c.if-is_too_long.true)
+    room-dropped _ _ c.requires (ap (λ (k : ℕ). c.args.self.now.is_long || nat_lt most_line_bytes k) (sym c.len.ensures) ∙ sym c.is_too_long.ensures ∙ c.if-is_too_long.true)
 
 pub returns-else-is_too_long-clause-kept : goal.returns-else-is_too_long-clause-kept
 returns-else-is_too_long-clause-kept c =

@@ -2,6 +2,7 @@ use Rattle.std.proofs.Common.{◌≡◌, ◌-◌}
 use Rattle.inst_world.specs.World.{answering}
 use Rattle.inst_world.specs.Session.{Advances}
 use Rattle.inst_world.proofs.session.Session.answer_held.Given as goal
+use Rattle.inst_world.specs.Limits.{most_lines}
 
 abbrev pub invariant-loop-self : goal.invariant-loop-self
 invariant-loop-self g l =
@@ -9,4 +10,4 @@ invariant-loop-self g l =
     × (l.self.input.taken ≡ l.initial.self.input.taken)
 
 abbrev pub decreases-loop-self : goal.decreases-loop-self
-decreases-loop-self g l = 1000000 - l.self.counts.lines
+decreases-loop-self g l = most_lines - l.self.counts.lines

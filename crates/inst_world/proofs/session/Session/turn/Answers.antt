@@ -60,12 +60,12 @@ returns-in_err-deliver-clause-err g c =
 
 pub returns-then-is_in_line-clause-err : goal.returns-then-is_in_line-clause-err
 returns-then-is_in_line-clause-err g c =
-    turn-full answering _ _ _ (let m = c.answer_held.new.self in record { input = m.input; replies = c.deliver.new.self; counts = m.counts; limit = m.limit; fewer = m.fewer }) _ _ _ _ _ _ _ _ refl refl c.in_ok-fill.ensures.ok c.in_ok-answer_held.ensures.ok refl refl
+    turn-full answering _ _ _ (let m = c.answer_held.new.self in record { reader = m.reader; input = m.input; replies = c.deliver.new.self; counts = m.counts; limit = m.limit; fewer = m.fewer }) _ _ _ _ _ _ _ _ refl refl c.in_ok-fill.ensures.ok c.in_ok-answer_held.ensures.ok refl refl
     (writes-all _ _ _ _ c.in_ok-deliver.ensures.ok c.in_ok-deliver.ensures.none) c.in_ok-deliver.ensures.none c.if-self-eq-MOST_LINES.true
 
 pub returns-clause-ok : goal.returns-clause-ok
 returns-clause-ok g c =
-    turn-goes_on answering _ _ _ (let m = c.answer_held.new.self in record { input = m.input; replies = c.deliver.new.self; counts = m.counts; limit = m.limit; fewer = m.fewer }) _ _ _ _ _ _ _ _ _ refl refl c.in_ok-fill.ensures.ok c.if-branch-eq0.false
+    turn-goes_on answering _ _ _ (let m = c.answer_held.new.self in record { reader = m.reader; input = m.input; replies = c.deliver.new.self; counts = m.counts; limit = m.limit; fewer = m.fewer }) _ _ _ _ _ _ _ _ _ refl refl c.in_ok-fill.ensures.ok c.if-branch-eq0.false
     c.in_ok-answer_held.ensures.ok c.in_ok-answer_held.ensures.taken refl refl
     (writes-all _ _ _ _ c.in_ok-deliver.ensures.ok c.in_ok-deliver.ensures.none) c.in_ok-deliver.ensures.none
     refl refl c.make_room.ensures.taken c.make_room.ensures.kept c.make_room.ensures.room

@@ -1,6 +1,6 @@
 use Rattle.std.proofs.Common.{◌≡◌, true}
 use Rattle.std.proofs.lemmas.Result.{IfOk-weaker}
-use Rattle.inst_slot.specs.Book.{is_served}
+use Rattle.inst_world.specs.Book.{is_served}
 use Rattle.inst_world.proofs.SlotsLemmas.{served_reply, served_after}
 use Rattle.inst_world.proofs.world.World.answer.Goals as goal
 

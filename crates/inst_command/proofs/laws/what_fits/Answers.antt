@@ -1,0 +1,5 @@
+use Rattle.inst_command.proofs.Fitting.{commands_fit, steps_fit}
+use Rattle.inst_command.proofs.laws.what_fits.Goals as goal
+
+pub returns : goal.returns
+returns c = λ s. (commands_fit s, steps_fit s)

@@ -1,0 +1,85 @@
+//! What a journal has of a transfer: whether it was forwarded, what is booked of it, and the place of
+//! a live one of the participant's own.
+ghost use Rattle.std.specs.Prelude.{◌≡◌, ◌≤◌, position, slice_get, length};
+ghost use Rattle.inst_journal.specs.Booked.{takes, is_forwarded, booked};
+ghost use Rattle.inst_journal.specs.Opened.{live_taken, live_submissions};
+
+use crate::booked::{booked, is_forwarded, live_submissions, takes_live};
+use crate::opening::carried;
+use crate::{Event, Journal};
+use inst_base::Ident;
+use inst_command::Outcome;
+
+/// Whether the event takes a submission with this identifier.
+fn takes(event: &Event, id: &Ident) -> bool
+    ensures { result ≡ takes id.now event.now }
+{
+    matches!(event, Event::Taken { id: other, .. } if other == id)
+}
+
+/// The event that took the participant's live transfer at this place.
+fn live_taken_at(events: &[Event], who: u8, place: usize) -> Option<Event>
+    ensures { result ≡ slice_get (live_taken who events.now) place }
+{
+    // The check is told of a type of another crate inside an event only where a function names it.
+    let _: Option<Outcome> = None;
+    let booking = carried(events);
+    let mut left = place;
+    for event in events {
+        if takes_live(event, who, booking) {
+            if left == 0 {
+                return Some(*event);
+            }
+            left -= 1;
+        }
+    }
+    None
+}
+
+/// The place of the participant's live transfer with this identifier.
+fn live_place_of(events: &[Event], who: u8, id: &Ident) -> Option<usize>
+    ensures { result ≡ position (takes id.now) (live_taken who events.now) }
+{
+    let booking = carried(events);
+    events
+        .iter()
+        .filter(|event| takes_live(event, who, booking))
+        .position(|event| takes(event, id))
+}
+
+impl Journal {
+    /// Whether the transfer of the originator `from` was forwarded to the participant.
+    pub fn is_forwarded(&self, from: u8, id: &Ident) -> bool
+        ensures { result ≡ is_forwarded from id.now self.now.events }
+    {
+        is_forwarded(self.events(), from, id)
+    }
+
+    /// The outcome that the participant has booked for the transfer of the originator `from`.
+    pub fn booked(&self, from: u8, id: &Ident) -> Option<Outcome>
+        ensures { result ≡ booked from id.now self.now.events }
+    {
+        booked(self.events(), from, id)
+    }
+
+    /// How many transfers of its own the participant `who` has live: the place of the next.
+    pub fn live_submissions(&self, who: u8) -> usize
+        ensures { result ≡ live_submissions who self.now.events }
+    {
+        live_submissions(self.events(), who)
+    }
+
+    /// The event that took the live transfer at this place of the participant `who`.
+    pub fn taken_at(&self, who: u8, place: usize) -> Option<Event>
+        ensures { result ≡ slice_get (live_taken who self.now.events) place }
+    {
+        live_taken_at(self.events(), who, place)
+    }
+
+    /// The place of the live transfer of the participant `who` with this identifier.
+    pub fn place_of(&self, who: u8, id: &Ident) -> Option<usize>
+        ensures { result ≡ position (takes id.now) (live_taken who self.now.events) }
+    {
+        live_place_of(self.events(), who, id)
+    }
+}

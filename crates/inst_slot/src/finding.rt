@@ -1,0 +1,47 @@
+//! What a board makes of a place that a participant asks about.
+ghost use Rattle.std.specs.Prelude.{◌≡◌, ◌<◌, true, is_some, IfOk, OnErr, IsOkUnless};
+ghost use Rattle.inst_board.specs.Learning.{MayDecide};
+ghost use Rattle.inst_slot.specs.Asking.{Finds, OnlyLooks, stays_pending};
+
+use inst_base::{Fault, Moment};
+use inst_board::{Board, Look, Place, Wish};
+use inst_command::Outcome;
+use inst_journal::Journal;
+
+/// Whether the look shows a transfer that stays pending whatever becomes of the wish.
+fn stays_pending(margin: u32, wish: &Wish, at: Moment, look: &Look) -> bool
+    ensures { result ≡ stays_pending margin wish.now at look.now }
+{
+    match look {
+        Look::Pending(_, deadline) => wish.outcome(margin, *deadline, at).is_none(),
+        _ => false,
+    }
+}
+
+/// What stands at the place after the wish was read at `at`: `None` where it stays pending, which takes
+/// no memory. Else there is room in the journal for one more event; `Memory` comes before the board
+/// decides.
+pub(crate) fn find<B: Board>(
+    journal: &mut Journal,
+    board: &mut B,
+    margin: u32,
+    place: Place,
+    wish: Wish,
+    at: Moment,
+) -> Result<Option<Outcome>, Fault>
+    requires margin { margin ≡ (B.settings board.old).margin }
+    requires may { MayDecide B.knows B.has_role board.old place wish }
+    ensures found { IfOk result (λ found. Finds (B.settings board.old).margin B.knows B.has_role B.stood B.stays board.old place wish at found board.new) }
+    ensures room { IfOk result (λ found. is_some found ≡ true → 0 < journal.new.room) }
+    ensures err { OnErr result (OnlyLooks (B.settings board.old).margin B.knows B.has_role B.stood board.old place wish at board.new) }
+    ensures only { IsOkUnless result Fault.Memory }
+    ensures events { journal.new.events ≡ journal.old.events }
+    ensures stays { B.stays board.old board.new }
+{
+    let look = board.look(place);
+    if stays_pending(margin, &wish, at, &look) {
+        return Ok(None);
+    }
+    journal.reserve()?;
+    Ok(board.decide(place, wish, at))
+}
