@@ -8,3 +8,5 @@ pub mod Settling
 pub mod Entering
 pub mod Refusing
 pub mod Others
+pub mod Adopting
+pub mod Together
