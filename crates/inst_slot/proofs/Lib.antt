@@ -10,3 +10,4 @@ pub mod Refusing
 pub mod Others
 pub mod Adopting
 pub mod Together
+pub mod Telling
