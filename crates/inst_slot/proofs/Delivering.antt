@@ -312,6 +312,7 @@ module _ {B : Type 0} (settings : B → HubSettings) (knows : B → Fact → Typ
       record {
         same_settings = was.same_settings;
         role = was.role;
+        truly = was.truly;
         taken_known = λ index name to amount stamp f. was.taken_known index name to amount stamp (ap (λ (l : List Event). slice_get l index) (sym same) ∙ f);
         only_taken = λ index known. subst (λ (l : List Event). index < length l) (sym same) (was.only_taken index known);
         arrived = map-append (λ (y : Arrival). y.entry) book.arrivals (x ∷ []) ∙ ap (λ (l : List Entry). l ++ x.entry ∷ []) was.arrived ∙ sym (live_inbox_more book.events k.owner id cents deadline live);
@@ -415,10 +416,10 @@ module _ {B : Type 0} (settings : B → HubSettings) (knows : B → Fact → Typ
       } in
       subst (λ (z : Entry). Fits book.settings book.who book.events (Forwarded z.from z.id z.cents z.deadline)) (sym l.entry_is) f
 
-  pub delivery_keeps : (entry : Entry) → delivery book k look ≡ Some entry → settings c ≡ settings b → (has_role b book.who → has_role c book.who)
+  pub delivery_keeps : (entry : Entry) → delivery book k look ≡ Some entry → settings c ≡ settings b → margin ≡ (settings b).margin → (has_role b book.who → has_role c book.who)
       → IsLawfulBoard settings knows has_role c (with_delivery book k (Some entry))
-  delivery_keeps entry d same role =
+  delivery_keeps entry d same fits role =
       let l = delivers book k look entry d in
-      let now = looked_on settings knows has_role margin stood b c k look h book same role was in
+      let now = looked_on settings knows has_role margin stood b c k look h book same fits role was in
       subst (λ (z : Entry). IsLawfulBoard settings knows has_role c (with_delivery book k (Some z))) (sym l.entry_is)
       (more_forwarded settings knows has_role c book k l.terms.id l.terms.cents l.deadline (live entry l) (seen entry l) now)

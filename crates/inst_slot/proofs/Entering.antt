@@ -41,7 +41,7 @@ use Rattle.inst_slot.specs.Book.{Book, place_at, terms_to}
 use Rattle.inst_slot.specs.LawfulBoard.{IsLawfulBoard}
 use Rattle.inst_slot.specs.Asking.{handle_ask, Opens, Enters}
 use Rattle.inst_slot.proofs.Growing.{snoc_cases, live_taken_push, live_inbox_still, live_push, still_booked, booked_cases}
-use Rattle.inst_slot.proofs.Keeping.{kept_opening, with_events, same_after, moved, learnt_answer, lies_after_taking}
+use Rattle.inst_slot.proofs.Keeping.{kept_opening, with_events, same_after, moved, learnt_truly, learnt_answer, lies_after_taking}
 
 -- whether the event may be kept of a command that decides nothing
 abbrev enters : Event → Bool
@@ -108,11 +108,11 @@ takes_the_next s who J id to cents stamp sound fits = ap is_none (carried_unbook
 
 module _ {B : Type 0} (settings : B → HubSettings) (knows : B → Fact → Type 0) (has_role : B → ℕ → Type 0) where
   -- the next place is opened
-  opened_next : (margin : ℕ) (b c : B) (book : Book) (id : List ℕ) (to cents stamp : ℕ) → settings c ≡ settings b → (has_role b book.who → has_role c book.who)
+  opened_next : (margin : ℕ) (b c : B) (book : Book) (id : List ℕ) (to cents stamp : ℕ) → settings c ≡ settings b → margin ≡ (settings b).margin → (has_role b book.who → has_role c book.who)
       → IsSound book.settings book.who book.events → Fits book.settings book.who book.events (Taken id to cents stamp)
       → Learns margin knows b (place_at book.who (live_submissions book.who book.events)) (pending (terms_to to cents id) (deadline_of book.settings.limit stamp)) c
       → IsLawfulBoard settings knows has_role b book → IsLawfulBoard settings knows has_role c (with_events book (book.events ++ Taken id to cents stamp ∷ []))
-  opened_next margin b c book id to cents stamp same role sound fits l was =
+  opened_next margin b c book id to cents stamp same margins role sound fits l was =
       let e : Event = Taken id to cents stamp in
       let J : List Event = book.events ++ e ∷ [] in
       let who : ℕ = book.who in
@@ -125,6 +125,7 @@ module _ {B : Type 0} (settings : B → HubSettings) (knows : B → Fact → Typ
       record {
         same_settings = same ∙ was.same_settings;
         role = role was.role;
+        truly = learnt_truly settings knows has_role margin b c (place_at book.who (live_submissions book.who book.events)) (pending (terms_to to cents id) (deadline_of book.settings.limit stamp)) l book margins was;
         taken_known = λ index name other amount moment f. ⊎_elim
             (λ old. kept_opening settings knows has_role b c l.kept (place_at who index) (terms_to other amount name) (deadline_of book.settings.limit moment) (was.taken_known index name other amount moment old))
             (λ new.
@@ -163,7 +164,7 @@ module _ {B : Type 0} (settings : B → HubSettings) (knows : B → Fact → Typ
   kept_other : (b : B) (book : Book) (e : Event) → enters e ≡ true → takes_live book.who (carried book.events) e ≡ false → IsLawfulBoard settings knows has_role b book → IsLawfulBoard settings knows has_role b (with_events book (book.events ++ e ∷ []))
   kept_other b book e ok still was =
       let fits = plain e ok in
-      moved settings knows has_role b b book (book.events ++ e ∷ []) refl (λ r. r) (λ f h. h) (λ index h. h)
+      moved settings knows has_role b b book (book.events ++ e ∷ []) refl was.truly (λ r. r) (λ f h. h) (λ index h. h)
       (same_after book.who book.events e fits.0 still fits.1)
       (λ from id o f. ⊎_elim (λ old. inl old) (λ new. absurd (fits.2 from id o new)) (booked_cases from id book.events e o f))
       (λ k t o mine an kt kd. still_booked k.owner t.id book.events e o (was.answered k t o mine an kt kd))
@@ -178,37 +179,37 @@ module _ {B : Type 0} (settings : B → HubSettings) (knows : B → Fact → Typ
       plain (Booked from id o) ok = absurd (false≢true ok)
       plain OpenedEvent ok = absurd (false≢true ok)
 
-  entered : (margin : ℕ) (b c : B) (book : Book) (e : Event) → enters e ≡ true → settings c ≡ settings b → (has_role b book.who → has_role c book.who)
+  entered : (margin : ℕ) (b c : B) (book : Book) (e : Event) → enters e ≡ true → settings c ≡ settings b → margin ≡ (settings b).margin → (has_role b book.who → has_role c book.who)
       → IsSound book.settings book.who book.events → Fits book.settings book.who book.events e → Opens margin knows book (e ∷ []) b c
       → IsLawfulBoard settings knows has_role b book → IsLawfulBoard settings knows has_role c (with_events book (book.events ++ e ∷ []))
-  entered margin b c book (Taken id to cents stamp) ok same role sound fits opens was = opened_next margin b c book id to cents stamp same role sound fits opens was
-  entered margin b c book (Funded reference cents) ok same role sound fits opens was = subst (λ (x : B). IsLawfulBoard settings knows has_role x (with_events book (book.events ++ Funded reference cents ∷ []))) (sym opens) (kept_other b book (Funded reference cents) refl refl was)
-  entered margin b c book (Defunded reference cents) ok same role sound fits opens was = subst (λ (x : B). IsLawfulBoard settings knows has_role x (with_events book (book.events ++ Defunded reference cents ∷ []))) (sym opens) (kept_other b book (Defunded reference cents) refl refl was)
-  entered margin b c book (Fetched count) ok same role sound fits opens was = subst (λ (x : B). IsLawfulBoard settings knows has_role x (with_events book (book.events ++ Fetched count ∷ []))) (sym opens) (kept_other b book (Fetched count) refl refl was)
-  entered margin b c book (Forwarded from id cents d) ok same role sound fits opens was = absurd (false≢true ok)
-  entered margin b c book (Booked from id o) ok same role sound fits opens was = absurd (false≢true ok)
-  entered margin b c book OpenedEvent ok same role sound fits opens was = absurd (false≢true ok)
+  entered margin b c book (Taken id to cents stamp) ok same margins role sound fits opens was = opened_next margin b c book id to cents stamp same margins role sound fits opens was
+  entered margin b c book (Funded reference cents) ok same margins role sound fits opens was = subst (λ (x : B). IsLawfulBoard settings knows has_role x (with_events book (book.events ++ Funded reference cents ∷ []))) (sym opens) (kept_other b book (Funded reference cents) refl refl was)
+  entered margin b c book (Defunded reference cents) ok same margins role sound fits opens was = subst (λ (x : B). IsLawfulBoard settings knows has_role x (with_events book (book.events ++ Defunded reference cents ∷ []))) (sym opens) (kept_other b book (Defunded reference cents) refl refl was)
+  entered margin b c book (Fetched count) ok same margins role sound fits opens was = subst (λ (x : B). IsLawfulBoard settings knows has_role x (with_events book (book.events ++ Fetched count ∷ []))) (sym opens) (kept_other b book (Fetched count) refl refl was)
+  entered margin b c book (Forwarded from id cents d) ok same margins role sound fits opens was = absurd (false≢true ok)
+  entered margin b c book (Booked from id o) ok same margins role sound fits opens was = absurd (false≢true ok)
+  entered margin b c book OpenedEvent ok same margins role sound fits opens was = absurd (false≢true ok)
 
-  all_entered : (margin : ℕ) (b c : B) (book : Book) (kept : Option Event) → list_all enters (kept_event kept) ≡ true → settings c ≡ settings b → (has_role b book.who → has_role c book.who)
+  all_entered : (margin : ℕ) (b c : B) (book : Book) (kept : Option Event) → list_all enters (kept_event kept) ≡ true → settings c ≡ settings b → margin ≡ (settings b).margin → (has_role b book.who → has_role c book.who)
       → IsSound book.settings book.who book.events → FitAfter book.settings book.who book.events (kept_event kept) → Opens margin knows book (kept_event kept) b c
       → IsLawfulBoard settings knows has_role b book → IsLawfulBoard settings knows has_role c (with_events book (book.events ++ kept_event kept))
-  all_entered margin b c book None all same role sound fits opens was =
+  all_entered margin b c book None all same margins role sound fits opens was =
       subst (λ (x : B). IsLawfulBoard settings knows has_role x (with_events book (book.events ++ []))) (sym opens)
       (subst (λ (l : List Event). IsLawfulBoard settings knows has_role b (with_events book l)) (sym (append-nil book.events)) was)
-  all_entered margin b c book (Some e) all same role sound fits opens was = entered margin b c book e (and_parts (enters e) true all).0 same role sound fits.0 opens was
+  all_entered margin b c book (Some e) all same margins role sound fits opens was = entered margin b c book e (and_parts (enters e) true all).0 same margins role sound fits.0 opens was
 
-  kept_entered : (margin : ℕ) (b c : B) (book : Book) (r : Result Handled Fault) → AllEnter r → settings c ≡ settings b → (has_role b book.who → has_role c book.who)
+  kept_entered : (margin : ℕ) (b c : B) (book : Book) (r : Result Handled Fault) → AllEnter r → settings c ≡ settings b → margin ≡ (settings b).margin → (has_role b book.who → has_role c book.who)
       → IsSound book.settings book.who book.events → FitAfter book.settings book.who book.events (kept_events r) → Opens margin knows book (kept_events r) b c
       → IsLawfulBoard settings knows has_role b book → IsLawfulBoard settings knows has_role c (with_events book (book.events ++ kept_events r))
-  kept_entered margin b c book (Ok handled) all same role sound fits opens was = all_entered margin b c book handled.kept all same role sound fits opens was
-  kept_entered margin b c book (Err fault) all same role sound fits opens was = all_entered margin b c book None all same role sound fits opens was
+  kept_entered margin b c book (Ok handled) all same margins role sound fits opens was = all_entered margin b c book handled.kept all same margins role sound fits opens was
+  kept_entered margin b c book (Err fault) all same margins role sound fits opens was = all_entered margin b c book None all same margins role sound fits opens was
 
-  pub enters_keep : (margin : ℕ) (b c : B) (book : Book) (ask : Ask) (result : Result Reply Fault) (new : Book) → settings c ≡ settings b → (has_role b book.who → has_role c book.who)
+  pub enters_keep : (margin : ℕ) (b c : B) (book : Book) (ask : Ask) (result : Result Reply Fault) (new : Book) → settings c ≡ settings b → margin ≡ (settings b).margin → (has_role b book.who → has_role c book.who)
       → IsSound book.settings book.who book.events → command_fits book.settings ask.command ≡ true
       → Enters margin knows b book ask result c new → IsLawfulBoard settings knows has_role b book → IsLawfulBoard settings knows has_role c new
-  enters_keep margin b c book ask result new same role sound fits e was = ⊎_elim
+  enters_keep margin b c book ask result new same margins role sound fits e was = ⊎_elim
       (λ answered. subst (λ (x : Book). IsLawfulBoard settings knows has_role c x) (sym answered.1)
-      (kept_entered margin b c book (handle_ask book ask None) (all_enter book.settings book.who book.events ask.command ask.at) same role sound
+      (kept_entered margin b c book (handle_ask book ask None) (all_enter book.settings book.who book.events ask.command ask.at) same margins role sound
       (handled_kept book.settings book.who book.events ask.command ask.at None fits) answered.2 was))
       (λ refused. subst (λ (x : Book). IsLawfulBoard settings knows has_role c x) (sym refused.1) (subst (λ (x : B). IsLawfulBoard settings knows has_role x book) (sym refused.2) was))
       e

@@ -14,7 +14,8 @@ use Rattle.inst_board.specs.declared.about.About.TheVariants.{Opened, HasTerms, 
 use Rattle.inst_board.specs.declared.about.Fact.{Fact}
 use Rattle.inst_board.specs.Standing.{Standing, unused, pending, final, Says, about}
 use Rattle.inst_board.specs.Laws.{KnowsOpening}
-use Rattle.inst_board.specs.Learning.{Learns, IsAnswer}
+use Rattle.inst_board.specs.Learning.{Learns, IsAnswer, KnowsTruly}
+use Rattle.inst_board.proofs.Knowing.{learning_truly}
 use Rattle.inst_journal.specs.declared.event.Event.{Event}
 use Rattle.inst_journal.specs.declared.event.Event.TheVariants.{Taken, Booked}
 use Rattle.inst_journal.specs.Booked.{booked, books, or_else, same_transfer}
@@ -165,16 +166,17 @@ module _ {B : Type 0} (settings : B → HubSettings) (knows : B → Fact → Typ
 
   -- from the board b to the board c no own place was opened, and the history grew to K by events that take and forward
   -- nothing
-  pub moved : (b c : B) (book : Book) (K : List Event) → settings c ≡ settings b → (has_role b book.who → has_role c book.who)
+  pub moved : (b c : B) (book : Book) (K : List Event) → settings c ≡ settings b → ((j : Place) → KnowsTruly book.settings.margin knows c j) → (has_role b book.who → has_role c book.who)
       → ((f : Fact) → knows b f → knows c f)
       → ((index : ℕ) → knows c (about (place_at book.who index) Opened) → knows b (about (place_at book.who index) Opened))
       → SameTransfers book.who book.events K
       → ((from : ℕ) (id : List ℕ) (o : Outcome) → booked from id K ≡ Some o → (booked from id book.events ≡ Some o) ⊎ KnowsEnd knows c book from id o)
       → ((k : Place) (t : Terms) (o : Outcome) → t.to ≡ book.who → IsAnswer o → knows c (about k (HasTerms t)) → knows c (about k (Decided o)) → booked k.owner t.id K ≡ Some o)
       → IsLawfulBoard settings knows has_role b book → IsLawfulBoard settings knows has_role c (with_events book K)
-  moved b c book K same_settings role kept own same news answers was = record {
+  moved b c book K same_settings truly role kept own same news answers was = record {
     same_settings = same_settings ∙ was.same_settings;
     role = role was.role;
+    truly = truly;
     taken_known = λ index id to cents stamp e.
         kept_opening b c kept (place_at book.who index) (terms_to to cents id) (deadline_of book.settings.limit stamp)
         (was.taken_known index id to cents stamp (ap (λ (l : List Event). slice_get l index) (sym same.taken) ∙ e));
@@ -232,6 +234,12 @@ module _ {B : Type 0} (settings : B → HubSettings) (knows : B → Fact → Typ
         (λ old. l.agrees a (subst (λ (x : Place). knows b (about x a)) at old))
         (λ new. new.1)
         (l.only (about j a) kn)
+
+    -- what is known afterwards is true of lawful standings
+    pub learnt_truly : (book : Book) → margin ≡ (settings b).margin → IsLawfulBoard settings knows has_role b book → (j : Place) → KnowsTruly book.settings.margin knows c j
+    learnt_truly book fits was j =
+        let same : margin ≡ book.settings.margin = fits ∙ ap (λ (s : HubSettings). s.margin) was.same_settings in
+        subst (λ (m : ℕ). KnowsTruly m knows c j) same (learning_truly margin knows b c k p l (λ i. subst (λ (m : ℕ). KnowsTruly m knows b i) (sym same) (was.truly i)) j)
 
     pub learnt_own : (who : ℕ) → (k.owner ≡ who → Says p Opened → knows b (about k Opened)) → (index : ℕ) → knows c (about (place_at who index) Opened) → knows b (about (place_at who index) Opened)
     learnt_own who opened index kn = ⊎_elim

@@ -187,8 +187,8 @@ module _ {B : Type 0} (settings : B → HubSettings) (knows : B → Fact → Typ
       subst (λ (x : Event). Fits book.settings book.who book.events x) (sym t.event_is)
       (booking_fits settings knows has_role b book k.owner t.terms.id k.index t.outcome was (party_lies t.terms t.outcome t.look_is t.party) t.new)
 
-  pub lesson_keeps : (e : Event) → lesson book k look ≡ Some e → settings c ≡ settings b → (has_role b book.who → has_role c book.who) → IsLawfulBoard settings knows has_role c (with_event book (Some e))
-  lesson_keeps e l same role =
+  pub lesson_keeps : (e : Event) → lesson book k look ≡ Some e → settings c ≡ settings b → margin ≡ (settings b).margin → (has_role b book.who → has_role c book.who) → IsLawfulBoard settings knows has_role c (with_event book (Some e))
+  lesson_keeps e l same fits role =
       let t = teaches book k look e l in
       subst (λ (x : Event). IsLawfulBoard settings knows has_role c (with_event book (Some x))) (sym t.event_is)
-      (looked_booking settings knows has_role margin stood b c k look h book t.terms.id t.terms t.outcome same role t.look_is (party_lies t.terms t.outcome t.look_is t.party) was)
+      (looked_booking settings knows has_role margin stood b c k look h book t.terms.id t.terms t.outcome same fits role t.look_is (party_lies t.terms t.outcome t.look_is t.party) was)

@@ -8,3 +8,6 @@ pub mod Settling
 pub mod Entering
 pub mod Refusing
 pub mod Others
+pub mod Adopting
+pub mod Together
+pub mod Telling

@@ -18,7 +18,7 @@ use Rattle.inst_journal.specs.Booked.{booked}
 use Rattle.inst_slot.specs.Book.{Book, place_at}
 use Rattle.inst_slot.specs.LawfulBoard.{LiesAt, KnowsEnd, IsLawfulBoard}
 use Rattle.inst_slot.proofs.Growing.{still_booked, newly_booked, booked_cases}
-use Rattle.inst_slot.proofs.Keeping.{SameTransfers, same_transfers, same_after, with_events, moved, learnt_own, learnt_answer, same_terms, same_end, lying, booked_key}
+use Rattle.inst_slot.proofs.Keeping.{SameTransfers, same_transfers, same_after, with_events, moved, learnt_own, learnt_truly, learnt_answer, same_terms, same_end, lying, booked_key}
 
 module _ {B : Type 0} (settings : B → HubSettings) (knows : B → Fact → Type 0) (has_role : B → ℕ → Type 0) where
   -- a booking of an outcome that is known
@@ -34,12 +34,12 @@ module _ {B : Type 0} (settings : B → HubSettings) (knows : B → Fact → Typ
 
   -- a look
   module _ (margin : ℕ) (stood : B → Place → Outcome → Type 0) (b c : B) (k : Place) (look : Look) (h : Looks margin knows has_role stood b k look c) where
-    pub looked : (book : Book) (K : List Event) → settings c ≡ settings b → (has_role b book.who → has_role c book.who)
+    pub looked : (book : Book) (K : List Event) → settings c ≡ settings b → margin ≡ (settings b).margin → (has_role b book.who → has_role c book.who)
         → SameTransfers book.who book.events K
         → ((from : ℕ) (id : List ℕ) (o : Outcome) → booked from id K ≡ Some o → (booked from id book.events ≡ Some o) ⊎ KnowsEnd knows c book from id o)
         → ((from : ℕ) (id : List ℕ) (o : Outcome) → booked from id book.events ≡ Some o → booked from id K ≡ Some o)
         → IsLawfulBoard settings knows has_role b book → IsLawfulBoard settings knows has_role c (with_events book K)
-    looked book K same_settings role same news kept was = moved settings knows has_role b c book K same_settings role h.learns.kept
+    looked book K same_settings fits role same news kept was = moved settings knows has_role b c book K same_settings (learnt_truly settings knows has_role margin b c k h.standing h.learns book fits was) role h.learns.kept
         (learnt_own settings knows has_role margin b c k h.standing h.learns book.who (λ own says. h.own (subst (λ (x : ℕ). has_role b x) (sym own) was.role) Opened tt says))
         same news
         (λ j t o to an kt kd. ⊎_elim
@@ -52,8 +52,8 @@ module _ {B : Type 0} (settings : B → HubSettings) (knows : B → Fact → Typ
         was
 
     -- a look alone
-    pub looked_on : (book : Book) → settings c ≡ settings b → (has_role b book.who → has_role c book.who) → IsLawfulBoard settings knows has_role b book → IsLawfulBoard settings knows has_role c book
-    looked_on book same_settings role was = looked book book.events same_settings role (same_transfers book.who book.events) (λ from id o e. inl e) (λ from id o e. e) was
+    pub looked_on : (book : Book) → settings c ≡ settings b → margin ≡ (settings b).margin → (has_role b book.who → has_role c book.who) → IsLawfulBoard settings knows has_role b book → IsLawfulBoard settings knows has_role c book
+    looked_on book same_settings fits role was = looked book book.events same_settings fits role (same_transfers book.who book.events) (λ from id o e. inl e) (λ from id o e. e) was
 
     pub saw_pending : (t : Terms) (d : ℕ) → look ≡ LookPending t d → KnowsOpening knows c k t d
     saw_pending t d e = pend h.standing h.learns (sym e ∙ h.look_is) where
@@ -100,10 +100,10 @@ module _ {B : Type 0} (settings : B → HubSettings) (knows : B → Fact → Typ
       dec (final v e z m) f g = let x : t ≡ v = cc in g ∙ sym x
 
     -- a look that books what it shows
-    pub looked_booking : (book : Book) (id : List ℕ) (t : Terms) (z : Outcome) → settings c ≡ settings b → (has_role b book.who → has_role c book.who)
+    pub looked_booking : (book : Book) (id : List ℕ) (t : Terms) (z : Outcome) → settings c ≡ settings b → margin ≡ (settings b).margin → (has_role b book.who → has_role c book.who)
         → look ≡ LookDecided t z → LiesAt book k.owner id k.index
         → IsLawfulBoard settings knows has_role b book → IsLawfulBoard settings knows has_role c (with_events book (book.events ++ Booked k.owner id z ∷ []))
-    looked_booking book id t z same_settings role is lies was = looked book (book.events ++ Booked k.owner id z ∷ []) same_settings role
+    looked_booking book id t z same_settings fits role is lies was = looked book (book.events ++ Booked k.owner id z ∷ []) same_settings fits role
         (same_after book.who book.events (Booked k.owner id z) refl refl refl)
         (booking_news c book k.owner id k.index z lies (saw_decided t z is))
         (λ from name o e. still_booked from name book.events (Booked k.owner id z) o e)
@@ -123,13 +123,13 @@ module _ {B : Type 0} (settings : B → HubSettings) (knows : B → Fact → Typ
     unended (pending t d) o a e says = says
     unended (final t d z m) o a e says = let f = a.0 in let no : ⊥ = cc in no
 
-    pub decided : (book : Book) (id : List ℕ) (o : Outcome) → settings c ≡ settings b → (has_role b book.who → has_role c book.who)
+    pub decided : (book : Book) (id : List ℕ) (o : Outcome) → settings c ≡ settings b → margin ≡ (settings b).margin → (has_role b book.who → has_role c book.who)
         → LiesAt book from id index → booked from id book.events ≡ None → found ≡ Some o
         → IsLawfulBoard settings knows has_role b book → IsLawfulBoard settings knows has_role c (with_events book (book.events ++ Booked from id o ∷ []))
-    decided book id o same_settings role lies none e was =
+    decided book id o same_settings fits role lies none e was =
         let lain = lying settings knows has_role b book from id index was lies in
         let end = ended h.standing o h.learns h.answers e in
-        moved settings knows has_role b c book (book.events ++ Booked from id o ∷ []) same_settings role h.learns.kept
+        moved settings knows has_role b c book (book.events ++ Booked from id o ∷ []) same_settings (learnt_truly settings knows has_role margin b c (place_at from index) h.standing h.learns book fits was) role h.learns.kept
         (learnt_own settings knows has_role margin b c (place_at from index) h.standing h.learns book.who (λ own says. lain.known.opened))
         (same_after book.who book.events (Booked from id o) refl refl refl)
         (booking_news c book from id index o lies end.0)
@@ -146,12 +146,12 @@ module _ {B : Type 0} (settings : B → HubSettings) (knows : B → Fact → Typ
         was
 
     -- it stays pending
-    pub undecided : (book : Book) (id : List ℕ) → settings c ≡ settings b → (has_role b book.who → has_role c book.who)
+    pub undecided : (book : Book) (id : List ℕ) → settings c ≡ settings b → margin ≡ (settings b).margin → (has_role b book.who → has_role c book.who)
         → LiesAt book from id index → found ≡ None
         → IsLawfulBoard settings knows has_role b book → IsLawfulBoard settings knows has_role c book
-    undecided book id same_settings role lies e was =
+    undecided book id same_settings fits role lies e was =
         let lain = lying settings knows has_role b book from id index was lies in
-        moved settings knows has_role b c book book.events same_settings role h.learns.kept
+        moved settings knows has_role b c book book.events same_settings (learnt_truly settings knows has_role margin b c (place_at from index) h.standing h.learns book fits was) role h.learns.kept
         (learnt_own settings knows has_role margin b c (place_at from index) h.standing h.learns book.who (λ own says. lain.known.opened))
         (same_transfers book.who book.events)
         (λ other name o f. inl f)

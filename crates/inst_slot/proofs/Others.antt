@@ -26,7 +26,7 @@ use Rattle.inst_slot.specs.Book.{Book, place_at, terms_to}
 use Rattle.inst_slot.specs.LawfulBoard.{IsLawfulBoard, KeepsOthers}
 use Rattle.inst_slot.specs.Asking.{request, Finds, OnlyLooks, handle_ask, Opens, Enters, Settles}
 use Rattle.inst_slot.specs.Telling.{unbooked_at, ExpiresFor}
-use Rattle.inst_slot.proofs.Keeping.{moved, same_transfers, same_terms, same_end, learnt_own, learnt_answer}
+use Rattle.inst_slot.proofs.Keeping.{moved, same_transfers, same_terms, same_end, learnt_own, learnt_truly, learnt_answer}
 use Rattle.inst_slot.proofs.Looking.{looked_on}
 use Rattle.inst_slot.proofs.Deciding.{asked, may_expire}
 use Rattle.inst_slot.proofs.Settling.{unbooked_is}
@@ -62,8 +62,8 @@ module _ {B : Type 0} (settings : B → HubSettings) (knows : B → Fact → Typ
       )
 
   others_decide : (m c : B) (k : Place) (wish : Wish) (at : ℕ) (found : Option Outcome) (who : ℕ) (may : MayDecide knows has_role m k wish) → (wish ≡ Expire) ⊎ (may.terms.to ≡ who)
-      → settings c ≡ settings m → ((p : ℕ) → has_role m p → has_role c p) → Decides margin knows stood m k wish at found c → KeepsOthers settings knows has_role m who c
-  others_decide m c k wish at found who may mine same role h book ne was = moved settings knows has_role m c book book.events same (role book.who) h.learns.kept
+      → settings c ≡ settings m → margin ≡ (settings m).margin → ((p : ℕ) → has_role m p → has_role c p) → Decides margin knows stood m k wish at found c → KeepsOthers settings knows has_role m who c
+  others_decide m c k wish at found who may mine same margins role h book ne was = moved settings knows has_role m c book book.events same (learnt_truly settings knows has_role margin m c k h.standing h.learns book margins was) (role book.who) h.learns.kept
       (learnt_own settings knows has_role margin m c k h.standing h.learns book.who (λ own says. may.opened))
       (same_transfers book.who book.events)
       (λ from id o e. inl e)
@@ -91,9 +91,9 @@ module _ {B : Type 0} (settings : B → HubSettings) (knows : B → Fact → Typ
       party (Reject reason) p = role may.terms.to p
       party Expire p = ⊎_elim (λ own. inl (role k.owner own)) (λ to. inr (role may.terms.to to)) p
 
-  module _ (b c : B) (same_holder : stays b c) where
+  module _ (b c : B) (same_holder : stays b c) (fits : margin ≡ (settings b).margin) where
     pub others_look : (k : Place) (look : Look) (who : ℕ) → Looks margin knows has_role stood b k look c → KeepsOthers settings knows has_role b who c
-    others_look k look who h book ne was = looked_on settings knows has_role margin stood b c k look h book (stays_settings b c same_holder) (λ r. (stays_roles b c book.who same_holder).0 r) was
+    others_look k look who h book ne was = looked_on settings knows has_role margin stood b c k look h book (stays_settings b c same_holder) fits (λ r. (stays_roles b c book.who same_holder).0 r) was
 
     others_find : (k : Place) (wish : Wish) (at : ℕ) (found : Option Outcome) (who : ℕ) (may : MayDecide knows has_role b k wish) → (wish ≡ Expire) ⊎ (may.terms.to ≡ who)
         → Finds margin knows has_role stood stays b k wish at found c → KeepsOthers settings knows has_role b who c
@@ -102,8 +102,8 @@ module _ {B : Type 0} (settings : B → HubSettings) (knows : B → Fact → Typ
         let m = f.between in
         let roles = λ (p : ℕ) (r : has_role b p). (stays_roles b m p f.same_holder).0 r in
         let back = λ (p : ℕ) (r : has_role m p). (stays_roles b c p same_holder).0 ((stays_roles b m p f.same_holder).1 r) in
-        let seen = looked_on settings knows has_role margin stood b m k f.look f.looks book (stays_settings b m f.same_holder) (roles book.who) was in
-        others_decide m c k wish at found who (kept_may b m k wish f.looks.learns.kept may roles) mine (stays_settings b c same_holder ∙ sym (stays_settings b m f.same_holder)) back f.decides book ne seen
+        let seen = looked_on settings knows has_role margin stood b m k f.look f.looks book (stays_settings b m f.same_holder) fits (roles book.who) was in
+        others_decide m c k wish at found who (kept_may b m k wish f.looks.learns.kept may roles) mine (stays_settings b c same_holder ∙ sym (stays_settings b m f.same_holder)) (fits ∙ ap (λ (s : HubSettings). s.margin) (sym (stays_settings b m f.same_holder))) back f.decides book ne seen
 
     pub others_settle : (book : Book) (ask : Ask) (k : Place × Wish) (result : Result Reply Fault) (new : Book) → IsLawfulBoard settings knows has_role b book → request book ask.command ≡ Some k
         → Settles margin knows has_role stood stays b book ask k.0 k.1 result c new → KeepsOthers settings knows has_role b book.who c
@@ -122,7 +122,8 @@ module _ {B : Type 0} (settings : B → HubSettings) (knows : B → Fact → Typ
         (λ refused. others_look (place_at book.who index) refused.2.look book.who refused.2.looks) s
 
     others_open : (book : Book) (K : List Event) → Opens margin knows book K b c → KeepsOthers settings knows has_role b book.who c
-    others_open book (Taken id to cents stamp ∷ K) l other ne was = moved settings knows has_role b c other other.events (stays_settings b c same_holder) (λ r. (stays_roles b c other.who same_holder).0 r) l.kept
+    others_open book (Taken id to cents stamp ∷ K) l other ne was = moved settings knows has_role b c other other.events (stays_settings b c same_holder)
+        (learnt_truly settings knows has_role margin b c (place_at book.who (live_submissions book.who book.events)) (pending (terms_to to cents id) (deadline_of book.settings.limit stamp)) l other fits was) (λ r. (stays_roles b c other.who same_holder).0 r) l.kept
         (learnt_own settings knows has_role margin b c (place_at book.who (live_submissions book.who book.events)) (pending (terms_to to cents id) (deadline_of book.settings.limit stamp)) l other.who (λ own says. absurd (ne (sym own))))
         (same_transfers other.who other.events)
         (λ from name o e. inl e)

@@ -72,24 +72,24 @@ unbooked_is book index id h =
 
 module _ {B : Type 0} (settings : B → HubSettings) (knows : B → Fact → Type 0) (has_role : B → ℕ → Type 0) (margin : ℕ) (stood : B → Place → Outcome → Type 0) (stays : B → B → Type 0)
     (stays_settings : (a b : B) → stays a b → settings b ≡ settings a) (stays_roles : (a b : B) (p : ℕ) → stays a b → has_role a p ↔ has_role b p)
-    (b c : B) (same_holder : stays b c) (book : Book) (was : IsLawfulBoard settings knows has_role b book) where
+    (b c : B) (same_holder : stays b c) (book : Book) (was : IsLawfulBoard settings knows has_role b book) (fits : margin ≡ (settings b).margin) where
   -- what is found at the place of a transfer of the books, with nothing booked, is booked
   found_keeps : (k : Place) (wish : Wish) (at : ℕ) (id : List ℕ) (found : Option Outcome) → LiesAt book k.owner id k.index → booked k.owner id book.events ≡ None
       → Finds margin knows has_role stood stays b k wish at found c → IsLawfulBoard settings knows has_role c (with_event book (booking k.owner id found))
   found_keeps k wish at id found lies none f =
       let m = f.between in
-      let seen = looked_on settings knows has_role margin stood b m k f.look f.looks book (stays_settings b m f.same_holder) (λ r. (stays_roles b m book.who f.same_holder).0 r) was in
+      let seen = looked_on settings knows has_role margin stood b m k f.look f.looks book (stays_settings b m f.same_holder) fits (λ r. (stays_roles b m book.who f.same_holder).0 r) was in
       let same : settings c ≡ settings m = stays_settings b c same_holder ∙ sym (stays_settings b m f.same_holder) in
       let role = λ (r : has_role m book.who). (stays_roles b c book.who same_holder).0 ((stays_roles b m book.who f.same_holder).1 r) in
-      go found refl f seen same role
+      go found refl f seen same (fits ∙ ap (λ (s : HubSettings). s.margin) (sym (stays_settings b m f.same_holder))) role
     where
       go : (o : Option Outcome) → found ≡ o → (f : Finds margin knows has_role stood stays b k wish at found c) → IsLawfulBoard settings knows has_role f.between book
-          → settings c ≡ settings f.between → (has_role f.between book.who → has_role c book.who) → IsLawfulBoard settings knows has_role c (with_event book (booking k.owner id o))
-      go None is f seen same role = undecided settings knows has_role margin stood f.between c k.owner k.index wish at found f.decides book id same role lies is seen
-      go (Some o) is f seen same role = decided settings knows has_role margin stood f.between c k.owner k.index wish at found f.decides book id o same role lies none is seen
+          → settings c ≡ settings f.between → margin ≡ (settings f.between).margin → (has_role f.between book.who → has_role c book.who) → IsLawfulBoard settings knows has_role c (with_event book (booking k.owner id o))
+      go None is f seen same margins role = undecided settings knows has_role margin stood f.between c k.owner k.index wish at found f.decides book id same margins role lies is seen
+      go (Some o) is f seen same margins role = decided settings knows has_role margin stood f.between c k.owner k.index wish at found f.decides book id o same margins role lies none is seen
 
   only_looked : (k : Place) (wish : Wish) (at : ℕ) → OnlyLooks margin knows has_role stood b k wish at c → IsLawfulBoard settings knows has_role c book
-  only_looked k wish at l = looked_on settings knows has_role margin stood b c k l.look l.looks book (stays_settings b c same_holder) (λ r. (stays_roles b c book.who same_holder).0 r) was
+  only_looked k wish at l = looked_on settings knows has_role margin stood b c k l.look l.looks book (stays_settings b c same_holder) fits (λ r. (stays_roles b c book.who same_holder).0 r) was
 
   kept_one : (o : Option Event) (K : List Event) → K ≡ kept_event o → with_events book (book.events ++ K) ≡ with_event book o
   kept_one None K is = ap (λ (l : List Event). with_events book l) (ap (λ (l : List Event). book.events ++ l) is ∙ append-nil book.events)

@@ -11,7 +11,7 @@ use Rattle.inst_board.specs.declared.about.About.TheVariants.{Opened, HasTerms, 
 use Rattle.inst_board.specs.declared.about.Fact.{Fact}
 use Rattle.inst_board.specs.Standing.{about}
 use Rattle.inst_board.specs.Laws.{KnowsOpening}
-use Rattle.inst_board.specs.Learning.{IsAnswer}
+use Rattle.inst_board.specs.Learning.{IsAnswer, KnowsTruly}
 use Rattle.inst_journal.specs.declared.event.Event.TheVariants.{Taken}
 use Rattle.inst_journal.specs.Booked.{is_forwarded, booked}
 use Rattle.inst_journal.specs.Opened.{is_live, live_taken}
@@ -37,6 +37,7 @@ pub record KnowsEnd {B : Type 0} (knows : B → Fact → Type 0) (b : B) (book :
   pub known : knows b (about (place_at from index) (Decided outcome))
 
 -- same_settings, role: the board is of the slot's hub, and its holder has the participant's role
+-- truly: what is known of each place is true of one lawful standing
 -- taken_known, only_taken: the live transfers of its own are, in their order, the places that it opened
 -- arrived: there is an arrival for each live transfer that was forwarded, in order
 -- forwarded_known: those whose places were found are known opened, for the participant
@@ -46,6 +47,7 @@ pub record IsLawfulBoard {B : Type 0} (settings : B → HubSettings) (knows : B 
     (b : B) (book : Book) : Type 0 where
   pub same_settings : settings b ≡ book.settings
   pub role : has_role b book.who
+  pub truly : (k : Place) → KnowsTruly book.settings.margin knows b k
   pub taken_known : (index : ℕ) (id : List ℕ) (to cents stamp : ℕ) →
       slice_get (live_taken book.who book.events) index ≡ Some (Taken id to cents stamp) →
       KnowsOpening knows b (place_at book.who index) (terms_to to cents id) (deadline_of book.settings.limit stamp)

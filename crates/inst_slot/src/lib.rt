@@ -3,6 +3,7 @@
 
 mod arrival;
 mod finding;
+pub mod laws;
 mod slot;
 
 pub use arrival::Arrival;

@@ -7,7 +7,7 @@ ghost use Rattle.inst_journal.specs.Booked.{takes, booked};
 ghost use Rattle.inst_journal.specs.Opened.{live_taken};
 ghost use Rattle.inst_journal.specs.Sound.{IsSound, Fits};
 ghost use Rattle.inst_journal.specs.Reply.{kept_events};
-ghost use Rattle.inst_slot.specs.Book.{arrived_at};
+ghost use Rattle.inst_slot.specs.Book.{arrived_at, place_of};
 ghost use Rattle.inst_slot.specs.LawfulBoard.{IsLawfulBoard, KeepsOthers, AllAreAdopted};
 ghost use Rattle.inst_slot.specs.Asking.{wish_for, request, decides, AsksAdopted, handle_ask, book_after, Opens, Enters, Settles, Applies};
 ghost use Rattle.inst_slot.specs.Telling.{delivery, with_delivery, is_party, lesson, with_event, Keeps, taken_by, unbooked_at, ExpiresFor, Expires};
@@ -226,7 +226,7 @@ impl Slot {
         if self.journal.booked(self.who, id).is_some() {
             return None;
         }
-        let index = self.journal.place_of(self.who, id)? as u16;
+        let index = self.own_index(id)?;
         Some((
             Place {
                 owner: self.who,
@@ -234,6 +234,27 @@ impl Slot {
             },
             Wish::Expire,
         ))
+    }
+
+    /// The index of the participant's live transfer with this identifier.
+    fn own_index(&self, id: &Ident) -> Option<u16>
+        ensures { result ≡ position (takes id.now) (live_taken self.now.who self.now.events) }
+    {
+        let index = self.journal.place_of(self.who, id)?;
+        Some(index as u16)
+    }
+
+    /// The place of a live transfer of the originator `from`: of the participant's own, or of one that was
+    /// forwarded to it and whose place was found.
+    pub fn place_of(&self, from: u8, id: &Ident) -> Option<Place>
+        ensures { result ≡ place_of self.now from id.now }
+    {
+        let index = if from == self.who {
+            self.own_index(id)?
+        } else {
+            arrived_at(&self.arrivals, from, id)?
+        };
+        Some(Place { owner: from, index })
     }
 
     /// Opens the next place of the participant's for a submission that is taken.

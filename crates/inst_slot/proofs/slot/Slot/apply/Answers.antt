@@ -1,4 +1,4 @@
-use Rattle.std.proofs.Common.{◌≢◌, ◌∙◌, sym}
+use Rattle.std.proofs.Common.{refl, ◌≢◌, ◌∙◌, sym}
 use Rattle.std.proofs.lemmas.Bool.{and_parts}
 use Rattle.inst_base.specs.declared.fault.Fault.{Fault}
 use Rattle.inst_base.specs.declared.fault.Fault.TheVariants.{Memory}
@@ -28,7 +28,7 @@ returns-in-Some-clause-lawful g c =
     let b = g.B.Board in
     let book : Book = c.args.self.now in
     settles_keep b.settings b.knows b.has_role (b.settings c.args.board.now).margin b.stood b.stays (λ x y. g.met.B.Board.stays_settings x y) (λ x y p. g.met.B.Board.stays_roles x y p)
-    c.args.board.now c.settle.new.board c.settle.ensures.stays book c.requires.lawful c.args.ask.now (c.in-Some.place, c.in-Some.wish) c.settle.result c.settle.new.self
+    c.args.board.now c.settle.new.board c.settle.ensures.stays book c.requires.lawful refl c.args.ask.now (c.in-Some.place, c.in-Some.wish) c.settle.result c.settle.new.self
     (sym c.request.ensures.asked ∙ c.in-Some.is) c.settle.ensures.settles
 
 pub returns-in-None-clause-lawful : goal.returns-in-None-clause-lawful
@@ -36,7 +36,7 @@ returns-in-None-clause-lawful g c =
     let b = g.B.Board in
     let book : Book = c.args.self.now in
     enters_keep b.settings b.knows b.has_role (b.settings c.args.board.now).margin c.args.board.now c.enter.new.board book c.args.ask.now c.enter.result c.enter.new.self
-    (g.met.B.Board.stays_settings c.args.board.now c.enter.new.board c.enter.ensures.stays) (λ r. (g.met.B.Board.stays_roles c.args.board.now c.enter.new.board book.who c.enter.ensures.stays).0 r)
+    (g.met.B.Board.stays_settings c.args.board.now c.enter.new.board c.enter.ensures.stays) refl (λ r. (g.met.B.Board.stays_roles c.args.board.now c.enter.new.board book.who c.enter.ensures.stays).0 r)
     c.request.ensures.sound (and_parts (is_participant book.settings c.args.ask.now.who) (command_fits book.settings c.args.ask.now.command) c.requires.fits).1 c.enter.ensures.enters c.requires.lawful
 
 pub returns-in-Some-clause-refused : goal.returns-in-Some-clause-refused
@@ -52,7 +52,7 @@ returns-in-Some-clause-others g c =
     let b = g.B.Board in
     let book : Book = c.args.self.now in
     others_settle b.settings b.knows b.has_role (b.settings c.args.board.now).margin b.stood b.stays (λ x y. g.met.B.Board.stays_settings x y) (λ x y p. g.met.B.Board.stays_roles x y p) (λ x k t o. g.met.B.Board.stood_seldom x k t o)
-    c.args.board.now c.settle.new.board c.settle.ensures.stays book c.args.ask.now (c.in-Some.place, c.in-Some.wish) c.settle.result c.settle.new.self c.requires.lawful
+    c.args.board.now c.settle.new.board c.settle.ensures.stays refl book c.args.ask.now (c.in-Some.place, c.in-Some.wish) c.settle.result c.settle.new.self c.requires.lawful
     (sym c.request.ensures.asked ∙ c.in-Some.is) c.settle.ensures.settles
 
 pub returns-in-None-clause-others : goal.returns-in-None-clause-others
@@ -60,4 +60,4 @@ returns-in-None-clause-others g c =
     let b = g.B.Board in
     let book : Book = c.args.self.now in
     others_enter b.settings b.knows b.has_role (b.settings c.args.board.now).margin b.stood b.stays (λ x y. g.met.B.Board.stays_settings x y) (λ x y p. g.met.B.Board.stays_roles x y p) (λ x k t o. g.met.B.Board.stood_seldom x k t o)
-    c.args.board.now c.enter.new.board c.enter.ensures.stays book c.args.ask.now c.enter.result c.enter.new.self c.enter.ensures.enters
+    c.args.board.now c.enter.new.board c.enter.ensures.stays refl book c.args.ask.now c.enter.result c.enter.new.self c.enter.ensures.enters

@@ -1,4 +1,4 @@
-use Rattle.std.proofs.Common.{◌∙◌, sym, subst}
+use Rattle.std.proofs.Common.{refl, ◌∙◌, sym, subst}
 use Rattle.inst_slot.specs.Book.{Book}
 use Rattle.inst_slot.specs.LawfulBoard.{IsLawfulBoard}
 use Rattle.inst_slot.proofs.Looking.{looked_on}
@@ -12,7 +12,7 @@ returns-in-None-clause-lawful g c =
     let e = c.look-look.ensures in
     let book : Book = c.args.self.now in
     looked_on b.settings b.knows b.has_role (b.settings c.args.board.now).margin b.stood c.args.board.now c.look-look.new.self c.args.place c.look-look.result e.look book
-    (g.met.B.Board.stays_settings c.args.board.now c.look-look.new.self e.stays) (λ r. (g.met.B.Board.stays_roles c.args.board.now c.look-look.new.self book.who e.stays).0 r) c.requires.lawful
+    (g.met.B.Board.stays_settings c.args.board.now c.look-look.new.self e.stays) refl (λ r. (g.met.B.Board.stays_roles c.args.board.now c.look-look.new.self book.who e.stays).0 r) c.requires.lawful
 
 pub returns-in_err-forward-in-Some-clause-lawful : goal.returns-in_err-forward-in-Some-clause-lawful
 returns-in_err-forward-in-Some-clause-lawful g c =
@@ -21,7 +21,7 @@ returns-in_err-forward-in-Some-clause-lawful g c =
     let book : Book = c.args.self.now in
     subst (λ (x : Book). IsLawfulBoard b.settings b.knows b.has_role c.look-look.new.self x) (sym c.in_err-forward-in-Some.ensures.err)
     (looked_on b.settings b.knows b.has_role (b.settings c.args.board.now).margin b.stood c.args.board.now c.look-look.new.self c.args.place c.look-look.result e.look book
-    (g.met.B.Board.stays_settings c.args.board.now c.look-look.new.self e.stays) (λ r. (g.met.B.Board.stays_roles c.args.board.now c.look-look.new.self book.who e.stays).0 r) c.requires.lawful)
+    (g.met.B.Board.stays_settings c.args.board.now c.look-look.new.self e.stays) refl (λ r. (g.met.B.Board.stays_roles c.args.board.now c.look-look.new.self book.who e.stays).0 r) c.requires.lawful)
 
 pub returns-in_ok-forward-in-Some-clause-lawful : goal.returns-in_ok-forward-in-Some-clause-lawful
 returns-in_ok-forward-in-Some-clause-lawful g c =
@@ -30,7 +30,7 @@ returns-in_ok-forward-in-Some-clause-lawful g c =
     let book : Book = c.args.self.now in
     subst (λ (x : Book). IsLawfulBoard b.settings b.knows b.has_role c.look-look.new.self x) (sym c.in_ok-forward-in-Some.ensures.ok)
     (delivery_keeps b.settings b.knows b.has_role (b.settings c.args.board.now).margin b.stood c.args.board.now c.look-look.new.self c.args.place c.look-look.result e.look book c.requires.lawful c.delivery.ensures.sound c.in-Some.entry (sym c.delivery.ensures.entry ∙ c.in-Some.is)
-    (g.met.B.Board.stays_settings c.args.board.now c.look-look.new.self e.stays) (λ r. (g.met.B.Board.stays_roles c.args.board.now c.look-look.new.self book.who e.stays).0 r))
+    (g.met.B.Board.stays_settings c.args.board.now c.look-look.new.self e.stays) refl (λ r. (g.met.B.Board.stays_roles c.args.board.now c.look-look.new.self book.who e.stays).0 r))
 
 pub forward-requires : goal.forward-requires
 forward-requires g c =
@@ -45,16 +45,16 @@ pub returns-in-None-clause-others : goal.returns-in-None-clause-others
 returns-in-None-clause-others g c =
     let b = g.B.Board in
     others_look b.settings b.knows b.has_role (b.settings c.args.board.now).margin b.stood b.stays (λ x y. g.met.B.Board.stays_settings x y) (λ x y p. g.met.B.Board.stays_roles x y p) (λ x k t o. g.met.B.Board.stood_seldom x k t o)
-    c.args.board.now c.look-look.new.self c.look-look.ensures.stays c.args.place c.look-look.result c.args.self.now.who c.look-look.ensures.look
+    c.args.board.now c.look-look.new.self c.look-look.ensures.stays refl c.args.place c.look-look.result c.args.self.now.who c.look-look.ensures.look
 
 pub returns-in_err-forward-in-Some-clause-others : goal.returns-in_err-forward-in-Some-clause-others
 returns-in_err-forward-in-Some-clause-others g c =
     let b = g.B.Board in
     others_look b.settings b.knows b.has_role (b.settings c.args.board.now).margin b.stood b.stays (λ x y. g.met.B.Board.stays_settings x y) (λ x y p. g.met.B.Board.stays_roles x y p) (λ x k t o. g.met.B.Board.stood_seldom x k t o)
-    c.args.board.now c.look-look.new.self c.look-look.ensures.stays c.args.place c.look-look.result c.args.self.now.who c.look-look.ensures.look
+    c.args.board.now c.look-look.new.self c.look-look.ensures.stays refl c.args.place c.look-look.result c.args.self.now.who c.look-look.ensures.look
 
 pub returns-in_ok-forward-in-Some-clause-others : goal.returns-in_ok-forward-in-Some-clause-others
 returns-in_ok-forward-in-Some-clause-others g c =
     let b = g.B.Board in
     others_look b.settings b.knows b.has_role (b.settings c.args.board.now).margin b.stood b.stays (λ x y. g.met.B.Board.stays_settings x y) (λ x y p. g.met.B.Board.stays_roles x y p) (λ x k t o. g.met.B.Board.stood_seldom x k t o)
-    c.args.board.now c.look-look.new.self c.look-look.ensures.stays c.args.place c.look-look.result c.args.self.now.who c.look-look.ensures.look
+    c.args.board.now c.look-look.new.self c.look-look.ensures.stays refl c.args.place c.look-look.result c.args.self.now.who c.look-look.ensures.look

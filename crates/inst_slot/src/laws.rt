@@ -1,0 +1,15 @@
+//! The laws of slots over boards. A function without a body has the law for its contract, so that the
+//! check proves it.
+ghost use Rattle.inst_slot.specs.Laws.{NewBooksAreLawful, AToldPlaceIsKnown};
+
+use inst_board::Board;
+
+/// New books are lawful over a board of which nothing is known.
+pub fn new_books_are_lawful<B: Board>()
+    ensures { NewBooksAreLawful B.settings B.knows B.has_role }
+{}
+
+/// The place that a slot tells of a transfer is known opened, with that transfer's identifier.
+pub fn a_told_place_is_known<B: Board>()
+    ensures { AToldPlaceIsKnown B.settings B.knows B.has_role }
+{}
