@@ -535,3 +535,47 @@ fn reserves_and_pushes(rt: HostRuntime) -> Result<(), Fail> {
     assert_eq!(rt; journal.events(), [funded].as_slice());
     Ok(())
 }
+
+/// T1 is settled before the hub is opened again, T2 goes on at the first place, T3 comes to the second.
+#[test]
+fn tells_where_live_transfers_lie(rt: HostRuntime) -> Result<(), Fail> {
+    let first = Ident::new("T1")?;
+    let second = Ident::new("T2")?;
+    let third = Ident::new("T3")?;
+    let cents = Cents::new(100)?;
+    let stamp = Moment::new(0, 1000)?;
+    let taken = |id: Ident| Event::Taken {
+        id,
+        to: 1,
+        cents,
+        stamp,
+    };
+    let mut journal = Journal::new(rt.alloc());
+    journal.push(taken(first))?;
+    journal.push(taken(second))?;
+    journal.push(Event::Booked {
+        from: 0,
+        id: first,
+        outcome: Outcome::Accepted,
+    })?;
+    journal.push(Event::Opened)?;
+    journal.push(taken(third))?;
+    journal.push(Event::Forwarded {
+        from: 2,
+        id: first,
+        cents,
+        deadline: stamp,
+    })?;
+    assert_eq!(rt; journal.live_submissions(0), 2);
+    assert_eq!(rt; journal.place_of(0, &first), None);
+    assert_eq!(rt; journal.place_of(0, &second), Some(0));
+    assert_eq!(rt; journal.place_of(0, &third), Some(1));
+    assert_eq!(rt; journal.taken_at(0, 0), Some(taken(second)));
+    assert_eq!(rt; journal.taken_at(0, 1), Some(taken(third)));
+    assert_eq!(rt; journal.taken_at(0, 2), None);
+    assert_eq!(rt; journal.booked(0, &first), Some(Outcome::Accepted));
+    assert_eq!(rt; journal.booked(2, &first), None);
+    assert!(rt; journal.is_forwarded(2, &first));
+    assert!(rt; !journal.is_forwarded(0, &first));
+    Ok(())
+}
