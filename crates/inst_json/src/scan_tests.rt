@@ -200,8 +200,13 @@ fn line_of(
 
 /// The bytes with another before the one at a place.
 fn with_byte(alloc: Global, bytes: &[u8], at: usize, other: u8) -> Result<Vec<u8>, Fail> {
-    let mut line = bytes.to_vec(alloc)?;
-    line.insert(at, other)?;
+    let mut line = Vec::new(alloc);
+    for (place, byte) in bytes.iter().enumerate() {
+        if place == at {
+            line.push(other)?;
+        }
+        line.push(*byte)?;
+    }
     Ok(line)
 }
 
