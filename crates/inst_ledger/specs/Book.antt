@@ -1,0 +1,29 @@
+-- What a contract sees of a ledger: the participant's book, and for how many more events of no new key it has room.
+-- Keeping a history is this hub's own choice.
+use Rattle.std.specs.Prelude.{ℕ, Bool, true, false, List, [], ◌∷◌, ◌++◌}
+use Rattle.inst_settings.specs.Settings.{HubSettings}
+use Rattle.inst_journal.specs.declared.event.Event.{Event}
+use Rattle.inst_journal.specs.declared.event.Event.TheVariants.{Funded, Defunded, Taken, Forwarded, Booked, Fetched, Opened}
+
+-- a participant's history, with whose it is and of which hub
+pub record Book : Type 0 where
+  pub settings : HubSettings
+  pub who : ℕ
+  pub events : List Event
+
+pub record BookAndRoom : Type 0 where
+  pub book : Book
+  pub room : ℕ
+
+abbrev pub with_event : Book → Event → Book
+with_event book event = record book { events = book.events ++ event ∷ [] }
+
+-- whether the event brings a new key: a reference, or a transfer
+abbrev pub brings_key : Event → Bool
+brings_key (Funded reference cents) = true
+brings_key (Defunded reference cents) = true
+brings_key (Taken id to cents stamp) = true
+brings_key (Forwarded from id cents deadline) = true
+brings_key (Booked from id outcome) = false
+brings_key (Fetched count) = false
+brings_key Opened = false
