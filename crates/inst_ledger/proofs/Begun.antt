@@ -25,4 +25,5 @@ begun s who J t T R entries lawful no_event no_money no_transfer no_reference no
       referred = no_reference;
       counted = record { are_live = refl; are_waiting = refl; are_fundings = refl };
       inboxed = record { came = no_entry; were_read = refl };
+      amounts = omega arith;
     }))

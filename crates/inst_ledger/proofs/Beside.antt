@@ -1,5 +1,5 @@
 -- What a ledger keeps beside its history stays right through each event that fits.
-use Rattle.std.proofs.Common.{◌≡◌, ◌≢◌, ℕ, ◌+◌, ◌-◌, ◌≤◌, Bool, true, false, ◌==◌, ◌&&◌, cond, List, [], ◌∷◌, ◌++◌, length, Option, Some, None, is_some, is_none, sum_by, refl, sym, ap, ◌∙◌, subst, arith, add-zero, ◌⊎◌, inl, inr}
+use Rattle.std.proofs.Common.{◌≡◌, ◌≢◌, ℕ, ◌+◌, ◌-◌, ◌≤◌, ◌<◌, ◌^◌, Bool, true, false, ◌==◌, ◌&&◌, cond, List, [], ◌∷◌, ◌++◌, length, Option, Some, None, is_some, is_none, sum_by, refl, sym, ap, ◌∙◌, subst, arith, add-zero, ◌⊎◌, inl, inr}
 use Rattle.std.specs.Cmp.Lexicographic.{same_text as text_same}
 use Rattle.std.proofs.lemmas.Bool.{eq-eqb, eqb-true, and_parts, ne_eqb, true≢false, false≢true}
 use Rattle.inst_base.specs.declared.cents.TheConstants.{MOST_CENTS}
@@ -13,17 +13,21 @@ use Rattle.inst_journal.specs.Keys.{is_funding}
 use Rattle.inst_journal.specs.Opened.{is_opening, carried, takes_live}
 use Rattle.inst_journal.specs.Reply.{inbox, handed_out}
 use Rattle.inst_journal.specs.Sound.{Fits}
-use Rattle.inst_journal.specs.Sums.{if_accepted}
+use Rattle.inst_command.specs.declared.outcome.Outcome.TheVariants.{Accepted, Rejected, TimedOut}
+use Rattle.inst_journal.specs.Money.{position}
+use Rattle.inst_journal.specs.Sums.{if_accepted, funding, funded, credit, credits}
+use Rattle.inst_journal.proofs.Counting.{position_fits}
 use Rattle.inst_journal.proofs.OwnBookings.{own_unforwarded}
 use Rattle.inst_journal.proofs.Paging.{in_order_of_arrival}
-use Rattle.inst_journal.proofs.Pushing.{sum_by_push}
+use Rattle.inst_journal.proofs.Pushing.{sum_by_push, sum_by-both}
+use Rattle.std.proofs.lemmas.List.Sums.{sum_by-le-sum_by}
 use Rattle.inst_ledger.specs.declared.references.Funding.{Funding}
 use Rattle.inst_ledger.specs.declared.totals.Totals.{Totals}
 use Rattle.inst_ledger.specs.declared.transfers.Forwarding.{Forwarding}
 use Rattle.inst_ledger.specs.declared.transfers.Origin.TheVariants.{Taken as TakenTransfer, Forwarded as ForwardedTransfer}
 use Rattle.inst_ledger.specs.declared.transfers.Terms.{Terms}
 use Rattle.inst_ledger.specs.declared.transfers.Transfer.{Transfer}
-use Rattle.inst_ledger.specs.Beside.{terms_in, forwarding_in, outcome_in, funding_of, IsCounted, IsRead, IsBeside}
+use Rattle.inst_ledger.specs.Beside.{terms_in, forwarding_in, outcome_in, funding_of, amount_of, most_of, IsCounted, IsRead, IsBeside}
 use Rattle.inst_ledger.specs.Kept.{IsTable, IsKept, terms_of, cents_of, forwarding_of, credit_of}
 use Rattle.inst_ledger.specs.Book.{BookAndRoom}
 use Rattle.inst_ledger.specs.Transfers.{same_key}
@@ -50,6 +54,11 @@ read_same J event entries read other none is = record {
   were_read = omega (arith, is.were_read, sum_by_push handed_out J event, none);
 }
 
+-- the amounts after an event
+amounts_push : (J : List Event) (event : Event) → amount_of event ≤ cond (is_funding event) MOST_CENTS 0 + cond (is_forwarding event) MOST_CENTS 0 → sum_by amount_of J ≤ most_of J → sum_by amount_of (J ++ event ∷ []) ≤ most_of (J ++ event ∷ [])
+amounts_push J event small before =
+    omega (arith, before, small, sum_by_push amount_of J event, sum_by_push (λ e. cond (is_funding e) MOST_CENTS 0) J event, sum_by_push (λ e. cond (is_forwarding e) MOST_CENTS 0) J event)
+
 -- the counts of an event that is no opening, takes nothing and books nothing of the participant's own
 counted_same : (who : ℕ) (J : List Event) (event : Event) (live waiting since : ℕ) → is_opening event ≡ false → takes_live who (carried J) event ≡ false → takes_live who J event ≡ false
     → ((id : List ℕ) → books who id event ≡ None) → IsCounted who J live waiting since → IsCounted who (J ++ event ∷ []) live waiting (since + cond (is_funding event) 1 0)
@@ -69,6 +78,7 @@ beside_same {s} {who} {J} {K} {t} {T} {U} {R} {S} {live} {waiting} {since} {entr
       referred = λ q. references q ∙ b.referred q;
       counted = b.counted;
       inboxed = b.inboxed;
+      amounts = b.amounts;
     })
 
 -- the same events and entries by another name
@@ -104,6 +114,7 @@ module _ (s : HubSettings) (who : ℕ) (J : List Event) (t : Totals) (T : ℕ ×
     referred = funded_put J reference cents R after fits.new b.referred put;
     counted = counted_same who J (Funded reference cents) live waiting since refl refl refl (λ _. refl) b.counted;
     inboxed = read_same J (Funded reference cents) entries read refl refl b.inboxed;
+    amounts = amounts_push J (Funded reference cents) (omega (arith, most)) b.amounts;
   }
 
   pub defunded_beside : (reference : List ℕ) (cents added : ℕ) (after : List ℕ → Option Funding) → added ≡ cents → Fits s who J (Defunded reference cents)
@@ -114,6 +125,7 @@ module _ (s : HubSettings) (who : ℕ) (J : List Event) (t : Totals) (T : ℕ ×
     referred = defunded_put J reference cents R after fits.funding.new b.referred put;
     counted = counted_same who J (Defunded reference cents) live waiting since refl refl refl (λ _. refl) b.counted;
     inboxed = read_same J (Defunded reference cents) entries read refl refl b.inboxed;
+    amounts = amounts_push J (Defunded reference cents) (omega arith) b.amounts;
   }
 
   -- the same counts, where the event is no funding either
@@ -156,12 +168,13 @@ module _ (s : HubSettings) (who : ℕ) (J : List Event) (t : Totals) (T : ℕ ×
           are_fundings = omega (arith, b.counted.are_fundings, fundings_more J new refl);
         };
         inboxed = read_same J new entries read refl refl b.inboxed;
+        amounts = amounts_push J new (omega arith) b.amounts;
       }
 
-  pub forwarded_beside : (from : ℕ) (id : List ℕ) (cents deadline : ℕ) (after : ℕ × List ℕ → Option Transfer) → Fits s who J (Forwarded from id cents deadline)
+  pub forwarded_beside : (from : ℕ) (id : List ℕ) (cents deadline : ℕ) (after : ℕ × List ℕ → Option Transfer) → Fits s who J (Forwarded from id cents deadline) → cents ≤ MOST_CENTS
       → ((q : ℕ × List ℕ) → after q ≡ cond (same_key (from, id) q) (Some (record { origin = ForwardedTransfer (record { cents = cents; deadline = deadline }); outcome = None })) (T q))
       → IsBeside s who (J ++ Forwarded from id cents deadline ∷ []) t after R live waiting since (entries ++ record { from = from; id = id; cents = cents; deadline = deadline } ∷ []) read
-  forwarded_beside from id cents deadline after fits put =
+  forwarded_beside from id cents deadline after fits most put =
       let new : Event = Forwarded from id cents deadline in
       let x : Transfer = record { origin = ForwardedTransfer (record { cents = cents; deadline = deadline }); outcome = None } in
       let nothing : booked from id J ≡ None = unforwarded_unbooked s who (from, id) fits.another J b.kept.sound fits.new in
@@ -179,6 +192,7 @@ module _ (s : HubSettings) (who : ℕ) (J : List Event) (t : Totals) (T : ℕ ×
           came = ap (λ xs. xs ++ record { from = from; id = id; cents = cents; deadline = deadline } ∷ []) b.inboxed.came ∙ sym ((in_order_of_arrival J).arrival from id cents deadline);
           were_read = omega (arith, b.inboxed.were_read, sum_by_push handed_out J new);
         };
+        amounts = amounts_push J new (omega (arith, most)) b.amounts;
       }
 
   -- a booking finds its transfer
@@ -231,6 +245,7 @@ module _ (s : HubSettings) (who : ℕ) (J : List Event) (t : Totals) (T : ℕ ×
           are_fundings = omega (arith, b.counted.are_fundings, fundings_more J new refl);
         };
         inboxed = read_same J new entries read refl refl b.inboxed;
+        amounts = amounts_push J new (omega arith) b.amounts;
       }
 
   own_covered : (id : List ℕ) (outcome : Outcome) (old : Option Outcome) (terms' : Terms) → Fits s who J (Booked who id outcome) → T (who, id) ≡ Some (record { origin = TakenTransfer terms'; outcome = old }) → terms'.cents ≤ t.reserved
@@ -281,6 +296,7 @@ module _ (s : HubSettings) (who : ℕ) (J : List Event) (t : Totals) (T : ℕ ×
         referred = table_keep funding_of J new R b.referred (λ _. refl);
         counted = counted_quiet new refl refl refl quiet refl;
         inboxed = read_same J new entries read refl refl b.inboxed;
+        amounts = amounts_push J new (omega arith) b.amounts;
       }
 
   pub fetched_beside : (count : ℕ) → Fits s who J (Fetched count) → IsBeside s who (J ++ Fetched count ∷ []) t T R live waiting since entries (read + count)
@@ -292,6 +308,7 @@ module _ (s : HubSettings) (who : ℕ) (J : List Event) (t : Totals) (T : ℕ ×
       came = b.inboxed.came ∙ sym ((in_order_of_arrival J).others (Fetched count) refl);
       were_read = omega (arith, b.inboxed.were_read, sum_by_push handed_out J (Fetched count));
     };
+    amounts = amounts_push J (Fetched count) (omega arith) b.amounts;
   }
 
   pub opened_beside : Fits s who J Opened → IsBeside s who (J ++ Opened ∷ []) t T R waiting waiting 0 entries read
@@ -304,4 +321,26 @@ module _ (s : HubSettings) (who : ℕ) (J : List Event) (t : Totals) (T : ℕ ×
       are_fundings = sym (fundings_none J);
     };
     inboxed = read_same J Opened entries read refl refl b.inboxed;
+    amounts = amounts_push J Opened (omega arith) b.amounts;
   }
+
+  -- the position has 64 bits
+  pub position_small : position J < 2 ^ 64
+  position_small =
+      let both : sum_by (λ e. funding e + credit J e) J ≡ funded J + credits J = sum_by-both funding (credit J) J in
+      omega (arith, both, sum_by-le-sum_by (λ e. funding e + credit J e) amount_of J added, b.amounts, position_fits s who J b.kept.lawful b.kept.sound)
+    where
+      accepted_le : (o : Option Outcome) (cents : ℕ) → if_accepted o cents ≤ cents
+      accepted_le None cents = omega arith
+      accepted_le (Some Accepted) cents = omega arith
+      accepted_le (Some (Rejected reason)) cents = omega arith
+      accepted_le (Some TimedOut) cents = omega arith
+
+      added : (event : Event) → funding event + credit J event ≤ amount_of event
+      added (Funded reference cents) = omega arith
+      added (Defunded reference cents) = omega arith
+      added (Taken id to cents stamp) = omega arith
+      added (Forwarded from id cents deadline) = omega (arith, accepted_le (booked from id J) cents)
+      added (Booked from id outcome) = omega arith
+      added (Fetched count) = omega arith
+      added Opened = omega arith

@@ -1,12 +1,14 @@
 -- What a ledger keeps beside its history, all of it: the totals, the transfers and the fundings by their keys, how many
 -- are live, and the inbox with how much of it was handed out.
-use Rattle.std.specs.Prelude.{◌≡◌, ℕ, List, Option, Some, None, sum_by, count_by}
+use Rattle.std.specs.Prelude.{◌≡◌, ℕ, ◌+◌, ◌≤◌, List, Option, Some, None, sum_by, count_by}
 use Rattle.inst_settings.specs.Settings.{HubSettings}
 use Rattle.inst_command.specs.declared.entry.Entry.{Entry}
 use Rattle.inst_command.specs.declared.outcome.Outcome.{Outcome}
 use Rattle.inst_journal.specs.declared.event.Event.{Event}
-use Rattle.inst_journal.specs.declared.event.Event.TheVariants.{Funded, Defunded}
-use Rattle.inst_journal.specs.Keys.{fundings}
+use Rattle.inst_journal.specs.declared.event.Event.TheVariants.{Funded, Defunded, Forwarded}
+use Rattle.inst_journal.specs.Keys.{is_funding, fundings}
+use Rattle.inst_journal.specs.Booked.{is_forwarding}
+use Rattle.inst_base.specs.declared.cents.TheConstants.{MOST_CENTS}
 use Rattle.inst_journal.specs.Opened.{takes_live, live_submissions}
 use Rattle.inst_journal.specs.Reply.{inbox, handed_out}
 use Rattle.inst_settings.specs.Settings.{same_text}
@@ -75,6 +77,17 @@ pub record IsRead (J : List Event) (entries : List Entry) (read : ℕ) : Type 0 
   pub came : entries ≡ inbox J
   pub were_read : read ≡ sum_by handed_out J
 
+-- what the event adds to the position at most
+abbrev pub amount_of : Event → ℕ
+amount_of (Funded reference cents) = cents
+amount_of (Forwarded from id cents deadline) = cents
+amount_of _ = 0
+
+-- the amounts of fundings and of forwarded transfers, each counted as the most that it may be
+abbrev pub most_of : List Event → ℕ
+most_of J = sum_by (λ event. if is_funding event then MOST_CENTS else 0) J
+    + sum_by (λ event. if is_forwarding event then MOST_CENTS else 0) J
+
 pub record IsBeside (s : HubSettings) (who : ℕ) (J : List Event) (t : Totals) (transfers : ℕ × List ℕ → Option Transfer)
     (references : List ℕ → Option Funding) (live waiting since : ℕ) (entries : List Entry) (read : ℕ) : Type 0 where
   pub kept : IsKept s who J t (λ id. terms_in (transfers (who, id))) (λ key. forwarding_in (transfers key))
@@ -82,3 +95,4 @@ pub record IsBeside (s : HubSettings) (who : ℕ) (J : List Event) (t : Totals) 
   pub referred : IsTable funding_of J references
   pub counted : IsCounted who J live waiting since
   pub inboxed : IsRead J entries read
+  pub amounts : sum_by amount_of J ≤ most_of J
