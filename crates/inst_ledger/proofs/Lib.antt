@@ -7,3 +7,4 @@ pub mod Funded
 pub mod Live
 pub mod Beside
 pub mod Begun
+pub mod Opening

@@ -1,5 +1,6 @@
-ghost use Rattle.std.specs.Prelude.{◌≡◌, ◌<◌, [], IfOk, OnOk, IsOkUnless};
+ghost use Rattle.std.specs.Prelude.{◌≡◌, ◌<◌, [], ◌∷◌, ◌++◌, IfOk, OnOk, IsOkUnless};
 ghost use Rattle.inst_settings.specs.Settings.{IsSettings};
+ghost use Rattle.inst_journal.specs.Opened.{openings};
 ghost use Rattle.inst_journal.specs.Sound.{IsSound};
 
 mod handling;
@@ -10,8 +11,8 @@ use crate::references::References;
 use crate::totals::Totals;
 use crate::transfers::Transfers;
 use inst_base::Fault;
-use inst_command::Entry;
-use inst_journal::Journal;
+use inst_command::{Entry, Outcome};
+use inst_journal::{Event, Journal};
 use inst_settings::Settings;
 use std::alloc::Global;
 use std::marker::Model;
@@ -69,6 +70,29 @@ impl Ledger {
             inbox: Vec::new(alloc),
             read: 0,
         })
+    }
+
+    /// The books of the participant `who` with this history, opened again from them. `Memory` where it
+    /// can't be copied. Each event costs the logarithm of the number of keys.
+    pub fn open_from(
+        alloc: Global,
+        settings: &Settings,
+        who: u8,
+        journal: &Journal,
+    ) -> Result<Ledger, Fault>
+        requires sound { IsSound settings.now who journal.now.events }
+        requires few { openings journal.now.events < 500 }
+        ensures ok { IfOk result (λ l. l.book ≡ record { settings = settings.now; who = who; events = journal.now.events ++ Event.Opened ∷ [] }) }
+        ensures only { IsOkUnless result Fault.Memory }
+    {
+        let mut ledger = Ledger::open(alloc, settings, who)?;
+        // The check is told of a type of another crate inside an event only where a function names it.
+        let _: Option<Outcome> = None;
+        for event in journal.events() {
+            ledger.keep(*event)?;
+        }
+        ledger.keep(Event::Opened)?;
+        Ok(ledger)
     }
 
     /// The participant's history. It is sound.

@@ -4,13 +4,16 @@ ghost use Rattle.inst_base.specs.Fault.{IsUnlessMemory};
 ghost use Rattle.inst_base.specs.Moment.{is_moment};
 ghost use Rattle.inst_base.specs.TimeLimit.{deadline_of};
 ghost use Rattle.inst_command.specs.Ask.{command_fits, is_count};
-ghost use Rattle.inst_journal.specs.Reply.{is_new_funding, fund, defund, submit, standing, still_pending, answer_forwarded, confirm, reject, investigate, unread, hand_out, handle, copies};
+ghost use Rattle.inst_journal.specs.Reply.{is_new_funding, fund, defund, submit, standing, still_pending, answer_forwarded, confirm, reject, investigate, unread, hand_out, answered, copies};
+ghost use Rattle.inst_journal.specs.Statement.{statement_part};
+ghost use Rattle.inst_ledger.specs.Book.{answer_to, MayKeep};
 ghost use Rattle.inst_journal.specs.Money.{reserved, position, available};
 
 use super::Ledger;
 use inst_base::{Cents, Fault, Ident, Moment};
-use inst_command::{Command, Entries, Entry, Outcome, Reply, State, Submission};
-use inst_journal::{Event, Handled, handle_command};
+use inst_command::{Command, Entries, Entry, Lines, Outcome, Reply, State, Submission};
+use inst_journal::{Event, Handled};
+use inst_statement::statement;
 use std::alloc::{AllocError, Global};
 
 impl Ledger {
@@ -207,11 +210,21 @@ impl Ledger {
         })
     }
 
-    /// What a command, read at `at`, is answered, and the event that is to be kept of it, where its
-    /// transfer is found to have the outcome `found`. Refused by the first of `SelfTransfer` to `Shortage`
-    /// that holds; only a statement, and a fetch where something is unread, may answer `Memory`. Each
-    /// key costs the logarithm of their number; a statement walks the history, and no other call does.
-    pub fn handle(
+    /// At most `count` lines after the first `skip` of the statement since the last opening, or `Memory`.
+    fn statement(&self, alloc: Global, skip: u64, count: u32) -> Result<Handled, Fault>
+        ensures { IsUnlessMemory result (answered (Reply.Statement (statement_part self.now.book.events skip count))) }
+    {
+        let lines = statement(alloc, self.journal(), skip, count)?;
+        Ok(Handled {
+            reply: Reply::Statement {
+                lines: Lines::new(lines),
+            },
+            kept: None,
+        })
+    }
+
+    /// What a command is answered, and the event that is to be kept of it.
+    fn answer(
         &self,
         alloc: Global,
         command: &Command,
@@ -219,10 +232,8 @@ impl Ledger {
         found: Option<Outcome>,
     ) -> Result<Handled, Fault>
         requires { command_fits self.now.book.settings command.now ≡ true }
-        ensures reply { IsUnlessMemory result
-            (handle self.now.book.settings self.now.book.who self.now.book.events command.now at found) }
-        ensures no_memory { copies self.now.book.events command.now ≡ false →
-            result ≡ handle self.now.book.settings self.now.book.who self.now.book.events command.now at found }
+        ensures reply { IsUnlessMemory result (answer_to self.now.book command.now at found) }
+        ensures no_memory { copies self.now.book.events command.now ≡ false → result ≡ answer_to self.now.book command.now at found }
     {
         match command {
             Command::Fund { reference, cents } => self.fund(*reference, *cents),
@@ -236,16 +247,30 @@ impl Ledger {
                 reply: self.position_reply(),
                 kept: None,
             }),
-            Command::Statement { .. } => handle_command(
-                alloc,
-                self.settings(),
-                self.who(),
-                self.journal().events(),
-                command,
-                at,
-                found,
-            ),
+            Command::Statement { skip, count } => self.statement(alloc, *skip, *count),
         }
+    }
+
+    /// What a command, read at `at`, is answered, and the event that is to be kept of it, where its
+    /// transfer is found to have the outcome `found`. Refused by the first of `SelfTransfer` to `Shortage`
+    /// that holds; only a statement, and a fetch where something is unread, may answer `Memory`. A look at
+    /// a key costs the logarithm of their number; a statement walks the history once, and a fetch copies
+    /// what it hands out.
+    pub fn handle(
+        &self,
+        alloc: Global,
+        command: &Command,
+        at: Moment,
+        found: Option<Outcome>,
+    ) -> Result<Handled, Fault>
+        requires { command_fits self.now.book.settings command.now ≡ true }
+        ensures reply { IsUnlessMemory result (answer_to self.now.book command.now at found) }
+        ensures no_memory { copies self.now.book.events command.now ≡ false → result ≡ answer_to self.now.book command.now at found }
+        ensures kept { IfOk result (λ handled. MayKeep self.now.book handled.kept) }
+    {
+        // The invariant is known only where a field is used.
+        let _ = &self.settings;
+        self.answer(alloc, command, at, found)
     }
 }
 

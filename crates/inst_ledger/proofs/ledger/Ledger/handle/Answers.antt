@@ -1,27 +1,10 @@
-use Rattle.std.proofs.Common.{inr}
-use Rattle.inst_journal.proofs.Keeping.{handled_as}
+use Rattle.inst_journal.proofs.Keeping.{handled_kept}
+use Rattle.inst_ledger.specs.Book.{answer_to}
+use Rattle.inst_ledger.proofs.Opening.{may_keep}
 use Rattle.inst_ledger.proofs.ledger.Ledger.handle.Goals as goal
 
-pub returns-in-Fund-clause-reply : goal.returns-in-Fund-clause-reply
-returns-in-Fund-clause-reply c = inr (handled_as c.args.self.now.book.settings c.args.self.now.book.who c.args.self.now.book.events c.args.at c.args.found _ _ _ c.in-Fund.is c.fund.ensures)
-
-pub returns-in-Fund-clause-no_memory : goal.returns-in-Fund-clause-no_memory
-returns-in-Fund-clause-no_memory c = λ _. handled_as c.args.self.now.book.settings c.args.self.now.book.who c.args.self.now.book.events c.args.at c.args.found _ _ _ c.in-Fund.is c.fund.ensures
-
-pub returns-in-Defund-clause-reply : goal.returns-in-Defund-clause-reply
-returns-in-Defund-clause-reply c = inr (handled_as c.args.self.now.book.settings c.args.self.now.book.who c.args.self.now.book.events c.args.at c.args.found _ _ _ c.in-Defund.is c.defund.ensures)
-
-pub returns-in-Defund-clause-no_memory : goal.returns-in-Defund-clause-no_memory
-returns-in-Defund-clause-no_memory c = λ _. handled_as c.args.self.now.book.settings c.args.self.now.book.who c.args.self.now.book.events c.args.at c.args.found _ _ _ c.in-Defund.is c.defund.ensures
-
-pub returns-in-Confirm-clause-reply : goal.returns-in-Confirm-clause-reply
-returns-in-Confirm-clause-reply c = inr (handled_as c.args.self.now.book.settings c.args.self.now.book.who c.args.self.now.book.events c.args.at c.args.found _ _ _ c.in-Confirm.is c.confirm.ensures)
-
-pub returns-in-Confirm-clause-no_memory : goal.returns-in-Confirm-clause-no_memory
-returns-in-Confirm-clause-no_memory c = λ _. handled_as c.args.self.now.book.settings c.args.self.now.book.who c.args.self.now.book.events c.args.at c.args.found _ _ _ c.in-Confirm.is c.confirm.ensures
-
-pub returns-in-Reject-clause-reply : goal.returns-in-Reject-clause-reply
-returns-in-Reject-clause-reply c = inr (handled_as c.args.self.now.book.settings c.args.self.now.book.who c.args.self.now.book.events c.args.at c.args.found _ _ _ c.in-Reject.is c.reject.ensures)
-
-pub returns-in-Reject-clause-no_memory : goal.returns-in-Reject-clause-no_memory
-returns-in-Reject-clause-no_memory c = λ _. handled_as c.args.self.now.book.settings c.args.self.now.book.who c.args.self.now.book.events c.args.at c.args.found _ _ _ c.in-Reject.is c.reject.ensures
+pub returns-clause-kept : goal.returns-clause-kept
+returns-clause-kept c =
+    let book = c.args.self.now.book in
+    may_keep book c.answer.result (answer_to book c.args.command.now c.args.at c.args.found) c.answer.ensures.reply
+    (handled_kept book.settings book.who book.events c.args.command.now c.args.at c.args.found c.requires)
