@@ -1,5 +1,5 @@
 -- What a ledger keeps beside a history with no events.
-use Rattle.std.proofs.Common.{◌≡◌, ℕ, List, [], ◌∷◌, Option, Some, None, refl, sym, ap, ◌∙◌, subst, arith}
+use Rattle.std.proofs.Common.{◌≡◌, ℕ, List, [], Option, None, refl, sym, ap, subst, arith}
 use Rattle.inst_settings.specs.Settings.{HubSettings, IsSettings}
 use Rattle.inst_command.specs.declared.entry.Entry.{Entry}
 use Rattle.inst_journal.specs.declared.event.Event.{Event}

@@ -1,7 +1,6 @@
 -- What a ledger keeps beside its history stays right through each event that fits.
-use Rattle.std.proofs.Common.{◌≡◌, ◌≢◌, ℕ, ◌+◌, ◌-◌, ◌≤◌, ◌<◌, ◌^◌, Bool, true, false, ◌==◌, ◌&&◌, cond, List, [], ◌∷◌, ◌++◌, length, Option, Some, None, is_some, is_none, sum_by, refl, sym, ap, ◌∙◌, subst, arith, add-zero, ◌⊎◌, inl, inr}
-use Rattle.std.specs.Cmp.Lexicographic.{same_text as text_same}
-use Rattle.std.proofs.lemmas.Bool.{eq-eqb, eqb-true, and_parts, ne_eqb, true≢false, false≢true}
+use Rattle.std.proofs.Common.{◌≡◌, ◌≢◌, ℕ, ◌+◌, ◌-◌, ◌≤◌, ◌<◌, ◌^◌, Bool, true, false, ◌&&◌, cond, List, [], ◌∷◌, ◌++◌, Option, Some, None, is_some, is_none, sum_by, refl, sym, ap, ◌∙◌, subst, arith, inl, inr}
+use Rattle.std.proofs.lemmas.Bool.{eq-eqb, ne_eqb, true≢false, false≢true}
 use Rattle.inst_base.specs.declared.cents.TheConstants.{MOST_CENTS}
 use Rattle.inst_settings.specs.Settings.{HubSettings, same_text}
 use Rattle.inst_command.specs.declared.entry.Entry.{Entry}
@@ -28,7 +27,7 @@ use Rattle.inst_ledger.specs.declared.transfers.Origin.TheVariants.{Taken as Tak
 use Rattle.inst_ledger.specs.declared.transfers.Terms.{Terms}
 use Rattle.inst_ledger.specs.declared.transfers.Transfer.{Transfer}
 use Rattle.inst_ledger.specs.Beside.{terms_in, forwarding_in, outcome_in, funding_of, amount_of, most_of, IsCounted, IsRead, IsBeside}
-use Rattle.inst_ledger.specs.Kept.{IsTable, IsKept, terms_of, cents_of, forwarding_of, credit_of}
+use Rattle.inst_ledger.specs.Kept.{terms_of, cents_of, forwarding_of, credit_of}
 use Rattle.inst_ledger.specs.Book.{BookAndRoom}
 use Rattle.inst_ledger.specs.Transfers.{same_key}
 use Rattle.inst_ledger.proofs.Amounts.{untaken_unbooked}

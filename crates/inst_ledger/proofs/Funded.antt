@@ -6,7 +6,7 @@ use Rattle.inst_journal.specs.declared.event.Event.{Event}
 use Rattle.inst_journal.specs.declared.event.Event.TheVariants.{Funded, Defunded, Taken, Forwarded, Booked, Fetched, Opened}
 use Rattle.inst_journal.specs.Booked.{or_else, first_some}
 use Rattle.inst_journal.specs.Keys.{is_this_fund, is_this_defund, refers, is_fund_repeat, is_defund_repeat, has_reference}
-use Rattle.inst_journal.specs.Sound.{Fits, IsSound, FundedFits}
+use Rattle.inst_journal.specs.Sound.{Fits, IsSound}
 use Rattle.inst_journal.proofs.Pushing.{first_some_push, list_any_push}
 use Rattle.inst_journal.proofs.Soundness.{sound_induction}
 use Rattle.inst_ledger.specs.declared.references.Funding.{Funding}

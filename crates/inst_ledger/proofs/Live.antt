@@ -1,8 +1,8 @@
 -- What one more event does to the counts of live transfers and of fundings.
-use Rattle.std.proofs.Common.{◌≡◌, ◌≢◌, ℕ, ◌+◌, ◌≤◌, ◌<◌, Bool, true, false, ◌==◌, ◌||◌, ◌&&◌, cond, List, [], ◌∷◌, ◌++◌, length, length-append, Option, Some, None, is_none, sum_by, count_by, refl, sym, ap, ◌∙◌, arith, add-zero}
+use Rattle.std.proofs.Common.{◌≡◌, ℕ, ◌+◌, ◌≤◌, Bool, true, false, ◌||◌, ◌&&◌, cond, List, [], ◌∷◌, ◌++◌, length, Option, Some, None, is_none, sum_by, count_by, refl, sym, ap, ◌∙◌, arith, add-zero}
 use Rattle.std.specs.List.{list_any}
 use Rattle.std.specs.Cmp.Lexicographic.{same_text as text_same, nat_list_eq_equiv}
-use Rattle.std.proofs.lemmas.Bool.{eq-eqb, true≢false, false≢true}
+use Rattle.std.proofs.lemmas.Bool.{eq-eqb, false≢true}
 use Rattle.std.proofs.lemmas.List.Sums.{sum_by-cons, count_by-le-length}
 use Rattle.inst_settings.specs.Settings.{HubSettings, same_text}
 use Rattle.inst_command.specs.declared.outcome.Outcome.{Outcome}
@@ -11,7 +11,7 @@ use Rattle.inst_journal.specs.declared.event.Event.TheVariants.{Funded, Defunded
 use Rattle.inst_journal.specs.Booked.{or_else, takes, is_taken, books, booked}
 use Rattle.inst_journal.specs.Keys.{is_funding, fundings}
 use Rattle.inst_journal.specs.Opened.{is_opening, carried, current, takes_live, live_submissions}
-use Rattle.inst_journal.specs.Sound.{Fits, IsSound}
+use Rattle.inst_journal.specs.Sound.{IsSound}
 use Rattle.inst_journal.proofs.Carrying.{carried_push, current_push, carried_opened, current_opened, carried_unbooked}
 use Rattle.inst_journal.proofs.Counting.{count_push}
 use Rattle.inst_journal.proofs.KeyOnce.{taken_once}

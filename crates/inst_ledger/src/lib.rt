@@ -4,6 +4,8 @@
 mod ledger;
 mod name;
 mod references;
+#[cfg(test)]
+mod tests;
 mod totals;
 mod transfers;
 

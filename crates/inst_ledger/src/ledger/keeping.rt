@@ -64,7 +64,7 @@ impl Ledger {
             origin: Origin::Taken(terms),
             outcome: None,
         };
-        let event = Event::Taken {
+        let taken = Event::Taken {
             id,
             to,
             cents,
@@ -73,7 +73,7 @@ impl Ledger {
         let _ = self.journal.events().len();
         self.journal.reserve()?;
         self.transfers.put(self.who, id, transfer)?;
-        self.journal.push(event)?;
+        self.journal.push(taken)?;
         self.totals.reserved += u128::from(cents.get());
         self.live += 1;
         self.waiting += 1;

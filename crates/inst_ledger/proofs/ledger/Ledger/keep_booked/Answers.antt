@@ -1,8 +1,6 @@
-use Rattle.std.proofs.Common.{◌+◌, ◌&&◌, length, is_some, Some, cond, refl, sym, ap, ◌∙◌, subst, arith, ◌≡◌}
+use Rattle.std.proofs.Common.{◌+◌, length, is_some, Some, cond, refl, sym, ap, ◌∙◌, arith}
 use Rattle.inst_journal.specs.declared.event.Event.{Event}
 use Rattle.inst_journal.specs.Sums.{if_accepted}
-use Rattle.inst_ledger.specs.declared.transfers.Origin.{Origin}
-use Rattle.inst_ledger.specs.declared.transfers.Transfer.{Transfer}
 use Rattle.inst_ledger.specs.Transfers.{same_key, transfer_at}
 use Rattle.inst_ledger.proofs.Keeping.{within}
 use Rattle.inst_ledger.proofs.Beside.{booked_there, party_beside, party_covered, other_beside, beside_at, fits_at}

@@ -1,4 +1,4 @@
-use Rattle.std.proofs.Common.{◌≡◌, ◌+◌, length, refl, sym, ap, ◌∙◌, arith}
+use Rattle.std.proofs.Common.{length, refl, ap, ◌∙◌, arith}
 use Rattle.inst_journal.specs.declared.event.Event.{Event}
 use Rattle.inst_ledger.proofs.Keeping.{within}
 use Rattle.inst_ledger.proofs.Beside.{defunded_beside, beside_same, beside_at, pushed, fits_at}

@@ -1,7 +1,7 @@
-use Rattle.std.proofs.Common.{arith, sym, subst}
+use Rattle.std.proofs.Common.{sym, subst}
 use Rattle.inst_journal.specs.Sound.{Fits}
 use Rattle.inst_ledger.specs.Book.{Book}
-use Rattle.inst_ledger.proofs.Opening.{fits_at_place, one_more}
+use Rattle.inst_ledger.proofs.Opening.{fits_at_place}
 use Rattle.inst_ledger.proofs.ledger.Ledger.open_from.Goals as goal
 
 pub keep-requires : goal.keep-requires
