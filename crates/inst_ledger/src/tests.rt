@@ -1,6 +1,6 @@
 // Ledgers of the worked rows: three participants, with 2 places and 4 fundings each. Each answer is compared with that of
 // the plain functions on a journal with the same events.
-ghost use Rattle.std.specs.Prelude.{◌≡◌, ◌≤◌, IfOk};
+ghost use Rattle.std.specs.Prelude.{◌≡◌, ◌≤◌, [], ◌∷◌, IfOk};
 ghost use Rattle.inst_settings.specs.Settings.{IsSettings, participants};
 
 use crate::Ledger;
@@ -234,6 +234,11 @@ fn forwarded(
 ) -> Result<Ledger, Fault>
     requires lawful { IsSettings settings.now }
     requires three { 3 ≤ participants settings.now }
+    ensures { IfOk result (λ l. l.book ≡ record {
+      settings = settings.now;
+      who = 1;
+      events = Event.Forwarded 0 id cents deadline ∷ Event.Forwarded 2 id cents deadline ∷ [];
+    }) }
 {
     let mut ledger = Ledger::open(alloc, settings, 1)?;
     ledger.keep(Event::Forwarded {
@@ -320,10 +325,9 @@ fn opens_from_books(rt: HostRuntime) -> Result<(), Fail> {
     let deadline = Moment::new(0, 11_000)?;
     assert!(rt; settings.participants() >= 3);
     let first = forwarded(rt.alloc(), &settings, id, cents, deadline)?;
-    let opened = Event::Opened;
     let mut ledger = Ledger::open_from(rt.alloc(), &settings, 1, first.journal())?;
     assert_eq!(rt; ledger.journal().events().len(), 3);
-    assert_eq!(rt; ledger.journal().events()[2], opened);
+    assert_eq!(rt; ledger.journal().events()[2], Event::Opened);
     let confirm = Command::Confirm { from: 0, id };
     let decided = Told::State(0, id, State::Decided(Outcome::Accepted));
     let rows = [
