@@ -1,7 +1,7 @@
 -- What a ledger keeps beside its history, all of it: the totals, the transfers and the fundings by their keys, how many
 -- are live, and the inbox with how much of it was handed out.
-use Rattle.std.specs.Prelude.{◌≡◌, ℕ, ◌+◌, ◌≤◌, List, Option, Some, None, sum_by, count_by}
-use Rattle.inst_settings.specs.Settings.{HubSettings}
+use Rattle.std.specs.Prelude.{◌≡◌, ℕ, ◌+◌, ◌≤◌, List, Option, Some, None, sum_by, count_by, if◌then◌else◌, Bool, true, false, not, ◌&&◌, ◌==◌}
+use Rattle.inst_settings.specs.Settings.{HubSettings, same_text}
 use Rattle.inst_command.specs.declared.entry.Entry.{Entry}
 use Rattle.inst_command.specs.declared.outcome.Outcome.{Outcome}
 use Rattle.inst_journal.specs.declared.event.Event.{Event}
@@ -11,8 +11,6 @@ use Rattle.inst_journal.specs.Booked.{is_forwarding}
 use Rattle.inst_base.specs.declared.cents.TheConstants.{MOST_CENTS}
 use Rattle.inst_journal.specs.Opened.{takes_live, live_submissions}
 use Rattle.inst_journal.specs.Reply.{inbox, handed_out}
-use Rattle.inst_settings.specs.Settings.{same_text}
-use Rattle.std.specs.Prelude.{if◌then◌else◌, Bool, true, false, not, ◌&&◌, ◌==◌}
 use Rattle.inst_ledger.specs.declared.references.Funding.{Funding}
 use Rattle.inst_ledger.specs.declared.totals.Totals.{Totals}
 use Rattle.inst_ledger.specs.declared.transfers.Forwarding.{Forwarding}
@@ -45,6 +43,7 @@ abbrev pub outcome_in : Option Transfer → Option Outcome
 outcome_in None = None
 outcome_in (Some transfer) = transfer.outcome
 
+-- whether both are defundings, or neither
 abbrev pub same_kind : Bool → Bool → Bool
 same_kind true other = other
 same_kind false other = not other
@@ -59,7 +58,8 @@ funding_of reference _ = None
 
 -- whether this funding is found
 abbrev pub is_funding_of : Bool → ℕ → Option Funding → Bool
-is_funding_of is_defunding cents (Some funding) = same_kind funding.is_defunding is_defunding && (funding.cents == cents)
+is_funding_of is_defunding cents (Some funding) =
+    same_kind funding.is_defunding is_defunding && (funding.cents == cents)
 is_funding_of is_defunding cents None = false
 
 -- how many of the participant's own transfers have nothing booked
@@ -88,6 +88,7 @@ abbrev pub most_of : List Event → ℕ
 most_of J = sum_by (λ event. if is_funding event then MOST_CENTS else 0) J
     + sum_by (λ event. if is_forwarding event then MOST_CENTS else 0) J
 
+-- all that a ledger keeps beside its history is right of it
 pub record IsBeside (s : HubSettings) (who : ℕ) (J : List Event) (t : Totals) (transfers : ℕ × List ℕ → Option Transfer)
     (references : List ℕ → Option Funding) (live waiting since : ℕ) (entries : List Entry) (read : ℕ) : Type 0 where
   pub kept : IsKept s who J t (λ id. terms_in (transfers (who, id))) (λ key. forwarding_in (transfers key))

@@ -17,7 +17,8 @@ use Rattle.inst_ledger.specs.declared.totals.Totals.{Totals}
 
 -- the terms that the event takes a submission with this identifier on
 abbrev pub terms_of : List ℕ → Event → Option Terms
-terms_of id (Taken other to cents stamp) = if same_text other id then Some (record { to = to; cents = cents; stamp = stamp }) else None
+terms_of id (Taken other to cents stamp) =
+    if same_text other id then Some (record { to = to; cents = cents; stamp = stamp }) else None
 terms_of id _ = None
 
 -- whether these terms are found
@@ -32,7 +33,8 @@ cents_of None = 0
 
 -- what the event forwards of the transfer of this key
 abbrev pub forwarding_of : ℕ × List ℕ → Event → Option Forwarding
-forwarding_of key (Forwarded from id cents deadline) = if same_transfer key.0 key.1 from id then Some (record { cents = cents; deadline = deadline }) else None
+forwarding_of key (Forwarded from id cents deadline) =
+    if same_transfer key.0 key.1 from id then Some (record { cents = cents; deadline = deadline }) else None
 forwarding_of key _ = None
 
 -- the amount of what is forwarded, where there is any
@@ -48,6 +50,7 @@ outcome_of key event = books key.0 key.1 event
 abbrev pub IsTable : {K V : Type 0} → (K → Event → Option V) → List Event → (K → Option V) → Type 0
 IsTable {K} gives J found = (k : K) → found k ≡ first_some (gives k) J
 
+-- the totals are the sums of the history, and within what its length allows
 pub record IsTotalled (t : Totals) (J : List Event) : Type 0 where
   pub funded : t.funded ≡ funded J
   pub defunded : t.defunded ≡ defunded J
@@ -56,7 +59,10 @@ pub record IsTotalled (t : Totals) (J : List Event) : Type 0 where
   pub reserved : t.reserved ≡ reserved J
   pub within : t.funded + t.credits ≤ length J * MOST_CENTS
 
-pub record IsKept (s : HubSettings) (who : ℕ) (J : List Event) (t : Totals) (terms : List ℕ → Option Terms) (forwards : ℕ × List ℕ → Option Forwarding) (outcomes : ℕ × List ℕ → Option Outcome) : Type 0 where
+-- the history is sound, the totals are its sums, and the tables find what is first in it
+pub record IsKept (s : HubSettings) (who : ℕ) (J : List Event) (t : Totals)
+    (terms : List ℕ → Option Terms) (forwards : ℕ × List ℕ → Option Forwarding)
+    (outcomes : ℕ × List ℕ → Option Outcome) : Type 0 where
   pub lawful : IsSettings s
   pub sound : IsSound s who J
   pub totals : IsTotalled t J

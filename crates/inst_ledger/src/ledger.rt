@@ -82,7 +82,11 @@ impl Ledger {
     ) -> Result<Ledger, Fault>
         requires sound { IsSound settings.now who journal.now.events }
         requires few { openings journal.now.events < 500 }
-        ensures ok { IfOk result (λ l. l.book ≡ record { settings = settings.now; who = who; events = journal.now.events ++ Event.Opened ∷ [] }) }
+        ensures ok { IfOk result (λ l. l.book ≡ record {
+          settings = settings.now;
+          who = who;
+          events = journal.now.events ++ Event.Opened ∷ [];
+        }) }
         ensures only { IsOkUnless result Fault.Memory }
     {
         let mut ledger = Ledger::open(alloc, settings, who)?;

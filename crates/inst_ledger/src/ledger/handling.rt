@@ -161,7 +161,8 @@ impl Ledger {
 
     /// The position, what of it is reserved, and what is available.
     fn position_reply(&self) -> Reply
-        ensures { result ≡ Reply.Position (position self.now.book.events) (reserved self.now.book.events) (available self.now.book.events) }
+        ensures { result ≡ Reply.Position
+            (position self.now.book.events) (reserved self.now.book.events) (available self.now.book.events) }
     {
         Reply::Position {
             position: self.position() as u64,
@@ -193,7 +194,8 @@ impl Ledger {
     fn fetch(&self, alloc: Global, max: u32) -> Result<Handled, Fault>
         requires { is_count max ≡ true }
         ensures reply { IsUnlessMemory result (hand_out (take max (unread self.now.book.events))) }
-        ensures none { length (unread self.now.book.events) ≡ 0 → result ≡ hand_out (take max (unread self.now.book.events)) }
+        ensures none { length (unread self.now.book.events) ≡ 0 →
+            result ≡ hand_out (take max (unread self.now.book.events)) }
     {
         let entries = self.unread(alloc, max)?;
         let count = entries.len() as u32;
@@ -233,7 +235,8 @@ impl Ledger {
     ) -> Result<Handled, Fault>
         requires { command_fits self.now.book.settings command.now ≡ true }
         ensures reply { IsUnlessMemory result (answer_to self.now.book command.now at found) }
-        ensures no_memory { copies self.now.book.events command.now ≡ false → result ≡ answer_to self.now.book command.now at found }
+        ensures no_memory { copies self.now.book.events command.now ≡ false →
+            result ≡ answer_to self.now.book command.now at found }
     {
         match command {
             Command::Fund { reference, cents } => self.fund(*reference, *cents),
@@ -265,7 +268,8 @@ impl Ledger {
     ) -> Result<Handled, Fault>
         requires { command_fits self.now.book.settings command.now ≡ true }
         ensures reply { IsUnlessMemory result (answer_to self.now.book command.now at found) }
-        ensures no_memory { copies self.now.book.events command.now ≡ false → result ≡ answer_to self.now.book command.now at found }
+        ensures no_memory { copies self.now.book.events command.now ≡ false →
+            result ≡ answer_to self.now.book command.now at found }
         ensures kept { IfOk result (λ handled. MayKeep self.now.book handled.kept) }
     {
         // The invariant is known only where a field is used.

@@ -54,8 +54,10 @@ impl Ledger {
 
     /// Keeps a submission, and reserves its amount.
     fn keep_taken(&mut self, id: Ident, terms: Terms) -> Result<(), Fault>
-        requires { Fits self.old.book.settings self.old.book.who self.old.book.events (Event.Taken id terms.to terms.cents terms.stamp) }
-        ensures ok { OnOk result (self.new.book ≡ with_event self.old.book (Event.Taken id terms.to terms.cents terms.stamp)) }
+        requires { Fits self.old.book.settings self.old.book.who self.old.book.events
+            (Event.Taken id terms.to terms.cents terms.stamp) }
+        ensures ok { OnOk result (self.new.book ≡
+            with_event self.old.book (Event.Taken id terms.to terms.cents terms.stamp)) }
         ensures err { OnErr result (self.new.book ≡ self.old.book) }
         ensures only { IsOkUnless result Fault.Memory }
     {
@@ -82,8 +84,10 @@ impl Ledger {
 
     /// Keeps a transfer that is forwarded to the participant.
     fn keep_forwarded(&mut self, entry: Entry) -> Result<(), Fault>
-        requires { Fits self.old.book.settings self.old.book.who self.old.book.events (Event.Forwarded entry.from entry.id entry.cents entry.deadline) }
-        ensures ok { OnOk result (self.new.book ≡ with_event self.old.book (Event.Forwarded entry.from entry.id entry.cents entry.deadline)) }
+        requires { Fits self.old.book.settings self.old.book.who self.old.book.events
+            (Event.Forwarded entry.from entry.id entry.cents entry.deadline) }
+        ensures ok { OnOk result (self.new.book ≡
+            with_event self.old.book (Event.Forwarded entry.from entry.id entry.cents entry.deadline)) }
         ensures err { OnErr result (self.new.book ≡ self.old.book) }
         ensures only { IsOkUnless result Fault.Memory }
     {
@@ -115,7 +119,8 @@ impl Ledger {
 
     /// Books the outcome of a transfer, and releases and moves its amount.
     fn keep_booked(&mut self, from: u8, id: Ident, outcome: &Outcome) -> Result<(), Fault>
-        requires { Fits self.old.book.settings self.old.book.who self.old.book.events (Event.Booked from id outcome.now) }
+        requires { Fits self.old.book.settings self.old.book.who self.old.book.events
+            (Event.Booked from id outcome.now) }
         ensures ok { OnOk result (self.new.book ≡ with_event self.old.book (Event.Booked from id outcome.now)) }
         ensures err { OnErr result (self.new.book ≡ self.old.book) }
         ensures room { 0 < self.old.room → IsOk result }
