@@ -1,0 +1,10 @@
+pub mod Keys
+pub mod Tables
+pub mod Amounts
+pub mod Forwards
+pub mod Keeping
+pub mod Funded
+pub mod Live
+pub mod Beside
+pub mod Begun
+pub mod Opening

@@ -1,0 +1,67 @@
+-- What one more event does to a table, and what a table tells of the history.
+use Rattle.std.proofs.Common.{◌≡◌, ℕ, Bool, true, false, ◌||◌, cond, List, [], ◌∷◌, ◌++◌, Option, Some, None, is_some, refl, sym, ap, ◌∙◌}
+use Rattle.std.specs.List.{list_any}
+use Rattle.std.specs.Cmp.Lexicographic.{same_text as text_same}
+use Rattle.std.proofs.lemmas.Bool.{true≢false}
+use Rattle.inst_settings.specs.Settings.{same_text}
+use Rattle.inst_journal.specs.declared.event.Event.{Event}
+use Rattle.inst_journal.specs.declared.event.Event.TheVariants.{Funded, Defunded, Taken, Forwarded, Booked, Fetched, Opened}
+use Rattle.inst_journal.specs.Booked.{or_else, first_some, takes, is_taken}
+use Rattle.inst_journal.proofs.Pushing.{first_some_push}
+use Rattle.inst_ledger.specs.declared.transfers.Terms.{Terms}
+use Rattle.inst_ledger.specs.Kept.{terms_of, IsTable}
+
+pub or_else_none : {A : Type 0} (o : Option A) → or_else o None ≡ o
+or_else_none None = refl
+or_else_none (Some x) = refl
+
+put_first : {V : Type 0} (b : Bool) (o : Option V) (v : V) → (b ≡ true → o ≡ None) → or_else o (cond b (Some v) None) ≡ cond b (Some v) o
+put_first true o v absent = ap (λ p. or_else p (Some v)) (absent refl)
+put_first false o v absent = or_else_none o
+
+-- an event of a new key, put into the table
+pub table_put : {K V : Type 0} (eq : K → K → Bool) (gives : K → Event → Option V) (J : List Event) (event : Event) (k : K) (v : V) (old new : K → Option V) → IsTable gives J old
+    → ((q : K) → new q ≡ cond (eq k q) (Some v) (old q)) → ((q : K) → gives q event ≡ cond (eq k q) (Some v) None) → ((q : K) → eq k q ≡ true → first_some (gives q) J ≡ None)
+    → IsTable gives (J ++ event ∷ []) new
+table_put eq gives J event k v old new before put at absent q =
+    put q ∙ ap (cond (eq k q) (Some v)) (before q) ∙ sym (put_first (eq k q) (first_some (gives q) J) v (absent q)) ∙ ap (or_else (first_some (gives q) J)) (sym (at q))
+    ∙ sym (first_some_push (gives q) J event)
+
+-- an event of no key
+pub table_keep : {K V : Type 0} (gives : K → Event → Option V) (J : List Event) (event : Event) (found : K → Option V) → IsTable gives J found
+    → ((q : K) → gives q event ≡ None) → IsTable gives (J ++ event ∷ []) found
+table_keep gives J event found before none q =
+    before q ∙ sym (first_some_push (gives q) J event ∙ ap (or_else (first_some (gives q) J)) (none q) ∙ or_else_none (first_some (gives q) J))
+
+pub none_of : {A : Type 0} (o : Option A) → is_some o ≡ false → o ≡ None
+none_of None h = refl
+none_of (Some x) h = absurd (true≢false h)
+
+some_or : {A : Type 0} (o p : Option A) → (is_some o || is_some p) ≡ is_some (or_else o p)
+some_or None p = refl
+some_or (Some x) p = refl
+
+-- a test and a function that agree find together
+pub any_first : {A B : Type 0} (p : A → Bool) (f : A → Option B) → ((x : A) → p x ≡ is_some (f x)) → (xs : List A) → list_any p xs ≡ is_some (first_some f xs)
+any_first p f same [] = refl
+any_first p f same (x ∷ xs) = ap (λ b. b || list_any p xs) (same x) ∙ ap (λ b. is_some (f x) || b) (any_first p f same xs) ∙ some_or (f x) (first_some f xs)
+
+pub some_cond : {A : Type 0} (b : Bool) (x : A) → b ≡ is_some (cond b (Some x) None)
+some_cond true x = refl
+some_cond false x = refl
+
+takes_terms : (id : List ℕ) (event : Event) → takes id event ≡ is_some (terms_of id event)
+takes_terms id (Taken other to cents stamp) = some_cond {A = Terms} (same_text other id) (record { to = to; cents = cents; stamp = stamp })
+takes_terms id (Funded reference cents) = refl
+takes_terms id (Defunded reference cents) = refl
+takes_terms id (Forwarded from other cents deadline) = refl
+takes_terms id (Booked from other outcome) = refl
+takes_terms id (Fetched count) = refl
+takes_terms id Opened = refl
+
+-- a submission is taken where terms are found
+pub taken_found : (id : List ℕ) (J : List Event) → is_taken id J ≡ is_some (first_some (terms_of id) J)
+taken_found id J = any_first (takes id) (terms_of id) (takes_terms id) J
+
+pub terms_absent : (id q : List ℕ) (J : List Event) → is_taken id J ≡ false → same_text id q ≡ true → first_some (terms_of q) J ≡ None
+terms_absent id q J new same = none_of _ (sym (taken_found q J) ∙ ap (λ i. is_taken i J) (sym (text_same id q (sym same))) ∙ new)

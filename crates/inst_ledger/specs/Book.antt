@@ -1,0 +1,44 @@
+-- What a contract sees of a ledger: the participant's book, and for how many more events of no new key it has room.
+-- Keeping a history is this hub's own choice.
+use Rattle.std.specs.Prelude.{ℕ, Bool, true, false, List, [], ◌∷◌, ◌++◌, Option, Some, None, Result}
+use Rattle.inst_base.specs.declared.fault.Fault.{Fault}
+use Rattle.inst_settings.specs.Settings.{HubSettings}
+use Rattle.inst_journal.specs.declared.event.Event.{Event}
+use Rattle.inst_command.specs.declared.command.Command.{Command}
+use Rattle.inst_command.specs.declared.outcome.Outcome.{Outcome}
+use Rattle.inst_journal.specs.declared.handle.Handled.{Handled}
+use Rattle.inst_journal.specs.Reply.{handle}
+use Rattle.inst_journal.specs.Sound.{Fits}
+use Rattle.inst_journal.specs.declared.event.Event.TheVariants.{Funded, Defunded, Taken, Forwarded, Booked, Fetched, Opened}
+
+-- a participant's history, with whose it is and of which hub
+pub record Book : Type 0 where
+  pub settings : HubSettings
+  pub who : ℕ
+  pub events : List Event
+
+pub record BookAndRoom : Type 0 where
+  pub book : Book
+  pub room : ℕ
+
+abbrev pub with_event : Book → Event → Book
+with_event book event = record book { events = book.events ++ event ∷ [] }
+
+-- whether the event brings a new key: a reference, or a transfer
+abbrev pub brings_key : Event → Bool
+brings_key (Funded reference cents) = true
+brings_key (Defunded reference cents) = true
+brings_key (Taken id to cents stamp) = true
+brings_key (Forwarded from id cents deadline) = true
+brings_key (Booked from id outcome) = false
+brings_key (Fetched count) = false
+brings_key Opened = false
+
+-- what the participant is answered on its book, and what the book is to keep of it
+abbrev pub answer_to : Book → Command → ℕ → Option Outcome → Result Handled Fault
+answer_to book command at found = handle book.settings book.who book.events command at found
+
+-- the event, if any, fits the book
+abbrev pub MayKeep : Book → Option Event → Type 0
+MayKeep book None = Unit {0}
+MayKeep book (Some event) = Fits book.settings book.who book.events event

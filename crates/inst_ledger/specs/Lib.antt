@@ -1,0 +1,6 @@
+pub mod Name
+pub mod References
+pub mod Transfers
+pub mod Kept
+pub mod Beside
+pub mod Book

@@ -1,0 +1,120 @@
+ghost use Rattle.std.specs.Prelude.{◌≡◌, ◌<◌, [], ◌∷◌, ◌++◌, IfOk, OnOk, IsOkUnless};
+ghost use Rattle.inst_settings.specs.Settings.{IsSettings};
+ghost use Rattle.inst_journal.specs.Opened.{openings};
+ghost use Rattle.inst_journal.specs.Sound.{IsSound};
+
+mod handling;
+mod keeping;
+mod reading;
+
+use crate::references::References;
+use crate::totals::Totals;
+use crate::transfers::Transfers;
+use inst_base::Fault;
+use inst_command::{Entry, Outcome};
+use inst_journal::{Event, Journal};
+use inst_settings::Settings;
+use std::alloc::Global;
+use std::marker::Model;
+
+/// The books of one participant: its history, which is sound, and beside it running totals and tables,
+/// so that no call walks the history.
+#[derive(Drop)]
+pub struct Ledger {
+    settings: Settings,
+    who: u8,
+    journal: Journal,
+    totals: Totals,
+    transfers: Transfers,
+    references: References,
+    live: usize,
+    waiting: usize,
+    fundings: usize,
+    inbox: Vec<Entry>,
+    read: usize,
+}
+
+impl Model for Ledger {
+    ghost use Rattle.inst_ledger.specs.Beside.{IsBeside};
+    ghost use Rattle.inst_ledger.specs.Book.{BookAndRoom};
+    ghost use Rattle.inst_ledger.specs.References.{funding_at};
+    ghost use Rattle.inst_ledger.specs.Transfers.{transfer_at};
+
+    ghost Value = { BookAndRoom };
+
+    ghost view = { λ l. record {
+      book = record { settings = l.settings; who = l.who; events = l.journal.events };
+      room = l.journal.room;
+    } };
+
+    ghost invariant = { λ l. IsBeside l.settings l.who l.journal.events l.totals (transfer_at l.transfers)
+        (funding_at l.references) l.live l.waiting l.fundings l.inbox.items l.read };
+}
+
+impl Ledger {
+    /// The books of the participant `who`, with no history. `Memory` where the settings can't be copied.
+    pub fn open(alloc: Global, settings: &Settings, who: u8) -> Result<Ledger, Fault>
+        ensures ok { IfOk result (λ l. l.book ≡ record { settings = settings.now; who = who; events = [] }) }
+        ensures only { IsOkUnless result Fault.Memory }
+    {
+        Ok(Ledger {
+            settings: settings.copy()?,
+            who,
+            journal: Journal::new(alloc),
+            totals: Totals::new(),
+            transfers: Transfers::new(alloc),
+            references: References::new(alloc),
+            live: 0,
+            waiting: 0,
+            fundings: 0,
+            inbox: Vec::new(alloc),
+            read: 0,
+        })
+    }
+
+    /// The books of the participant `who` with this history, opened again from them. `Memory` where it
+    /// can't be copied. Each event costs the logarithm of the number of keys.
+    pub fn open_from(
+        alloc: Global,
+        settings: &Settings,
+        who: u8,
+        journal: &Journal,
+    ) -> Result<Ledger, Fault>
+        requires sound { IsSound settings.now who journal.now.events }
+        requires few { openings journal.now.events < 500 }
+        ensures ok { IfOk result (λ l. l.book ≡ record {
+          settings = settings.now;
+          who = who;
+          events = journal.now.events ++ Event.Opened ∷ [];
+        }) }
+        ensures only { IsOkUnless result Fault.Memory }
+    {
+        let mut ledger = Ledger::open(alloc, settings, who)?;
+        // The check is told of a type of another crate inside an event only where a function names it.
+        let _: Option<Outcome> = None;
+        for event in journal.events() {
+            ledger.keep(*event)?;
+        }
+        ledger.keep(Event::Opened)?;
+        Ok(ledger)
+    }
+
+    /// The participant's history. It is sound.
+    pub fn journal(&self) -> &Journal
+        ensures events { result.now.events ≡ self.now.book.events }
+        ensures room { result.now.room ≡ self.now.room }
+        ensures lawful { IsSettings self.now.book.settings }
+        ensures sound { IsSound self.now.book.settings self.now.book.who self.now.book.events }
+    {
+        &self.journal
+    }
+
+    /// Makes room for one more event that brings no new key, or answers `Memory`. The book stays as it is.
+    pub fn reserve(&mut self) -> Result<(), Fault>
+        ensures book { self.new.book ≡ self.old.book }
+        ensures room { OnOk result (0 < self.new.room) }
+        ensures only { IsOkUnless result Fault.Memory }
+    {
+        self.journal.reserve()
+    }
+}

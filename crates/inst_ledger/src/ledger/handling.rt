@@ -1,0 +1,341 @@
+//! What a command is answered, and what the history is to keep of it.
+ghost use Rattle.std.specs.Prelude.{◌≡◌, ◌≤◌, true, false, take, drop, length, if◌then◌else◌, Some, None, IfOk, IsOk};
+ghost use Rattle.inst_base.specs.Fault.{IsUnlessMemory};
+ghost use Rattle.inst_base.specs.Moment.{is_moment};
+ghost use Rattle.inst_base.specs.TimeLimit.{deadline_of};
+ghost use Rattle.inst_command.specs.Ask.{command_fits, is_count};
+ghost use Rattle.inst_journal.specs.Reply.{is_new_funding, fund, defund, submit, standing, still_pending, answer_forwarded, confirm, reject, investigate, unread, hand_out, answered, copies};
+ghost use Rattle.inst_journal.specs.Statement.{statement_part};
+ghost use Rattle.inst_ledger.specs.Book.{answer_to, MayKeep};
+ghost use Rattle.inst_journal.specs.Money.{reserved, position, available};
+
+use super::Ledger;
+use inst_base::{Cents, Fault, Ident, Moment};
+use inst_command::{Command, Entries, Entry, Lines, Outcome, Reply, State, Submission};
+use inst_journal::{Event, Handled};
+use inst_statement::statement;
+use std::alloc::{AllocError, Global};
+
+impl Ledger {
+    /// Whether a fund or defund command is new, and no repeat; `Duplicate` and `Full` come first.
+    fn is_new_funding(&self, reference: &Ident, is_repeat: bool) -> Result<bool, Fault>
+        ensures { result ≡ is_new_funding self.now.book.settings self.now.book.events reference.now is_repeat }
+    {
+        if is_repeat {
+            return Ok(false);
+        }
+        if self.has_reference(reference) {
+            return Err(Fault::Duplicate);
+        }
+        if self.fundings() >= usize::from(self.settings().fundings()) {
+            return Err(Fault::Full);
+        }
+        Ok(true)
+    }
+
+    /// Raises the net funding.
+    fn fund(&self, reference: Ident, cents: Cents) -> Result<Handled, Fault>
+        ensures { result ≡ fund self.now.book.settings self.now.book.events reference cents }
+    {
+        let is_repeat = self.is_fund_repeat(&reference, cents);
+        let is_new = self.is_new_funding(&reference, is_repeat)?;
+        let event = Event::Funded { reference, cents };
+        Ok(Handled {
+            reply: Reply::Done { reference },
+            kept: is_new.then_some(event),
+        })
+    }
+
+    /// Lowers the net funding: refused as `fund` is, and by `Shortage` above what is available.
+    fn defund(&self, reference: Ident, cents: Cents) -> Result<Handled, Fault>
+        ensures { result ≡ defund self.now.book.settings self.now.book.events reference cents }
+    {
+        let is_repeat = self.is_defund_repeat(&reference, cents);
+        let is_new = self.is_new_funding(&reference, is_repeat)?;
+        if is_new && u128::from(cents.get()) > self.available() {
+            return Err(Fault::Shortage);
+        }
+        let event = Event::Defunded { reference, cents };
+        Ok(Handled {
+            reply: Reply::Done { reference },
+            kept: is_new.then_some(event),
+        })
+    }
+
+    /// Reserves the amount: refused, in this order, by `SelfTransfer`, `Duplicate`, `StampAhead`,
+    /// `Expired`, `Full` and `Shortage`.
+    fn submit(&self, at: Moment, submission: &Submission) -> Result<Handled, Fault>
+        requires { is_moment (deadline_of self.now.book.settings.limit submission.now.stamp) ≡ true }
+        ensures { result ≡ submit self.now.book.settings self.now.book.who self.now.book.events at submission.now }
+    {
+        let settings = self.settings();
+        let &Submission {
+            id,
+            to,
+            cents,
+            stamp,
+        } = submission;
+        let deadline = stamp.deadline(settings.limit());
+        let reply = Reply::Taken { id, deadline };
+        if to == self.who() {
+            return Err(Fault::SelfTransfer);
+        }
+        if self.is_submission_repeat(submission) {
+            return Ok(Handled { reply, kept: None });
+        }
+        if self.is_taken(&id) {
+            return Err(Fault::Duplicate);
+        }
+        if stamp.is_ahead(settings.ahead(), at) {
+            return Err(Fault::StampAhead);
+        }
+        if at.is_due(deadline) {
+            return Err(Fault::Expired);
+        }
+        if self.live_submissions() >= usize::from(settings.places()) {
+            return Err(Fault::Full);
+        }
+        if u128::from(cents.get()) > self.available() {
+            return Err(Fault::Shortage);
+        }
+        let event = Event::Taken {
+            id,
+            to,
+            cents,
+            stamp,
+        };
+        Ok(Handled {
+            reply,
+            kept: Some(event),
+        })
+    }
+
+    /// Books what is found of a forwarded transfer, and answers `pending` where it is pending. Refused by
+    /// `UnknownTransfer` where it wasn't forwarded.
+    fn answer_forwarded(
+        &self,
+        from: u8,
+        id: Ident,
+        pending: Result<Handled, Fault>,
+        found: Option<Outcome>,
+    ) -> Result<Handled, Fault>
+        ensures { result ≡ answer_forwarded self.now.book.events from id pending found }
+    {
+        if !self.is_forwarded(from, &id) {
+            return Err(Fault::UnknownTransfer);
+        }
+        standing(from, id, pending, self.booked(from, &id), found)
+    }
+
+    /// Books what is found of a forwarded transfer. A confirmation that leaves it pending was read in the
+    /// margin before the deadline: it is refused as `Expired`.
+    fn confirm(&self, from: u8, id: Ident, found: Option<Outcome>) -> Result<Handled, Fault>
+        ensures { result ≡ confirm self.now.book.events from id found }
+    {
+        self.answer_forwarded(from, id, Err(Fault::Expired), found)
+    }
+
+    /// Books what is found of a forwarded transfer.
+    fn reject(&self, from: u8, id: Ident, found: Option<Outcome>) -> Result<Handled, Fault>
+        ensures { result ≡ reject self.now.book.events from id found }
+    {
+        self.answer_forwarded(from, id, still_pending(from, id), found)
+    }
+
+    /// Books what is found of a taken transfer, or answers `UnknownTransfer` where it wasn't taken.
+    fn investigate(&self, id: Ident, found: Option<Outcome>) -> Result<Handled, Fault>
+        ensures { result ≡ investigate self.now.book.who self.now.book.events id found }
+    {
+        if !self.is_taken(&id) {
+            return Err(Fault::UnknownTransfer);
+        }
+        let who = self.who();
+        standing(
+            who,
+            id,
+            still_pending(who, id),
+            self.booked(who, &id),
+            found,
+        )
+    }
+
+    /// The position, what of it is reserved, and what is available.
+    fn position_reply(&self) -> Reply
+        ensures { result ≡ Reply.Position
+            (position self.now.book.events) (reserved self.now.book.events) (available self.now.book.events) }
+    {
+        Reply::Position {
+            position: self.position() as u64,
+            reserved: self.reserved() as u64,
+            available: self.available() as u64,
+        }
+    }
+
+    /// The forwarded transfers that weren't handed out yet.
+    fn rest(&self) -> &[Entry]
+        ensures { result.now ≡ unread self.now.book.events }
+    {
+        after(self.inbox.as_slice(), self.read)
+    }
+
+    /// The next unread forwarded transfers, at most `max` of them. It takes no memory where all are read.
+    fn unread(&self, alloc: Global, max: u32) -> Result<Vec<Entry>, AllocError>
+        ensures ok { IfOk result (λ entries. entries.items ≡ take max (unread self.now.book.events)) }
+        ensures none { length (unread self.now.book.events) ≡ 0 → IsOk result }
+    {
+        let rest = self.rest();
+        if rest.is_empty() {
+            return Ok(Vec::new(alloc));
+        }
+        rest[..rest.len().min(max as usize)].to_vec(alloc)
+    }
+
+    /// Hands out the next unread forwarded transfers, at most `max` of them. `Memory` only where there are some.
+    fn fetch(&self, alloc: Global, max: u32) -> Result<Handled, Fault>
+        requires { is_count max ≡ true }
+        ensures reply { IsUnlessMemory result (hand_out (take max (unread self.now.book.events))) }
+        ensures none { length (unread self.now.book.events) ≡ 0 →
+            result ≡ hand_out (take max (unread self.now.book.events)) }
+    {
+        let entries = self.unread(alloc, max)?;
+        let count = entries.len() as u32;
+        let reply = Reply::Inbox {
+            entries: Entries::new(entries),
+        };
+        if count == 0 {
+            return Ok(Handled { reply, kept: None });
+        }
+        let event = Event::Fetched { count };
+        Ok(Handled {
+            reply,
+            kept: Some(event),
+        })
+    }
+
+    /// At most `count` lines after the first `skip` of the statement since the last opening, or `Memory`.
+    fn statement(&self, alloc: Global, skip: u64, count: u32) -> Result<Handled, Fault>
+        ensures { IsUnlessMemory result (answered (Reply.Statement (statement_part self.now.book.events skip count))) }
+    {
+        let lines = statement(alloc, self.journal(), skip, count)?;
+        Ok(Handled {
+            reply: Reply::Statement {
+                lines: Lines::new(lines),
+            },
+            kept: None,
+        })
+    }
+
+    /// What a command is answered, and the event that is to be kept of it.
+    fn answer(
+        &self,
+        alloc: Global,
+        command: &Command,
+        at: Moment,
+        found: Option<Outcome>,
+    ) -> Result<Handled, Fault>
+        requires { command_fits self.now.book.settings command.now ≡ true }
+        ensures reply { IsUnlessMemory result (answer_to self.now.book command.now at found) }
+        ensures no_memory { copies self.now.book.events command.now ≡ false →
+            result ≡ answer_to self.now.book command.now at found }
+    {
+        match command {
+            Command::Fund { reference, cents } => self.fund(*reference, *cents),
+            Command::Defund { reference, cents } => self.defund(*reference, *cents),
+            Command::Submit(submission) => self.submit(at, submission),
+            Command::Confirm { from, id } => self.confirm(*from, *id, found),
+            Command::Reject { from, id, .. } => self.reject(*from, *id, found),
+            Command::Investigate { id } => self.investigate(*id, found),
+            Command::Fetch { max } => self.fetch(alloc, *max),
+            Command::Position => Ok(Handled {
+                reply: self.position_reply(),
+                kept: None,
+            }),
+            Command::Statement { skip, count } => self.statement(alloc, *skip, *count),
+        }
+    }
+
+    /// What a command, read at `at`, is answered, and the event that is to be kept of it, where its
+    /// transfer is found to have the outcome `found`. Refused by the first of `SelfTransfer` to `Shortage`
+    /// that holds; only a statement, and a fetch where something is unread, may answer `Memory`. A look at
+    /// a key costs the logarithm of their number; a statement walks the history once, and a fetch copies
+    /// what it hands out.
+    pub fn handle(
+        &self,
+        alloc: Global,
+        command: &Command,
+        at: Moment,
+        found: Option<Outcome>,
+    ) -> Result<Handled, Fault>
+        requires { command_fits self.now.book.settings command.now ≡ true }
+        ensures reply { IsUnlessMemory result (answer_to self.now.book command.now at found) }
+        ensures no_memory { copies self.now.book.events command.now ≡ false →
+            result ≡ answer_to self.now.book command.now at found }
+        ensures kept { IfOk result (λ handled. MayKeep self.now.book handled.kept) }
+    {
+        // The invariant is known only where a field is used.
+        let _ = &self.settings;
+        self.answer(alloc, command, at, found)
+    }
+}
+
+/// The entries after this many of them.
+fn after(entries: &[Entry], read: usize) -> &[Entry]
+    requires { read ≤ length entries.now }
+    ensures { result.now ≡ drop read entries.now }
+{
+    &entries[read..]
+}
+
+/// The reply that tells a transfer's state.
+fn told(from: u8, id: Ident, state: State) -> Reply
+    ensures { result ≡ Reply.State from id state }
+{
+    Reply::State { from, id, state }
+}
+
+/// That the transfer is pending.
+fn still_pending(from: u8, id: Ident) -> Result<Handled, Fault>
+    ensures { result ≡ still_pending from id }
+{
+    Ok(Handled {
+        reply: told(from, id, State::Pending),
+        kept: None,
+    })
+}
+
+/// What a side that has booked `known` and finds `found` is answered: `pending` where it is neither.
+fn standing(
+    from: u8,
+    id: Ident,
+    pending: Result<Handled, Fault>,
+    known: Option<Outcome>,
+    found: Option<Outcome>,
+) -> Result<Handled, Fault>
+    ensures { result ≡ standing from id pending known found }
+{
+    let is_new = known.is_none();
+    match known.or(found) {
+        None => pending,
+        Some(outcome) => Ok(decided(from, id, is_new, &outcome)),
+    }
+}
+
+/// The reply that tells the outcome, and where it is new the event that books it.
+fn decided(from: u8, id: Ident, is_new: bool, outcome: &Outcome) -> Handled
+    ensures reply { result.reply ≡ Reply.State from id (State.Decided outcome.now) }
+    ensures kept { result.kept ≡ (if is_new then Some (Event.Booked from id outcome.now) else None) }
+{
+    let reply = told(from, id, State::Decided(*outcome));
+    if !is_new {
+        return Handled { reply, kept: None };
+    }
+    let event = Event::Booked {
+        from,
+        id,
+        outcome: *outcome,
+    };
+    Handled {
+        reply,
+        kept: Some(event),
+    }
+}

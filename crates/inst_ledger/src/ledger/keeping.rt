@@ -1,0 +1,230 @@
+//! Events that are kept, with all that stands beside them.
+ghost use Rattle.std.specs.Prelude.{◌≡◌, ◌<◌, ◌≤◌, false, Some, OnOk, OnErr, IsOk, IsOkUnless};
+ghost use Rattle.inst_journal.specs.Sound.{Fits};
+ghost use Rattle.inst_journal.specs.Sums.{if_accepted};
+ghost use Rattle.inst_ledger.specs.Book.{with_event, brings_key};
+
+use super::Ledger;
+use crate::references::Funding;
+use crate::transfers::{Forwarding, Origin, Terms, Transfer};
+use inst_base::{Cents, Fault, Ident};
+use inst_command::{Entry, Outcome};
+use inst_journal::Event;
+
+impl Ledger {
+    /// Keeps a funding.
+    fn keep_funded(&mut self, reference: Ident, cents: Cents) -> Result<(), Fault>
+        requires { Fits self.old.book.settings self.old.book.who self.old.book.events (Event.Funded reference cents) }
+        ensures ok { OnOk result (self.new.book ≡ with_event self.old.book (Event.Funded reference cents)) }
+        ensures err { OnErr result (self.new.book ≡ self.old.book) }
+        ensures only { IsOkUnless result Fault.Memory }
+    {
+        let funding = Funding {
+            is_defunding: false,
+            cents,
+        };
+        let _ = self.journal.events().len();
+        self.journal.reserve()?;
+        self.references.put(reference, funding)?;
+        self.journal.push(Event::Funded { reference, cents })?;
+        self.totals.funded += u128::from(cents.get());
+        self.fundings += 1;
+        Ok(())
+    }
+
+    /// Keeps a defunding.
+    fn keep_defunded(&mut self, reference: Ident, cents: Cents) -> Result<(), Fault>
+        requires { Fits self.old.book.settings self.old.book.who self.old.book.events (Event.Defunded reference cents) }
+        ensures ok { OnOk result (self.new.book ≡ with_event self.old.book (Event.Defunded reference cents)) }
+        ensures err { OnErr result (self.new.book ≡ self.old.book) }
+        ensures only { IsOkUnless result Fault.Memory }
+    {
+        let funding = Funding {
+            is_defunding: true,
+            cents,
+        };
+        let _ = self.journal.events().len();
+        self.journal.reserve()?;
+        self.references.put(reference, funding)?;
+        self.journal.push(Event::Defunded { reference, cents })?;
+        self.totals.defunded += u128::from(cents.get());
+        self.fundings += 1;
+        Ok(())
+    }
+
+    /// Keeps a submission, and reserves its amount.
+    fn keep_taken(&mut self, id: Ident, terms: Terms) -> Result<(), Fault>
+        requires { Fits self.old.book.settings self.old.book.who self.old.book.events
+            (Event.Taken id terms.to terms.cents terms.stamp) }
+        ensures ok { OnOk result (self.new.book ≡
+            with_event self.old.book (Event.Taken id terms.to terms.cents terms.stamp)) }
+        ensures err { OnErr result (self.new.book ≡ self.old.book) }
+        ensures only { IsOkUnless result Fault.Memory }
+    {
+        let Terms { to, cents, stamp } = terms;
+        let transfer = Transfer {
+            origin: Origin::Taken(terms),
+            outcome: None,
+        };
+        let taken = Event::Taken {
+            id,
+            to,
+            cents,
+            stamp,
+        };
+        let _ = self.journal.events().len();
+        self.journal.reserve()?;
+        self.transfers.put(self.who, id, transfer)?;
+        self.journal.push(taken)?;
+        self.totals.reserved += u128::from(cents.get());
+        self.live += 1;
+        self.waiting += 1;
+        Ok(())
+    }
+
+    /// Keeps a transfer that is forwarded to the participant.
+    fn keep_forwarded(&mut self, entry: Entry) -> Result<(), Fault>
+        requires { Fits self.old.book.settings self.old.book.who self.old.book.events
+            (Event.Forwarded entry.from entry.id entry.cents entry.deadline) }
+        ensures ok { OnOk result (self.new.book ≡
+            with_event self.old.book (Event.Forwarded entry.from entry.id entry.cents entry.deadline)) }
+        ensures err { OnErr result (self.new.book ≡ self.old.book) }
+        ensures only { IsOkUnless result Fault.Memory }
+    {
+        let Entry {
+            from,
+            id,
+            cents,
+            deadline,
+        } = entry;
+        let transfer = Transfer {
+            origin: Origin::Forwarded(Forwarding { cents, deadline }),
+            outcome: None,
+        };
+        let event = Event::Forwarded {
+            from,
+            id,
+            cents,
+            deadline,
+        };
+        // That an amount is within the most is known where it is read.
+        let _ = cents.get();
+        self.journal.reserve()?;
+        self.inbox.try_reserve(1)?;
+        self.transfers.put(from, id, transfer)?;
+        self.journal.push(event)?;
+        self.inbox.push_reserved(entry);
+        Ok(())
+    }
+
+    /// Books the outcome of a transfer, and releases and moves its amount.
+    fn keep_booked(&mut self, from: u8, id: Ident, outcome: &Outcome) -> Result<(), Fault>
+        requires { Fits self.old.book.settings self.old.book.who self.old.book.events
+            (Event.Booked from id outcome.now) }
+        ensures ok { OnOk result (self.new.book ≡ with_event self.old.book (Event.Booked from id outcome.now)) }
+        ensures err { OnErr result (self.new.book ≡ self.old.book) }
+        ensures room { 0 < self.old.room → IsOk result }
+        ensures only { IsOkUnless result Fault.Memory }
+    {
+        let origin = self.transfers.get(from, &id).unwrap().origin;
+        let transfer = Transfer {
+            origin,
+            outcome: Some(*outcome),
+        };
+        let event = Event::Booked {
+            from,
+            id,
+            outcome: *outcome,
+        };
+        let _ = self.journal.events().len();
+        self.journal.push(event)?;
+        self.transfers.put(from, id, transfer)?;
+        match &origin {
+            Origin::Taken(terms) => {
+                let cents = u128::from(terms.cents.get());
+                self.totals.reserved -= cents;
+                self.totals.debits += if_accepted(outcome, cents);
+                self.waiting -= 1;
+            }
+            Origin::Forwarded(forwarding) => {
+                let cents = u128::from(forwarding.cents.get());
+                self.totals.credits += if_accepted(outcome, cents);
+            }
+        }
+        Ok(())
+    }
+
+    /// Moves the read mark over what is handed out.
+    fn keep_fetched(&mut self, count: u32) -> Result<(), Fault>
+        requires { Fits self.old.book.settings self.old.book.who self.old.book.events (Event.Fetched count) }
+        ensures ok { OnOk result (self.new.book ≡ with_event self.old.book (Event.Fetched count)) }
+        ensures err { OnErr result (self.new.book ≡ self.old.book) }
+        ensures room { 0 < self.old.room → IsOk result }
+        ensures only { IsOkUnless result Fault.Memory }
+    {
+        let _ = self.journal.events().len();
+        self.journal.push(Event::Fetched { count })?;
+        self.read += count as usize;
+        Ok(())
+    }
+
+    /// Begins anew after an opening: what is booked lives no more, and the fundings are given back.
+    fn keep_opened(&mut self) -> Result<(), Fault>
+        requires { Fits self.old.book.settings self.old.book.who self.old.book.events Event.Opened }
+        ensures ok { OnOk result (self.new.book ≡ with_event self.old.book Event.Opened) }
+        ensures err { OnErr result (self.new.book ≡ self.old.book) }
+        ensures room { 0 < self.old.room → IsOk result }
+        ensures only { IsOkUnless result Fault.Memory }
+    {
+        self.journal.push(Event::Opened)?;
+        self.live = self.waiting;
+        self.fundings = 0;
+        Ok(())
+    }
+
+    /// Keeps an event that fits. After `Memory` the book is as it was. Where room was reserved it succeeds
+    /// for an event that brings no new key; for one that does, room is made for all of it first.
+    pub fn keep(&mut self, event: Event) -> Result<(), Fault>
+        requires { Fits self.old.book.settings self.old.book.who self.old.book.events event }
+        ensures ok { OnOk result (self.new.book ≡ with_event self.old.book event) }
+        ensures err { OnErr result (self.new.book ≡ self.old.book) }
+        ensures room { 0 < self.old.room → brings_key event ≡ false → IsOk result }
+        ensures only { IsOkUnless result Fault.Memory }
+    {
+        match event {
+            Event::Funded { reference, cents } => self.keep_funded(reference, cents),
+            Event::Defunded { reference, cents } => self.keep_defunded(reference, cents),
+            Event::Taken {
+                id,
+                to,
+                cents,
+                stamp,
+            } => self.keep_taken(id, Terms { to, cents, stamp }),
+            Event::Forwarded {
+                from,
+                id,
+                cents,
+                deadline,
+            } => self.keep_forwarded(Entry {
+                from,
+                id,
+                cents,
+                deadline,
+            }),
+            Event::Booked { from, id, outcome } => self.keep_booked(from, id, &outcome),
+            Event::Fetched { count } => self.keep_fetched(count),
+            Event::Opened => self.keep_opened(),
+        }
+    }
+}
+
+/// The amount where the outcome is `Accepted`, else 0.
+fn if_accepted(outcome: &Outcome, cents: u128) -> u128
+    ensures value { result ≡ if_accepted (Some outcome.now) cents }
+    ensures within { result ≤ cents }
+{
+    match outcome {
+        Outcome::Accepted => cents,
+        _ => 0,
+    }
+}

@@ -1,0 +1,219 @@
+//! What a participant's history has, read off what stands beside it.
+ghost use Rattle.std.specs.Prelude.{◌≡◌, ◌<◌, ◌^◌};
+ghost use Rattle.inst_settings.specs.Settings.{IsSettings};
+ghost use Rattle.inst_journal.specs.Booked.{first_some, is_taken, is_forwarded, booked};
+ghost use Rattle.inst_journal.specs.Keys.{fundings, is_submission_repeat, is_fund_repeat, is_defund_repeat, has_reference};
+ghost use Rattle.inst_journal.specs.Money.{reserved, position, available};
+ghost use Rattle.inst_journal.specs.Opened.{live_submissions};
+ghost use Rattle.inst_journal.specs.Sound.{IsSound};
+ghost use Rattle.inst_ledger.specs.Beside.{terms_in, outcome_in, forwarding_in, funding_of, is_funding_of};
+ghost use Rattle.inst_ledger.specs.Kept.{terms_of, are_terms, forwarding_of};
+
+use super::Ledger;
+use crate::references::Funding;
+use crate::totals::Totals;
+use crate::transfers::{Forwarding, Origin, Terms, Transfer};
+use inst_base::{Cents, Ident};
+use inst_command::{Outcome, Submission};
+use inst_settings::Settings;
+
+impl Ledger {
+    /// The hub's settings.
+    pub fn settings(&self) -> &Settings
+        ensures value { result.now ≡ self.now.book.settings }
+        ensures lawful { IsSettings self.now.book.settings }
+        ensures sound { IsSound self.now.book.settings self.now.book.who self.now.book.events }
+    {
+        &self.settings
+    }
+
+    /// The participant's number.
+    pub fn who(&self) -> u8
+        ensures { result ≡ self.now.book.who }
+    {
+        self.who
+    }
+
+    /// The terms of the taken submission with this identifier.
+    fn terms(&self, id: &Ident) -> Option<Terms>
+        ensures { result ≡ first_some (terms_of id.now) self.now.book.events }
+    {
+        terms_in(&self.transfers.get(self.who, id))
+    }
+
+    /// What came with this transfer, where it was forwarded.
+    fn forwarding(&self, from: u8, id: &Ident) -> Option<Forwarding>
+        ensures { result ≡ first_some (forwarding_of (from, id.now)) self.now.book.events }
+    {
+        forwarding_in(&self.transfers.get(from, id))
+    }
+
+    /// The funding with this reference.
+    fn funding(&self, reference: &Ident) -> Option<Funding>
+        ensures { result ≡ first_some (funding_of reference.now) self.now.book.events }
+    {
+        self.references.get(reference)
+    }
+
+    /// Whether a submission with this identifier is taken.
+    pub fn is_taken(&self, id: &Ident) -> bool
+        ensures { result ≡ is_taken id.now self.now.book.events }
+    {
+        self.terms(id).is_some()
+    }
+
+    /// Whether this very submission is taken.
+    pub(crate) fn is_submission_repeat(&self, submission: &Submission) -> bool
+        ensures { result ≡ is_submission_repeat submission.now self.now.book.events }
+    {
+        let _ = &self.settings;
+        are_terms(self.terms(&submission.id), submission)
+    }
+
+    /// Whether this transfer was forwarded to the participant.
+    pub fn is_forwarded(&self, from: u8, id: &Ident) -> bool
+        ensures { result ≡ is_forwarded from id.now self.now.book.events }
+    {
+        self.forwarding(from, id).is_some()
+    }
+
+    /// The outcome that the participant has booked for this transfer.
+    pub fn booked(&self, from: u8, id: &Ident) -> Option<Outcome>
+        ensures { result ≡ booked from id.now self.now.book.events }
+    {
+        outcome_in(&self.transfers.get(from, id))
+    }
+
+    /// Whether a funding reference is kept.
+    pub(crate) fn has_reference(&self, reference: &Ident) -> bool
+        ensures { result ≡ has_reference reference.now self.now.book.events }
+    {
+        self.funding(reference).is_some()
+    }
+
+    /// Whether this very funding is kept.
+    pub(crate) fn is_fund_repeat(&self, reference: &Ident, cents: Cents) -> bool
+        ensures { result ≡ is_fund_repeat reference.now cents self.now.book.events }
+    {
+        let _ = &self.settings;
+        is_funding_of(false, cents, self.funding(reference))
+    }
+
+    /// Whether this very defunding is kept.
+    pub(crate) fn is_defund_repeat(&self, reference: &Ident, cents: Cents) -> bool
+        ensures { result ≡ is_defund_repeat reference.now cents self.now.book.events }
+    {
+        let _ = &self.settings;
+        is_funding_of(true, cents, self.funding(reference))
+    }
+
+    /// How many of the participant's own transfers are live.
+    pub fn live_submissions(&self) -> usize
+        ensures { result ≡ live_submissions self.now.book.who self.now.book.events }
+    {
+        self.live
+    }
+
+    /// How many fund and defund commands are kept since the last opening.
+    pub fn fundings(&self) -> usize
+        ensures { result ≡ fundings self.now.book.events }
+    {
+        self.fundings
+    }
+
+    /// The taken transfers with nothing booked, in cents.
+    pub fn reserved(&self) -> u128
+        ensures value { result ≡ reserved self.now.book.events }
+        ensures within { result < 2 ^ 64 }
+    {
+        self.totals.reserved
+    }
+
+    /// Net funding and credits less debits, in cents.
+    pub fn position(&self) -> u128
+        ensures value { result ≡ position self.now.book.events }
+        ensures within { result < 2 ^ 64 }
+    {
+        let Totals {
+            funded,
+            defunded,
+            credits,
+            debits,
+            ..
+        } = self.totals;
+        // That a history is no longer than 64 bits tell is known where its length is read.
+        let _ = self.journal.events().len();
+        funded + credits - defunded - debits
+    }
+
+    /// The position less what is reserved, in cents.
+    pub fn available(&self) -> u128
+        ensures { result ≡ available self.now.book.events }
+    {
+        self.position().saturating_sub(self.reserved())
+    }
+}
+
+/// The terms, where the transfer is the participant's own.
+fn terms_in(found: &Option<Transfer>) -> Option<Terms>
+    ensures { result ≡ terms_in found.now }
+{
+    match found {
+        Some(
+            Transfer {
+                origin: Origin::Taken(terms),
+                ..
+            },
+        ) => Some(*terms),
+        _ => None,
+    }
+}
+
+/// What came, where the transfer was forwarded.
+fn forwarding_in(found: &Option<Transfer>) -> Option<Forwarding>
+    ensures { result ≡ forwarding_in found.now }
+{
+    match found {
+        Some(
+            Transfer {
+                origin: Origin::Forwarded(forwarding),
+                ..
+            },
+        ) => Some(*forwarding),
+        _ => None,
+    }
+}
+
+/// What is booked of the transfer.
+fn outcome_in(found: &Option<Transfer>) -> Option<Outcome>
+    ensures { result ≡ outcome_in found.now }
+{
+    match found {
+        Some(transfer) => transfer.outcome,
+        None => None,
+    }
+}
+
+/// Whether these are the terms of the submission.
+fn are_terms(found: Option<Terms>, submission: &Submission) -> bool
+    ensures { result ≡ are_terms submission.now found }
+{
+    match found {
+        Some(terms) => {
+            terms.to == submission.to
+                && terms.cents == submission.cents
+                && terms.stamp == submission.stamp
+        }
+        None => false,
+    }
+}
+
+/// Whether this funding is found.
+fn is_funding_of(is_defunding: bool, cents: Cents, found: Option<Funding>) -> bool
+    ensures { result ≡ is_funding_of is_defunding cents found }
+{
+    match found {
+        Some(funding) => funding.is_defunding == is_defunding && funding.cents == cents,
+        None => false,
+    }
+}

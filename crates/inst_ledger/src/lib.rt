@@ -1,0 +1,12 @@
+//! One participant's books: its history, with running totals and tables beside it.
+#![tactic(auto)]
+
+mod ledger;
+mod name;
+mod references;
+#[cfg(test)]
+mod tests;
+mod totals;
+mod transfers;
+
+pub use ledger::Ledger;

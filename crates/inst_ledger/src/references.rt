@@ -1,0 +1,49 @@
+//! What is known of each funding, by its reference.
+ghost use Rattle.std.specs.Prelude.{◌≡◌, ℕ, List, None, OnOk, OnErr, IsOkUnless};
+ghost use Rattle.inst_ledger.specs.References.{funding_at, PutsFunding};
+
+use crate::name::Name;
+use inst_base::{Cents, Fault, Ident};
+use std::alloc::Global;
+use std::collections::BTreeMap;
+
+/// A kept fund or defund command.
+#[derive(Clone, Copy, Debug, PartialEq, Eq)]
+pub(crate) struct Funding {
+    pub(crate) is_defunding: bool,
+    pub(crate) cents: Cents,
+}
+
+/// The fundings of a history. The table is ordered and not hashed, as that of the transfers is.
+#[derive(Drop)]
+pub(crate) struct References {
+    table: BTreeMap<Name, Funding>,
+}
+
+impl References {
+    /// No fundings.
+    pub(crate) fn new(alloc: Global) -> Self
+        ensures { (reference : List ℕ) → funding_at result reference ≡ None }
+    {
+        References {
+            table: BTreeMap::new(alloc),
+        }
+    }
+
+    /// The funding with this reference.
+    pub(crate) fn get(&self, reference: &Ident) -> Option<Funding>
+        ensures { result ≡ funding_at self.now reference.now }
+    {
+        self.table.get(&Name { id: *reference }).copied()
+    }
+
+    /// Puts the funding at this reference. After `Memory` all is as it was.
+    pub(crate) fn put(&mut self, reference: Ident, funding: Funding) -> Result<(), Fault>
+        ensures ok { OnOk result (PutsFunding self.old reference funding self.new) }
+        ensures err { OnErr result ((key : List ℕ) → funding_at self.new key ≡ funding_at self.old key) }
+        ensures only { IsOkUnless result Fault.Memory }
+    {
+        self.table.insert(Name { id: reference }, funding)?;
+        Ok(())
+    }
+}
