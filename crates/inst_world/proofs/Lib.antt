@@ -20,3 +20,4 @@ pub mod Wanting
 pub mod Applying
 pub mod Hubs
 pub mod Opening
+pub mod Running

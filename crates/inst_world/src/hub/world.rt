@@ -3,14 +3,17 @@ ghost use Rattle.inst_settings.specs.Settings.{IsSettings, is_participant};
 ghost use Rattle.inst_command.specs.Step.{step_fits};
 ghost use Rattle.inst_journal.specs.Sound.{IsSound};
 ghost use Rattle.inst_model.specs.Opening.{Opening};
+ghost use Rattle.inst_model.specs.Interleaving.{IsInterleaving};
+ghost use Rattle.inst_model.specs.Trace.{trace};
 ghost use Rattle.inst_command.specs.declared.step.Step.{Step};
 ghost use Rattle.inst_model.specs.Hub.{history};
 ghost use Rattle.inst_world.specs.HasRun.{HasRun, Runs, IsAsBefore};
 
 use crate::hub::slots;
+use crate::hub::trace::Trace;
 use inst_base::Fault;
 use inst_board::{Place, PlainBoard};
-use inst_command::{Answer, Step};
+use inst_command::{Answer, Items, Step};
 use inst_journal::Journal;
 use inst_settings::Settings;
 use inst_slot::Slot;
@@ -106,5 +109,38 @@ impl World {
                 Ok(Answer::New(slots::expire(slots, board, *who, *place, *at)?))
             }
         }
+    }
+
+    /// Runs the steps in order, at a hub that opens for the first time. `Memory` ends the run.
+    pub fn run(
+        alloc: Global,
+        settings: &Settings,
+        steps: &[Step],
+    ) -> Result<(World, Trace), Fault>
+        requires fits { IsInterleaving settings.now steps.now }
+        ensures ok { IfOk result (λ r. (r.0.board.settings ≡ settings.now) × HasRun Opening.First (reverse steps.now) r.0
+            × (r.1.answers ≡ trace settings.now Opening.First (reverse steps.now))) }
+        ensures only { IsOkUnless result Fault.Memory }
+    {
+        let mut world = World::open(alloc, settings)?;
+        let trace = world.run_steps(alloc, steps)?;
+        Ok((world, trace))
+    }
+
+    /// Runs the steps in order.
+    fn run_steps(&mut self, alloc: Global, steps: &[Step]) -> Result<Trace, Fault>
+        requires fits { IsInterleaving self.old.board.settings steps.now }
+        ensures ok { IfOk result (λ t. (O : Opening) → HasRun O [] self.old →
+            HasRun O (reverse steps.now) self.new × (t.answers ≡ trace self.old.board.settings O (reverse steps.now))) }
+        ensures only { IsOkUnless result Fault.Memory }
+        ensures settings { self.new.board.settings ≡ self.old.board.settings }
+    {
+        let mut answers = Vec::new(alloc);
+        for step in steps {
+            answers.push(self.step(step)?)?;
+        }
+        Ok(Trace {
+            answers: Items::new(answers),
+        })
     }
 }
