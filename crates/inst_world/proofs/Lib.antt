@@ -7,3 +7,17 @@ pub mod SessionLemmas
 pub mod RunLemmas
 pub mod SlotsLemmas
 pub mod WorldLemmas
+pub mod Exactly
+pub mod Placing
+pub mod Adopting
+pub mod Matching
+pub mod Lying
+pub mod Boarding
+pub mod Telling
+pub mod Expiring
+pub mod Asking
+pub mod Wanting
+pub mod Applying
+pub mod Hubs
+pub mod Opening
+pub mod Running

@@ -8,3 +8,4 @@ pub mod LineBuffer
 pub mod Replies
 pub mod Progress
 pub mod Session
+pub mod HasRun

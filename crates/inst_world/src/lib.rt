@@ -2,6 +2,7 @@
 #![tactic(auto)]
 
 mod answer;
+pub mod hub;
 mod limits;
 mod line_buffer;
 mod replies;

@@ -1,0 +1,218 @@
+-- An ask, over a board that has the model's outcomes, is answered and kept as the model says.
+use Rattle.std.proofs.Common.{◌≡◌, ◌≢◌, ℕ, zero, suc, Bool, true, false, cond, eqb, List, [], ◌∷◌, ◌++◌, length, Option, Some, None, is_none, is_some, Result, Ok, Err, refl, sym, ap, subst, ◌∙◌, inl, inr, ◌⊎◌, append-nil}
+use Rattle.std.specs.List.{filter}
+use Rattle.std.proofs.lemmas.Bool.{cases_eq, cond-true}
+use Rattle.inst_base.specs.TimeLimit.{deadline_of}
+use Rattle.inst_base.specs.declared.fault.Fault.{Fault}
+use Rattle.inst_base.specs.declared.fault.Fault.TheVariants.{Memory}
+use Rattle.inst_settings.specs.Settings.{HubSettings}
+use Rattle.inst_command.specs.declared.ask.Ask.{Ask as AskValue}
+use Rattle.inst_command.specs.declared.command.Command.{Command}
+use Rattle.inst_command.specs.declared.command.Command.TheVariants.{Submit}
+use Rattle.inst_command.specs.declared.outcome.Outcome.{Outcome}
+use Rattle.inst_command.specs.declared.reply.Reply.{Reply}
+use Rattle.inst_command.specs.declared.submission.Submission.{Submission}
+use Rattle.inst_command.specs.declared.step.Step.{Step}
+use Rattle.inst_command.specs.declared.step.Step.TheVariants.{Ask}
+use Rattle.inst_board.specs.declared.place.Place.{Place}
+use Rattle.inst_board.specs.declared.wish.Wish.{Wish}
+use Rattle.inst_board.specs.Wish.{wanted}
+use Rattle.inst_board.specs.Standing.{pending}
+use Rattle.inst_board.specs.Learning.{Learns}
+use Rattle.inst_board.specs.Plain.{Contents, standing_at, plain_knows, plain_stood}
+use Rattle.inst_board.specs.Laws.{Stands}
+use Rattle.inst_board.proofs.Exact.{opens_exactly}
+use Rattle.inst_journal.specs.declared.event.Event.{Event}
+use Rattle.inst_journal.specs.declared.event.Event.TheVariants.{Funded, Defunded, Taken, Booked, Fetched}
+use Rattle.inst_journal.specs.declared.handle.Handled.{Handled}
+use Rattle.inst_journal.specs.Booked.{booked, or_else}
+use Rattle.inst_journal.specs.Opened.{carried, is_live, live_submissions}
+use Rattle.inst_journal.specs.Reply.{handle, told, kept_events}
+use Rattle.inst_journal.proofs.Carrying.{carried_unbooked}
+use Rattle.inst_model.specs.Opening.{Opening, IsOpening}
+use Rattle.inst_model.specs.Interleaving.{IsInterleaving}
+use Rattle.inst_model.specs.Transfer.{Transfer, live_transfers, at_place, deadline}
+use Rattle.inst_model.specs.View.{Seen}
+use Rattle.inst_model.specs.View.Seen.{Asked}
+use Rattle.inst_model.specs.Found.{found}
+use Rattle.inst_model.specs.Hub.{outcome, history}
+use Rattle.inst_model.proofs.KeptCases.{TakenKept, kept_cases}
+use Rattle.inst_model.proofs.Living.{length_live}
+use Rattle.inst_model.proofs.Naming.{live_grown}
+use Rattle.inst_model.proofs.Together.{together}
+use Rattle.inst_model.proofs.Transfers.{transfer_none}
+use Rattle.inst_slot.specs.Book.{Book, place_at, terms_to}
+use Rattle.inst_slot.specs.Asking.{decides, request, handle_ask, book_after, Finds, OnlyLooks, Opens, Enters, Settles, AppliesTo, Applies}
+use Rattle.inst_slot.proofs.Settling.{none_if}
+use Rattle.inst_world.specs.HasRun.{StandsWith, StandsFor, terms_of, IsBoardOf, IsMember}
+use Rattle.inst_world.proofs.Exactly.{IsTheSame, Settled, say_pending, finds_settle}
+use Rattle.inst_world.proofs.Placing.{sees_this, if_own, live_kept, others_stay, untaken_unbooked, untaken_undecided}
+use Rattle.inst_world.proofs.Boarding.{SameLive, board_stays, board_settles, board_opens}
+use Rattle.inst_world.proofs.Telling.{Ran, looked_still}
+use Rattle.inst_world.proofs.Asking.{unfound, undecided}
+use Rattle.inst_world.proofs.Wanting.{Decides, decides_this}
+
+-- the events leave the live transfers, and open no place
+pub record OpensNothing (who : ℕ) (J E : List Event) : Type 0 where
+  pub live : live_transfers who (J ++ E) ≡ live_transfers who J
+  pub board : (margin : ℕ) (book : Book) (b c : Contents) → Opens margin plain_knows book E b c → c ≡ b
+
+-- the events take a submission
+pub record TakesOne (s : HubSettings) (who : ℕ) (J : List Event) (command : Command) (E : List Event) : Type 0 where
+  pub submission : Submission
+  pub events_are : E ≡ Taken submission.id submission.to submission.cents submission.stamp ∷ []
+  pub why : TakenKept s who J submission.id submission.to submission.cents
+  pub command_is : command ≡ Submit submission
+
+kind_of : (s : HubSettings) (who : ℕ) (J : List Event) (command : Command) (at : ℕ) (o : Option Outcome)
+    → OpensNothing who J (kept_events (handle s who J command at o)) ⊎ TakesOne s who J command (kept_events (handle s who J command at o))
+kind_of s who J command at o = kept_cases s who J command at o (λ E. OpensNothing who J E ⊎ TakesOne s who J command E) (record {
+  nothing = inl (record { live = ap (live_transfers who) (append-nil J); board = λ margin book b c e. e });
+  funds = λ reference cents is why. inl (record { live = live_kept who J (Funded reference cents) refl refl; board = λ margin book b c e. e });
+  defunds = λ reference cents is why cover. inl (record { live = live_kept who J (Defunded reference cents) refl refl; board = λ margin book b c e. e });
+  takes = λ x is why. inr (record { submission = x; events_are = refl; why = why; command_is = is });
+  books = λ from id z why. inl (record { live = live_kept who J (Booked from id z) refl refl; board = λ margin book b c e. e });
+  hands_out = λ max entry entries is some. inl (record { live = live_kept who J (Fetched (length (entry ∷ entries))) refl refl; board = λ margin book b c e. e });
+})
+
+module _ (s : HubSettings) (O : Opening) (opening : IsOpening s O) (L : List Step) (steps : IsInterleaving s L) (b : Contents) (board : IsBoardOf s O L b) where
+  module _ (ask : AskValue) (book : Book) (member : IsMember s b ask.who book) (events : book.events ≡ history s O L ask.who) where
+    -- what the ask finds in the model
+    abbrev pub model_finds : Option Outcome
+    model_finds = found (outcome s O (Ask ask ∷ L)) ask.who (history s O L ask.who) ask.command
+
+    -- what it is answered in the model, and what is kept of it
+    abbrev pub model_handles : Result Handled Fault
+    model_handles = handle s ask.who (history s O L ask.who) ask.command ask.at (found (outcome s O (Ask ask ∷ L)) ask.who (history s O L ask.who) ask.command)
+
+    history_is : history s O (Ask ask ∷ L) ask.who ≡ history s O L ask.who ++ kept_events model_handles
+    history_is =
+        let V : List Seen = Asked ask.command ask.at (found (outcome s O (Ask ask ∷ L)) ask.who (history s O L ask.who) ask.command) ∷ [] in
+        let seen = sees_this s O (Ask ask) L ask.who V (if_own ask.who V) in
+        seen.history_is
+
+    live_same : live_transfers ask.who (history s O L ask.who ++ kept_events model_handles) ≡ live_transfers ask.who (history s O L ask.who) → SameLive s O (Ask ask) L
+    live_same same p = elim (cases_eq p ask.who) [
+      | inl own ↦ subst (λ (q : ℕ). live_transfers q (history s O (Ask ask ∷ L) q) ≡ live_transfers q (history s O L q)) (sym own) (ap (live_transfers ask.who) history_is ∙ same)
+      | inr other ↦ ap (live_transfers p) (others_stay s O (Ask ask) L p other)
+    ]
+
+    -- the slot's books handle an ask as the model's histories do
+    handled_alike : (o : Option Outcome) → handle_ask book ask o ≡ handle s ask.who (history s O L ask.who) ask.command ask.at o
+    handled_alike o =
+        ap (λ (t : HubSettings). handle t book.who book.events ask.command ask.at o) member.settings_are
+        ∙ ap (λ (w : ℕ). handle s w book.events ask.command ask.at o) member.who_is
+        ∙ ap (λ (E : List Event). handle s ask.who E ask.command ask.at o) events
+
+    events_after : (o : Option Outcome) (new : Book) → new ≡ book_after book ask o → handle_ask book ask o ≡ model_handles → new.events ≡ history s O (Ask ask ∷ L) ask.who
+    events_after o new is same =
+        ap (λ (n : Book). n.events) is ∙ ap (λ (h : Result Handled Fault). book.events ++ kept_events h) same
+        ∙ ap (λ (E : List Event). E ++ kept_events model_handles) events ∙ sym history_is
+
+    -- the ask was run: it is answered as in the model; or memory was refused, and nothing changed
+    abbrev pub AskRanOrNot : Result Reply Fault → Book → Contents → Type 0
+    AskRanOrNot result new c =
+        ((result ≡ told model_handles) × Ran s O (Ask ask) L new c) ⊎ ((result ≡ Err Memory) × (new ≡ book) × IsBoardOf s O L c)
+
+    module _ (none : decides book ask.command ≡ false) where
+      outcomes_stay : (p : ℕ) (id : List ℕ) → outcome s O (Ask ask ∷ L) p id ≡ outcome s O L p id
+      outcomes_stay p id = undecided s O opening L ask.who book member.who_is events ask.command ask.at p id none
+
+      handled_none : handle_ask book ask None ≡ model_handles
+      handled_none =
+          sym (unfound book (outcome s O (Ask ask ∷ L)) ask.command ask.at none)
+          ∙ handled_alike (found (outcome s O (Ask ask ∷ L)) book.who book.events ask.command)
+          ∙ ap (λ (w : ℕ). handle s ask.who (history s O L ask.who) ask.command ask.at (found (outcome s O (Ask ask ∷ L)) w book.events ask.command)) member.who_is
+          ∙ ap (λ (E : List Event). handle s ask.who (history s O L ask.who) ask.command ask.at (found (outcome s O (Ask ask ∷ L)) ask.who E ask.command)) events
+
+      opens_one : (margin : ℕ) (c : Contents) → TakesOne s ask.who (history s O L ask.who) ask.command (kept_events model_handles)
+          → Opens margin plain_knows book (kept_events model_handles) b c → IsBoardOf s O (Ask ask ∷ L) c
+      opens_one margin c one opens =
+          let x : Submission = one.submission in
+          let J : List Event = history s O L ask.who in
+          let t : Transfer = record { id = x.id; to = x.to; cents = x.cents; stamp = x.stamp } in
+          let sound = (together s O opening L steps).sound ask.who in
+          let learns : Learns margin plain_knows b (place_at book.who (live_submissions book.who book.events)) (pending (terms_to x.to x.cents x.id) (deadline_of book.settings.limit x.stamp)) c =
+          subst (λ (E : List Event). Opens margin plain_knows book E b c) one.events_are opens in
+          let place_is : place_at book.who (live_submissions book.who book.events) ≡ place_at ask.who (length (live_transfers ask.who J)) =
+          ap (λ (w : ℕ). place_at w (live_submissions w book.events)) member.who_is
+          ∙ ap (λ (E : List Event). place_at ask.who (live_submissions ask.who E)) events
+          ∙ ap (place_at ask.who) (sym (length_live ask.who J)) in
+          let here : Learns margin plain_knows b (place_at ask.who (length (live_transfers ask.who J))) (pending (terms_of t) (deadline s t)) c =
+          subst (λ (h : HubSettings). Learns margin plain_knows b (place_at ask.who (length (live_transfers ask.who J))) (pending (terms_of t) (deadline_of h.limit x.stamp)) c) member.settings_are
+          (subst (λ (k : Place). Learns margin plain_knows b k (pending (terms_to x.to x.cents x.id) (deadline_of book.settings.limit x.stamp)) c) place_is learns) in
+          let stands = opens_exactly margin b c (place_at ask.who (length (live_transfers ask.who J))) (terms_of t) (deadline s t) here in
+          let unlive : booked ask.who x.id (carried J) ≡ None = carried_unbooked ask.who x.id J (untaken_unbooked s ask.who x.id J sound (transfer_none x.id J one.why.new)) in
+          let live : is_live ask.who x.id J ≡ true = ap (λ (o : Option Outcome). is_none o) unlive in
+          let grown : live_transfers ask.who (history s O (Ask ask ∷ L) ask.who) ≡ live_transfers ask.who J ++ t ∷ [] =
+          ap (live_transfers ask.who) (history_is ∙ ap (λ (E : List Event). J ++ E) one.events_are)
+          ∙ live_grown ask.who J (Taken x.id x.to x.cents x.stamp) refl
+          ∙ ap (λ (T : List Transfer). live_transfers ask.who J ++ T) (cond-true (is_live ask.who x.id J) (t ∷ []) [] live) in
+          board_opens s O opening L steps (Ask ask) b c board ask.who t grown
+          (λ p other. ap (live_transfers p) (others_stay s O (Ask ask) L p other))
+          (say_pending (standing_at c (place_at ask.who (length (live_transfers ask.who J)))) (terms_of t) (deadline s t) stands.here)
+          (λ j other. stands.elsewhere j other)
+          (outcomes_stay ask.who x.id ∙ untaken_undecided s O opening L ask.who x.id (transfer_none x.id J one.why.new))
+          (λ p place y is. outcomes_stay p y.id)
+
+      board_after : (margin : ℕ) (c : Contents) → Opens margin plain_knows book (kept_events model_handles) b c
+          → OpensNothing ask.who (history s O L ask.who) (kept_events model_handles) ⊎ TakesOne s ask.who (history s O L ask.who) ask.command (kept_events model_handles)
+          → IsBoardOf s O (Ask ask ∷ L) c
+      board_after margin c opens (inr one) = opens_one margin c one opens
+      board_after margin c opens (inl nothing) =
+          subst (λ (d : Contents). IsBoardOf s O (Ask ask ∷ L) d) (sym (nothing.board margin book b c opens))
+          (board_stays s O opening L steps (Ask ask) b b board (live_same nothing.live) (λ j a. (λ h. h, λ h. h)) (λ p place y is. outcomes_stay p y.id))
+
+      enters_run : (margin : ℕ) (c : Contents) (result : Result Reply Fault) (new : Book) → Enters margin plain_knows b book ask result c new → AskRanOrNot result new c
+      enters_run margin c result new did = elim did [
+        | inl done ↦ inl (done.0 ∙ ap told handled_none, record {
+            events = events_after None new done.1 handled_none;
+            board = board_after margin c (subst (λ (h : Result Handled Fault). Opens margin plain_knows book (kept_events h) b c) handled_none done.2)
+                (kind_of s ask.who (history s O L ask.who) ask.command ask.at (found (outcome s O (Ask ask ∷ L)) ask.who (history s O L ask.who) ask.command));
+          })
+        | inr refused ↦ inr (refused.0, refused.1, subst (λ (d : Contents). IsBoardOf s O L d) (sym refused.2) board)
+      ]
+
+    module _ (asked : Place × Wish) (d : Decides s O L ask asked) where
+      takes_no_place : OpensNothing ask.who (history s O L ask.who) (kept_events model_handles) ⊎ TakesOne s ask.who (history s O L ask.who) ask.command (kept_events model_handles)
+          → live_transfers ask.who (history s O L ask.who ++ kept_events model_handles) ≡ live_transfers ask.who (history s O L ask.who)
+      takes_no_place (inl nothing) = nothing.live
+      takes_no_place (inr one) = absurd (d.no_submission one.submission one.command_is)
+
+      settles_run : (margin : ℕ) (stays : Contents → Contents → Type 0) (c : Contents) (result : Result Reply Fault) (new : Book) → margin ≡ s.margin
+          → Settles margin plain_knows (λ _ _. Unit {0}) plain_stood stays b book ask asked.0 asked.1 result c new → AskRanOrNot result new c
+      settles_run margin stays c result new margin_is did = elim did [
+        | inl done ↦
+            let x : Transfer = d.transfer in
+            let o : Option Outcome = done.0 in
+            let k : Place = place_at d.from d.index in
+            let stands : StandsWith (terms_of x) (deadline s x) (outcome s O L d.from x.id) (standing_at b k) =
+            subst (λ (X : Option Transfer). StandsFor s (outcome s O L d.from) X (standing_at b k)) d.there (board d.from d.index) in
+            let finds : Finds margin plain_knows (λ _ _. Unit {0}) plain_stood stays b k asked.1 ask.at o c =
+            subst (λ (j : Place). Finds margin plain_knows (λ _ _. Unit {0}) plain_stood stays b j asked.1 ask.at o c) d.place_is done.3 in
+            let settled = finds_settle margin b c k asked.1 ask.at o (outcome s O L d.from x.id) (terms_of x) (deadline s x) stays stands finds in
+            let after_is : outcome s O (Ask ask ∷ L) d.from x.id ≡ o =
+            d.wants ∙ ap (λ (m : ℕ). or_else (outcome s O L d.from x.id) (wanted m asked.1 (deadline s x) ask.at)) (sym margin_is) ∙ sym settled.found_is in
+            let same : handle_ask book ask o ≡ model_handles =
+            handled_alike o ∙ ap (handle s ask.who (history s O L ask.who) ask.command ask.at) (sym (d.found_is ∙ after_is)) in
+            inl (done.1 ∙ ap told same, record {
+              events = events_after o new done.2 same;
+              board = board_settles s O opening L steps (Ask ask) b c board
+                  (live_same (takes_no_place (kind_of s ask.who (history s O L ask.who) ask.command ask.at (found (outcome s O (Ask ask ∷ L)) ask.who (history s O L ask.who) ask.command))))
+                  d.from d.index x d.there (subst (λ (z : Option Outcome). StandsWith (terms_of x) (deadline s x) z (standing_at c k)) (sym after_is) settled.here) settled.elsewhere
+                  (λ p id other. d.others p id other);
+            })
+        | inr refused ↦ inr (refused.0, refused.1, looked_still s O opening L steps b board margin c asked.0 refused.2.look refused.2.looks)
+      ]
+
+    by_request : (margin : ℕ) (stays : Contents → Contents → Type 0) (c : Contents) (result : Result Reply Fault) (new : Book) → margin ≡ s.margin
+        → (r : Option (Place × Wish)) → request book ask.command ≡ r → is_some r ≡ decides book ask.command
+        → AppliesTo margin plain_knows (λ _ _. Unit {0}) plain_stood stays b book ask r result c new → AskRanOrNot result new c
+    by_request margin stays c result new margin_is None is decided did = enters_run (sym decided) margin c result new did
+    by_request margin stays c result new margin_is (Some asked) is decided did =
+        settles_run asked (decides_this s O opening L steps b board ask.who book member events ask.at ask.command asked is) margin stays c result new margin_is did
+
+    pub applies_run : (margin : ℕ) (stays : Contents → Contents → Type 0) (c : Contents) (result : Result Reply Fault) (new : Book) → margin ≡ s.margin
+        → is_some (request book ask.command) ≡ decides book ask.command
+        → Applies margin plain_knows (λ _ _. Unit {0}) plain_stood stays b book ask result c new → AskRanOrNot result new c
+    applies_run margin stays c result new margin_is decided did = by_request margin stays c result new margin_is (request book ask.command) refl decided did

@@ -1,0 +1,48 @@
+use Rattle.std.proofs.Common.{◌≡◌, sym, ◌∙◌, refl, ap, subst}
+use Rattle.std.proofs.lemmas.Bool.{and_parts}
+use Rattle.std.specs.Cmp.Derive.{both_true}
+use Rattle.inst_base.specs.declared.fault.Fault.{Fault}
+use Rattle.inst_settings.specs.Settings.{is_participant}
+use Rattle.inst_command.specs.Ask.{command_fits, ask_fits}
+use Rattle.inst_command.specs.declared.step.Step.{Step}
+use Rattle.inst_command.specs.declared.step.Step.TheVariants.{Ask, Deliver, Learn, Expire}
+use Rattle.inst_board.specs.declared.place.Place.{Place}
+use Rattle.inst_slot.specs.Book.{Book}
+use Rattle.inst_world.specs.HasRun.{Hub, HasRun, IsAsBefore}
+use Rattle.inst_world.proofs.Adopting.{asks_adopted}
+use Rattle.inst_world.proofs.Hubs.{LeadsTo, leads_to, acted, as_before, if_ok, on_err, ran_ok, kept_refused, expiry_refused, asked_ok, asked_err}
+use Rattle.inst_world.proofs.Telling.{delivers_run, learns_run}
+use Rattle.inst_world.proofs.Expiring.{expires_run}
+use Rattle.inst_world.proofs.hub.slots.expire.Goals as goal
+
+pub expire-requires : goal.expire-requires
+expire-requires c =
+    let hub : Hub = record { books = c.args.slots.now.items; board = c.args.board.now } in
+    let l = leads_to hub c.args.who c.from.result c.index_mut.result.now c.requires.hub c.requires.participant c.from.ensures c.index_mut.ensures.value in
+    record { lawful = l.member.lawful }
+
+pub returns-clause-hub : goal.returns-clause-hub
+returns-clause-hub c =
+    let hub : Hub = record { books = c.args.slots.now.items; board = c.args.board.now } in
+    let l = leads_to hub c.args.who c.from.result c.index_mut.result.now c.requires.hub c.requires.participant c.from.ensures c.index_mut.ensures.value in
+    let e = c.expire.ensures in
+    acted c.args.slots.now.items c.args.board.now c.expire.new.board c.args.who c.from.result c.index_mut.result.now c.expire.new.self c.requires.hub l e.stays e.lawful e.others e.same e.adopted
+
+pub returns-clause-ok : goal.returns-clause-ok
+returns-clause-ok c =
+    let hub : Hub = record { books = c.args.slots.now.items; board = c.args.board.now } in
+    let l = leads_to hub c.args.who c.from.result c.index_mut.result.now c.requires.hub c.requires.participant c.from.ensures c.index_mut.ensures.value in
+    let e = c.expire.ensures in
+    ran_ok c.args.slots.now.items c.args.board.now c.expire.new.board c.from.result c.index_mut.result.now c.expire.new.self (Expire c.args.who c.args.index c.args.at) c.expire.result l e.stays
+    c.requires.participant (λ O L. refl)
+    (λ O L was. expires_run c.args.board.now.settings O was.opening L was.steps c.args.board.now was.board c.args.who c.args.index c.args.at c.index_mut.result.now l.member (was.histories c.args.who c.index_mut.result.now l.there)
+    c.args.board.now.settings.margin (λ a d. d.settings ≡ a.settings) c.expire.new.board c.expire.result c.expire.new.self e.expires)
+
+pub returns-clause-err : goal.returns-clause-err
+returns-clause-err c =
+    let hub : Hub = record { books = c.args.slots.now.items; board = c.args.board.now } in
+    let l = leads_to hub c.args.who c.from.result c.index_mut.result.now c.requires.hub c.requires.participant c.from.ensures c.index_mut.ensures.value in
+    let e = c.expire.ensures in
+    on_err c.expire.result _ (λ fault is.
+    let back = expiry_refused c.args.board.now.settings.margin (λ a d. d.settings ≡ a.settings) c.args.board.now c.expire.new.board c.index_mut.result.now c.expire.new.self c.args.index c.args.at _ c.expire.result e.expires fault is in
+    as_before c.args.slots.now.items c.args.board.now c.expire.new.board c.args.who c.from.result c.index_mut.result.now c.expire.new.self l e.stays back.0 back.1)

@@ -1,0 +1,97 @@
+-- What a world of slots over one board has run: a list of steps since an opening. Its histories are the model's, and its
+-- board has, at each place, the live transfer that the model has there with its outcome, and nothing else. That one
+-- thread holds all slots is this hub's own choice.
+use Rattle.std.specs.Prelude.{◌≡◌, ℕ, zero, suc, List, [], ◌∷◌, ◌++◌, length, slice_get, Option, Some, None, Result, Ok, Err}
+use Rattle.inst_base.specs.declared.fault.Fault.{Fault}
+use Rattle.inst_base.specs.declared.fault.Fault.TheVariants.{Memory}
+use Rattle.inst_settings.specs.Settings.{HubSettings, participants}
+use Rattle.inst_command.specs.declared.outcome.Outcome.{Outcome}
+use Rattle.inst_command.specs.declared.reply.Answer.{Answer}
+use Rattle.inst_command.specs.declared.reply.Reply.{Reply}
+use Rattle.inst_command.specs.declared.reply.Reply.TheVariants.{Refused}
+use Rattle.inst_command.specs.declared.step.Step.{Step}
+use Rattle.inst_terms.specs.declared.terms.Terms.{Terms}
+use Rattle.inst_board.specs.declared.place.Place.{Place}
+use Rattle.inst_board.specs.Standing.{Standing, unused, pending, final}
+use Rattle.inst_board.specs.Plain.{Contents, standing_at, plain_knows}
+use Rattle.inst_board.specs.Laws.{SayTheSame}
+use Rattle.inst_model.specs.Opening.{Opening, IsOpening}
+use Rattle.inst_model.specs.Interleaving.{IsInterleaving}
+use Rattle.inst_model.specs.Transfer.{Transfer, deadline, at_place}
+use Rattle.inst_model.specs.Hub.{outcome, history}
+use Rattle.inst_model.specs.Trace.{answer}
+use Rattle.inst_slot.specs.Book.{Book, place_at, terms_to}
+use Rattle.inst_slot.specs.LawfulBoard.{IsLawfulBoard, AllAreAdopted}
+
+-- what a contract sees of a world: the books of its participants by their numbers, and its board
+pub record Hub : Type 0 where
+  pub books : List Book
+  pub board : Contents
+
+abbrev pub settings_of : Hub → HubSettings
+settings_of hub = hub.board.settings
+
+-- the books of the participant p over this board; each live transfer that came to it has its place
+pub record IsMember (s : HubSettings) (board : Contents) (p : ℕ) (book : Book) : Type 0 where
+  pub settings_are : book.settings ≡ s
+  pub who_is : book.who ≡ p
+  pub lawful : IsLawfulBoard (λ b. b.settings) plain_knows (λ b q. Unit {0}) board book
+  pub adopted : AllAreAdopted book
+
+-- one book for each participant, over one board
+pub record IsHub (hub : Hub) : Type 0 where
+  pub one_each : length hub.books ≡ participants (settings_of hub)
+  pub member : (p : ℕ) (book : Book) → slice_get hub.books p ≡ Some book → IsMember (settings_of hub) hub.board p book
+
+-- a place of a transfer with these terms and this deadline stands with this outcome, if any, whenever it was decided
+abbrev pub StandsWith : Terms → ℕ → Option Outcome → Standing → Type 0
+StandsWith terms d None p = p ≡ pending terms d
+StandsWith terms d (Some o) p = (moment : ℕ) × (p ≡ final terms d o moment)
+
+abbrev pub terms_of : Transfer → Terms
+terms_of x = terms_to x.to x.cents x.id
+
+-- a place stands for this transfer of an originator whose transfers have these outcomes; unused, where there is none
+abbrev pub StandsFor : HubSettings → (List ℕ → Option Outcome) → Option Transfer → Standing → Type 0
+StandsFor s outcomes None p = p ≡ unused
+StandsFor s outcomes (Some x) p = StandsWith (terms_of x) (deadline s x) (outcomes x.id) p
+
+-- each place of the board stands for the live transfer that the model has there, after these steps
+abbrev pub IsBoardOf : HubSettings → Opening → List Step → Contents → Type 0
+IsBoardOf s O L board = (p place : ℕ) →
+    StandsFor s (outcome s O L p) (at_place p (history s O L p) place) (standing_at board (place_at p place))
+
+-- The world has run these steps since this opening
+-- histories: each book is the participant's history
+-- board: and the board has the outcomes
+pub record HasRun (O : Opening) (L : List Step) (hub : Hub) : Type 0 where
+  pub opening : IsOpening (settings_of hub) O
+  pub steps : IsInterleaving (settings_of hub) L
+  pub histories : (p : ℕ) (book : Book) → slice_get hub.books p ≡ Some book → book.events ≡ history (settings_of hub) O L p
+  pub board : IsBoardOf (settings_of hub) O L hub.board
+
+-- from the first world to the second the step was run, whatever was run before, and answered as the model answers it
+abbrev pub Runs : Hub → Step → Answer → Hub → Type 0
+Runs old step answered new = (O : Opening) (L : List Step) → HasRun O L old →
+    (answered ≡ answer (settings_of old) O L step) × HasRun O (step ∷ L) new
+
+-- the second world is as the first: the same books, and the board says the same of each place
+pub record IsAsBefore (old new : Hub) : Type 0 where
+  pub settings_are : settings_of new ≡ settings_of old
+  pub books_are : new.books ≡ old.books
+  pub board_says : (place : Place) → SayTheSame (standing_at new.board place) (standing_at old.board place)
+
+-- the book of a participant of a hub that opens for the first time
+abbrev pub new_book : HubSettings → ℕ → Book
+new_book s who = record { settings = s; who = who; events = []; arrivals = [] }
+
+-- the books of the first n participants
+abbrev pub new_books : HubSettings → ℕ → List Book
+new_books s zero = []
+new_books s (suc n) = new_books s n ++ new_book s n ∷ []
+
+-- what is answered, with each refusal but Memory as a reply
+abbrev pub refusals_told : Result Reply Fault → Result Reply Fault
+refusals_told (Ok reply) = Ok reply
+refusals_told (Err Memory) = Err Memory
+refusals_told (Err fault) = Ok (Refused fault)
