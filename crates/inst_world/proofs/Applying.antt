@@ -165,11 +165,14 @@ module _ (s : HubSettings) (O : Opening) (opening : IsOpening s O) (L : List Ste
 
       enters_run : (margin : ℕ) (c : Contents) (result : Result Reply Fault) (new : Book) → Enters margin plain_knows b book ask result c new → AskRanOrNot result new c
       enters_run margin c result new did = elim did [
-        | inl done ↦ inl (done.0 ∙ ap told handled_none, record {
+        | inl done ↦ inl (
+          done.0 ∙ ap told handled_none,
+          record {
             events = events_after None new done.1 handled_none;
             board = board_after margin c (subst (λ (h : Result Handled Fault). Opens margin plain_knows book (kept_events h) b c) handled_none done.2)
                 (kind_of s ask.who (history s O L ask.who) ask.command ask.at (found (outcome s O (Ask ask ∷ L)) ask.who (history s O L ask.who) ask.command));
-          })
+          },
+        )
         | inr refused ↦ inr (refused.0, refused.1, subst (λ (d : Contents). IsBoardOf s O L d) (sym refused.2) board)
       ]
 
@@ -195,13 +198,16 @@ module _ (s : HubSettings) (O : Opening) (opening : IsOpening s O) (L : List Ste
             d.wants ∙ ap (λ (m : ℕ). or_else (outcome s O L d.from x.id) (wanted m asked.1 (deadline s x) ask.at)) (sym margin_is) ∙ sym settled.found_is in
             let same : handle_ask book ask o ≡ model_handles =
             handled_alike o ∙ ap (handle s ask.who (history s O L ask.who) ask.command ask.at) (sym (d.found_is ∙ after_is)) in
-            inl (done.1 ∙ ap told same, record {
-              events = events_after o new done.2 same;
-              board = board_settles s O opening L steps (Ask ask) b c board
-                  (live_same (takes_no_place (kind_of s ask.who (history s O L ask.who) ask.command ask.at (found (outcome s O (Ask ask ∷ L)) ask.who (history s O L ask.who) ask.command))))
-                  d.from d.index x d.there (subst (λ (z : Option Outcome). StandsWith (terms_of x) (deadline s x) z (standing_at c k)) (sym after_is) settled.here) settled.elsewhere
-                  (λ p id other. d.others p id other);
-            })
+            inl (
+              done.1 ∙ ap told same,
+              record {
+                events = events_after o new done.2 same;
+                board = board_settles s O opening L steps (Ask ask) b c board
+                    (live_same (takes_no_place (kind_of s ask.who (history s O L ask.who) ask.command ask.at (found (outcome s O (Ask ask ∷ L)) ask.who (history s O L ask.who) ask.command))))
+                    d.from d.index x d.there (subst (λ (z : Option Outcome). StandsWith (terms_of x) (deadline s x) z (standing_at c k)) (sym after_is) settled.here) settled.elsewhere
+                    (λ p id other. d.others p id other);
+              },
+            )
         | inr refused ↦ inr (refused.0, refused.1, looked_still s O opening L steps b board margin c asked.0 refused.2.look refused.2.looks)
       ]
 

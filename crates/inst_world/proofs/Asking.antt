@@ -177,6 +177,7 @@ module _ (s : HubSettings) (O : Opening) (opening : IsOpening s O) (L : List Ste
       where
         ask : AskValue
         ask = record { who = who; command = Investigate other; at = at }
+
         go : (X : Option Transfer) → transfer id (history s O L p) ≡ X → (same_transfer p id who other ≡ true) ⊎ (same_transfer p id who other ≡ false)
             → outcome s O (Ask (record { who = who; command = Investigate other; at = at }) ∷ L) p id ≡ outcome s O L p id
         go X is (inr differs) = unwanted (record { who = who; command = Investigate other; at = at }) p id (λ x found. ap (λ (c : Bool). cond c (expired (deadline s x) at) None) differs)

@@ -57,13 +57,13 @@ module _ (s : HubSettings) (O : Opening) (opening : IsOpening s O) (L : List Ste
   board_settles live q n x there here elsewhere others p place = elim (cases_eq p q) [
     | inr other ↦ away (inl other) (λ y is. others p y.id (inl other))
     | inl owner ↦ elim (cases_eq place n) [
-        | inr other ↦ away (inr other) (λ y is. others p y.id (inr (λ same. other
-            (places_apart s p (history s O L p) place n y x ((together s O opening L steps).sound p) is (subst (λ (r : ℕ). at_place r (history s O L r) n ≡ Some x) (sym owner) there) same))))
-        | inl index ↦
-            subst (λ (r : ℕ). StandsFor s (outcome s O (step ∷ L) r) (at_place r (history s O (step ∷ L) r) place) (standing_at c (place_at r place))) (sym owner)
-            (subst (λ (m : ℕ). StandsFor s (outcome s O (step ∷ L) q) (at_place q (history s O (step ∷ L) q) m) (standing_at c (place_at q m))) (sym index)
-            (subst (λ (X : Option Transfer). StandsFor s (outcome s O (step ∷ L) q) X (standing_at c (place_at q n))) (sym (same_place live q n ∙ there)) here))
-      ]
+      | inr other ↦ away (inr other) (λ y is. others p y.id (inr (λ same. other
+          (places_apart s p (history s O L p) place n y x ((together s O opening L steps).sound p) is (subst (λ (r : ℕ). at_place r (history s O L r) n ≡ Some x) (sym owner) there) same))))
+      | inl index ↦
+          subst (λ (r : ℕ). StandsFor s (outcome s O (step ∷ L) r) (at_place r (history s O (step ∷ L) r) place) (standing_at c (place_at r place))) (sym owner)
+          (subst (λ (m : ℕ). StandsFor s (outcome s O (step ∷ L) q) (at_place q (history s O (step ∷ L) q) m) (standing_at c (place_at q m))) (sym index)
+          (subst (λ (X : Option Transfer). StandsFor s (outcome s O (step ∷ L) q) X (standing_at c (place_at q n))) (sym (same_place live q n ∙ there)) here))
+    ]
   ]
     where
       away : (p ≢ q) ⊎ (place ≢ n) → ((y : Transfer) → at_place p (history s O L p) place ≡ Some y → outcome s O (step ∷ L) p y.id ≡ outcome s O L p y.id)
@@ -83,29 +83,32 @@ module _ (s : HubSettings) (O : Opening) (opening : IsOpening s O) (L : List Ste
   board_opens q x grown others here elsewhere undecided outcomes p place = elim (cases_eq p q) [
     | inr other ↦ go_on (inl other) (ap (λ (T : List Transfer). slice_get T place) (others p other))
     | inl owner ↦ elim (cases_eq place (length (live_transfers q (history s O L q)))) [
-        | inl last ↦
-            subst (λ (r : ℕ). StandsFor s (outcome s O (step ∷ L) r) (at_place r (history s O (step ∷ L) r) place) (standing_at c (place_at r place))) (sym owner)
-            (subst (λ (m : ℕ). StandsFor s (outcome s O (step ∷ L) q) (at_place q (history s O (step ∷ L) q) m) (standing_at c (place_at q m))) (sym last)
-            (subst (λ (X : Option Transfer). StandsFor s (outcome s O (step ∷ L) q) X (standing_at c (place_at q (length (live_transfers q (history s O L q)))))) (sym (at_last ∙ get_last (live_transfers q (history s O L q)) x))
-            (subst (λ (o : Option Outcome). StandsWith (terms_of x) (deadline s x) o (standing_at c (place_at q (length (live_transfers q (history s O L q)))))) (sym undecided) here)))
-        | inr before ↦ go_on (inr before)
-            (ap (λ (r : ℕ). at_place r (history s O (step ∷ L) r) place) owner
-            ∙ ap (λ (T : List Transfer). slice_get T place) grown
-            ∙ get_other (live_transfers q (history s O L q)) x place before
-            ∙ ap (λ (r : ℕ). at_place r (history s O L r) place) (sym owner))
-      ]
+      | inl last ↦
+          subst (λ (r : ℕ). StandsFor s (outcome s O (step ∷ L) r) (at_place r (history s O (step ∷ L) r) place) (standing_at c (place_at r place))) (sym owner)
+          (subst (λ (m : ℕ). StandsFor s (outcome s O (step ∷ L) q) (at_place q (history s O (step ∷ L) q) m) (standing_at c (place_at q m))) (sym last)
+          (subst (λ (X : Option Transfer). StandsFor s (outcome s O (step ∷ L) q) X (standing_at c (place_at q (length (live_transfers q (history s O L q)))))) (sym (at_last ∙ get_last (live_transfers q (history s O L q)) x))
+          (subst (λ (o : Option Outcome). StandsWith (terms_of x) (deadline s x) o (standing_at c (place_at q (length (live_transfers q (history s O L q)))))) (sym undecided) here)))
+      | inr before ↦ go_on (inr before)
+          (ap (λ (r : ℕ). at_place r (history s O (step ∷ L) r) place) owner
+          ∙ ap (λ (T : List Transfer). slice_get T place) grown
+          ∙ get_other (live_transfers q (history s O L q)) x place before
+          ∙ ap (λ (r : ℕ). at_place r (history s O L r) place) (sym owner))
+    ]
   ]
     where
       get_last : (xs : List Transfer) (y : Transfer) → slice_get (xs ++ y ∷ []) (length xs) ≡ Some y
       get_last [] y = refl
       get_last (z ∷ xs) y = get_last xs y
+
       get_other : (xs : List Transfer) (y : Transfer) (m : ℕ) → m ≢ length xs → slice_get (xs ++ y ∷ []) m ≡ slice_get xs m
       get_other [] y zero other = absurd (other refl)
       get_other [] y (suc m) other = refl
       get_other (z ∷ xs) y zero other = refl
       get_other (z ∷ xs) y (suc m) other = get_other xs y m (λ same. other (ap suc same))
+
       at_last : at_place q (history s O (step ∷ L) q) (length (live_transfers q (history s O L q))) ≡ slice_get (live_transfers q (history s O L q) ++ x ∷ []) (length (live_transfers q (history s O L q)))
       at_last = ap (λ (T : List Transfer). slice_get T (length (live_transfers q (history s O L q)))) grown
+
       go_on : (p ≢ q) ⊎ (place ≢ length (live_transfers q (history s O L q))) → at_place p (history s O (step ∷ L) p) place ≡ at_place p (history s O L p) place
           → StandsFor s (outcome s O (step ∷ L) p) (at_place p (history s O (step ∷ L) p) place) (standing_at c (place_at p place))
       go_on other same =

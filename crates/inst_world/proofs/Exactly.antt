@@ -77,16 +77,20 @@ module _ (margin : ℕ) (m c : Contents) (k : Place) (wish : Wish) (at : ℕ) (f
       → (found ≡ w) × StandsWith t d found (standing_at c k)
   from_pending None want is exact =
       let stays : after margin wish at (standing_at m k) ≡ pending t d =
-          ap (after margin wish at) is ∙ ap (λ (x : Option Outcome). elim x [ None ↦ pending t d | Some o ↦ final t d o at ]) want in
-      let none : found ≡ None = exact.0 ∙ ap outcome_of stays in
-      (none, subst (λ (o : Option Outcome). StandsWith t d o (standing_at c k)) (sym none)
-      (say_pending (standing_at c k) t d (subst (λ (x : Standing). SayTheSame (standing_at c k) x) stays exact.1.here)))
+      ap (after margin wish at) is ∙ ap (λ (x : Option Outcome). elim x [ None ↦ pending t d | Some o ↦ final t d o at ]) want in
+      let none : found ≡ None = exact.0 ∙ ap outcome_of stays in (
+        none,
+        subst (λ (o : Option Outcome). StandsWith t d o (standing_at c k)) (sym none)
+            (say_pending (standing_at c k) t d (subst (λ (x : Standing). SayTheSame (standing_at c k) x) stays exact.1.here)),
+      )
   from_pending (Some z) want is exact =
       let ends : after margin wish at (standing_at m k) ≡ final t d z at =
-          ap (after margin wish at) is ∙ ap (λ (x : Option Outcome). elim x [ None ↦ pending t d | Some o ↦ final t d o at ]) want in
-      let some : found ≡ Some z = exact.0 ∙ ap outcome_of ends in
-      (some, subst (λ (o : Option Outcome). StandsWith t d o (standing_at c k)) (sym some)
-      (say_final (standing_at c k) t d z at (subst (λ (x : Standing). SayTheSame (standing_at c k) x) ends exact.1.here)))
+      ap (after margin wish at) is ∙ ap (λ (x : Option Outcome). elim x [ None ↦ pending t d | Some o ↦ final t d o at ]) want in
+      let some : found ≡ Some z = exact.0 ∙ ap outcome_of ends in (
+        some,
+        subst (λ (o : Option Outcome). StandsWith t d o (standing_at c k)) (sym some)
+            (say_final (standing_at c k) t d z at (subst (λ (x : Standing). SayTheSame (standing_at c k) x) ends exact.1.here)),
+      )
 
   from_any : (before : Option Outcome) → StandsWith t d before (standing_at m k)
       → (found ≡ outcome_of (after margin wish at (standing_at m k))) × Stands m k (after margin wish at (standing_at m k)) c
@@ -94,9 +98,11 @@ module _ (margin : ℕ) (m c : Contents) (k : Place) (wish : Wish) (at : ℕ) (f
   from_any None is exact = from_pending (wanted margin wish d at) refl is exact
   from_any (Some z) is exact =
       let ends : after margin wish at (standing_at m k) ≡ final t d z is.0 = ap (after margin wish at) is.1 in
-      let some : found ≡ Some z = exact.0 ∙ ap outcome_of ends in
-      (some, subst (λ (o : Option Outcome). StandsWith t d o (standing_at c k)) (sym some)
-      (say_final (standing_at c k) t d z is.0 (subst (λ (x : Standing). SayTheSame (standing_at c k) x) ends exact.1.here)))
+      let some : found ≡ Some z = exact.0 ∙ ap outcome_of ends in (
+        some,
+        subst (λ (o : Option Outcome). StandsWith t d o (standing_at c k)) (sym some)
+            (say_final (standing_at c k) t d z is.0 (subst (λ (x : Standing). SayTheSame (standing_at c k) x) ends exact.1.here)),
+      )
 
 elsewhere_of : (b c : Contents) (k : Place) (p : Standing) → Stands b k p c → IsTheSameElsewhere b k c
 elsewhere_of b c k p s j other = s.elsewhere j other

@@ -96,11 +96,14 @@ module _ (s : HubSettings) (O : Opening) (opening : IsOpening s O) (L : List Ste
           → (result ≡ Ok false) × (new ≡ book) × (c ≡ b) → RanOrNot s O (Expire q place at) L book result new c
       nothing_run c result new unseen same did =
           let seen = sees_this s O (Expire q place at) L q [] (if_own q (tells (outcome s O (Expire q place at ∷ L)) q q (history s O L q) (at_place q (history s O L q) place)) ∙ unseen) in
-          inl (did.0 ∙ ap (λ (x : Bool). Ok x) (sym seen.is_seen_is), record {
-            events = ap (λ (n : Book). n.events) did.1 ∙ events ∙ sym seen.history_is;
-            board = subst (λ (d : Contents). IsBoardOf s O (Expire q place at ∷ L) d) (sym did.2)
-                (board_stays s O opening L steps (Expire q place at) b b board (takes_none s O (Expire q place at) L (no_ask_expire q place at)) (λ j a. (λ h. h, λ h. h)) same);
-          })
+          inl (
+            did.0 ∙ ap (λ (x : Bool). Ok x) (sym seen.is_seen_is),
+            record {
+              events = ap (λ (n : Book). n.events) did.1 ∙ events ∙ sym seen.history_is;
+              board = subst (λ (d : Contents). IsBoardOf s O (Expire q place at ∷ L) d) (sym did.2)
+                  (board_stays s O opening L steps (Expire q place at) b b board (takes_none s O (Expire q place at) L (no_ask_expire q place at)) (λ j a. (λ h. h, λ h. h)) same);
+            },
+          )
 
       some_run : (margin : ℕ) (stays : Contents → Contents → Type 0) (x : Transfer) → at_place q (history s O L q) place ≡ Some x → booked book.who x.id book.events ≡ None
           → (c : Contents) (result : Result Bool Fault) (new : Book)
@@ -122,15 +125,18 @@ module _ (s : HubSettings) (O : Opening) (opening : IsOpening s O) (L : List Ste
                 ∙ ap (λ (o : Option Outcome). cond ((q == q) || is_forwarded q x.id (history s O L q)) (news q x.id o (booked q x.id (history s O L q))) []) after_is) in
                 let a = added s O opening L steps b board q book member events (Expire q place at) refl f seen (with_event book (booking book.who x.id found)) (is_some found)
                 (expiry_tells s book x.id found (booked book.who x.id book.events) none) in
-                inl (done.1 ∙ ap (λ (y : Bool). Ok y) a.1, record {
-                  events = ap (λ (n : Book). n.events) done.2 ∙ a.0;
-                  board = board_settles s O opening L steps (Expire q place at) b c board (takes_none s O (Expire q place at) L (no_ask_expire q place at)) q place x there
-                      (subst (λ (o : Option Outcome). StandsWith (terms_of x) (deadline s x) o (standing_at c (place_at q place))) (sym after_is) settled.here) settled.elsewhere
-                      (λ p id other. undecided_same p id (λ same. elim other [
-                        | inl owner ↦ absurd (owner (sym same))
-                        | inr name ↦ subst (λ (r : ℕ). is_named id (at_place r (history s O L r) place) ≡ false) same (another_name x id there name)
-                      ]));
-                })
+                inl (
+                  done.1 ∙ ap (λ (y : Bool). Ok y) a.1,
+                  record {
+                    events = ap (λ (n : Book). n.events) done.2 ∙ a.0;
+                    board = board_settles s O opening L steps (Expire q place at) b c board (takes_none s O (Expire q place at) L (no_ask_expire q place at)) q place x there
+                        (subst (λ (o : Option Outcome). StandsWith (terms_of x) (deadline s x) o (standing_at c (place_at q place))) (sym after_is) settled.here) settled.elsewhere
+                        (λ p id other. undecided_same p id (λ same. elim other [
+                          | inl owner ↦ absurd (owner (sym same))
+                          | inr name ↦ subst (λ (r : ℕ). is_named id (at_place r (history s O L r) place) ≡ false) same (another_name x id there name)
+                        ]));
+                  },
+                )
             | inr refused ↦ inr (refused.0, refused.1, looked_still s O opening L steps b board margin c (place_at book.who place) refused.2.look refused.2.looks)
           ]
 

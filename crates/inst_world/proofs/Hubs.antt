@@ -83,11 +83,11 @@ acted books b c p i slot new hub leads stays lawful others same adopted = record
   one_each = length-set books i new ∙ hub.one_each ∙ ap participants (sym stays);
   member = λ q book there. elim (set_cases books i q new book leads.below there) [
     | inl own ↦ subst (λ (x : Book). IsMember c.settings c q x) (sym own.1) (record {
-        settings_are = same.0 ∙ leads.member.settings_are ∙ sym stays;
-        who_is = same.1 ∙ leads.member.who_is ∙ sym leads.same ∙ sym own.0;
-        lawful = lawful;
-        adopted = adopted leads.member.adopted;
-      })
+      settings_are = same.0 ∙ leads.member.settings_are ∙ sym stays;
+      who_is = same.1 ∙ leads.member.who_is ∙ sym leads.same ∙ sym own.0;
+      lawful = lawful;
+      adopted = adopted leads.member.adopted;
+    })
     | inr other ↦
         let m = hub.member q book other.1 in
         record {
@@ -205,9 +205,10 @@ asked_ok books b c i slot new ask x r stays_as leads stays fits decided did told
       | inl done ↦
           let J : List Event = history b.settings O L ask.who in
           let f : Option Outcome = found (outcome b.settings O (Ask ask ∷ L)) ask.who J ask.command in
-          let told_as : refusals_told (told (handle b.settings ask.who J ask.command ask.at f)) ≡ Ok reply = ap refusals_told (sym done.0) ∙ sym told_is ∙ is in
-          (ap (λ (y : ReplyValue). Reply y) (as_told (told (handle b.settings ask.who J ask.command ask.at f)) reply (never_memory b.settings ask.who J ask.command ask.at f) told_as),
-          has_run books b c i slot new O L (Ask ask) was leads stays fits done.1)
+          let told_as : refusals_told (told (handle b.settings ask.who J ask.command ask.at f)) ≡ Ok reply = ap refusals_told (sym done.0) ∙ sym told_is ∙ is in (
+            ap (λ (y : ReplyValue). Reply y) (as_told (told (handle b.settings ask.who J ask.command ask.at f)) reply (never_memory b.settings ask.who J ask.command ask.at f) told_as),
+            has_run books b c i slot new O L (Ask ask) was leads stays fits done.1,
+          )
       | inr refused ↦
           let e : Ok reply ≡ Err Memory = sym is ∙ told_is ∙ ap refusals_told refused.0 in
           let no : ⊥ = cc in absurd no

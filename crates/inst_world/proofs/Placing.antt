@@ -41,6 +41,7 @@ live_at who C (Taken id to cents stamp ∷ J) k = go (live_at who C J) (is_none 
   where
     x : Transfer
     x = record { id = id; to = to; cents = cents; stamp = stamp }
+
     go : ((n : ℕ) → slice_get (filter (λ (y : Transfer). is_none (booked who y.id C)) (transfers J)) n ≡ terms_in (slice_get (filter (takes_live who C) J) n)) → (b : Bool) (n : ℕ)
         → slice_get (cond b (record { id = id; to = to; cents = cents; stamp = stamp } ∷ filter (λ (y : Transfer). is_none (booked who y.id C)) (transfers J)) (filter (λ (y : Transfer). is_none (booked who y.id C)) (transfers J))) n
         ≡ terms_in (slice_get (cond b (Taken id to cents stamp ∷ filter (takes_live who C) J) (filter (takes_live who C) J)) n)

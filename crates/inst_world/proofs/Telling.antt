@@ -64,9 +64,9 @@ place_cases : (j k : Place) → (j ≡ k) ⊎ (j ≢ k)
 place_cases j k = elim (cases_eq j.owner k.owner) [
   | inr other ↦ inr (λ same. other (ap (λ (p : Place). p.owner) same))
   | inl owner ↦ elim (cases_eq j.index k.index) [
-      | inr other ↦ inr (λ same. other (ap (λ (p : Place). p.index) same))
-      | inl index ↦ inl (ap (λ (r : ℕ × ℕ). place_at r.0 r.1) (λ i. (owner i, index i)))
-    ]
+    | inr other ↦ inr (λ same. other (ap (λ (p : Place). p.index) same))
+    | inl index ↦ inl (ap (λ (r : ℕ × ℕ). place_at r.0 r.1) (λ i. (owner i, index i)))
+  ]
 ]
 
 -- a look leaves the board
@@ -109,9 +109,9 @@ module _ (s : HubSettings) (O : Opening) (opening : IsOpening s O) (L : List Ste
         → (new.events ≡ history s O (step ∷ L) q) × (is_new ≡ is_seen s O L step q)
     added step acts f seen new is_new adds = (
       adds.events
-      ∙ ap (λ (w : ℕ). with_entries s w book.events (f w book.events)) member.who_is
-      ∙ ap (λ (E : List Event). with_entries s q E (f q E)) events
-      ∙ sym seen.history_is,
+          ∙ ap (λ (w : ℕ). with_entries s w book.events (f w book.events)) member.who_is
+          ∙ ap (λ (E : List Event). with_entries s q E (f q E)) events
+          ∙ sym seen.history_is,
       adds.is_new_is ∙ ap (λ (w : ℕ). is_some_entry (f w book.events)) member.who_is ∙ ap (λ (E : List Event). is_some_entry (f q E)) events ∙ sym seen.is_seen_is,
     )
 
@@ -132,10 +132,13 @@ module _ (s : HubSettings) (O : Opening) (opening : IsOpening s O) (L : List Ste
         let sees = sees_this s O step L q (f q (history s O L q)) (if_own q (f q (history s O L q))) in
         let a = added step refl f sees (with_delivery book k (delivery book k look)) (is_some (delivery book k look)) adds in
         elim keeps [
-          | inl kept ↦ inl (kept.0 ∙ ap (λ (x : Bool). Ok x) a.1, record {
+          | inl kept ↦ inl (
+            kept.0 ∙ ap (λ (x : Bool). Ok x) a.1,
+            record {
               events = ap (λ (n : Book). n.events) kept.1 ∙ a.0;
               board = board_stays s O opening L steps step b c board (takes_none s O step L (no_ask_deliver from place q)) same (λ p n x there. same_outcome s O step L refl p x.id);
-            })
+            },
+          )
           | inr refused ↦ inr (refused.0, refused.1, still c same)
         ]
 
@@ -156,9 +159,12 @@ module _ (s : HubSettings) (O : Opening) (opening : IsOpening s O) (L : List Ste
         let sees = sees_this s O step L q (f q (history s O L q)) (if_own q (f q (history s O L q))) in
         let a = added step refl f sees (with_event book (lesson book k look)) (is_some (lesson book k look)) adds in
         elim keeps [
-          | inl kept ↦ inl (kept.0 ∙ ap (λ (x : Bool). Ok x) a.1, record {
+          | inl kept ↦ inl (
+            kept.0 ∙ ap (λ (x : Bool). Ok x) a.1,
+            record {
               events = ap (λ (n : Book). n.events) kept.1 ∙ a.0;
               board = board_stays s O opening L steps step b c board (takes_none s O step L (no_ask_learn q from place)) same (λ p n x there. same_outcome s O step L refl p x.id);
-            })
+            },
+          )
           | inr refused ↦ inr (refused.0, refused.1, still c same)
         ]

@@ -112,11 +112,7 @@ impl World {
     }
 
     /// Runs the steps in order, at a hub that opens for the first time. `Memory` ends the run.
-    pub fn run(
-        alloc: Global,
-        settings: &Settings,
-        steps: &[Step],
-    ) -> Result<(World, Trace), Fault>
+    pub fn run(alloc: Global, settings: &Settings, steps: &[Step]) -> Result<(World, Trace), Fault>
         requires fits { IsInterleaving settings.now steps.now }
         ensures ok { IfOk result (λ r. (r.0.board.settings ≡ settings.now) × HasRun Opening.First (reverse steps.now) r.0
             × (r.1.answers ≡ trace settings.now Opening.First (reverse steps.now))) }
