@@ -9,7 +9,6 @@ pub mod SlotsLemmas
 pub mod WorldLemmas
 pub mod Exactly
 pub mod Placing
-pub mod Adopting
 pub mod Matching
 pub mod Lying
 pub mod Boarding

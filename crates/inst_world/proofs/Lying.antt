@@ -25,7 +25,7 @@ use Rattle.inst_slot.proofs.Keeping.{ArrivedAt, arrival_at}
 use Rattle.inst_slot.proofs.Learning.{arrival_forwarded}
 use Rattle.inst_world.specs.HasRun.{StandsWith, StandsFor, terms_of, IsBoardOf, IsMember}
 use Rattle.inst_world.proofs.Placing.{places_apart}
-use Rattle.inst_world.proofs.Adopting.{is_adopted}
+use Rattle.inst_slot.proofs.Adopting.{is_adopted}
 
 says_terms : (t u : Terms) (d : ℕ) (o : Option Outcome) (p : Standing) → StandsWith t d o p → Says p (HasTerms u) → u ≡ t
 says_terms t u d None p is says = subst (λ (q : Standing). Says q (HasTerms u)) is says

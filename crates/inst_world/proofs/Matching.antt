@@ -34,7 +34,7 @@ use Rattle.inst_slot.proofs.Keeping.{arrival_at}
 use Rattle.inst_slot.proofs.Learning.{arrival_forwarded}
 use Rattle.inst_world.specs.HasRun.{StandsWith, StandsFor, terms_of, IsBoardOf, IsMember}
 use Rattle.inst_world.proofs.Placing.{at_taken, terms_in, places_apart}
-use Rattle.inst_world.proofs.Adopting.{is_adopted}
+use Rattle.inst_slot.proofs.Adopting.{is_adopted}
 
 -- what is seen makes this book's history, and there is something exactly if this is said
 pub record Adds (s : HubSettings) (book : Book) (V : List Seen) (new : Book) (is_new : Bool) : Type 0 where

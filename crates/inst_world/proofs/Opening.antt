@@ -14,7 +14,7 @@ use Rattle.inst_slot.specs.declared.arrival.Arrival.{Arrival}
 use Rattle.inst_slot.specs.Book.{Book}
 use Rattle.inst_slot.proofs.Growing.{snoc_cases}
 use Rattle.inst_world.specs.HasRun.{Hub, IsMember, IsHub, HasRun, new_book, new_books}
-use Rattle.inst_world.proofs.Adopting.{begins}
+use Rattle.inst_slot.proofs.Adopting.{begins}
 
 same_book : (book other : Book) → book.settings ≡ other.settings → book.who ≡ other.who → book.events ≡ other.events → book.arrivals ≡ other.arrivals → book ≡ other
 same_book book other s w e a = λ i. record { settings = s i; who = w i; events = e i; arrivals = a i }

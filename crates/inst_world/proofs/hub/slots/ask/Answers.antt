@@ -9,7 +9,7 @@ use Rattle.inst_command.specs.declared.step.Step.TheVariants.{Ask, Deliver, Lear
 use Rattle.inst_board.specs.declared.place.Place.{Place}
 use Rattle.inst_slot.specs.Book.{Book}
 use Rattle.inst_world.specs.HasRun.{Hub, HasRun, IsAsBefore}
-use Rattle.inst_world.proofs.Adopting.{asks_adopted}
+use Rattle.inst_slot.proofs.Adopting.{asks_adopted}
 use Rattle.inst_world.proofs.Hubs.{LeadsTo, leads_to, acted, as_before, if_ok, on_err, ran_ok, kept_refused, expiry_refused, asked_ok, asked_err}
 use Rattle.inst_world.proofs.Telling.{delivers_run, learns_run}
 use Rattle.inst_world.proofs.Expiring.{expires_run}
