@@ -1,5 +1,4 @@
-use Rattle.std.proofs.Common.{◌≡◌, ◌≢◌, ℕ, refl, sym, ap, ◌∙◌}
-use Rattle.inst_settings.specs.Settings.{HubSettings}
+use Rattle.std.proofs.Common.{ℕ}
 use Rattle.inst_board.specs.Plain.{Contents, plain_knows}
 use Rattle.inst_slot.proofs.Together.{acted, stayed}
 use Rattle.inst_slot.proofs.tests.Hub.learn.Goals as goal

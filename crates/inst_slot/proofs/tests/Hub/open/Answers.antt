@@ -1,7 +1,6 @@
-use Rattle.std.proofs.Common.{◌≡◌, ◌∙◌, ℕ, List, [], sym, ap, subst, arith, zero, suc}
+use Rattle.std.proofs.Common.{◌≡◌, ◌∙◌, ℕ, List, [], sym, subst, arith}
 use Rattle.std.specs.Prelude.{Contains}
 use Rattle.inst_settings.specs.Settings.{HubSettings}
-use Rattle.inst_board.specs.declared.about.Fact.{Fact}
 use Rattle.inst_board.specs.declared.place.Place.{Place}
 use Rattle.inst_board.specs.declared.plain.Kept.{Kept}
 use Rattle.inst_board.specs.declared.plain.Kept.TheVariants.{Unused}
