@@ -256,13 +256,24 @@ fn tells(answer: &Result<Reply, Fault>, told: &Told) -> bool {
     }
 }
 
-/// Whether the row is answered so.
+/// Whether the row is answered so. One allocation may be made to fail: what was answered `Memory` is
+/// answered as if it had never been asked before.
 fn is_answered(hub: &mut Hub, row: &Row) -> Result<bool, Fault> {
     let (who, does, at, told) = row;
     match command(does)? {
-        Some(command) => Ok(tells(&hub.ask(*who, command, *at), told)),
+        Some(command) => {
+            let mut answer = hub.ask(*who, command, *at);
+            if matches!(&answer, Err(Fault::Memory)) {
+                answer = hub.ask(*who, command, *at);
+            }
+            Ok(tells(&answer, told))
+        }
         None => {
-            let is_new = step(hub, *who, does, *at)?;
+            let mut answer = step(hub, *who, does, *at);
+            if matches!(&answer, Err(Fault::Memory)) {
+                answer = step(hub, *who, does, *at);
+            }
+            let is_new = answer?;
             Ok(matches!(told, Told::New(wanted) if *wanted == is_new))
         }
     }
