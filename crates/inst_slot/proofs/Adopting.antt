@@ -1,5 +1,5 @@
 -- Where the places of all arrivals were found, each live transfer that was forwarded has its place.
-use Rattle.std.proofs.Common.{◌≡◌, ℕ, zero, suc, arith, Bool, true, false, ◌||◌, ◌&&◌, ◌==◌, cond, List, [], ◌∷◌, ◌++◌, inl, inr, ◌⊎◌, ⊎_elim, refl, sym, ap, ◌∙◌, subst, Option, Some, None, is_some}
+use Rattle.std.proofs.Common.{◌≡◌, ℕ, zero, arith, Bool, true, false, ◌||◌, ◌==◌, cond, List, [], ◌∷◌, ⊎_elim, refl, sym, ap, ◌∙◌, subst, Option, Some, None, is_some}
 use Rattle.std.specs.Prelude.{Contains, map}
 use Rattle.std.specs.List.{list_any, filter}
 use Rattle.std.specs.Cmp.Lexicographic.{same_text as text_same}
@@ -18,10 +18,9 @@ use Rattle.inst_journal.specs.Booked.{is_forwarded, same_transfer, or_else}
 use Rattle.inst_journal.specs.Opened.{is_live}
 use Rattle.inst_journal.specs.Reply.{inbox}
 use Rattle.inst_slot.specs.declared.arrival.Arrival.{Arrival}
-use Rattle.inst_slot.specs.Book.{Book, place_at, live_inbox, index_of, arrived_at}
+use Rattle.inst_slot.specs.Book.{Book, place_at, index_of, arrived_at}
 use Rattle.inst_slot.specs.LawfulBoard.{IsLawfulBoard, IsAdopted, AllAreAdopted}
 use Rattle.inst_slot.specs.Asking.{AsksAdopted}
-use Rattle.inst_slot.proofs.Learning.{or_true}
 
 abbrev names : ℕ → List ℕ → Entry → Bool
 names from id e = same_transfer from id e.from e.id

@@ -1,12 +1,12 @@
 -- The books of the other participants over the same board stay what they are to it.
 use Rattle.std.proofs.Common.{◌≡◌, ◌≢◌, ℕ, Bool, true, false, cond, List, [], ◌∷◌, inl, inr, ◌⊎◌, ⊎_elim, refl, sym, ap, ◌∙◌, subst, Option, Some, None}
-use Rattle.std.specs.Prelude.{Result, Ok, Err, ◌↔◌}
+use Rattle.std.specs.Prelude.{Result, ◌↔◌}
 use Rattle.inst_base.specs.TimeLimit.{deadline_of, is_due}
 use Rattle.inst_base.specs.declared.fault.Fault.{Fault}
 use Rattle.inst_settings.specs.Settings.{HubSettings}
 use Rattle.inst_command.specs.declared.ask.Ask.{Ask}
 use Rattle.inst_command.specs.declared.outcome.Outcome.{Outcome}
-use Rattle.inst_command.specs.declared.outcome.Outcome.TheVariants.{Accepted, Rejected, TimedOut}
+use Rattle.inst_command.specs.declared.outcome.Outcome.TheVariants.{TimedOut}
 use Rattle.inst_command.specs.declared.reply.Reply.{Reply}
 use Rattle.inst_terms.specs.declared.terms.Terms.{Terms}
 use Rattle.inst_board.specs.declared.place.Place.{Place}
@@ -24,9 +24,9 @@ use Rattle.inst_journal.specs.Opened.{live_submissions}
 use Rattle.inst_journal.specs.Reply.{kept_events}
 use Rattle.inst_slot.specs.Book.{Book, place_at, terms_to}
 use Rattle.inst_slot.specs.LawfulBoard.{IsLawfulBoard, KeepsOthers}
-use Rattle.inst_slot.specs.Asking.{request, Finds, OnlyLooks, handle_ask, Opens, Enters, Settles}
+use Rattle.inst_slot.specs.Asking.{request, Finds, handle_ask, Opens, Enters, Settles}
 use Rattle.inst_slot.specs.Telling.{unbooked_at, ExpiresFor}
-use Rattle.inst_slot.proofs.Keeping.{moved, same_transfers, same_terms, same_end, learnt_own, learnt_truly, learnt_answer}
+use Rattle.inst_slot.proofs.Keeping.{moved, same_transfers, learnt_own, learnt_truly, learnt_answer}
 use Rattle.inst_slot.proofs.Looking.{looked_on}
 use Rattle.inst_slot.proofs.Deciding.{asked, may_expire}
 use Rattle.inst_slot.proofs.Settling.{unbooked_is}

@@ -1,6 +1,6 @@
 -- What is refused leaves the books and what the board's holder knows as they were.
-use Rattle.std.proofs.Common.{◌≡◌, ◌≢◌, ℕ, Bool, true, false, cond, List, [], ◌∷◌, ◌++◌, append-nil, inl, inr, ◌⊎◌, ⊎_elim, refl, sym, ap, ◌∙◌, subst, Option, Some, None}
-use Rattle.std.specs.Prelude.{Result, Ok, Err, IfErr, ◌↔◌}
+use Rattle.std.proofs.Common.{◌≡◌, ◌≢◌, ℕ, List, [], ◌∷◌, ◌++◌, append-nil, ⊎_elim, refl, sym, ap, ◌∙◌, subst, Option, Some, None}
+use Rattle.std.specs.Prelude.{Result, Ok, Err, IfErr}
 use Rattle.inst_base.specs.declared.fault.Fault.{Fault}
 use Rattle.inst_base.specs.declared.fault.Fault.TheVariants.{Memory}
 use Rattle.inst_settings.specs.Settings.{HubSettings}
@@ -19,7 +19,7 @@ use Rattle.inst_board.specs.Learning.{KnowTheSame, Answers}
 use Rattle.inst_journal.specs.declared.event.Event.{Event}
 use Rattle.inst_journal.specs.declared.handle.Handled.{Handled}
 use Rattle.inst_journal.specs.Reply.{told, kept_event, kept_events}
-use Rattle.inst_slot.specs.Book.{Book, place_at}
+use Rattle.inst_slot.specs.Book.{Book}
 use Rattle.inst_slot.specs.LawfulBoard.{LiesAt, IsLawfulBoard}
 use Rattle.inst_slot.specs.Asking.{request, Finds, handle_ask, book_after, Opens, Enters, Settles}
 use Rattle.inst_slot.specs.Telling.{booking}

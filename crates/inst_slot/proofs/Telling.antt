@@ -1,5 +1,5 @@
 -- The place that a slot tells of a transfer is known.
-use Rattle.std.proofs.Common.{◌≡◌, ℕ, Bool, true, false, ◌==◌, cond, List, inl, inr, refl, sym, ap, ◌∙◌, subst, Option, Some, None}
+use Rattle.std.proofs.Common.{◌≡◌, ℕ, Bool, true, false, ◌==◌, cond, List, inl, inr, refl, subst, Option, Some, None}
 use Rattle.std.specs.Prelude.{position}
 use Rattle.std.proofs.lemmas.Bool.{eqb-true}
 use Rattle.inst_settings.specs.Settings.{HubSettings}
@@ -7,8 +7,8 @@ use Rattle.inst_board.specs.declared.place.Place.{Place}
 use Rattle.inst_board.specs.declared.about.Fact.{Fact}
 use Rattle.inst_journal.specs.Booked.{takes}
 use Rattle.inst_journal.specs.Opened.{live_taken}
-use Rattle.inst_slot.specs.Book.{Book, place_at, arrived_at, placed, place_of}
-use Rattle.inst_slot.specs.LawfulBoard.{LiesAt, IsLawfulBoard}
+use Rattle.inst_slot.specs.Book.{Book, place_at, arrived_at, placed}
+use Rattle.inst_slot.specs.LawfulBoard.{LiesAt}
 use Rattle.inst_slot.specs.Laws.{KnowsTransfer, AToldPlaceIsKnown}
 use Rattle.inst_slot.proofs.Keeping.{lying}
 use Rattle.inst_slot.proofs.Deciding.{taken_at_position}

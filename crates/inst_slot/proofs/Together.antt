@@ -1,5 +1,5 @@
 -- Several slots over one board: one acts, and the others stay.
-use Rattle.std.proofs.Common.{◌≡◌, ◌≢◌, ℕ, refl, sym, ap, ◌∙◌, subst}
+use Rattle.std.proofs.Common.{◌≡◌, ◌≢◌, ℕ, sym, ◌∙◌}
 use Rattle.inst_settings.specs.Settings.{HubSettings}
 use Rattle.inst_board.specs.declared.about.Fact.{Fact}
 use Rattle.inst_slot.specs.Book.{Book}

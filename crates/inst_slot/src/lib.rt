@@ -5,6 +5,8 @@ mod arrival;
 mod finding;
 pub mod laws;
 mod slot;
+#[cfg(test)]
+mod tests;
 
 pub use arrival::Arrival;
 pub use slot::Slot;
