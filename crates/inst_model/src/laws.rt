@@ -14,7 +14,9 @@ ghost use Rattle.inst_model.specs.SoundAndFit.{HistoriesAreSound, HistoriesFit};
 ghost use Rattle.inst_model.specs.AtTheOpening.{AnOpeningBeginsFromItsBooks};
 ghost use Rattle.inst_model.specs.LivePlaces.{TheLiveHaveTheirPlaces};
 ghost use Rattle.inst_model.specs.BothSides.{TheLiveAreTheSameOnBothSides, AtAnOpeningTheLiveHaveCome};
-ghost use Rattle.inst_model.specs.Closing.{ThereIsAClosing, ClosingCloses, ClosingDecidesNothing, ClosingOnlyTells, ClosingSettlesUp, ClosingAgainAddsNothing, ClosingLeavesNothingToTell, NothingLeftIsClosed};
+ghost use Rattle.inst_model.specs.Closing.{ThereIsAClosing, ClosingCloses, ClosingDecidesNothing, ClosingOnlyTells};
+ghost use Rattle.inst_model.specs.Closing.{ClosingSettlesUp, ClosingAgainAddsNothing, ClosingLeavesNothingToTell};
+ghost use Rattle.inst_model.specs.Closing.{NothingLeftIsClosed};
 ghost use Rattle.inst_model.specs.NextOpening.{ClosedBooksCanOpen, TheNextBeginsWithTheOutcomes, AnOutcomeStaysOverTheNext, AHubOpensAgain, AnOutcomeStaysForGood};
 ghost use Rattle.inst_model.specs.StepByStep.{TheFirstThatWantsDecides, AViewGrowsByWhatIsSeen, AtMostOneEntryIsSeen, RepliesAreInTheTrace};
 
