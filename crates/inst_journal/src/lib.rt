@@ -24,3 +24,4 @@ pub use event::Event;
 pub use handle::{Handled, handle_command};
 pub use journal::Journal;
 pub use reply::reply_of;
+pub use transfers::{standing, still_pending};

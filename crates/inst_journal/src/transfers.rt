@@ -73,8 +73,8 @@ fn told(from: u8, id: Ident, state: State) -> Reply
     Reply::State { from, id, state }
 }
 
-/// That the transfer is pending.
-fn still_pending(from: u8, id: Ident) -> Result<Handled, Fault>
+/// The answer that the transfer is pending, which keeps nothing. It takes no memory.
+pub fn still_pending(from: u8, id: Ident) -> Result<Handled, Fault>
     ensures { result ≡ still_pending from id }
 {
     Ok(Handled {
@@ -83,8 +83,9 @@ fn still_pending(from: u8, id: Ident) -> Result<Handled, Fault>
     })
 }
 
-/// What a side that has booked `known` and finds `found` is answered: `pending` where it is neither.
-fn standing(
+/// What a side that has booked `known` and finds `found` is answered: `pending` where it is neither, and
+/// else the outcome, whose booking is kept where it is new. It takes no memory.
+pub fn standing(
     from: u8,
     id: Ident,
     pending: Result<Handled, Fault>,

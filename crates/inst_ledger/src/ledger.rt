@@ -18,8 +18,8 @@ use std::alloc::Global;
 use std::marker::Model;
 
 /// The books of one participant: its history, which is sound, and beside it running totals and tables,
-/// so that no call walks the history.
-#[derive(Drop)]
+/// so that only a statement walks the history.
+#[derive(Debug, Drop)]
 pub struct Ledger {
     settings: Settings,
     who: u8,

@@ -15,7 +15,7 @@ pub(crate) struct Funding {
 }
 
 /// The fundings of a history. The table is ordered and not hashed, as that of the transfers is.
-#[derive(Drop)]
+#[derive(Debug, Drop)]
 pub(crate) struct References {
     table: BTreeMap<Name, Funding>,
 }

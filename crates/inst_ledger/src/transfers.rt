@@ -39,7 +39,7 @@ pub(crate) struct Transfer {
 
 /// The transfers of a history. The table is ordered and not hashed, since identifiers are what other
 /// banks choose.
-#[derive(Drop)]
+#[derive(Debug, Drop)]
 pub(crate) struct Transfers {
     table: BTreeMap<(u8, Name), Transfer>,
 }

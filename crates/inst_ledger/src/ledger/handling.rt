@@ -1,18 +1,18 @@
 //! What a command is answered, and what the history is to keep of it.
-ghost use Rattle.std.specs.Prelude.{◌≡◌, ◌≤◌, true, false, take, drop, length, if◌then◌else◌, Some, None, IfOk, IsOk};
+ghost use Rattle.std.specs.Prelude.{◌≡◌, ◌≤◌, true, false, take, drop, length, Some, None, IfOk, IsOk};
 ghost use Rattle.inst_base.specs.Fault.{IsUnlessMemory};
 ghost use Rattle.inst_base.specs.Moment.{is_moment};
 ghost use Rattle.inst_base.specs.TimeLimit.{deadline_of};
 ghost use Rattle.inst_command.specs.Ask.{command_fits, is_count};
-ghost use Rattle.inst_journal.specs.Reply.{is_new_funding, fund, defund, submit, standing, still_pending, answer_forwarded, confirm, reject, investigate, unread, hand_out, answered, copies};
+ghost use Rattle.inst_journal.specs.Reply.{is_new_funding, fund, defund, submit, answer_forwarded, confirm, reject, investigate, unread, hand_out, answered, copies};
 ghost use Rattle.inst_journal.specs.Statement.{statement_part};
 ghost use Rattle.inst_ledger.specs.Book.{answer_to, MayKeep};
 ghost use Rattle.inst_journal.specs.Money.{reserved, position, available};
 
 use super::Ledger;
 use inst_base::{Cents, Fault, Ident, Moment};
-use inst_command::{Command, Entries, Entry, Lines, Outcome, Reply, State, Submission};
-use inst_journal::{Event, Handled};
+use inst_command::{Command, Entries, Entry, Lines, Outcome, Reply, Submission};
+use inst_journal::{Event, Handled, standing, still_pending};
 use inst_statement::statement;
 use std::alloc::{AllocError, Global};
 
@@ -284,58 +284,4 @@ fn after(entries: &[Entry], read: usize) -> &[Entry]
     ensures { result.now ≡ drop read entries.now }
 {
     &entries[read..]
-}
-
-/// The reply that tells a transfer's state.
-fn told(from: u8, id: Ident, state: State) -> Reply
-    ensures { result ≡ Reply.State from id state }
-{
-    Reply::State { from, id, state }
-}
-
-/// That the transfer is pending.
-fn still_pending(from: u8, id: Ident) -> Result<Handled, Fault>
-    ensures { result ≡ still_pending from id }
-{
-    Ok(Handled {
-        reply: told(from, id, State::Pending),
-        kept: None,
-    })
-}
-
-/// What a side that has booked `known` and finds `found` is answered: `pending` where it is neither.
-fn standing(
-    from: u8,
-    id: Ident,
-    pending: Result<Handled, Fault>,
-    known: Option<Outcome>,
-    found: Option<Outcome>,
-) -> Result<Handled, Fault>
-    ensures { result ≡ standing from id pending known found }
-{
-    let is_new = known.is_none();
-    match known.or(found) {
-        None => pending,
-        Some(outcome) => Ok(decided(from, id, is_new, &outcome)),
-    }
-}
-
-/// The reply that tells the outcome, and where it is new the event that books it.
-fn decided(from: u8, id: Ident, is_new: bool, outcome: &Outcome) -> Handled
-    ensures reply { result.reply ≡ Reply.State from id (State.Decided outcome.now) }
-    ensures kept { result.kept ≡ (if is_new then Some (Event.Booked from id outcome.now) else None) }
-{
-    let reply = told(from, id, State::Decided(*outcome));
-    if !is_new {
-        return Handled { reply, kept: None };
-    }
-    let event = Event::Booked {
-        from,
-        id,
-        outcome: *outcome,
-    };
-    Handled {
-        reply,
-        kept: Some(event),
-    }
 }
