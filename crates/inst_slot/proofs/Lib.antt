@@ -4,6 +4,7 @@ pub mod Looking
 pub mod Learning
 pub mod Delivering
 pub mod Deciding
+pub mod Handling
 pub mod Settling
 pub mod Entering
 pub mod Refusing
@@ -11,3 +12,6 @@ pub mod Others
 pub mod Adopting
 pub mod Together
 pub mod Telling
+pub mod Opening
+pub mod Positions
+pub mod Found

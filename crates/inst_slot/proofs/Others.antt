@@ -121,17 +121,22 @@ module _ {B : Type 0} (settings : B → HubSettings) (knows : B → Fact → Typ
         others_find (place_at book.who index) Expire at answered.0 book.who (may_expire settings knows has_role b book id index own u.at) (inl refl) answered.3)
         (λ refused. others_look (place_at book.who index) refused.2.look book.who refused.2.looks) s
 
-    others_open : (book : Book) (K : List Event) → Opens margin knows book K b c → KeepsOthers settings knows has_role b book.who c
-    others_open book (Taken id to cents stamp ∷ K) l other ne was = moved settings knows has_role b c other other.events (stays_settings b c same_holder)
-        (learnt_truly settings knows has_role margin b c (place_at book.who (live_submissions book.who book.events)) (pending (terms_to to cents id) (deadline_of book.settings.limit stamp)) l other fits was) (λ r. (stays_roles b c other.who same_holder).0 r) l.kept
-        (learnt_own settings knows has_role margin b c (place_at book.who (live_submissions book.who book.events)) (pending (terms_to to cents id) (deadline_of book.settings.limit stamp)) l other.who (λ own says. absurd (ne (sym own))))
+    -- a place of this participant's is opened
+    pub others_opening : (k : Place) (t : Terms) (d : ℕ) (who : ℕ) → k.owner ≡ who → Learns margin knows b k (pending t d) c → KeepsOthers settings knows has_role b who c
+    others_opening k t d who owner l other ne was = moved settings knows has_role b c other other.events (stays_settings b c same_holder)
+        (learnt_truly settings knows has_role margin b c k (pending t d) l other fits was) (λ r. (stays_roles b c other.who same_holder).0 r) l.kept
+        (learnt_own settings knows has_role margin b c k (pending t d) l other.who (λ own says. absurd (ne (sym own ∙ owner))))
         (same_transfers other.who other.events)
         (λ from name o e. inl e)
-        (λ j t o mine answer kt kd. ⊎_elim
-        (λ old. was.answered j t o mine answer old.0 old.1)
+        (λ j u o mine answer kt kd. ⊎_elim
+        (λ old. was.answered j u o mine answer old.0 old.1)
         (λ new. absurd new.2)
-        (learnt_answer settings knows has_role margin b c (place_at book.who (live_submissions book.who book.events)) (pending (terms_to to cents id) (deadline_of book.settings.limit stamp)) l j t o kt kd))
+        (learnt_answer settings knows has_role margin b c k (pending t d) l j u o kt kd))
         was
+
+    others_open : (book : Book) (K : List Event) → Opens margin knows book K b c → KeepsOthers settings knows has_role b book.who c
+    others_open book (Taken id to cents stamp ∷ K) l other ne was =
+        others_opening (place_at book.who (live_submissions book.who book.events)) (terms_to to cents id) (deadline_of book.settings.limit stamp) book.who refl l other ne was
     others_open book [] l other ne was = subst (λ (x : B). IsLawfulBoard settings knows has_role x other) (sym l) was
     others_open book (Funded reference cents ∷ K) l other ne was = subst (λ (x : B). IsLawfulBoard settings knows has_role x other) (sym l) was
     others_open book (Defunded reference cents ∷ K) l other ne was = subst (λ (x : B). IsLawfulBoard settings knows has_role x other) (sym l) was

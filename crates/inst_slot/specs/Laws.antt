@@ -1,13 +1,16 @@
--- The laws of slots over boards: that new books over a board of which nothing is known are lawful, and that the place
--- which a slot tells of a transfer is known opened, with that transfer's identifier. They are this hub's own promises.
-use Rattle.std.specs.Prelude.{◌≡◌, ℕ, List, [], Some}
+-- The laws of slots over boards: that new books over a board of which nothing is known are lawful; that the place which a
+-- slot tells of a transfer is known opened, with that transfer's identifier; that the books of one participant after
+-- another may be opened again over one board. They are this hub's own promises.
+use Rattle.std.specs.Prelude.{◌≡◌, ◌≢◌, ℕ, List, [], Some}
 use Rattle.inst_settings.specs.Settings.{HubSettings}
 use Rattle.inst_terms.specs.declared.terms.Terms.{Terms}
 use Rattle.inst_board.specs.declared.place.Place.{Place}
 use Rattle.inst_board.specs.declared.about.Fact.{Fact}
 use Rattle.inst_board.specs.Laws.{KnowsOpening}
+use Rattle.inst_journal.specs.Opened.{live_taken}
 use Rattle.inst_slot.specs.Book.{Book, place_of}
 use Rattle.inst_slot.specs.LawfulBoard.{IsLawfulBoard}
+use Rattle.inst_slot.specs.Opening.{MayOpenAgain, OpensPlaces}
 
 abbrev pub NewBooksAreLawful : {B : Type 0} → (B → HubSettings) → (B → Fact → Type 0) → (B → ℕ → Type 0) → Type 0
 NewBooksAreLawful {B} settings knows has_role = (b : B) (book : Book) → settings b ≡ book.settings → has_role b book.who →
@@ -23,3 +26,15 @@ pub record KnowsTransfer {B : Type 0} (knows : B → Fact → Type 0) (b : B) (i
 abbrev pub AToldPlaceIsKnown : {B : Type 0} → (B → HubSettings) → (B → Fact → Type 0) → (B → ℕ → Type 0) → Type 0
 AToldPlaceIsKnown {B} settings knows has_role = (b : B) (book : Book) (from : ℕ) (id : List ℕ) (k : Place) →
     IsLawfulBoard settings knows has_role b book → place_of book from id ≡ Some k → KnowsTransfer knows b id k
+
+-- the books of each participant may be opened again over a board of which nothing is known
+abbrev pub AnyMayOpenFirst : {B : Type 0} → (B → HubSettings) → (B → Fact → Type 0) → (B → ℕ → Type 0) → Type 0
+AnyMayOpenFirst {B} settings knows has_role = (b : B) (who : ℕ) → has_role b who → ((f : Fact) → ¬ knows b f) →
+    MayOpenAgain settings knows has_role b (settings b) who
+
+-- where the books of one were opened again, those of another may still be
+abbrev pub OthersMayOpen : {B : Type 0} → (B → HubSettings) → (B → Fact → Type 0) → (B → ℕ → Type 0) → (B → B → Type 0) → Type 0
+OthersMayOpen {B} settings knows has_role stays = (b c : B) (book : Book) (other : ℕ) → stays b c → other ≢ book.who →
+    OpensPlaces knows book.settings book.who (live_taken book.who book.events) b c →
+    IsLawfulBoard settings knows has_role c book → MayOpenAgain settings knows has_role b book.settings other →
+    MayOpenAgain settings knows has_role c book.settings other

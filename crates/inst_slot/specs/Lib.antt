@@ -2,4 +2,5 @@ pub mod Book
 pub mod LawfulBoard
 pub mod Asking
 pub mod Telling
+pub mod Opening
 pub mod Laws

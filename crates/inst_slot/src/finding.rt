@@ -6,7 +6,7 @@ ghost use Rattle.inst_slot.specs.Asking.{Finds, OnlyLooks, stays_pending};
 use inst_base::{Fault, Moment};
 use inst_board::{Board, Look, Place, Wish};
 use inst_command::Outcome;
-use inst_journal::Journal;
+use inst_ledger::Ledger;
 
 /// Whether the look shows a transfer that stays pending whatever becomes of the wish.
 fn stays_pending(margin: u32, wish: &Wish, at: Moment, look: &Look) -> bool
@@ -19,10 +19,10 @@ fn stays_pending(margin: u32, wish: &Wish, at: Moment, look: &Look) -> bool
 }
 
 /// What stands at the place after the wish was read at `at`: `None` where it stays pending, which takes
-/// no memory. Else there is room in the journal for one more event; `Memory` comes before the board
+/// no memory. Else there is room in the ledger for one more event; `Memory` comes before the board
 /// decides.
 pub(crate) fn find<B: Board>(
-    journal: &mut Journal,
+    ledger: &mut Ledger,
     board: &mut B,
     margin: u32,
     place: Place,
@@ -32,16 +32,16 @@ pub(crate) fn find<B: Board>(
     requires margin { margin ≡ (B.settings board.old).margin }
     requires may { MayDecide B.knows B.has_role board.old place wish }
     ensures found { IfOk result (λ found. Finds (B.settings board.old).margin B.knows B.has_role B.stood B.stays board.old place wish at found board.new) }
-    ensures room { IfOk result (λ found. is_some found ≡ true → 0 < journal.new.room) }
+    ensures room { IfOk result (λ found. is_some found ≡ true → 0 < ledger.new.room) }
     ensures err { OnErr result (OnlyLooks (B.settings board.old).margin B.knows B.has_role B.stood board.old place wish at board.new) }
     ensures only { IsOkUnless result Fault.Memory }
-    ensures events { journal.new.events ≡ journal.old.events }
+    ensures book { ledger.new.book ≡ ledger.old.book }
     ensures stays { B.stays board.old board.new }
 {
     let look = board.look(place);
     if stays_pending(margin, &wish, at, &look) {
         return Ok(None);
     }
-    journal.reserve()?;
+    ledger.reserve()?;
     Ok(board.decide(place, wish, at))
 }

@@ -1,9 +1,15 @@
 // Worked rows on the slots of three participants over one plain board, with 2 places and 4 fundings.
+ghost use Rattle.std.specs.Prelude.{◌≡◌, true};
+ghost use Rattle.inst_command.specs.Ask.{ask_fits};
+ghost use Rattle.inst_board.specs.Plain.{Contents, plain_knows};
+ghost use Rattle.inst_journal.specs.Opened.{is_opening, openings};
+ghost use Rattle.inst_slot.specs.LawfulBoard.{IsLawfulBoard, KeepsOthers};
+
 use crate::Slot;
 use inst_base::{Cents, Code, Fault, Ident, Moment, Reason};
 use inst_board::{Place, PlainBoard};
-use inst_command::{Ask, Command, Outcome, Reply, State, Submission};
-use inst_journal::Event;
+use inst_command::{Ask, Command, LineKind, Outcome, Reply, State, Submission};
+use inst_journal::{Event, Journal};
 use inst_settings::Settings;
 use std::alloc::Global;
 use std::marker::Model;
@@ -24,7 +30,7 @@ impl Model for Hub {
     ghost use Rattle.std.specs.Prelude.{◌≡◌};
     ghost use Rattle.inst_settings.specs.Settings.{HubSettings};
     ghost use Rattle.inst_board.specs.Plain.{Contents, plain_knows};
-    ghost use Rattle.inst_slot.specs.LawfulBoard.{IsLawfulBoard, AllAreAdopted};
+    ghost use Rattle.inst_slot.specs.LawfulBoard.{IsLawfulBoard};
 
     ghost Value = { HubSettings };
 
@@ -32,11 +38,11 @@ impl Model for Hub {
 
     ghost invariant = { λ hub.
         (IsLawfulBoard (λ (b : Contents). b.settings) plain_knows (λ _ _. Unit {0}) hub.board hub.first
-        × (hub.first.who ≡ 0) × (hub.first.settings ≡ hub.settings) × AllAreAdopted hub.first)
+        × (hub.first.who ≡ 0) × (hub.first.settings ≡ hub.settings))
         × (IsLawfulBoard (λ (b : Contents). b.settings) plain_knows (λ _ _. Unit {0}) hub.board hub.second
-        × (hub.second.who ≡ 1) × (hub.second.settings ≡ hub.settings) × AllAreAdopted hub.second)
+        × (hub.second.who ≡ 1) × (hub.second.settings ≡ hub.settings))
         × (IsLawfulBoard (λ (b : Contents). b.settings) plain_knows (λ _ _. Unit {0}) hub.board hub.third
-        × (hub.third.who ≡ 2) × (hub.third.settings ≡ hub.settings) × AllAreAdopted hub.third) };
+        × (hub.third.who ≡ 2) × (hub.third.settings ≡ hub.settings)) };
 }
 
 fn settings(alloc: Global, margin: u32) -> Result<Settings, Fault> {
@@ -57,6 +63,50 @@ fn settings(alloc: Global, margin: u32) -> Result<Settings, Fault> {
     )
 }
 
+/// What a slot answers. Before all that was carried to it was adopted no row asks it anything.
+fn ask_of(slot: &mut Slot, board: &mut PlainBoard, ask: &Ask) -> Result<Reply, Fault>
+    requires own { ask.now.who ≡ slot.old.who }
+    requires fits { ask_fits slot.old.settings ask.now ≡ true }
+    requires lawful { IsLawfulBoard (λ (b : Contents). b.settings) plain_knows (λ _ _. Unit {0}) board.old slot.old }
+    ensures lawful { IsLawfulBoard (λ (b : Contents). b.settings) plain_knows (λ _ _. Unit {0}) board.new slot.new }
+    ensures others { KeepsOthers (λ (b : Contents). b.settings) plain_knows (λ _ _. Unit {0}) board.old slot.old.who board.new }
+    ensures same { (slot.new.settings ≡ slot.old.settings) × (slot.new.who ≡ slot.old.who) }
+{
+    if slot.unfound() > 0 {
+        return Err(Fault::BadField);
+    }
+    slot.apply(board, ask)
+}
+
+/// What the slot makes of the place, likewise.
+fn deliver_to(slot: &mut Slot, board: &mut PlainBoard, place: Place) -> Result<bool, Fault>
+    requires lawful { IsLawfulBoard (λ (b : Contents). b.settings) plain_knows (λ _ _. Unit {0}) board.old slot.old }
+    ensures lawful { IsLawfulBoard (λ (b : Contents). b.settings) plain_knows (λ _ _. Unit {0}) board.new slot.new }
+    ensures others { KeepsOthers (λ (b : Contents). b.settings) plain_knows (λ _ _. Unit {0}) board.old slot.old.who board.new }
+    ensures same { (slot.new.settings ≡ slot.old.settings) × (slot.new.who ≡ slot.old.who) }
+{
+    if slot.unfound() > 0 {
+        return Err(Fault::BadField);
+    }
+    slot.deliver(board, place)
+}
+
+fn is_opening(event: &Event) -> bool
+    ensures { result ≡ is_opening event.now }
+{
+    matches!(event, Event::Opened)
+}
+
+fn openings(journal: &Journal) -> usize
+    ensures { result ≡ openings journal.now.events }
+{
+    journal
+        .events()
+        .iter()
+        .filter(|event| is_opening(event))
+        .count()
+}
+
 impl Hub {
     fn open(alloc: Global, margin: u32) -> Result<Hub, Fault> {
         let settings = settings(alloc, margin)?;
@@ -73,6 +123,39 @@ impl Hub {
         })
     }
 
+    /// The hub opened again from the books of this one.
+    fn open_again(&self, alloc: Global) -> Result<Hub, Fault> {
+        let settings = self.settings.copy()?;
+        let first = self.first.journal();
+        let second = self.second.journal();
+        let third = self.third.journal();
+        let is_many = openings(first) >= 500 || openings(second) >= 500 || openings(third) >= 500;
+        if settings.participants() != 3 || is_many {
+            return Err(Fault::BadSettings);
+        }
+        let mut board = PlainBoard::new(alloc, &settings)?;
+        let first = Slot::open_from(alloc, &settings, 0, &mut board, first)?;
+        let second = Slot::open_from(alloc, &settings, 1, &mut board, second)?;
+        let third = Slot::open_from(alloc, &settings, 2, &mut board, third)?;
+        Ok(Hub {
+            settings,
+            board,
+            first,
+            second,
+            third,
+        })
+    }
+
+    fn adopt(&mut self, who: u8, owner: u8, index: u16) -> bool {
+        let place = Place { owner, index };
+        match who {
+            0 => self.first.adopt(&mut self.board, place),
+            1 => self.second.adopt(&mut self.board, place),
+            2 => self.third.adopt(&mut self.board, place),
+            _ => false,
+        }
+    }
+
     fn ask(&mut self, who: u8, command: Command, at: u64) -> Result<Reply, Fault> {
         let at = Moment::new(0, at)?;
         let ask = Ask { who, command, at };
@@ -80,9 +163,9 @@ impl Hub {
             return Err(Fault::BadField);
         }
         match who {
-            0 => self.first.apply(&mut self.board, &ask),
-            1 => self.second.apply(&mut self.board, &ask),
-            2 => self.third.apply(&mut self.board, &ask),
+            0 => ask_of(&mut self.first, &mut self.board, &ask),
+            1 => ask_of(&mut self.second, &mut self.board, &ask),
+            2 => ask_of(&mut self.third, &mut self.board, &ask),
             _ => Err(Fault::BadField),
         }
     }
@@ -90,9 +173,9 @@ impl Hub {
     fn deliver(&mut self, who: u8, owner: u8, index: u16) -> Result<bool, Fault> {
         let place = Place { owner, index };
         match who {
-            0 => self.first.deliver(&mut self.board, place),
-            1 => self.second.deliver(&mut self.board, place),
-            2 => self.third.deliver(&mut self.board, place),
+            0 => deliver_to(&mut self.first, &mut self.board, place),
+            1 => deliver_to(&mut self.second, &mut self.board, place),
+            2 => deliver_to(&mut self.third, &mut self.board, place),
             _ => Err(Fault::BadField),
         }
     }
@@ -131,6 +214,10 @@ enum Does {
     Deliver(u8, u16),
     Learn(u8, u16),
     Expire(u16),
+    Statement,
+    Adopt(u8, u16),
+    /// Whether the first participant tells a place of its transfer.
+    TellPlace(&'static str),
 }
 
 /// What became of a transfer, likewise.
@@ -152,6 +239,9 @@ enum Told {
     Inbox(&'static str),
     EmptyInbox,
     New(bool),
+    NoLine,
+    /// The number of the statement's line, what it shows, and the position after it.
+    OneLine(u32, LineKind, u64),
     Refused(Fault),
 }
 
@@ -202,7 +292,12 @@ fn command(does: &Does) -> Result<Option<Command>, Fault> {
         },
         Does::Fetch(max) => Command::Fetch { max },
         Does::Position => Command::Position,
-        Does::Deliver(..) | Does::Learn(..) | Does::Expire(..) => return Ok(None),
+        Does::Statement => Command::Statement { skip: 0, count: 10 },
+        Does::Deliver(..)
+        | Does::Learn(..)
+        | Does::Expire(..)
+        | Does::Adopt(..)
+        | Does::TellPlace(..) => return Ok(None),
     }))
 }
 
@@ -212,6 +307,8 @@ fn step(hub: &mut Hub, who: u8, does: &Does, at: u64) -> Result<bool, Fault> {
         Does::Deliver(owner, index) => hub.deliver(who, owner, index),
         Does::Learn(owner, index) => hub.learn(who, owner, index),
         Does::Expire(index) => hub.expire(who, index, at),
+        Does::Adopt(owner, index) => Ok(hub.adopt(who, owner, index)),
+        Does::TellPlace(id) => Ok(hub.first.place_of(0, &Ident::new(id)?).is_some()),
         _ => Err(Fault::BadField),
     }
 }
@@ -250,6 +347,15 @@ fn tells(answer: &Result<Reply, Fault>, told: &Told) -> bool {
             [] => false,
             [entry, ..] => entry.id.text() == *id,
         },
+        (Ok(Reply::Statement { lines }), Told::NoLine) => lines.as_slice().is_empty(),
+        (Ok(Reply::Statement { lines }), Told::OneLine(number, kind, position)) => {
+            match lines.as_slice() {
+                [line] => line.number == *number
+                    && line.kind == *kind
+                    && line.position == *position,
+                _ => false,
+            }
+        }
         (Ok(Reply::Refused(fault)), Told::Refused(wanted)) => fault == wanted,
         (Err(fault), Told::Refused(wanted)) => fault == wanted,
         _ => false,
@@ -346,14 +452,19 @@ const SUBMITTED: &[Row] = &[
     ),
 ];
 
-/// What the case tells comes so.
-fn comes(rt: &(impl Abort + AllocGlobal), case: &Case) -> Result<(), Fail> {
-    let mut hub = Hub::open(rt.alloc(), case.margin)?;
-    answers(rt, &mut hub, SUBMITTED)?;
-    answers(rt, &mut hub, case.rows)?;
+/// The hub answers as the case tells, and keeps what it tells.
+fn follows(rt: &impl Abort, hub: &mut Hub, case: &Case) -> Result<(), Fail> {
+    answers(rt, hub, SUBMITTED)?;
+    answers(rt, hub, case.rows)?;
     keeps(rt, hub.first.journal().events(), case.first)?;
     keeps(rt, hub.second.journal().events(), case.second)?;
     keeps(rt, hub.third.journal().events(), &[])
+}
+
+/// What the case tells comes so.
+fn comes(rt: &(impl Abort + AllocGlobal), case: &Case) -> Result<(), Fail> {
+    let mut hub = Hub::open(rt.alloc(), case.margin)?;
+    follows(rt, &mut hub, case)
 }
 
 const CONFIRMED_BEFORE_EXPIRE: Case = Case {

@@ -1,14 +1,17 @@
-use Rattle.std.proofs.Common.{◌∙◌, sym, ap, subst, List, ◌++◌, ◌∷◌, [], inl, refl}
+use Rattle.std.proofs.Common.{◌≡◌, ◌∙◌, sym, ap, subst, inl, refl, ℕ, List}
+use Rattle.inst_settings.specs.Settings.{HubSettings, IsSettings}
+use Rattle.inst_command.specs.declared.outcome.Outcome.{Outcome}
 use Rattle.inst_board.specs.declared.wish.Wish.TheVariants.{Expire}
 use Rattle.inst_board.specs.Learning.{MayDecide}
 use Rattle.inst_journal.specs.declared.event.Event.{Event}
 use Rattle.inst_journal.specs.declared.event.Event.TheVariants.{Booked}
 use Rattle.inst_journal.specs.Sound.{Fits, IsSound}
+use Rattle.inst_ledger.specs.Book.{Book as Kept}
 use Rattle.inst_slot.specs.Book.{Book, place_at}
-use Rattle.inst_journal.proofs.Soundness.{sound_push}
 use Rattle.inst_slot.proofs.Learning.{booking_fits}
 use Rattle.inst_slot.proofs.Settling.{unbooked_is}
 use Rattle.inst_slot.proofs.Deciding.{may_expire}
+use Rattle.inst_slot.proofs.Handling.{keeps_lawful}
 use Rattle.inst_slot.proofs.slot.Slot.let_expire.Goals as goal
 
 pub find-requires-clause-may : goal.find-requires-clause-may
@@ -16,19 +19,37 @@ find-requires-clause-may g c =
     let b = g.B.Board in
     let book : Book = c.args.self.now in
     let u = unbooked_is book c.args.index c.args.id c.requires.unbooked in
-    subst (λ (x : Book). MayDecide b.knows b.has_role c.args.board.now (place_at x.who c.args.index) Expire) (sym c.self.view_is)
+    subst (λ (n : ℕ). MayDecide b.knows b.has_role c.args.board.now (place_at n c.args.index) Expire) (sym c.who.ensures)
     (may_expire b.settings b.knows b.has_role c.args.board.now book c.args.id c.args.index c.requires.lawful u.at)
 
-pub invariant_of-self-in-Some : goal.invariant_of-self-in-Some
-invariant_of-self-in-Some g c =
+-- what is booked fits the ledger, which is as it was
+booking : (book : Book) (old now : Kept) (who : ℕ) (id : List ℕ) (outcome : Outcome) (e : Event) → now ≡ old → old.settings ≡ book.settings → old.who ≡ book.who → old.events ≡ book.events → who ≡ now.who → e ≡ Booked who id outcome
+    → Fits book.settings book.who book.events (Booked book.who id outcome) → Fits now.settings now.who now.events e
+booking book old now who id outcome e same settings is events whose event_is fits =
+    let mine : who ≡ book.who = whose ∙ ap (λ (x : Kept). x.who) same ∙ is in
+    subst (λ (x : Kept). Fits x.settings x.who x.events e) (sym same)
+    (subst (λ (s : HubSettings). Fits s old.who old.events e) (sym settings)
+    (subst (λ (n : ℕ). Fits book.settings n old.events e) (sym is)
+    (subst (λ (l : List Event). Fits book.settings book.who l e) (sym events)
+    (subst (λ (x : Event). Fits book.settings book.who book.events x) (ap (λ (n : ℕ). Booked n id outcome) (sym mine) ∙ sym event_is) fits))))
+
+pub keep-requires : goal.keep-requires
+keep-requires g c =
     let b = g.B.Board in
     let book : Book = c.args.self.now in
     let u = unbooked_is book c.args.index c.args.id c.requires.unbooked in
-    let s = c.self.inside.settings in
-    let who = c.self.inside.who in
-    let outcome = c.in-Some.outcome in
-    let fits = subst (λ (x : Book). Fits x.settings x.who x.events (Booked x.who c.args.id outcome)) (sym c.self.view_is)
-    (booking_fits b.settings b.knows b.has_role c.args.board.now book book.who c.args.id c.args.index outcome c.requires.lawful (inl (refl, u.at)) u.none) in
-    let sound = sound_push s who c.self.inside.journal.events (Booked who c.args.id outcome) c.self.invariant.1 fits in
-    let kept = c.in_ok-push-in-Some.ensures.ok ∙ ap (λ (l : List Event). l ++ c.booked_event.result ∷ []) c.find.ensures.events ∙ ap (λ (e : Event). c.self.inside.journal.events ++ e ∷ []) c.booked_event.ensures in
-    (c.self.invariant.0, subst (λ (l : List Event). IsSound s who l) (sym kept) sound)
+    booking book c.self.inside.ledger.book c.find.new.ledger.book c.who-in-Some.result c.args.id c.in-Some.outcome c.booked_event-event.result c.find.ensures.book
+    (ap (λ (x : Book). x.settings) c.self.view_is) (ap (λ (x : Book). x.who) c.self.view_is) (ap (λ (x : Book). x.events) c.self.view_is) c.who-in-Some.ensures c.booked_event-event.ensures
+    (booking_fits b.settings b.knows b.has_role c.args.board.now book book.who c.args.id c.args.index c.in-Some.outcome c.requires.lawful (inl (refl, u.at)) u.none)
+
+pub invariant_of-self-in-Some-2 : goal.invariant_of-self-in-Some-2
+invariant_of-self-in-Some-2 g c =
+    let b = g.B.Board in
+    let book : Book = c.args.self.now in
+    let old = c.find.new.ledger.book in
+    let u = unbooked_is book c.args.index c.args.id c.requires.unbooked in
+    let lawful = subst (λ (x : Kept). IsSettings x.settings × IsSound x.settings x.who x.events) (sym c.find.ensures.book) c.self.invariant in
+    let fits = booking book c.self.inside.ledger.book old c.who-in-Some.result c.args.id c.in-Some.outcome c.booked_event-event.result c.find.ensures.book
+    (ap (λ (x : Book). x.settings) c.self.view_is) (ap (λ (x : Book). x.who) c.self.view_is) (ap (λ (x : Book). x.events) c.self.view_is) c.who-in-Some.ensures c.booked_event-event.ensures
+    (booking_fits b.settings b.knows b.has_role c.args.board.now book book.who c.args.id c.args.index c.in-Some.outcome c.requires.lawful (inl (refl, u.at)) u.none) in
+    keeps_lawful old c.keep.new.self.book c.booked_event-event.result c.keep.result lawful fits c.keep.ensures.ok c.keep.ensures.err

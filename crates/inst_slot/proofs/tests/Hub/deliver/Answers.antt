@@ -8,11 +8,11 @@ invariant_of-self c =
     let S = λ (b : Contents). b.settings in
     let R = λ (b : Contents) (p : ℕ). Unit {0} in
     let b = c.self.inside.board in
-    let d = c.deliver.new.board in
+    let d = c.deliver_to.new.board in
     let s = c.self.inside.settings in (
-      acted S plain_knows R b d 0 s c.self.inside.first c.deliver.new.self c.self.invariant.0 c.deliver.ensures.lawful c.deliver.ensures.same c.deliver.ensures.adopted,
-      stayed S plain_knows R b d 1 0 s c.self.inside.second c.self.invariant.1 c.self.inside.first.who c.self.invariant.0.1 c.deliver.ensures.others (λ e. cc),
-      stayed S plain_knows R b d 2 0 s c.self.inside.third c.self.invariant.2 c.self.inside.first.who c.self.invariant.0.1 c.deliver.ensures.others (λ e. cc),
+      acted S plain_knows R b d 0 s c.self.inside.first c.deliver_to.new.slot c.self.invariant.0 c.deliver_to.ensures.lawful c.deliver_to.ensures.same,
+      stayed S plain_knows R b d 1 0 s c.self.inside.second c.self.invariant.1 c.self.inside.first.who c.self.invariant.0.1 c.deliver_to.ensures.others (λ e. cc),
+      stayed S plain_knows R b d 2 0 s c.self.inside.third c.self.invariant.2 c.self.inside.first.who c.self.invariant.0.1 c.deliver_to.ensures.others (λ e. cc),
     )
 
 pub invariant_of-self-in-1 : goal.invariant_of-self-in-1
@@ -20,11 +20,11 @@ invariant_of-self-in-1 c =
     let S = λ (b : Contents). b.settings in
     let R = λ (b : Contents) (p : ℕ). Unit {0} in
     let b = c.self.inside.board in
-    let d = c.deliver-in-1.new.board in
+    let d = c.deliver_to-in-1.new.board in
     let s = c.self.inside.settings in (
-      stayed S plain_knows R b d 0 1 s c.self.inside.first c.self.invariant.0 c.self.inside.second.who c.self.invariant.1.1 c.deliver-in-1.ensures.others (λ e. cc),
-      acted S plain_knows R b d 1 s c.self.inside.second c.deliver-in-1.new.self c.self.invariant.1 c.deliver-in-1.ensures.lawful c.deliver-in-1.ensures.same c.deliver-in-1.ensures.adopted,
-      stayed S plain_knows R b d 2 1 s c.self.inside.third c.self.invariant.2 c.self.inside.second.who c.self.invariant.1.1 c.deliver-in-1.ensures.others (λ e. cc),
+      stayed S plain_knows R b d 0 1 s c.self.inside.first c.self.invariant.0 c.self.inside.second.who c.self.invariant.1.1 c.deliver_to-in-1.ensures.others (λ e. cc),
+      acted S plain_knows R b d 1 s c.self.inside.second c.deliver_to-in-1.new.slot c.self.invariant.1 c.deliver_to-in-1.ensures.lawful c.deliver_to-in-1.ensures.same,
+      stayed S plain_knows R b d 2 1 s c.self.inside.third c.self.invariant.2 c.self.inside.second.who c.self.invariant.1.1 c.deliver_to-in-1.ensures.others (λ e. cc),
     )
 
 pub invariant_of-self-in-2 : goal.invariant_of-self-in-2
@@ -32,9 +32,9 @@ invariant_of-self-in-2 c =
     let S = λ (b : Contents). b.settings in
     let R = λ (b : Contents) (p : ℕ). Unit {0} in
     let b = c.self.inside.board in
-    let d = c.deliver-in-2.new.board in
+    let d = c.deliver_to-in-2.new.board in
     let s = c.self.inside.settings in (
-      stayed S plain_knows R b d 0 2 s c.self.inside.first c.self.invariant.0 c.self.inside.third.who c.self.invariant.2.1 c.deliver-in-2.ensures.others (λ e. cc),
-      stayed S plain_knows R b d 1 2 s c.self.inside.second c.self.invariant.1 c.self.inside.third.who c.self.invariant.2.1 c.deliver-in-2.ensures.others (λ e. cc),
-      acted S plain_knows R b d 2 s c.self.inside.third c.deliver-in-2.new.self c.self.invariant.2 c.deliver-in-2.ensures.lawful c.deliver-in-2.ensures.same c.deliver-in-2.ensures.adopted,
+      stayed S plain_knows R b d 0 2 s c.self.inside.first c.self.invariant.0 c.self.inside.third.who c.self.invariant.2.1 c.deliver_to-in-2.ensures.others (λ e. cc),
+      stayed S plain_knows R b d 1 2 s c.self.inside.second c.self.invariant.1 c.self.inside.third.who c.self.invariant.2.1 c.deliver_to-in-2.ensures.others (λ e. cc),
+      acted S plain_knows R b d 2 s c.self.inside.third c.deliver_to-in-2.new.slot c.self.invariant.2 c.deliver_to-in-2.ensures.lawful c.deliver_to-in-2.ensures.same,
     )

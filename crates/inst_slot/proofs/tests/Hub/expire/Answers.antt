@@ -10,7 +10,7 @@ invariant_of-self c =
     let b = c.self.inside.board in
     let d = c.expire.new.board in
     let s = c.self.inside.settings in (
-      acted S plain_knows R b d 0 s c.self.inside.first c.expire.new.self c.self.invariant.0 c.expire.ensures.lawful c.expire.ensures.same c.expire.ensures.adopted,
+      acted S plain_knows R b d 0 s c.self.inside.first c.expire.new.self c.self.invariant.0 c.expire.ensures.lawful c.expire.ensures.same,
       stayed S plain_knows R b d 1 0 s c.self.inside.second c.self.invariant.1 c.self.inside.first.who c.self.invariant.0.1 c.expire.ensures.others (λ e. cc),
       stayed S plain_knows R b d 2 0 s c.self.inside.third c.self.invariant.2 c.self.inside.first.who c.self.invariant.0.1 c.expire.ensures.others (λ e. cc),
     )
@@ -23,7 +23,7 @@ invariant_of-self-in-1 c =
     let d = c.expire-in-1.new.board in
     let s = c.self.inside.settings in (
       stayed S plain_knows R b d 0 1 s c.self.inside.first c.self.invariant.0 c.self.inside.second.who c.self.invariant.1.1 c.expire-in-1.ensures.others (λ e. cc),
-      acted S plain_knows R b d 1 s c.self.inside.second c.expire-in-1.new.self c.self.invariant.1 c.expire-in-1.ensures.lawful c.expire-in-1.ensures.same c.expire-in-1.ensures.adopted,
+      acted S plain_knows R b d 1 s c.self.inside.second c.expire-in-1.new.self c.self.invariant.1 c.expire-in-1.ensures.lawful c.expire-in-1.ensures.same,
       stayed S plain_knows R b d 2 1 s c.self.inside.third c.self.invariant.2 c.self.inside.second.who c.self.invariant.1.1 c.expire-in-1.ensures.others (λ e. cc),
     )
 
@@ -36,5 +36,5 @@ invariant_of-self-in-2 c =
     let s = c.self.inside.settings in (
       stayed S plain_knows R b d 0 2 s c.self.inside.first c.self.invariant.0 c.self.inside.third.who c.self.invariant.2.1 c.expire-in-2.ensures.others (λ e. cc),
       stayed S plain_knows R b d 1 2 s c.self.inside.second c.self.invariant.1 c.self.inside.third.who c.self.invariant.2.1 c.expire-in-2.ensures.others (λ e. cc),
-      acted S plain_knows R b d 2 s c.self.inside.third c.expire-in-2.new.self c.self.invariant.2 c.expire-in-2.ensures.lawful c.expire-in-2.ensures.same c.expire-in-2.ensures.adopted,
+      acted S plain_knows R b d 2 s c.self.inside.third c.expire-in-2.new.self c.self.invariant.2 c.expire-in-2.ensures.lawful c.expire-in-2.ensures.same,
     )

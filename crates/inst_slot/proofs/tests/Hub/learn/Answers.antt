@@ -10,7 +10,7 @@ invariant_of-self c =
     let b = c.self.inside.board in
     let d = c.learn.new.board in
     let s = c.self.inside.settings in (
-      acted S plain_knows R b d 0 s c.self.inside.first c.learn.new.self c.self.invariant.0 c.learn.ensures.lawful c.learn.ensures.same c.learn.ensures.adopted,
+      acted S plain_knows R b d 0 s c.self.inside.first c.learn.new.self c.self.invariant.0 c.learn.ensures.lawful c.learn.ensures.same,
       stayed S plain_knows R b d 1 0 s c.self.inside.second c.self.invariant.1 c.self.inside.first.who c.self.invariant.0.1 c.learn.ensures.others (λ e. cc),
       stayed S plain_knows R b d 2 0 s c.self.inside.third c.self.invariant.2 c.self.inside.first.who c.self.invariant.0.1 c.learn.ensures.others (λ e. cc),
     )
@@ -23,7 +23,7 @@ invariant_of-self-in-1 c =
     let d = c.learn-in-1.new.board in
     let s = c.self.inside.settings in (
       stayed S plain_knows R b d 0 1 s c.self.inside.first c.self.invariant.0 c.self.inside.second.who c.self.invariant.1.1 c.learn-in-1.ensures.others (λ e. cc),
-      acted S plain_knows R b d 1 s c.self.inside.second c.learn-in-1.new.self c.self.invariant.1 c.learn-in-1.ensures.lawful c.learn-in-1.ensures.same c.learn-in-1.ensures.adopted,
+      acted S plain_knows R b d 1 s c.self.inside.second c.learn-in-1.new.self c.self.invariant.1 c.learn-in-1.ensures.lawful c.learn-in-1.ensures.same,
       stayed S plain_knows R b d 2 1 s c.self.inside.third c.self.invariant.2 c.self.inside.second.who c.self.invariant.1.1 c.learn-in-1.ensures.others (λ e. cc),
     )
 
@@ -36,5 +36,5 @@ invariant_of-self-in-2 c =
     let s = c.self.inside.settings in (
       stayed S plain_knows R b d 0 2 s c.self.inside.first c.self.invariant.0 c.self.inside.third.who c.self.invariant.2.1 c.learn-in-2.ensures.others (λ e. cc),
       stayed S plain_knows R b d 1 2 s c.self.inside.second c.self.invariant.1 c.self.inside.third.who c.self.invariant.2.1 c.learn-in-2.ensures.others (λ e. cc),
-      acted S plain_knows R b d 2 s c.self.inside.third c.learn-in-2.new.self c.self.invariant.2 c.learn-in-2.ensures.lawful c.learn-in-2.ensures.same c.learn-in-2.ensures.adopted,
+      acted S plain_knows R b d 2 s c.self.inside.third c.learn-in-2.new.self c.self.invariant.2 c.learn-in-2.ensures.lawful c.learn-in-2.ensures.same,
     )

@@ -12,9 +12,6 @@ use Rattle.inst_slot.proofs.Adopting.{begins}
 use Rattle.inst_slot.proofs.Together.{Stands}
 use Rattle.inst_slot.proofs.tests.Hub.open.Goals as goal
 
-nowhere : (x : Arrival) → Contains [] x → ⊥
-nowhere x (i, below, is) = absurd (omega arith)
-
 opened : (b : Contents) (s : HubSettings) (who : ℕ) (book : Book) → b.settings ≡ s → ((k : Place) → kept_at b k ≡ Unused) → book.settings ≡ s → book.who ≡ who → book.events ≡ [] → book.arrivals ≡ []
     → Stands (λ (x : Contents). x.settings) plain_knows (λ _ _. Unit {0}) b who s book
 opened b s who book same nothing settings is events arrivals = (
@@ -22,7 +19,6 @@ opened b s who book same nothing settings is events arrivals = (
       (λ f known. subst (λ (k : Kept). Says (standing_of k) f.about) (nothing f.place) known) events arrivals,
   is,
   settings,
-  λ x there. absurd (nowhere x (subst (λ (A : List Arrival). Contains A x) arrivals there)),
 )
 
 pub invariant_of-result : goal.invariant_of-result

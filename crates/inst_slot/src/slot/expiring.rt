@@ -1,0 +1,86 @@
+//! How the transfers of a slot expire.
+ghost use Rattle.std.specs.Prelude.{◌≡◌, Some};
+ghost use Rattle.inst_slot.specs.LawfulBoard.{IsLawfulBoard, KeepsOthers, AllAreAdopted};
+ghost use Rattle.inst_slot.specs.Telling.{taken_by, unbooked_at, ExpiresFor, Expires};
+
+use super::Slot;
+use super::telling::booked_event;
+use crate::finding::find;
+use inst_base::{Fault, Ident, Moment};
+use inst_board::{Board, Place, Wish};
+use inst_journal::Event;
+
+impl Slot {
+    /// The identifier of the participant's live transfer at this index, where nothing is booked of it.
+    fn unbooked_at(&self, index: u16) -> Option<Ident>
+        ensures { result ≡ unbooked_at self.now index }
+    {
+        let id = taken_by(
+            &self
+                .ledger
+                .journal()
+                .taken_at(self.who(), usize::from(index)),
+        )?;
+        if self.ledger.booked(self.who(), &id).is_some() {
+            return None;
+        }
+        Some(id)
+    }
+
+    /// Lets the transfer with this identifier, which lies at the index, expire.
+    fn let_expire<B: Board>(
+        &mut self,
+        board: &mut B,
+        index: u16,
+        id: Ident,
+        at: Moment,
+    ) -> Result<bool, Fault>
+        requires lawful { IsLawfulBoard B.settings B.knows B.has_role board.old self.old }
+        requires unbooked { unbooked_at self.old index ≡ Some id }
+        ensures expires { ExpiresFor (B.settings board.old).margin B.knows B.has_role B.stood B.stays board.old self.old index at (Some id) result board.new self.new }
+        ensures stays { B.stays board.old board.new }
+    {
+        let place = Place {
+            owner: self.who(),
+            index,
+        };
+        let margin = self.ledger.settings().margin();
+        let found = find(&mut self.ledger, board, margin, place, Wish::Expire, at)?;
+        match found {
+            None => Ok(false),
+            Some(outcome) => {
+                let event = booked_event(self.who(), id, &outcome);
+                self.ledger.keep(event)?;
+                Ok(true)
+            }
+        }
+    }
+
+    /// Lets the participant's live transfer at this index expire at the reading `at`, and books what is
+    /// found: `true` where it is decided, and wasn't booked. After `Memory` the slot is as it was, and
+    /// nothing was decided.
+    pub fn expire<B: Board>(&mut self, board: &mut B, index: u16, at: Moment) -> Result<bool, Fault>
+        requires lawful { IsLawfulBoard B.settings B.knows B.has_role board.old self.old }
+        ensures expires { Expires (B.settings board.old).margin B.knows B.has_role B.stood B.stays board.old self.old index at result board.new self.new }
+        ensures lawful { IsLawfulBoard B.settings B.knows B.has_role board.new self.new }
+        ensures others { KeepsOthers B.settings B.knows B.has_role board.old self.old.who board.new }
+        ensures same { (self.new.settings ≡ self.old.settings) × (self.new.who ≡ self.old.who) }
+        ensures adopted { AllAreAdopted self.old → AllAreAdopted self.new }
+        ensures stays { B.stays board.old board.new }
+    {
+        match self.unbooked_at(index) {
+            Some(id) => self.let_expire(board, index, id, at),
+            None => Ok(false),
+        }
+    }
+}
+
+/// The identifier of the transfer that the event takes, if any.
+fn taken_by(event: &Option<Event>) -> Option<Ident>
+    ensures { result ≡ taken_by event.now }
+{
+    match event {
+        Some(Event::Taken { id, .. }) => Some(*id),
+        _ => None,
+    }
+}

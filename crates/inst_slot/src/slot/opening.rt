@@ -1,0 +1,192 @@
+//! A slot that opens again from its books, and finds the places of what was forwarded to it before.
+ghost use Rattle.std.specs.Prelude.{◌≡◌, ◌≤◌, ◌<◌, ◌++◌, ◌∷◌, [], true, map, count_by, IfOk, OnErr, IsOkUnless, IsTrue};
+ghost use Rattle.std.specs.List.{list_any};
+ghost use Rattle.inst_base.specs.Moment.{is_moment};
+ghost use Rattle.inst_base.specs.TimeLimit.{deadline_of};
+ghost use Rattle.inst_settings.specs.Settings.{is_participant};
+ghost use Rattle.inst_board.specs.declared.about.About.TheVariants.{Opened};
+ghost use Rattle.inst_board.specs.declared.look.Look.{Look};
+ghost use Rattle.inst_board.specs.declared.place.Place.{Place};
+ghost use Rattle.inst_board.specs.Learning.{Looks, Learns, KnowsTruly};
+ghost use Rattle.inst_board.specs.Standing.{IsPlace, about, pending};
+ghost use Rattle.inst_journal.specs.Opened.{openings, carried, live_taken};
+ghost use Rattle.inst_journal.specs.Sound.{IsSound};
+ghost use Rattle.inst_slot.specs.Book.{place_at, live_inbox};
+ghost use Rattle.inst_slot.specs.LawfulBoard.{IsLawfulBoard, KeepsOthers, AllAreAdopted};
+ghost use Rattle.inst_slot.specs.Opening.{opened_again, MayOpenAgain, OpensPlaces, is_of, awaits, found_at, finds_carried, with_found, unfound};
+
+use super::Slot;
+use crate::Arrival;
+use crate::arrival::{awaits, carried_arrivals, is_unfound, position_of};
+use inst_base::{Fault, Moment};
+use inst_board::{Board, Look, Place};
+use inst_journal::{Event, Journal};
+use inst_ledger::Ledger;
+use inst_settings::Settings;
+use inst_terms::Terms;
+use std::alloc::Global;
+
+impl Slot {
+    /// The slot of the participant `who` with this history, opened again from it: its live transfers get
+    /// the first places, in order of taking, and are pending there. After `Memory` the board is as it was.
+    /// The places of what was forwarded to the participant are then to be found by `adopt`. It walks the
+    /// history.
+    pub fn open_from<B: Board>(
+        alloc: Global,
+        settings: &Settings,
+        who: u8,
+        board: &mut B,
+        journal: &Journal,
+    ) -> Result<Slot, Fault>
+        requires participant { is_participant settings.now who ≡ true }
+        requires sound { IsSound settings.now who journal.now.events }
+        requires few { openings journal.now.events < 500 }
+        requires board { MayOpenAgain B.settings B.knows B.has_role board.old settings.now who }
+        ensures ok { IfOk result (λ slot. slot ≡ opened_again settings.now who journal.now.events) }
+        ensures opens { IfOk result (λ slot. OpensPlaces B.knows settings.now who (live_taken who slot.events) board.old board.new) }
+        ensures err { OnErr result (board.new ≡ board.old) }
+        ensures only { IsOkUnless result Fault.Memory }
+        ensures lawful { IfOk result (λ slot. IsLawfulBoard B.settings B.knows B.has_role board.new slot) }
+        ensures others { KeepsOthers B.settings B.knows B.has_role board.old who board.new }
+        ensures stays { B.stays board.old board.new }
+    {
+        let slot = Slot::carry(alloc, settings, who, journal)?;
+        slot.open_places(board);
+        Ok(slot)
+    }
+
+    /// The books of a slot that opens again.
+    fn carry(alloc: Global, settings: &Settings, who: u8, journal: &Journal) -> Result<Slot, Fault>
+        requires sound { IsSound settings.now who journal.now.events }
+        requires few { openings journal.now.events < 500 }
+        ensures ok { IfOk result (λ slot. slot ≡ opened_again settings.now who journal.now.events) }
+        ensures only { IsOkUnless result Fault.Memory }
+    {
+        let ledger = Ledger::open_from(alloc, settings, who, journal)?;
+        let arrivals = carried_arrivals(alloc, &ledger)?;
+        Ok(Slot {
+            alloc,
+            ledger,
+            arrivals,
+        })
+    }
+
+    /// Writes the terms of a place of the participant's, and opens it.
+    pub(super) fn open_place<B: Board>(
+        &self,
+        board: &mut B,
+        index: u16,
+        terms: &Terms,
+        stamp: Moment,
+    )
+        requires place { IsPlace (B.settings board.old) (place_at self.now.who index) }
+        requires beneficiary { IsTrue (is_participant (B.settings board.old) terms.now.to) }
+        requires own { B.has_role board.old self.now.who }
+        requires unused { ¬ B.knows board.old (about (place_at self.now.who index) Opened) }
+        requires deadline { is_moment (deadline_of self.now.settings.limit stamp) ≡ true }
+        ensures opens { Learns (B.settings board.old).margin B.knows board.old (place_at self.now.who index) (pending terms.now (deadline_of self.now.settings.limit stamp)) board.new }
+        ensures stays { B.stays board.old board.new }
+    {
+        let place = Place {
+            owner: self.who(),
+            index,
+        };
+        let deadline = stamp.deadline(self.ledger.settings().limit());
+        board.write_terms(place, terms);
+        board.open(place, deadline);
+    }
+
+    /// Opens the places of the live transfers, where the history ends with an opening.
+    fn open_places<B: Board>(&self, board: &mut B)
+        requires participant { is_participant self.now.settings self.now.who ≡ true }
+        requires opened { carried self.now.events ≡ self.now.events }
+        requires board { MayOpenAgain B.settings B.knows B.has_role board.old self.now.settings self.now.who }
+        ensures opens { OpensPlaces B.knows self.now.settings self.now.who (live_taken self.now.who self.now.events) board.old board.new }
+        ensures truly { (k : Place) → KnowsTruly self.now.settings.margin B.knows board.new k }
+        ensures others { KeepsOthers B.settings B.knows B.has_role board.old self.now.who board.new }
+        ensures stays { B.stays board.old board.new }
+        ensures sound { IsSound self.now.settings self.now.who self.now.events }
+    {
+        let mut index = 0;
+        for event in self.ledger.journal().events() {
+            if let Event::Taken {
+                id,
+                to,
+                cents,
+                stamp,
+            } = event
+            {
+                if self.ledger.booked(self.who(), id).is_none() {
+                    let terms = Terms {
+                        to: *to,
+                        cents: *cents,
+                        id: *id,
+                    };
+                    self.open_place(board, index, &terms, *stamp);
+                    index += 1;
+                }
+            }
+        }
+    }
+
+    /// How many places of carried transfers aren't found yet: 0 where all were adopted.
+    pub fn unfound(&self) -> usize
+        ensures { result ≡ unfound self.now }
+    {
+        self.arrivals
+            .iter()
+            .filter(|arrival| is_unfound(arrival))
+            .count()
+    }
+
+    /// Finds the place of a transfer that was carried over the opening: `true` exactly where the place
+    /// shows it pending, and it wasn't found before. It takes no memory.
+    pub fn adopt<B: Board>(&mut self, board: &mut B, place: Place) -> bool
+        requires lawful { IsLawfulBoard B.settings B.knows B.has_role board.old self.old }
+        ensures finds { (look : Look) × Looks (B.settings board.old).margin B.knows B.has_role B.stood board.old place look board.new
+            × (result ≡ finds_carried self.old place look) × (self.new ≡ with_found self.old place look) }
+        ensures lawful { IsLawfulBoard B.settings B.knows B.has_role board.new self.new }
+        ensures others { KeepsOthers B.settings B.knows B.has_role board.old self.old.who board.new }
+        ensures same { (self.new.settings ≡ self.old.settings) × (self.new.who ≡ self.old.who) }
+        ensures adopted { AllAreAdopted self.old → AllAreAdopted self.new }
+        ensures stays { B.stays board.old board.new }
+    {
+        let look = board.look(place);
+        self.find(place, &look)
+    }
+
+    /// Keeps the place of a transfer that a look at it shows.
+    fn find(&mut self, place: Place, look: &Look) -> bool
+        requires arrived { map (λ x. x.entry) self.old.arrivals ≡ live_inbox self.old.events }
+        ensures found { result ≡ finds_carried self.old place look.now }
+        ensures kept { self.new ≡ with_found self.old place look.now }
+        ensures sound { IsSound self.old.settings self.old.who self.old.events }
+    {
+        // The invariant is known only where a field is used.
+        let _ = &self.alloc;
+        match look {
+            Look::Pending(terms, deadline) => {
+                terms.to == self.who() && self.find_at(place, terms, *deadline)
+            }
+            Look::Unused | Look::Decided(..) => false,
+        }
+    }
+
+    /// Keeps the place of the transfer that awaits it, if there is one.
+    fn find_at(&mut self, place: Place, terms: &Terms, deadline: Moment) -> bool
+        requires once { count_by (is_of place.owner terms.now.id) self.old.arrivals ≤ 1 }
+        ensures found { result ≡ list_any (awaits place terms.now deadline) self.old.arrivals }
+        ensures kept { self.new ≡ record self.old { arrivals = map (found_at place terms.now deadline) self.old.arrivals } }
+    {
+        let Some(position) = position_of(&self.arrivals, place.owner, &terms.id) else {
+            return false;
+        };
+        let Arrival { entry, .. } = self.arrivals[position];
+        if !awaits(&self.arrivals[position], place, terms, deadline) {
+            return false;
+        }
+        let index = Some(place.index);
+        self.arrivals[position] = Arrival { entry, index };
+        true
+    }
+}

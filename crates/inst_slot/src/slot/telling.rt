@@ -1,0 +1,159 @@
+//! What a board tells a slot: what is forwarded to it, and how its transfers ended.
+ghost use Rattle.std.specs.Prelude.{◌≡◌, is_some, OnErr, OnOk, IsOkUnless, Some};
+ghost use Rattle.inst_board.specs.declared.look.Look.{Look};
+ghost use Rattle.inst_board.specs.Learning.{Looks};
+ghost use Rattle.inst_journal.specs.Sound.{IsSound, Fits};
+ghost use Rattle.inst_slot.specs.LawfulBoard.{IsLawfulBoard, KeepsOthers, AllAreAdopted};
+ghost use Rattle.inst_slot.specs.Telling.{delivery, with_delivery, is_party, lesson, with_event, Keeps};
+
+use super::Slot;
+use crate::Arrival;
+use crate::arrival::{arrived_at, is_at};
+use inst_base::{Fault, Ident};
+use inst_board::{Board, Look, Place};
+use inst_command::{Entry, Outcome};
+use inst_journal::Event;
+
+impl Slot {
+    /// The transfer that a look at the place delivers.
+    fn delivery(&self, place: Place, look: &Look) -> Option<Entry>
+        ensures entry { result ≡ delivery self.now place look.now }
+        ensures sound { IsSound self.now.settings self.now.who self.now.events }
+    {
+        match look {
+            Look::Pending(terms, deadline) => {
+                let is_new = !self.ledger.is_forwarded(place.owner, &terms.id);
+                if terms.to == self.who() && is_new {
+                    Some(Entry {
+                        from: place.owner,
+                        id: terms.id,
+                        cents: terms.cents,
+                        deadline: *deadline,
+                    })
+                } else {
+                    None
+                }
+            }
+            _ => None,
+        }
+    }
+
+    /// Keeps that the transfer was forwarded from the place.
+    fn forward(&mut self, place: Place, entry: Entry) -> Result<(), Fault>
+        requires fits { Fits self.old.settings self.old.who self.old.events (Event.Forwarded entry.from entry.id entry.cents entry.deadline) }
+        ensures ok { OnOk result (self.new ≡ with_delivery self.old place (Some entry)) }
+        ensures err { OnErr result (self.new ≡ self.old) }
+        ensures only { IsOkUnless result Fault.Memory }
+    {
+        // The check is told of a type of another crate inside an event only where a function names it.
+        let _: Option<Outcome> = None;
+        let Entry {
+            from,
+            id,
+            cents,
+            deadline,
+        } = entry;
+        let event = Event::Forwarded {
+            from,
+            id,
+            cents,
+            deadline,
+        };
+        let index = Some(place.index);
+        self.arrivals.try_reserve(1)?;
+        self.ledger.keep(event)?;
+        self.arrivals.push_reserved(Arrival { entry, index });
+        Ok(())
+    }
+
+    /// Forwards what is pending at the place, if it is for the participant and new to it: `true` where it
+    /// was. After `Memory` the slot is as it was.
+    pub fn deliver<B: Board>(&mut self, board: &mut B, place: Place) -> Result<bool, Fault>
+        requires lawful { IsLawfulBoard B.settings B.knows B.has_role board.old self.old }
+        requires adopted { AllAreAdopted self.old }
+        ensures delivers { (look : Look) × Looks (B.settings board.old).margin B.knows B.has_role B.stood board.old place look board.new
+            × Keeps (is_some (delivery self.old place look)) self.old (with_delivery self.old place (delivery self.old place look)) result self.new }
+        ensures lawful { IsLawfulBoard B.settings B.knows B.has_role board.new self.new }
+        ensures others { KeepsOthers B.settings B.knows B.has_role board.old self.old.who board.new }
+        ensures same { (self.new.settings ≡ self.old.settings) × (self.new.who ≡ self.old.who) }
+        ensures adopted { AllAreAdopted self.old → AllAreAdopted self.new }
+        ensures stays { B.stays board.old board.new }
+    {
+        let look = board.look(place);
+        match self.delivery(place, &look) {
+            None => Ok(false),
+            Some(entry) => {
+                self.forward(place, entry)?;
+                Ok(true)
+            }
+        }
+    }
+
+    /// Whether the transfer with this identifier that lies at the place is one of the participant's.
+    fn is_party(&self, place: Place, id: &Ident) -> bool
+        ensures { result ≡ is_party self.now place id.now }
+    {
+        place.owner == self.who() || is_at(place.index, arrived_at(&self.arrivals, place.owner, id))
+    }
+
+    /// The event that books what a look at the place shows.
+    fn lesson(&self, place: Place, look: &Look) -> Option<Event>
+        ensures event { result ≡ lesson self.now place look.now }
+        ensures sound { IsSound self.now.settings self.now.who self.now.events }
+    {
+        match look {
+            Look::Decided(terms, outcome) => {
+                let is_new = self.ledger.booked(place.owner, &terms.id).is_none();
+                if self.is_party(place, &terms.id) && is_new {
+                    Some(booked_event(place.owner, terms.id, outcome))
+                } else {
+                    None
+                }
+            }
+            _ => None,
+        }
+    }
+
+    /// Keeps an event that books an outcome.
+    fn book(&mut self, event: Event) -> Result<(), Fault>
+        requires fits { Fits self.old.settings self.old.who self.old.events event }
+        ensures ok { OnOk result (self.new ≡ with_event self.old (Some event)) }
+        ensures err { OnErr result (self.new ≡ self.old) }
+        ensures only { IsOkUnless result Fault.Memory }
+    {
+        self.ledger.keep(event)
+    }
+
+    /// Books the outcome of a place of the participant's, if it is decided and not yet booked: `true`
+    /// where it was. After `Memory` the slot is as it was.
+    pub fn learn<B: Board>(&mut self, board: &mut B, place: Place) -> Result<bool, Fault>
+        requires lawful { IsLawfulBoard B.settings B.knows B.has_role board.old self.old }
+        ensures learns { (look : Look) × Looks (B.settings board.old).margin B.knows B.has_role B.stood board.old place look board.new
+            × Keeps (is_some (lesson self.old place look)) self.old (with_event self.old (lesson self.old place look)) result self.new }
+        ensures lawful { IsLawfulBoard B.settings B.knows B.has_role board.new self.new }
+        ensures others { KeepsOthers B.settings B.knows B.has_role board.old self.old.who board.new }
+        ensures same { (self.new.settings ≡ self.old.settings) × (self.new.who ≡ self.old.who) }
+        ensures adopted { AllAreAdopted self.old → AllAreAdopted self.new }
+        ensures stays { B.stays board.old board.new }
+    {
+        let look = board.look(place);
+        match self.lesson(place, &look) {
+            None => Ok(false),
+            Some(event) => {
+                self.book(event)?;
+                Ok(true)
+            }
+        }
+    }
+}
+
+/// The event that books the outcome.
+pub(super) fn booked_event(from: u8, id: Ident, outcome: &Outcome) -> Event
+    ensures { result ≡ Event.Booked from id outcome.now }
+{
+    Event::Booked {
+        from,
+        id,
+        outcome: *outcome,
+    }
+}
