@@ -1,9 +1,9 @@
 -- Replies to one line more, at any world.
-use Rattle.std.proofs.Common.{◌≡◌, ℕ, ◌+◌, ◌<◌, ◌≤◌, Bool, true, false, cond, List, [], ◌∷◌, ◌++◌, ◌⊎◌, inl, inr, length, refl, sym, ap, ◌∙◌, arith, append_assoc, length-append}
-use Rattle.std.proofs.lemmas.Bool.{lt-ltb, le-ltb, false≢true}
+use Rattle.std.proofs.Common.{◌≡◌, ℕ, ◌+◌, ◌<◌, Bool, true, false, cond, List, [], ◌∷◌, ◌++◌, ◌⊎◌, inl, inr, length, refl, sym, ap, ◌∙◌, arith, append_assoc, length-append}
+use Rattle.std.proofs.lemmas.Bool.{lt-ltb, false≢true}
 use Rattle.std.proofs.lemmas.List.{append-nil}
 use Rattle.inst_world.specs.Lines.{newline}
-use Rattle.inst_world.specs.Answers.{Answerer, is_too_long, reply_to, state_after_line, is_refused, output, state_after, refusals, IsFront, AnswersLine}
+use Rattle.inst_world.specs.Answers.{Answerer, is_too_long, reply_to, state_after_line, is_refused, output, state_after, refusals, IsFront}
 use Rattle.inst_world.specs.Limits.{most_line_bytes}
 
 pub output-append : {S : Type 0} (a : Answerer S) (s : S) (xs ys : List (List ℕ)) → output a s (xs ++ ys) ≡ output a s xs ++ output a (state_after a s xs) ys
@@ -28,21 +28,3 @@ pub is_too_long-front : (is_long : Bool) (front part : List ℕ) → IsFront is_
 is_too_long-front true front part h why = lt-ltb _ _ (let long : most_line_bytes < length front = h.0 in omega (arith, length-append front part))
 is_too_long-front false front part h (inl is) = absurd (false≢true is)
 is_too_long-front false front part h (inr long) = lt-ltb _ _ (omega (arith, length-append front part))
-
--- the answer to a line that is too long
-pub answers_too_long : {S : Type 0} (a : Answerer S) (is_long : Bool) (part : List ℕ) (s : S) (out : List ℕ) → (is_long ≡ true) ⊎ (most_line_bytes < length part) → AnswersLine a is_long part s s out (out ++ (a.too_long ++ newline ∷ [])) true
-answers_too_long a is_long part s out why = record {
-  reply = λ front h. rw (is_too_long-front is_long front part h why) refl;
-  state = λ front h. rw (is_too_long-front is_long front part h why) refl;
-  refusal = λ front h. rw (is_too_long-front is_long front part h why) refl;
-}
-
--- the answer to a line that the world takes
-pub answers_by_world : {S : Type 0} (a : Answerer S) (part : List ℕ) (s : S) (out : List ℕ) → length part ≤ most_line_bytes → AnswersLine a false part s (a.next s part) out (out ++ (a.reply s part ++ newline ∷ [])) (a.is_refusal s part)
-answers_by_world a part s out short =
-    let fits : is_too_long part ≡ false = le-ltb _ _ short in
-    record {
-      reply = λ front h. rw (h, fits) refl;
-      state = λ front h. rw (h, fits) refl;
-      refusal = λ front h. rw (h, fits) refl;
-    }

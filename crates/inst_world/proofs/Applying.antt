@@ -1,6 +1,5 @@
 -- An ask, over a board that has the model's outcomes, is answered and kept as the model says.
-use Rattle.std.proofs.Common.{◌≡◌, ◌≢◌, ℕ, zero, suc, Bool, true, false, cond, eqb, List, [], ◌∷◌, ◌++◌, length, Option, Some, None, is_none, is_some, Result, Ok, Err, refl, sym, ap, subst, ◌∙◌, inl, inr, ◌⊎◌, append-nil}
-use Rattle.std.specs.List.{filter}
+use Rattle.std.proofs.Common.{◌≡◌, ℕ, true, false, List, [], ◌∷◌, ◌++◌, length, Option, Some, None, is_none, is_some, Result, Err, refl, sym, ap, subst, ◌∙◌, inl, inr, ◌⊎◌, append-nil}
 use Rattle.std.proofs.lemmas.Bool.{cases_eq, cond-true}
 use Rattle.inst_base.specs.TimeLimit.{deadline_of}
 use Rattle.inst_base.specs.declared.fault.Fault.{Fault}
@@ -20,7 +19,6 @@ use Rattle.inst_board.specs.Wish.{wanted}
 use Rattle.inst_board.specs.Standing.{pending}
 use Rattle.inst_board.specs.Learning.{Learns}
 use Rattle.inst_board.specs.Plain.{Contents, standing_at, plain_knows, plain_stood}
-use Rattle.inst_board.specs.Laws.{Stands}
 use Rattle.inst_board.proofs.Exact.{opens_exactly}
 use Rattle.inst_journal.specs.declared.event.Event.{Event}
 use Rattle.inst_journal.specs.declared.event.Event.TheVariants.{Funded, Defunded, Taken, Booked, Fetched}
@@ -31,7 +29,7 @@ use Rattle.inst_journal.specs.Reply.{handle, told, kept_events}
 use Rattle.inst_journal.proofs.Carrying.{carried_unbooked}
 use Rattle.inst_model.specs.Opening.{Opening, IsOpening}
 use Rattle.inst_model.specs.Interleaving.{IsInterleaving}
-use Rattle.inst_model.specs.Transfer.{Transfer, live_transfers, at_place, deadline}
+use Rattle.inst_model.specs.Transfer.{Transfer, live_transfers, deadline}
 use Rattle.inst_model.specs.View.{Seen}
 use Rattle.inst_model.specs.View.Seen.{Asked}
 use Rattle.inst_model.specs.Found.{found}
@@ -42,10 +40,9 @@ use Rattle.inst_model.proofs.Naming.{live_grown}
 use Rattle.inst_model.proofs.Together.{together}
 use Rattle.inst_model.proofs.Transfers.{transfer_none}
 use Rattle.inst_slot.specs.Book.{Book, place_at, terms_to}
-use Rattle.inst_slot.specs.Asking.{decides, request, handle_ask, book_after, Finds, OnlyLooks, Opens, Enters, Settles, AppliesTo, Applies}
-use Rattle.inst_slot.proofs.Settling.{none_if}
+use Rattle.inst_slot.specs.Asking.{decides, request, handle_ask, book_after, Finds, Opens, Enters, Settles, AppliesTo, Applies}
 use Rattle.inst_world.specs.HasRun.{StandsWith, StandsFor, terms_of, IsBoardOf, IsMember}
-use Rattle.inst_world.proofs.Exactly.{IsTheSame, Settled, say_pending, finds_settle}
+use Rattle.inst_world.proofs.Exactly.{say_pending, finds_settle}
 use Rattle.inst_world.proofs.Placing.{sees_this, if_own, live_kept, others_stay, untaken_unbooked, untaken_undecided}
 use Rattle.inst_world.proofs.Boarding.{SameLive, board_stays, board_settles, board_opens}
 use Rattle.inst_world.proofs.Telling.{Ran, looked_still}

@@ -1,39 +1,33 @@
 -- An ask, over a board that has the model's outcomes, does what the model says.
-use Rattle.std.proofs.Common.{◌≡◌, ◌≢◌, ℕ, zero, suc, Bool, true, false, cond, eqb, leb, ltb, ◌&&◌, ◌||◌, ◌==◌, List, [], ◌∷◌, ◌++◌, length, take, Option, Some, None, is_none, is_some, Result, Ok, Err, refl, sym, ap, subst, ◌∙◌, inl, inr, ◌⊎◌, append-nil}
-use Rattle.std.specs.Prelude.{slice_get, position}
-use Rattle.std.specs.List.{filter}
-use Rattle.std.proofs.lemmas.Bool.{cases_eq, cases_Bool, cond-true, ne_eqb, true≢false, false≢true, and_parts, eqb-true}
+use Rattle.std.proofs.Common.{◌≡◌, ◌≢◌, ℕ, Bool, true, false, cond, leb, ltb, ◌&&◌, ◌==◌, List, [], ◌∷◌, take, Option, Some, None, is_none, Result, Ok, Err, refl, sym, ap, ◌∙◌, inl, inr, ◌⊎◌}
+use Rattle.std.proofs.lemmas.Bool.{cases_Bool, true≢false, false≢true, and_parts}
 use Rattle.inst_base.specs.TimeLimit.{deadline_of, is_due, is_ahead}
 use Rattle.inst_base.specs.declared.fault.Fault.{Fault}
 use Rattle.inst_base.specs.declared.fault.Fault.TheVariants.{Memory, SelfTransfer, UnknownTransfer, Duplicate, StampAhead, Expired, Full, Shortage}
-use Rattle.inst_settings.specs.Settings.{HubSettings, same_text}
+use Rattle.inst_settings.specs.Settings.{HubSettings}
 use Rattle.inst_command.specs.Deciding.{confirmed, rejected, expired}
 use Rattle.inst_command.specs.declared.ask.Ask.{Ask as AskValue}
 use Rattle.inst_command.specs.declared.command.Command.{Command}
 use Rattle.inst_command.specs.declared.command.Command.TheVariants.{Fund, Defund, Submit, Confirm, Reject, Investigate, Fetch, Position, Statement}
 use Rattle.inst_command.specs.declared.entry.Entry.{Entry}
 use Rattle.inst_command.specs.declared.outcome.Outcome.{Outcome}
-use Rattle.inst_command.specs.declared.reply.Reply.{Reply}
-use Rattle.inst_command.specs.declared.submission.Submission.{Submission}
 use Rattle.inst_command.specs.declared.step.Step.{Step}
-use Rattle.inst_command.specs.declared.step.Step.TheVariants.{Ask, Deliver, Learn}
+use Rattle.inst_command.specs.declared.step.Step.TheVariants.{Ask}
 use Rattle.inst_journal.specs.declared.event.Event.{Event}
-use Rattle.inst_journal.specs.declared.event.Event.TheVariants.{Funded, Defunded, Taken, Forwarded, Booked, Fetched, Opened}
 use Rattle.inst_journal.specs.declared.handle.Handled.{Handled}
-use Rattle.inst_journal.specs.Booked.{takes, is_taken, booked, is_forwarded, or_else, same_transfer}
+use Rattle.inst_journal.specs.Booked.{is_taken, booked, is_forwarded, or_else, same_transfer}
 use Rattle.inst_journal.specs.Keys.{is_fund_repeat, is_defund_repeat, is_submission_repeat, has_reference, fundings}
 use Rattle.inst_journal.specs.Money.{available}
-use Rattle.inst_journal.specs.Opened.{live_submissions, live_taken}
-use Rattle.inst_journal.specs.Reply.{handle, told, kept_events, funding, is_new_funding, standing, still_pending, hand_out, unread, keeping, answered}
+use Rattle.inst_journal.specs.Opened.{live_submissions}
+use Rattle.inst_journal.specs.Reply.{handle, told, funding, standing, still_pending, hand_out, unread}
 use Rattle.inst_model.specs.Opening.{Opening, IsOpening}
-use Rattle.inst_model.specs.Interleaving.{IsInterleaving}
-use Rattle.inst_model.specs.Transfer.{Transfer, transfer, at_place, deadline}
+use Rattle.inst_model.specs.Transfer.{Transfer, transfer, deadline}
 use Rattle.inst_model.specs.Found.{found}
 use Rattle.inst_model.specs.Wants.{is_addressed, ask_wants, taken_wants}
 use Rattle.inst_model.specs.Hub.{outcome, history}
-use Rattle.inst_model.proofs.Basics.{same_transfer-true, same_transfer_refl, or_else_none, or_else_kept}
+use Rattle.inst_model.proofs.Basics.{same_transfer-true, or_else_none, or_else_kept}
 use Rattle.inst_model.proofs.Outcomes.{booked_outcome}
-use Rattle.inst_model.proofs.Transfers.{transfer_id, transfer_taken}
+use Rattle.inst_model.proofs.Transfers.{transfer_taken}
 use Rattle.inst_slot.specs.Book.{Book}
 use Rattle.inst_slot.specs.Asking.{decides}
 

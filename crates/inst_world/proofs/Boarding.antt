@@ -1,12 +1,12 @@
 -- A board that has the model's outcomes has them after a step too.
-use Rattle.std.proofs.Common.{◌≡◌, ◌≢◌, ℕ, zero, suc, Bool, true, false, List, [], ◌∷◌, ◌++◌, length, Option, Some, None, refl, sym, ap, subst, ◌∙◌, inl, inr, ◌⊎◌}
+use Rattle.std.proofs.Common.{◌≡◌, ◌≢◌, ℕ, zero, suc, List, [], ◌∷◌, ◌++◌, length, Option, Some, None, refl, sym, ap, subst, ◌∙◌, inl, inr, ◌⊎◌}
 use Rattle.std.specs.Prelude.{slice_get}
 use Rattle.std.proofs.lemmas.Bool.{cases_eq}
 use Rattle.inst_settings.specs.Settings.{HubSettings}
 use Rattle.inst_command.specs.declared.outcome.Outcome.{Outcome}
 use Rattle.inst_command.specs.declared.step.Step.{Step}
 use Rattle.inst_board.specs.declared.place.Place.{Place}
-use Rattle.inst_board.specs.Standing.{Standing, unused, pending}
+use Rattle.inst_board.specs.Standing.{Standing, pending}
 use Rattle.inst_board.specs.Plain.{Contents, standing_at}
 use Rattle.inst_model.specs.Opening.{Opening, IsOpening}
 use Rattle.inst_model.specs.Interleaving.{IsInterleaving}
@@ -14,7 +14,6 @@ use Rattle.inst_model.specs.Transfer.{Transfer, live_transfers, at_place, deadli
 use Rattle.inst_model.specs.Hub.{outcome, history}
 use Rattle.inst_model.proofs.Together.{together}
 use Rattle.inst_slot.specs.Book.{place_at}
-use Rattle.inst_slot.proofs.Growing.{snoc_cases}
 use Rattle.inst_world.specs.HasRun.{StandsWith, StandsFor, terms_of, IsBoardOf}
 use Rattle.inst_world.proofs.Exactly.{IsTheSame, IsTheSameElsewhere, same_for}
 use Rattle.inst_world.proofs.Placing.{places_apart}

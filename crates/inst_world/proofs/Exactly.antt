@@ -9,13 +9,13 @@ use Rattle.inst_board.specs.declared.wish.Wish.{Wish}
 use Rattle.inst_board.specs.declared.about.About.TheVariants.{Opened, HasTerms, Due, Decided}
 use Rattle.inst_board.specs.Standing.{Standing, unused, pending, final, Says, about, look_of}
 use Rattle.inst_board.specs.Wish.{wanted}
-use Rattle.inst_board.specs.Learning.{Learns, Looks, Decides}
+use Rattle.inst_board.specs.Learning.{Looks}
 use Rattle.inst_board.specs.Plain.{Contents, standing_at, plain_knows, plain_stood, after, outcome_of}
 use Rattle.inst_board.specs.Laws.{SayTheSame, Stands}
-use Rattle.inst_board.proofs.Exact.{looks_exactly, decides_exactly, opens_exactly}
+use Rattle.inst_board.proofs.Exact.{looks_exactly, decides_exactly}
 use Rattle.inst_journal.specs.Booked.{or_else}
 use Rattle.inst_model.specs.Transfer.{Transfer, deadline}
-use Rattle.inst_slot.specs.Asking.{Finds, OnlyLooks}
+use Rattle.inst_slot.specs.Asking.{Finds}
 use Rattle.inst_world.specs.HasRun.{StandsWith, StandsFor, terms_of}
 
 pub say_pending : (p : Standing) (t : Terms) (d : ℕ) → SayTheSame p (pending t d) → p ≡ pending t d

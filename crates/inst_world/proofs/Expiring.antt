@@ -1,17 +1,14 @@
 -- An expiry, over a board that has the model's outcomes, does what the model says.
-use Rattle.std.proofs.Common.{◌≡◌, ◌≢◌, ℕ, zero, suc, Bool, true, false, cond, eqb, ◌&&◌, ◌||◌, ◌==◌, List, [], ◌∷◌, ◌++◌, length, Option, Some, None, is_none, is_some, Result, Ok, Err, refl, sym, ap, subst, ◌∙◌, inl, inr, ◌⊎◌}
+use Rattle.std.proofs.Common.{◌≡◌, ◌≢◌, ℕ, Bool, true, false, cond, ◌&&◌, ◌||◌, ◌==◌, List, [], ◌∷◌, Option, Some, None, is_none, is_some, Result, Ok, refl, sym, ap, subst, ◌∙◌, inl, inr, ◌⊎◌}
 use Rattle.std.specs.Prelude.{slice_get}
-use Rattle.std.proofs.lemmas.Bool.{cases_eq, cases_Bool, cond-true, ne_eqb, true≢false}
+use Rattle.std.proofs.lemmas.Bool.{cases_eq, cases_Bool, ne_eqb}
 use Rattle.inst_base.specs.declared.fault.Fault.{Fault}
-use Rattle.inst_base.specs.declared.fault.Fault.TheVariants.{Memory}
 use Rattle.inst_settings.specs.Settings.{HubSettings, same_text}
 use Rattle.inst_command.specs.Deciding.{expired}
 use Rattle.inst_command.specs.declared.outcome.Outcome.{Outcome}
 use Rattle.inst_command.specs.declared.step.Step.{Step}
-use Rattle.inst_command.specs.declared.step.Step.TheVariants.{Ask, Deliver, Learn, Expire}
-use Rattle.inst_board.specs.declared.place.Place.{Place}
+use Rattle.inst_command.specs.declared.step.Step.TheVariants.{Expire}
 use Rattle.inst_board.specs.declared.wish.Wish.TheVariants.{Expire as WishExpire}
-use Rattle.inst_board.specs.Standing.{Standing}
 use Rattle.inst_board.specs.Plain.{Contents, standing_at, plain_knows, plain_stood}
 use Rattle.inst_journal.specs.declared.event.Event.{Event}
 use Rattle.inst_journal.specs.declared.event.Event.TheVariants.{Funded, Defunded, Taken, Forwarded, Booked, Fetched, Opened}
@@ -19,24 +16,23 @@ use Rattle.inst_journal.specs.Booked.{booked, is_forwarded, or_else}
 use Rattle.inst_journal.specs.Opened.{live_taken}
 use Rattle.inst_model.specs.Opening.{Opening, IsOpening}
 use Rattle.inst_model.specs.Interleaving.{IsInterleaving}
-use Rattle.inst_model.specs.Transfer.{Transfer, terms, transfer, at_place, deadline, is_named}
+use Rattle.inst_model.specs.Transfer.{Transfer, transfer, at_place, deadline, is_named}
 use Rattle.inst_model.specs.View.{Seen, news, tells}
 use Rattle.inst_model.specs.Wants.{taken_wants}
 use Rattle.inst_model.specs.Hub.{outcome, history}
-use Rattle.inst_model.specs.Trace.{is_seen}
 use Rattle.inst_model.proofs.Basics.{eqb_refl, same_text_refl, same_text-true, or_else_none, or_else_kept}
 use Rattle.inst_model.proofs.Outcomes.{booked_outcome}
 use Rattle.inst_model.proofs.Together.{together}
 use Rattle.inst_model.proofs.Transfers.{place_found}
 use Rattle.inst_slot.specs.Book.{Book, place_at}
-use Rattle.inst_slot.specs.Asking.{Finds, OnlyLooks}
+use Rattle.inst_slot.specs.Asking.{Finds}
 use Rattle.inst_slot.specs.Telling.{with_event, taken_by, if_unbooked, unbooked_at, booking, ExpiresFor, Expires}
 use Rattle.inst_world.specs.HasRun.{StandsWith, StandsFor, terms_of, IsBoardOf, IsMember}
-use Rattle.inst_world.proofs.Exactly.{IsTheSame, Settled, finds_settle}
+use Rattle.inst_world.proofs.Exactly.{finds_settle}
 use Rattle.inst_world.proofs.Placing.{sees_this, if_own, at_taken, terms_in}
-use Rattle.inst_world.proofs.Matching.{Adds, expiry_tells}
+use Rattle.inst_world.proofs.Matching.{expiry_tells}
 use Rattle.inst_world.proofs.Boarding.{board_stays, board_settles}
-use Rattle.inst_world.proofs.Telling.{Ran, RanOrNot, takes_none, no_ask_expire, looked_still, added}
+use Rattle.inst_world.proofs.Telling.{RanOrNot, takes_none, no_ask_expire, looked_still, added}
 
 names_taken : (event : Option Event) → taken_by event ≡ elim (terms_in event) as (λ _. Option (List ℕ)) [ None ↦ None | Some x ↦ Some x.id ]
 names_taken None = refl

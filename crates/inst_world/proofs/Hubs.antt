@@ -1,8 +1,8 @@
 -- The books of a hub as one slot acts.
-use Rattle.std.proofs.Common.{◌≡◌, ◌≢◌, ℕ, zero, suc, ◌+◌, ◌<◌, Bool, true, false, List, [], ◌∷◌, ◌++◌, length, get_or, set, Option, Some, None, is_some, Result, Ok, Err, IfOk, OnErr, IsOkUnless, refl, sym, ap, subst, ◌∙◌, inl, inr, ◌⊎◌, ⊎_elim, arith, length-set, length-append}
-use Rattle.std.specs.Prelude.{slice_get, Contains}
+use Rattle.std.proofs.Common.{◌≡◌, ◌≢◌, ℕ, zero, suc, ◌<◌, Bool, true, false, List, [], ◌∷◌, length, get_or, set, Option, Some, None, is_some, Result, Ok, Err, IfOk, OnErr, refl, sym, ap, subst, ◌∙◌, inl, inr, ◌⊎◌, arith, length-set}
+use Rattle.std.specs.Prelude.{slice_get}
 use Rattle.std.proofs.lemmas.Option.{slice_get-get_or}
-use Rattle.std.proofs.lemmas.Bool.{cases_eq, and_parts, ltb-true}
+use Rattle.std.proofs.lemmas.Bool.{cases_eq, ltb-true}
 use Rattle.inst_base.specs.declared.fault.Fault.{Fault}
 use Rattle.inst_base.specs.declared.fault.Fault.TheVariants.{Memory}
 use Rattle.inst_settings.specs.Settings.{HubSettings, is_participant, participants}
@@ -21,8 +21,7 @@ use Rattle.inst_board.specs.declared.place.Place.{Place}
 use Rattle.inst_board.specs.declared.look.Look.{Look}
 use Rattle.inst_board.specs.declared.wish.Wish.{Wish}
 use Rattle.inst_board.specs.Learning.{Looks}
-use Rattle.inst_board.specs.Plain.{Contents, standing_at, plain_knows, plain_stood}
-use Rattle.inst_board.specs.Laws.{SayTheSame}
+use Rattle.inst_board.specs.Plain.{Contents, plain_knows, plain_stood}
 use Rattle.inst_model.specs.Opening.{Opening, IsOpening}
 use Rattle.inst_model.specs.Interleaving.{IsInterleaving}
 use Rattle.inst_model.specs.Found.{found}
@@ -39,19 +38,19 @@ use Rattle.inst_world.proofs.Telling.{Ran, RanOrNot, board_looked}
 use Rattle.inst_world.proofs.Asking.{never_memory}
 use Rattle.inst_world.proofs.Applying.{applies_run}
 
-get_set : {A : Type 0} (xs : List A) (i : ℕ) (v : A) → i < length xs → slice_get (set xs i v) i ≡ Some v
+pub get_set : {A : Type 0} (xs : List A) (i : ℕ) (v : A) → i < length xs → slice_get (set xs i v) i ≡ Some v
 get_set [] i v below = absurd (omega arith)
 get_set (x ∷ xs) zero v below = refl
 get_set (x ∷ xs) (suc i) v below = get_set xs i v (omega arith)
 
-get_set_other : {A : Type 0} (xs : List A) (i p : ℕ) (v : A) → p ≢ i → slice_get (set xs i v) p ≡ slice_get xs p
+pub get_set_other : {A : Type 0} (xs : List A) (i p : ℕ) (v : A) → p ≢ i → slice_get (set xs i v) p ≡ slice_get xs p
 get_set_other [] i p v other = refl
 get_set_other (x ∷ xs) zero zero v other = absurd (other refl)
 get_set_other (x ∷ xs) zero (suc p) v other = refl
 get_set_other (x ∷ xs) (suc i) zero v other = refl
 get_set_other (x ∷ xs) (suc i) (suc p) v other = get_set_other xs i p v (λ same. other (ap suc same))
 
-set_cases : {A : Type 0} (xs : List A) (i p : ℕ) (v x : A) → i < length xs → slice_get (set xs i v) p ≡ Some x → ((p ≡ i) × (x ≡ v)) ⊎ ((p ≢ i) × (slice_get xs p ≡ Some x))
+pub set_cases : {A : Type 0} (xs : List A) (i p : ℕ) (v x : A) → i < length xs → slice_get (set xs i v) p ≡ Some x → ((p ≡ i) × (x ≡ v)) ⊎ ((p ≢ i) × (slice_get xs p ≡ Some x))
 set_cases xs i p v x below e = elim (cases_eq p i) [
   | inl same ↦
       let here : Some v ≡ Some x = sym (get_set xs i v below) ∙ ap (slice_get (set xs i v)) (sym same) ∙ e in

@@ -5,8 +5,6 @@ pub mod BufferLemmas
 pub mod WriteLemmas
 pub mod SessionLemmas
 pub mod RunLemmas
-pub mod SlotsLemmas
-pub mod WorldLemmas
 pub mod Exactly
 pub mod Placing
 pub mod Matching
@@ -20,3 +18,13 @@ pub mod Applying
 pub mod Hubs
 pub mod Opening
 pub mod Running
+pub mod Promising
+pub mod Numbering
+pub mod Writing
+pub mod Following
+pub mod GoingOn
+pub mod AnsweringLemmas
+pub mod Carrying
+pub mod Reopening
+pub mod Carried
+pub mod Journals

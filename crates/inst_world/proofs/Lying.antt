@@ -1,16 +1,16 @@
 -- What the books of a participant know of places, over a board that has the model's outcomes.
-use Rattle.std.proofs.Common.{◌≡◌, ◌≢◌, ℕ, Bool, true, false, cond, eqb, ◌==◌, List, [], ◌∷◌, ◌++◌, Option, Some, None, is_none, is_some, refl, sym, ap, subst, ◌∙◌, inl, inr}
-use Rattle.std.proofs.lemmas.Bool.{true≢false, false≢true, cases_Bool}
+use Rattle.std.proofs.Common.{◌≡◌, ℕ, true, ◌==◌, List, Option, Some, None, is_some, refl, sym, ap, subst, ◌∙◌, inl, inr}
+use Rattle.std.proofs.lemmas.Bool.{false≢true, cases_Bool}
 use Rattle.inst_settings.specs.Settings.{HubSettings}
 use Rattle.inst_command.specs.declared.outcome.Outcome.{Outcome}
 use Rattle.inst_command.specs.declared.step.Step.{Step}
 use Rattle.inst_terms.specs.declared.terms.Terms.{Terms}
 use Rattle.inst_board.specs.declared.about.About.TheVariants.{Opened, HasTerms, Due}
-use Rattle.inst_board.specs.Standing.{Standing, Says, about}
+use Rattle.inst_board.specs.Standing.{Standing, Says}
 use Rattle.inst_board.specs.Plain.{Contents, standing_at, plain_knows}
 use Rattle.inst_board.specs.Laws.{KnowsOpening}
 use Rattle.inst_journal.specs.declared.event.Event.{Event}
-use Rattle.inst_journal.specs.Booked.{is_forwarded, booked}
+use Rattle.inst_journal.specs.Booked.{is_forwarded}
 use Rattle.inst_journal.specs.Opened.{is_live}
 use Rattle.inst_model.specs.Opening.{Opening, IsOpening}
 use Rattle.inst_model.specs.Interleaving.{IsInterleaving}
@@ -20,7 +20,6 @@ use Rattle.inst_model.proofs.Basics.{eqb_refl}
 use Rattle.inst_model.proofs.Transfers.{place_live}
 use Rattle.inst_model.proofs.Together.{together, live_together}
 use Rattle.inst_slot.specs.Book.{Book, place_at, terms_to, arrived_at, is_at}
-use Rattle.inst_slot.specs.LawfulBoard.{IsLawfulBoard, AllAreAdopted}
 use Rattle.inst_slot.proofs.Keeping.{ArrivedAt, arrival_at}
 use Rattle.inst_slot.proofs.Learning.{arrival_forwarded}
 use Rattle.inst_world.specs.HasRun.{StandsWith, StandsFor, terms_of, IsBoardOf, IsMember}

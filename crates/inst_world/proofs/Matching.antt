@@ -1,40 +1,22 @@
 -- What a slot does over a board that has the model's outcomes, and what the model says that its participant sees.
-use Rattle.std.proofs.Common.{◌≡◌, ◌≢◌, ℕ, zero, suc, Bool, true, false, not, cond, eqb, ◌&&◌, ◌||◌, ◌==◌, List, [], ◌∷◌, ◌++◌, Option, Some, None, is_none, is_some, refl, sym, ap, subst, ◌∙◌, inl, inr}
-use Rattle.std.specs.Prelude.{slice_get}
-use Rattle.std.proofs.lemmas.Bool.{cond-true, ne_eqb, true≢false, cases_eq, cases_Bool, eqb-true}
-use Rattle.inst_settings.specs.Settings.{HubSettings, same_text}
+use Rattle.std.proofs.Common.{◌≡◌, ℕ, Bool, true, false, not, cond, eqb, ◌&&◌, ◌||◌, ◌==◌, List, [], ◌∷◌, Option, Some, None, is_none, is_some, refl, sym, ap, subst, ◌∙◌, inl, inr}
+use Rattle.std.proofs.lemmas.Bool.{ne_eqb, true≢false, cases_eq}
+use Rattle.inst_settings.specs.Settings.{HubSettings}
 use Rattle.inst_command.specs.declared.entry.Entry.{Entry}
 use Rattle.inst_command.specs.declared.outcome.Outcome.{Outcome}
-use Rattle.inst_command.specs.declared.step.Step.{Step}
-use Rattle.inst_terms.specs.declared.terms.Terms.{Terms}
 use Rattle.inst_board.specs.declared.place.Place.{Place}
-use Rattle.inst_board.specs.declared.about.About.TheVariants.{Opened as IsOpened, HasTerms, Due, Decided}
-use Rattle.inst_board.specs.Standing.{Standing, unused, pending, final, Says, about, look_of}
-use Rattle.inst_board.specs.Plain.{Contents, standing_at, plain_knows}
-use Rattle.inst_board.specs.Laws.{KnowsOpening}
-use Rattle.inst_journal.specs.declared.event.Event.{Event}
-use Rattle.inst_journal.specs.declared.event.Event.TheVariants.{Funded, Defunded, Taken, Forwarded, Booked, Fetched, Opened}
+use Rattle.inst_board.specs.Standing.{Standing, look_of}
+use Rattle.inst_journal.specs.declared.event.Event.TheVariants.{Booked}
 use Rattle.inst_journal.specs.Booked.{booked, is_forwarded}
-use Rattle.inst_journal.specs.Opened.{carried, is_live, live_taken}
-use Rattle.inst_model.specs.Opening.{Opening, IsOpening}
-use Rattle.inst_model.specs.Interleaving.{IsInterleaving}
-use Rattle.inst_model.specs.Transfer.{Transfer, at_place, deadline}
+use Rattle.inst_model.specs.Transfer.{Transfer, deadline}
 use Rattle.inst_model.specs.View.{Seen, comes, news, tells}
-use Rattle.inst_model.specs.View.Seen.{Asked, Came, Told}
+use Rattle.inst_model.specs.View.Seen.{Came}
 use Rattle.inst_model.specs.Kept.{with_entries}
-use Rattle.inst_model.specs.Hub.{outcome, history}
 use Rattle.inst_model.specs.Trace.{is_some_entry}
 use Rattle.inst_model.proofs.Basics.{eqb_refl}
-use Rattle.inst_model.proofs.Transfers.{place_live}
-use Rattle.inst_model.proofs.Together.{together, live_together}
-use Rattle.inst_slot.specs.Book.{Book, place_at, terms_to, arrived_at, is_at}
-use Rattle.inst_slot.specs.LawfulBoard.{IsLawfulBoard, AllAreAdopted}
-use Rattle.inst_slot.specs.Telling.{delivery, with_delivery, is_party, lesson, with_event, taken_by, if_unbooked, unbooked_at, booking}
-use Rattle.inst_slot.proofs.Keeping.{arrival_at}
-use Rattle.inst_slot.proofs.Learning.{arrival_forwarded}
-use Rattle.inst_world.specs.HasRun.{StandsWith, StandsFor, terms_of, IsBoardOf, IsMember}
-use Rattle.inst_world.proofs.Placing.{at_taken, terms_in, places_apart}
-use Rattle.inst_slot.proofs.Adopting.{is_adopted}
+use Rattle.inst_slot.specs.Book.{Book, place_at, arrived_at, is_at}
+use Rattle.inst_slot.specs.Telling.{delivery, with_delivery, is_party, lesson, with_event, booking}
+use Rattle.inst_world.specs.HasRun.{StandsWith, StandsFor, terms_of}
 
 -- what is seen makes this book's history, and there is something exactly if this is said
 pub record Adds (s : HubSettings) (book : Book) (V : List Seen) (new : Book) (is_new : Bool) : Type 0 where

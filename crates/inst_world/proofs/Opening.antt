@@ -1,19 +1,18 @@
 -- A hub that opens for the first time.
-use Rattle.std.proofs.Common.{◌≡◌, ◌≢◌, ℕ, zero, suc, ◌+◌, ◌<◌, List, [], ◌∷◌, ◌++◌, length, Option, Some, None, refl, sym, ap, subst, ◌∙◌, inl, inr, ⊎_elim, arith, length-append}
+use Rattle.std.proofs.Common.{◌≡◌, ℕ, zero, suc, ◌+◌, List, [], ◌∷◌, ◌++◌, length, Some, refl, sym, ap, subst, ◌∙◌, ⊎_elim, arith, length-append}
 use Rattle.std.specs.Prelude.{slice_get, Contains}
 use Rattle.inst_settings.specs.Settings.{HubSettings, participants}
 use Rattle.inst_board.specs.declared.place.Place.{Place}
 use Rattle.inst_board.specs.declared.about.Fact.{Fact}
 use Rattle.inst_board.specs.declared.plain.Kept.{Kept}
 use Rattle.inst_board.specs.declared.plain.Kept.TheVariants.{Unused}
-use Rattle.inst_board.specs.Standing.{Standing, Says}
-use Rattle.inst_board.specs.Plain.{Contents, kept_at, standing_of, standing_at, plain_knows}
-use Rattle.inst_journal.specs.declared.event.Event.{Event}
+use Rattle.inst_board.specs.Standing.{Says}
+use Rattle.inst_board.specs.Plain.{Contents, kept_at, standing_of, plain_knows}
 use Rattle.inst_model.specs.Opening.Opening.{First}
 use Rattle.inst_slot.specs.declared.arrival.Arrival.{Arrival}
 use Rattle.inst_slot.specs.Book.{Book}
 use Rattle.inst_slot.proofs.Growing.{snoc_cases}
-use Rattle.inst_world.specs.HasRun.{Hub, IsMember, IsHub, HasRun, new_book, new_books}
+use Rattle.inst_world.specs.HasRun.{IsMember, IsHub, HasRun, new_book, new_books}
 use Rattle.inst_slot.proofs.Adopting.{begins}
 
 same_book : (book other : Book) → book.settings ≡ other.settings → book.who ≡ other.who → book.events ≡ other.events → book.arrivals ≡ other.arrivals → book ≡ other
@@ -40,7 +39,7 @@ new_at s (suc n) p book e = ⊎_elim
     (snoc_cases (new_books s n) (new_book s n) book p e)
 
 module _ (b : Contents) (unused : (place : Place) → kept_at b place ≡ Unused) where
-  nothing_known : (f : Fact) → ¬ plain_knows b f
+  pub nothing_known : (f : Fact) → ¬ plain_knows b f
   nothing_known f knows = subst (λ (k : Kept). Says (standing_of k) f.about) (unused f.place) knows
 
   new_member : (p : ℕ) → IsMember b.settings b p (new_book b.settings p)

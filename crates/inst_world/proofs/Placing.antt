@@ -1,8 +1,8 @@
 -- Where the live transfers of an originator stand in the model, and what a step leaves of that.
-use Rattle.std.proofs.Common.{◌≡◌, ◌≢◌, ℕ, zero, suc, ◌+◌, ◌≤◌, Bool, true, false, cond, eqb, ◌&&◌, List, [], ◌∷◌, ◌++◌, Option, Some, None, is_none, refl, sym, ap, subst, ◌∙◌, arith, inl, inr, append-nil, sum_by}
+use Rattle.std.proofs.Common.{◌≡◌, ◌≢◌, ℕ, zero, suc, ◌≤◌, Bool, true, false, cond, eqb, List, [], ◌∷◌, ◌++◌, Option, Some, None, is_none, refl, sym, ap, ◌∙◌, arith, append-nil, sum_by}
 use Rattle.std.specs.Prelude.{slice_get}
 use Rattle.std.specs.List.{filter, cons_option}
-use Rattle.std.proofs.lemmas.Bool.{cond-true, ne_eqb, true≢false, cases_eq}
+use Rattle.std.proofs.lemmas.Bool.{cond-true, ne_eqb}
 use Rattle.std.proofs.lemmas.List.Sums.{sum_by-cons}
 use Rattle.inst_settings.specs.Settings.{HubSettings, same_text}
 use Rattle.inst_command.specs.declared.outcome.Outcome.{Outcome}
@@ -10,13 +10,12 @@ use Rattle.inst_command.specs.declared.step.Step.{Step}
 use Rattle.inst_command.specs.declared.step.Step.TheVariants.{Ask, Deliver, Learn, Expire}
 use Rattle.inst_journal.specs.declared.event.Event.{Event}
 use Rattle.inst_journal.specs.declared.event.Event.TheVariants.{Funded, Defunded, Taken, Forwarded, Booked, Fetched, Opened}
-use Rattle.inst_journal.specs.Booked.{booked, is_taken, or_else}
+use Rattle.inst_journal.specs.Booked.{booked, or_else}
 use Rattle.inst_journal.specs.Opened.{carried, is_opening, is_live, takes_live, live_taken}
 use Rattle.inst_journal.specs.Sound.{IsSound}
 use Rattle.inst_journal.proofs.Counting.{stranger_unbooked}
 use Rattle.inst_journal.proofs.OwnBookings.{own_unforwarded}
 use Rattle.inst_model.specs.Opening.{Opening, IsOpening, beginning}
-use Rattle.inst_model.specs.Interleaving.{IsInterleaving}
 use Rattle.inst_model.specs.Transfer.{Transfer, terms, transfers, live_transfers, at_place, transfer}
 use Rattle.inst_model.specs.Wants.{taken_wants, wants}
 use Rattle.inst_model.specs.View.{Seen, sees}
@@ -25,11 +24,11 @@ use Rattle.inst_model.specs.Hub.{decided, outcome, history}
 use Rattle.inst_model.specs.Trace.{is_seen, is_some_entry}
 use Rattle.inst_model.proofs.Basics.{same_text_refl, eqb_refl}
 use Rattle.inst_model.proofs.Beginning.{beginning_sound}
-use Rattle.inst_model.proofs.Histories.{history_step, next}
+use Rattle.inst_model.proofs.Histories.{history_step}
 use Rattle.inst_model.proofs.Mirror.{measure_of, measure_named, single}
 use Rattle.inst_model.proofs.Naming.{live_grown}
 use Rattle.inst_model.proofs.Together.{transfer_next}
-use Rattle.inst_model.proofs.Transfers.{transfer_some, transfer_none}
+use Rattle.inst_model.proofs.Transfers.{transfer_some}
 
 abbrev pub terms_in : Option Event → Option Transfer
 terms_in None = None

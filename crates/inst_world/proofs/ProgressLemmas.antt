@@ -5,7 +5,7 @@ use Rattle.std.proofs.lemmas.Bool.{false≢true}
 use Rattle.std.specs.Io.KnownBytes.{Appends, Consumes, Keeps}
 use Rattle.inst_world.specs.Lines.{newline, lines_of, whole_lines_of, whole_lines_within, NoNewline}
 use Rattle.inst_world.specs.Limits.{most_line_bytes, most_lines, most_bytes}
-use Rattle.inst_world.specs.Answers.{Answerer, reply_to, state_after_line, is_refused, output, state_after, refusals, IsFront, MakesRoom, AnswersLine}
+use Rattle.inst_world.specs.Answers.{Answerer, reply_to, state_after_line, is_refused, output, state_after, refusals, IsFront, MakesRoom}
 use Rattle.inst_world.specs.Replies.{WritesPart, WritesFirst}
 use Rattle.inst_world.specs.Progress.{Splits, Progress, Stopped, Finished, CutOff}
 use Rattle.inst_world.proofs.LinesLemmas.{lines_of-line, whole_lines_of-line, lines_of-part, whole_lines_of-part, NoNewline-append}
@@ -107,18 +107,18 @@ module _ {S : Type 0} (a : Answerer S) (start : S) (before : Option (List ℕ)) 
   NoNewline-front false front part h none = subst (λ (t : List ℕ). NoNewline (t ++ part)) (sym h) none
 
   pub progress-line : (bytes : List ℕ) (now : Option (List ℕ)) (pending : List ℕ) (state : S) (is_long : Bool) (held : List ℕ) (lines refused : ℕ)
-      (line later : List ℕ) (pending' : List ℕ) (state' : S) (is_refused' : Bool) (lines' refused' : ℕ)
-      → Progress a start before bytes now pending state is_long held lines refused
+      (line later : List ℕ) (pending' : List ℕ) (is_refused' : Bool) (lines' refused' : ℕ)
+      → (p : Progress a start before bytes now pending state is_long held lines refused)
       → NoNewline line → held ≡ line ++ (newline ∷ later)
-      → AnswersLine a is_long line state state' pending pending' is_refused'
+      → pending' ≡ pending ++ (reply_to a state (p.front ++ line) ++ newline ∷ []) → is_refused' ≡ is_refused a state (p.front ++ line)
       → lines' ≡ lines + 1 → refused' ≡ refused + cond is_refused' 1 0
-      → Progress a start before bytes now pending' state' false later lines' refused'
-  progress-line bytes now pending state is_long held lines refused line later pending' state' is_refused' lines' refused' p none is answers more_lines more_refused =
+      → Progress a start before bytes now pending' (state_after_line a state (p.front ++ line)) false later lines' refused'
+  progress-line bytes now pending state is_long held lines refused line later pending' is_refused' lines' refused' p none is replied refusal more_lines more_refused =
       let whole : List ℕ = p.front ++ line in
       let closed : NoNewline whole = NoNewline-front is_long p.front line p.is_front none in
       let rest_is : p.front ++ held ≡ whole ++ (newline ∷ later) = ap (λ (t : List ℕ). p.front ++ t) is ∙ sym (append_assoc p.front line (newline ∷ later)) in
       let reply_is : pending' ≡ pending ++ (reply_to a (state_after a start p.answered) whole ++ newline ∷ []) =
-      answers.reply p.front p.is_front ∙ ap (λ (s : S). pending ++ (reply_to a s whole ++ newline ∷ [])) p.state_is in
+      replied ∙ ap (λ (s : S). pending ++ (reply_to a s whole ++ newline ∷ [])) p.state_is in
       record {
         answered = p.answered ++ whole ∷ [];
         front = [];
@@ -127,10 +127,10 @@ module _ {S : Type 0} (a : Answerer S) (start : S) (before : Option (List ℕ)) 
         is_front = refl;
         appends = p.appends;
         replies = ap (λ (t : List ℕ). p.written ++ t) reply_is ∙ sym (append_assoc p.written pending _) ∙ ap (λ (t : List ℕ). t ++ (reply_to a (state_after a start p.answered) whole ++ newline ∷ [])) p.replies ∙ sym (output-push a start p.answered whole);
-        state_is = answers.state p.front p.is_front ∙ ap (λ (s : S). state_after_line a s whole) p.state_is ∙ sym (state_after-push a start p.answered whole);
+        state_is = ap (λ (s : S). state_after_line a s whole) p.state_is ∙ sym (state_after-push a start p.answered whole);
         lines_are = more_lines ∙ ap (λ (n : ℕ). n + 1) p.lines_are ∙ sym (length-append p.answered (whole ∷ []));
         refused_are = more_refused ∙ ap (λ (n : ℕ). n + cond is_refused' 1 0) p.refused_are
-            ∙ ap (λ (b : Bool). refusals a start p.answered + cond b 1 0) (answers.refusal p.front p.is_front ∙ ap (λ (s : S). is_refused a s whole) p.state_is)
+            ∙ ap (λ (b : Bool). refusals a start p.answered + cond b 1 0) (refusal ∙ ap (λ (s : S). is_refused a s whole) p.state_is)
             ∙ sym (refusals-push a start p.answered whole);
       }
 
@@ -232,14 +232,16 @@ module _ {S : Type 0} (a : Answerer S) (start : S) (before : Option (List ℕ)) 
 
   -- a last line with no newline is answered
   pub progress-last : (bytes : List ℕ) (now now' : Option (List ℕ)) (pending : List ℕ) (state : S) (is_long : Bool) (held : List ℕ) (lines refused : ℕ)
-      (pending' : List ℕ) (state' : S) (is_refused' : Bool) (lines' refused' : ℕ)
-      → Progress a start before bytes now pending state is_long held lines refused
+      (pending' : List ℕ) (is_refused' : Bool) (lines' refused' : ℕ)
+      → (p : Progress a start before bytes now pending state is_long held lines refused)
       → NoNewline held → (is_long ≡ true) ⊎ (0 < length held)
-      → AnswersLine a is_long held state state' pending pending' is_refused'
+      → pending' ≡ pending ++ (reply_to a state (p.front ++ held) ++ newline ∷ []) → is_refused' ≡ is_refused a state (p.front ++ held)
       → lines' ≡ lines + 1 → refused' ≡ refused + cond is_refused' 1 0
-      → Progress a start before (bytes ++ newline ∷ []) now pending' state' false [] lines' refused' × (lines_of (bytes ++ newline ∷ []) ≡ lines_of bytes)
-  progress-last bytes now now' pending state is_long held lines refused pending' state' is_refused' lines' refused' p none some answers more_lines more_refused = (
-    progress-line (bytes ++ newline ∷ []) now pending state is_long (held ++ newline ∷ []) lines refused held [] pending' state' is_refused' lines' refused'
-        (progress-read bytes now pending state is_long held lines refused (newline ∷ []) p) none refl answers more_lines more_refused,
+      → Progress a start before (bytes ++ newline ∷ []) now pending' (state_after_line a state (p.front ++ held)) false [] lines' refused'
+      × (lines_of (bytes ++ newline ∷ []) ≡ lines_of bytes)
+  unfolding progress-read
+  progress-last bytes now now' pending state is_long held lines refused pending' is_refused' lines' refused' p none some replied refusal more_lines more_refused = (
+    progress-line (bytes ++ newline ∷ []) now pending state is_long (held ++ newline ∷ []) lines refused held [] pending' is_refused' lines' refused'
+        (progress-read bytes now pending state is_long held lines refused (newline ∷ []) p) none refl replied refusal more_lines more_refused,
     lines_of-closed bytes p.answered (p.front ++ held) p.splits (NoNewline-front is_long p.front held p.is_front none) (some_in_line is_long p.front held p.is_front some),
   )

@@ -1,49 +1,36 @@
 -- A delivery, a lesson and an expiry, over a board that has the model's outcomes, do what the model says.
-use Rattle.std.proofs.Common.{◌≡◌, ◌≢◌, ℕ, zero, suc, Bool, true, false, cond, eqb, ◌&&◌, ◌||◌, ◌==◌, List, [], ◌∷◌, ◌++◌, length, Option, Some, None, is_none, is_some, Result, Ok, Err, refl, sym, ap, subst, ◌∙◌, inl, inr, ◌⊎◌}
-use Rattle.std.specs.Prelude.{slice_get}
-use Rattle.std.proofs.lemmas.Bool.{cases_eq, cases_Bool, cond-true}
+use Rattle.std.proofs.Common.{◌≡◌, ◌≢◌, ℕ, Bool, List, ◌∷◌, Option, is_some, Result, Ok, Err, refl, sym, ap, subst, ◌∙◌, inl, inr, ◌⊎◌}
+use Rattle.std.proofs.lemmas.Bool.{cases_eq}
 use Rattle.inst_base.specs.declared.fault.Fault.{Fault}
 use Rattle.inst_base.specs.declared.fault.Fault.TheVariants.{Memory}
-use Rattle.inst_settings.specs.Settings.{HubSettings, same_text}
-use Rattle.inst_command.specs.Deciding.{expired}
+use Rattle.inst_settings.specs.Settings.{HubSettings}
 use Rattle.inst_command.specs.declared.ask.Ask.{Ask as AskValue}
-use Rattle.inst_command.specs.declared.outcome.Outcome.{Outcome}
 use Rattle.inst_command.specs.declared.step.Step.{Step}
 use Rattle.inst_command.specs.declared.step.Step.TheVariants.{Ask, Deliver, Learn, Expire}
 use Rattle.inst_board.specs.declared.place.Place.{Place}
 use Rattle.inst_board.specs.declared.look.Look.{Look}
-use Rattle.inst_board.specs.declared.wish.Wish.TheVariants.{Expire as WishExpire}
-use Rattle.inst_board.specs.Standing.{Standing, look_of}
 use Rattle.inst_board.specs.Learning.{Looks}
 use Rattle.inst_board.specs.Plain.{Contents, standing_at, plain_knows, plain_stood}
 use Rattle.inst_board.specs.Laws.{SayTheSame, Stands}
 use Rattle.inst_journal.specs.declared.event.Event.{Event}
-use Rattle.inst_journal.specs.declared.event.Event.TheVariants.{Funded, Defunded, Taken, Forwarded, Booked, Fetched, Opened}
-use Rattle.inst_journal.specs.Booked.{booked, is_forwarded, or_else}
-use Rattle.inst_journal.specs.Opened.{live_taken}
+use Rattle.inst_journal.specs.declared.event.Event.TheVariants.{Forwarded, Booked}
 use Rattle.inst_model.specs.Opening.{Opening, IsOpening}
 use Rattle.inst_model.specs.Interleaving.{IsInterleaving}
-use Rattle.inst_model.specs.Transfer.{Transfer, terms, transfer, live_transfers, at_place, deadline, is_named}
-use Rattle.inst_model.specs.View.{Seen, comes, news, tells}
+use Rattle.inst_model.specs.Transfer.{Transfer, live_transfers, at_place, deadline}
+use Rattle.inst_model.specs.View.{Seen, comes, tells}
 use Rattle.inst_model.specs.Kept.{with_entries}
-use Rattle.inst_model.specs.Wants.{wants, taken_wants}
-use Rattle.inst_model.specs.Hub.{decided, outcome, history}
+use Rattle.inst_model.specs.Hub.{outcome, history}
 use Rattle.inst_model.specs.Trace.{is_seen, is_some_entry}
-use Rattle.inst_model.proofs.Basics.{eqb_refl, same_text_refl, same_text-true, or_else_none, or_else_kept}
 use Rattle.inst_model.proofs.Histories.{by_step}
-use Rattle.inst_model.proofs.Outcomes.{booked_outcome}
 use Rattle.inst_model.proofs.Telling.{same_outcome}
-use Rattle.inst_model.proofs.Together.{together}
-use Rattle.inst_model.proofs.Transfers.{place_found, transfer_id}
 use Rattle.inst_slot.specs.Book.{Book, place_at}
-use Rattle.inst_slot.specs.Asking.{Finds, OnlyLooks}
-use Rattle.inst_slot.specs.Telling.{delivery, with_delivery, lesson, with_event, Keeps, taken_id, taken_by, if_unbooked, unbooked_at, booking, ExpiresFor, Expires}
-use Rattle.inst_world.specs.HasRun.{StandsWith, StandsFor, terms_of, IsBoardOf, IsMember}
-use Rattle.inst_world.proofs.Exactly.{IsTheSame, Settled, same_with, same_for, looked, finds_settle}
-use Rattle.inst_world.proofs.Placing.{Sees, sees_this, if_own, live_kept, at_taken, terms_in, actor}
-use Rattle.inst_world.proofs.Matching.{Adds, delivery_comes, lesson_tells, expiry_tells}
+use Rattle.inst_slot.specs.Telling.{delivery, with_delivery, lesson, with_event, Keeps}
+use Rattle.inst_world.specs.HasRun.{IsBoardOf, IsMember}
+use Rattle.inst_world.proofs.Exactly.{IsTheSame, same_for, looked}
+use Rattle.inst_world.proofs.Placing.{Sees, sees_this, if_own, live_kept, actor}
+use Rattle.inst_world.proofs.Matching.{Adds, delivery_comes, lesson_tells}
 use Rattle.inst_world.proofs.Lying.{arrived_there}
-use Rattle.inst_world.proofs.Boarding.{SameLive, board_stays, board_settles}
+use Rattle.inst_world.proofs.Boarding.{SameLive, board_stays}
 
 -- a step that is no ask takes nothing
 pub takes_none : (s : HubSettings) (O : Opening) (step : Step) (L : List Step) → ((ask : AskValue) → step ≡ Ask ask → ⊥) → SameLive s O step L

@@ -1,8 +1,8 @@
 -- What an ask that decides a transfer wants, in the model and at its slot.
-use Rattle.std.proofs.Common.{◌≡◌, ◌≢◌, ℕ, zero, suc, Bool, true, false, cond, eqb, ◌&&◌, ◌||◌, ◌==◌, List, [], ◌∷◌, ◌++◌, Option, Some, None, is_none, is_some, refl, sym, ap, subst, ◌∙◌, inl, inr, ◌⊎◌}
+use Rattle.std.proofs.Common.{◌≡◌, ◌≢◌, ℕ, Bool, true, false, cond, ◌&&◌, ◌==◌, List, ◌∷◌, Option, Some, None, refl, sym, ap, ◌∙◌, inl, inr, ◌⊎◌}
 use Rattle.std.specs.Prelude.{slice_get, position}
-use Rattle.std.proofs.lemmas.Bool.{cases_eq, cases_Bool, cond-true, true≢false, false≢true, and_parts, eqb-true}
-use Rattle.inst_settings.specs.Settings.{HubSettings, same_text}
+use Rattle.std.proofs.lemmas.Bool.{cases_Bool, cond-true}
+use Rattle.inst_settings.specs.Settings.{HubSettings}
 use Rattle.inst_command.specs.Deciding.{confirmed, rejected, expired}
 use Rattle.inst_command.specs.declared.ask.Ask.{Ask as AskValue}
 use Rattle.inst_command.specs.declared.command.Command.{Command}
@@ -17,12 +17,11 @@ use Rattle.inst_board.specs.declared.wish.Wish.TheVariants.{Accept, Reject as Wi
 use Rattle.inst_board.specs.Wish.{wanted}
 use Rattle.inst_board.specs.Plain.{Contents}
 use Rattle.inst_journal.specs.declared.event.Event.{Event}
-use Rattle.inst_journal.specs.declared.event.Event.TheVariants.{Taken}
 use Rattle.inst_journal.specs.Booked.{takes, is_taken, booked, is_forwarded, or_else, same_transfer}
 use Rattle.inst_journal.specs.Opened.{live_taken}
 use Rattle.inst_model.specs.Opening.{Opening, IsOpening}
 use Rattle.inst_model.specs.Interleaving.{IsInterleaving}
-use Rattle.inst_model.specs.Transfer.{Transfer, transfer, at_place, deadline}
+use Rattle.inst_model.specs.Transfer.{Transfer, at_place, deadline}
 use Rattle.inst_model.specs.Found.{found}
 use Rattle.inst_model.specs.Wants.{is_addressed, ask_wants, taken_wants}
 use Rattle.inst_model.specs.Hub.{outcome, history}

@@ -1,10 +1,10 @@
--- What is answered to lines, at any world. This hub's own choice.
+-- What is answered to lines, at any world that holds a state. This hub's own choice.
 use Rattle.std.specs.Prelude.{◌≡◌, ℕ, ◌+◌, ◌<◌, Bool, true, false, List, [], ◌∷◌, ◌++◌, length, nat_lt, if◌then◌else◌}
 use Rattle.inst_world.specs.Limits.{most_line_bytes}
 use Rattle.inst_world.specs.Lines.{newline, NoNewline}
 
--- how a world of states S answers a line: by which reply, into which state, and whether the reply is
--- a refusal; and the reply to a line that is too long, which is a refusal and changes no state
+-- how a line is answered at a state: by which reply, into which state, and whether the reply is a refusal; and the reply
+-- to a line that is too long, which is a refusal and changes no state
 pub record Answerer (S : Type 0) : Type 0 where
   pub reply : S → List ℕ → List ℕ
   pub next : S → List ℕ → S
@@ -53,9 +53,10 @@ pub record MakesRoom (was_long : Bool) (old : List ℕ) (is_long : Bool) (new : 
   pub no_newline : NoNewline new
   pub idle : was_long ≡ false → old ≡ [] → (is_long ≡ false) × (new ≡ [])
 
--- a line is answered, of which this part is held and any front of it was let go
-pub record AnswersLine {S : Type 0} (a : Answerer S) (is_long : Bool) (part : List ℕ) (old new : S)
-    (out_old out_new : List ℕ) (refused : Bool) : Type 0 where
-  pub reply : (front : List ℕ) → IsFront is_long front → out_new ≡ out_old ++ (reply_to a old (front ++ part) ++ newline ∷ [])
-  pub state : (front : List ℕ) → IsFront is_long front → new ≡ state_after_line a old (front ++ part)
-  pub refusal : (front : List ℕ) → IsFront is_long front → refused ≡ is_refused a old (front ++ part)
+-- a line is answered, of which this part is held and any front of it was let go, whatever state the world holds
+pub record AnswersLine {S W : Type 0} (a : Answerer S) (holds : S → W → Type 0) (is_long : Bool) (part : List ℕ)
+    (old new : W) (out_old out_new : List ℕ) (refused : Bool) : Type 0 where
+  pub reply : (s : S) → holds s old → (front : List ℕ) → IsFront is_long front →
+      out_new ≡ out_old ++ (reply_to a s (front ++ part) ++ newline ∷ [])
+  pub state : (s : S) → holds s old → (front : List ℕ) → IsFront is_long front → holds (state_after_line a s (front ++ part)) new
+  pub refusal : (s : S) → holds s old → (front : List ℕ) → IsFront is_long front → refused ≡ is_refused a s (front ++ part)

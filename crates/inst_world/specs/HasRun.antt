@@ -10,6 +10,7 @@ use Rattle.inst_command.specs.declared.reply.Answer.{Answer}
 use Rattle.inst_command.specs.declared.reply.Reply.{Reply}
 use Rattle.inst_command.specs.declared.reply.Reply.TheVariants.{Refused}
 use Rattle.inst_command.specs.declared.step.Step.{Step}
+use Rattle.inst_journal.specs.declared.event.Event.{Event}
 use Rattle.inst_terms.specs.declared.terms.Terms.{Terms}
 use Rattle.inst_board.specs.declared.place.Place.{Place}
 use Rattle.inst_board.specs.Standing.{Standing, unused, pending, final}
@@ -27,6 +28,15 @@ use Rattle.inst_slot.specs.LawfulBoard.{IsLawfulBoard, AllAreAdopted}
 pub record Hub : Type 0 where
   pub books : List Book
   pub board : Contents
+
+-- the events of a book, where there is one
+abbrev pub events_of : Option Book → List Event
+events_of None = []
+events_of (Some book) = book.events
+
+-- the journal of a participant
+abbrev pub journal_of : Hub → ℕ → List Event
+journal_of hub p = events_of (slice_get hub.books p)
 
 abbrev pub settings_of : Hub → HubSettings
 settings_of hub = hub.board.settings
@@ -69,6 +79,10 @@ pub record HasRun (O : Opening) (L : List Step) (hub : Hub) : Type 0 where
   pub steps : IsInterleaving (settings_of hub) L
   pub histories : (p : ℕ) (book : Book) → slice_get hub.books p ≡ Some book → book.events ≡ history (settings_of hub) O L p
   pub board : IsBoardOf (settings_of hub) O L hub.board
+
+-- the world has run some steps since some opening
+abbrev pub HasRunSomething : Hub → Type 0
+HasRunSomething hub = (O : Opening) × (L : List Step) × HasRun O L hub
 
 -- from the first world to the second the step was run, whatever was run before, and answered as the model answers it
 abbrev pub Runs : Hub → Step → Answer → Hub → Type 0

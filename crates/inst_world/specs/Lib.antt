@@ -1,11 +1,12 @@
 pub mod Limits
 pub mod Lines
 pub mod Answers
-pub mod Book
-pub mod World
-pub mod Slots
+pub mod HasRun
+pub mod FollowUps
+pub mod Answering
 pub mod LineBuffer
 pub mod Replies
 pub mod Progress
 pub mod Session
-pub mod HasRun
+pub mod Headline
+pub mod NextOpening

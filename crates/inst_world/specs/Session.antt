@@ -1,4 +1,4 @@
--- How far a session has come, at any world.
+-- How far a session has come, at any world that holds a state by which lines are answered.
 use Rattle.std.specs.Prelude.{◌≡◌, ℕ, ◌+◌, ◌<◌, ◌≤◌, Bool, false, cond, List, [], ◌++◌, length, take, drop, Option}
 use Rattle.std.specs.Io.KnownBytes.{Consumes, IsAtEnd}
 use Rattle.inst_base.specs.declared.fault.Fault.{Fault}
@@ -12,8 +12,10 @@ use Rattle.inst_world.specs.LineBuffer.{held}
 use Rattle.inst_world.specs.Progress.{Progress, Stopped, Finished, CutOff}
 
 -- the session has come this far in the bytes that were read
-pub record Reached {S : Type 0} (a : Answerer S) (start : S) (before : Option (List ℕ)) (bytes : List ℕ)
-    (now : Option (List ℕ)) (session : Session) (state : S) : Type 0 where
+pub record Reached {S W : Type 0} (a : Answerer S) (holds : S → W → Type 0) (start : S) (before : Option (List ℕ)) (bytes : List ℕ)
+    (now : Option (List ℕ)) (session : Session) (world : W) : Type 0 where
+  pub state : S
+  pub is_held : holds state world
   pub progress : Progress a start before bytes now session.replies.bytes.items state
       session.input.is_long (held session.input) session.counts.lines session.counts.refused
   pub taken_is : session.input.taken ≡ length bytes
@@ -30,9 +32,11 @@ pub record IsReady (session : Session) : Type 0 where
   pub room : session.input.end ≤ most_line_bytes
 
 -- the first n bytes that are held are answered as the rest of a line, and let go with the byte after them
-pub record TakesLine {S : Type 0} (a : Answerer S) (n : ℕ) (old new : Session) (old_state new_state : S) : Type 0 where
+pub record TakesLine {S W : Type 0} (a : Answerer S) (holds : S → W → Type 0) (n : ℕ) (old new : Session)
+    (old_world new_world : W) : Type 0 where
   pub is_refused : Bool
-  pub answers : AnswersLine a old.input.is_long (take n (held old.input)) old_state new_state old.replies.bytes.items new.replies.bytes.items is_refused
+  pub answers : AnswersLine a holds old.input.is_long (take n (held old.input)) old_world new_world
+      old.replies.bytes.items new.replies.bytes.items is_refused
   pub held_is : held new.input ≡ drop (n + 1) (held old.input)
   pub is_long_is : new.input.is_long ≡ false
   pub taken_is : new.input.taken ≡ old.input.taken
@@ -40,34 +44,38 @@ pub record TakesLine {S : Type 0} (a : Answerer S) (n : ℕ) (old new : Session)
   pub refused_are : new.counts.refused ≡ old.counts.refused + cond is_refused 1 0
 
 -- what was answered stays answered, with no further read
-pub record Advances {S : Type 0} (a : Answerer S) (old : Session) (old_state : S) (now : Option (List ℕ))
-    (new : Session) (new_state : S) (now' : Option (List ℕ)) : Type 0 where
+pub record Advances {S W : Type 0} (a : Answerer S) (holds : S → W → Type 0) (old : Session) (old_world : W) (now : Option (List ℕ))
+    (new : Session) (new_world : W) (now' : Option (List ℕ)) : Type 0 where
   pub reaches : (start : S) (before : Option (List ℕ)) (bytes : List ℕ) →
-      Reached a start before bytes now old old_state → Reached a start before bytes now' new new_state
+      Reached a holds start before bytes now old old_world → Reached a holds start before bytes now' new new_world
 
 -- a front of the replies is written
-pub record Stops {S : Type 0} (a : Answerer S) (old : Session) (old_state : S) (now now' : Option (List ℕ)) : Type 0 where
+pub record Stops {S W : Type 0} (a : Answerer S) (holds : S → W → Type 0) (old : Session) (old_world : W)
+    (now now' : Option (List ℕ)) : Type 0 where
   pub stops : (start : S) (before : Option (List ℕ)) (bytes : List ℕ) →
-      Reached a start before bytes now old old_state → Stopped a start before bytes now'
+      Reached a holds start before bytes now old old_world → Stopped a start before bytes now'
 
 -- the replies to all the bytes are written or pending
-pub record AnsweredAll {S : Type 0} (a : Answerer S) (start : S) (before : Option (List ℕ)) (bytes : List ℕ)
-    (now : Option (List ℕ)) (session : Session) (state : S) : Type 0 where
+pub record AnsweredAll {S W : Type 0} (a : Answerer S) (holds : S → W → Type 0) (start : S) (before : Option (List ℕ)) (bytes : List ℕ)
+    (now : Option (List ℕ)) (session : Session) (world : W) : Type 0 where
+  pub state : S
+  pub is_held : holds state world
   pub closed : List ℕ
   pub progress : Progress a start before closed now session.replies.bytes.items state false [] session.counts.lines session.counts.refused
   pub same_lines : lines_of closed ≡ lines_of bytes
 
 -- a last line is answered
-pub record AnswersLast {S : Type 0} (a : Answerer S) (old new : Session) (old_state new_state : S) : Type 0 where
+pub record AnswersLast {S W : Type 0} (a : Answerer S) (holds : S → W → Type 0) (old new : Session)
+    (old_world new_world : W) : Type 0 where
   pub ends : (start : S) (before : Option (List ℕ)) (bytes : List ℕ) (now : Option (List ℕ)) →
-      Reached a start before bytes now old old_state → AnsweredAll a start before bytes now new new_state
+      Reached a holds start before bytes now old old_world → AnsweredAll a holds start before bytes now new new_world
 
 -- all is answered and written, with these counts
-pub record Finishes {S : Type 0} (a : Answerer S) (old : Session) (old_state : S) (now : Option (List ℕ))
-    (counts : Counts) (new_state : S) (now' : Option (List ℕ)) : Type 0 where
+pub record Finishes {S W : Type 0} (a : Answerer S) (holds : S → W → Type 0) (old : Session) (old_world : W) (now : Option (List ℕ))
+    (counts : Counts) (new_world : W) (now' : Option (List ℕ)) : Type 0 where
   pub finishes : (start : S) (before : Option (List ℕ)) (bytes : List ℕ) →
-      Reached a start before bytes now old old_state →
-      Finished a start before bytes now' new_state counts.lines counts.refused
+      Reached a holds start before bytes now old old_world →
+      (state : S) × holds state new_world × Finished a start before bytes now' state counts.lines counts.refused
 
 -- the fault is none of reading
 abbrev pub IsNoReadFault : Fault → Type 0
@@ -84,29 +92,29 @@ Leaves a start before bytes now WriteFault = Stopped a start before bytes now
 Leaves a start before bytes now _ = ⊥
 
 -- further bytes were read and answered
-pub record Turns {S : Type 0} (a : Answerer S) (old : Session) (old_state : S) (now : Option (List ℕ)) (new : Session)
-    (new_state : S) (now' : Option (List ℕ)) (left left' : Option (List ℕ)) : Type 0 where
+pub record Turns {S W : Type 0} (a : Answerer S) (holds : S → W → Type 0) (old : Session) (old_world : W) (now : Option (List ℕ)) (new : Session)
+    (new_world : W) (now' : Option (List ℕ)) (left left' : Option (List ℕ)) : Type 0 where
   pub read : List ℕ
   pub consumes : Consumes left left' read
   pub is_ready : IsReady new
   pub more : old.input.taken < new.input.taken
   pub reaches : (start : S) (before : Option (List ℕ)) (bytes : List ℕ) →
-      Reached a start before bytes now old old_state → Reached a start before (bytes ++ read) now' new new_state
+      Reached a holds start before bytes now old old_world → Reached a holds start before (bytes ++ read) now' new new_world
 
 -- the input is at its end, and all is answered and written, with these counts
-pub record Ends {S : Type 0} (a : Answerer S) (old : Session) (old_state : S) (now : Option (List ℕ)) (counts : Counts)
-    (new_state : S) (now' : Option (List ℕ)) (left left' : Option (List ℕ)) : Type 0 where
+pub record Ends {S W : Type 0} (a : Answerer S) (holds : S → W → Type 0) (old : Session) (old_world : W) (now : Option (List ℕ)) (counts : Counts)
+    (new_world : W) (now' : Option (List ℕ)) (left left' : Option (List ℕ)) : Type 0 where
   pub consumes : Consumes left left' []
   pub at_end : IsAtEnd left'
-  pub finishes : Finishes a old old_state now counts new_state now'
+  pub finishes : Finishes a holds old old_world now counts new_world now'
 
 -- a fault ended the run, after some further bytes
-pub record Fails {S : Type 0} (a : Answerer S) (old : Session) (old_state : S) (now now' : Option (List ℕ))
+pub record Fails {S W : Type 0} (a : Answerer S) (holds : S → W → Type 0) (old : Session) (old_world : W) (now now' : Option (List ℕ))
     (left left' : Option (List ℕ)) (fault : Fault) : Type 0 where
   pub read : List ℕ
   pub consumes : Consumes left left' read
   pub leaves : (start : S) (before : Option (List ℕ)) (bytes : List ℕ) →
-      Reached a start before bytes now old old_state → Leaves a start before (bytes ++ read) now' fault
+      Reached a holds start before bytes now old old_world → Leaves a start before (bytes ++ read) now' fault
 
 -- what a fault leaves after a whole run
 pub record FailsAfter {S : Type 0} (a : Answerer S) (start : S) (before now : Option (List ℕ))
@@ -115,41 +123,43 @@ pub record FailsAfter {S : Type 0} (a : Answerer S) (start : S) (before now : Op
   pub consumes : Consumes left left' bytes
   pub leaves : Leaves a start before bytes now fault
 
--- a run between two steps: what its session holds, the state of its world, and what the writer has, where its bytes are
--- known
-pub record Stage (S : Type 0) : Type 0 where
+-- a run between two steps: what its session holds, its world, and what the writer has, where its bytes are known
+pub record Stage (W : Type 0) : Type 0 where
   pub session : Session
-  pub state : S
+  pub world : W
   pub written : Option (List ℕ)
 
-abbrev pub stage : {S : Type 0} → Session → S → Option (List ℕ) → Stage S
-stage session state written = record { session = session; state = state; written = written }
+abbrev pub stage : {W : Type 0} → Session → W → Option (List ℕ) → Stage W
+stage session world written = record { session = session; world = world; written = written }
 
 -- from one stage to the next, what was answered stays answered
-abbrev pub MovesOn : {S : Type 0} → Answerer S → Stage S → Stage S → Type 0
-MovesOn a before after =
-    Advances a before.session before.state before.written after.session after.state after.written
+abbrev pub MovesOn : {S W : Type 0} → Answerer S → (S → W → Type 0) → Stage W → Stage W → Type 0
+MovesOn a holds before after =
+    Advances a holds before.session before.world before.written after.session after.world after.written
 
 -- the run stopped behind the stage, and this was written
-abbrev pub HasStopped : {S : Type 0} → Answerer S → Stage S → Option (List ℕ) → Type 0
-HasStopped a before written = Stops a before.session before.state before.written written
+abbrev pub HasStopped : {S W : Type 0} → Answerer S → (S → W → Type 0) → Stage W → Option (List ℕ) → Type 0
+HasStopped a holds before written = Stops a holds before.session before.world before.written written
 
 -- all that was read is answered and written
-abbrev pub HasFinished : {S : Type 0} → Answerer S → Stage S → Stage S → Type 0
-HasFinished a before after =
-    Finishes a before.session before.state before.written after.session.counts after.state after.written
+abbrev pub HasFinished : {S W : Type 0} → Answerer S → (S → W → Type 0) → Stage W → Stage W → Type 0
+HasFinished a holds before after =
+    Finishes a holds before.session before.world before.written after.session.counts after.world after.written
 
 -- further bytes of what the reader had left were read and answered
-abbrev pub HasTurned : {S : Type 0} → Answerer S → Stage S → Stage S → Option (List ℕ) → Option (List ℕ) → Type 0
-HasTurned a before after left left' =
-    Turns a before.session before.state before.written after.session after.state after.written left left'
+abbrev pub HasTurned : {S W : Type 0} → Answerer S → (S → W → Type 0) → Stage W → Stage W → Option (List ℕ) →
+    Option (List ℕ) → Type 0
+HasTurned a holds before after left left' =
+    Turns a holds before.session before.world before.written after.session after.world after.written left left'
 
 -- the reader had nothing left, and all is answered and written
-abbrev pub HasEnded : {S : Type 0} → Answerer S → Stage S → Stage S → Option (List ℕ) → Option (List ℕ) → Type 0
-HasEnded a before after left left' =
-    Ends a before.session before.state before.written after.session.counts after.state after.written left left'
+abbrev pub HasEnded : {S W : Type 0} → Answerer S → (S → W → Type 0) → Stage W → Stage W → Option (List ℕ) →
+    Option (List ℕ) → Type 0
+HasEnded a holds before after left left' =
+    Ends a holds before.session before.world before.written after.session.counts after.world after.written left left'
 
 -- a fault ended the run, when this was written and this was left
-abbrev pub HasFailed : {S : Type 0} → Answerer S → Stage S → Option (List ℕ) → Option (List ℕ) → Option (List ℕ) → Fault → Type 0
-HasFailed a before written left left' fault =
-    Fails a before.session before.state before.written written left left' fault
+abbrev pub HasFailed : {S W : Type 0} → Answerer S → (S → W → Type 0) → Stage W → Option (List ℕ) → Option (List ℕ) →
+    Option (List ℕ) → Fault → Type 0
+HasFailed a holds before written left left' fault =
+    Fails a holds before.session before.world before.written written left left' fault

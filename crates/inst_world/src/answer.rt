@@ -1,76 +1,120 @@
-//! The reply to one line: all that a run knows of the world.
-ghost use Rattle.std.specs.Prelude.{◌≡◌, ◌≤◌, ◌++◌, ◌∷◌, [], true, length, take, IfOk, OnErr, OnOk, IsErrOf, IsOkUnless};
+//! The answer to one line: all that a session knows of the world.
+ghost use Rattle.std.specs.Prelude.{◌≡◌, ◌≢◌, ◌≤◌, ◌++◌, ◌∷◌, [], true, length, take, IfOk, OnErr, OnOk, IsErrOf, IsOkUnless};
 ghost use Rattle.serde_json.specs.Written.{compact_text};
-ghost use Rattle.inst_json.specs.Replies.{reply_data, reply_can_be_written};
+ghost use Rattle.inst_json.specs.Replies.{answer_data, answer_can_be_written};
+ghost use Rattle.inst_json.specs.Lines.{command_of_line, step_of_line};
 ghost use Rattle.inst_world.specs.LineBuffer.{held};
 ghost use Rattle.inst_world.specs.Lines.{newline};
 ghost use Rattle.inst_world.specs.Answers.{AnswersLine};
-ghost use Rattle.inst_world.specs.World.{line_reply, after_line, is_refusal, answering, RepliesToLine};
+ghost use Rattle.inst_world.specs.Answering.{IsPastOf, Past, is_refusal, answering, RepliesToLine, RepliesToRead};
+ghost use Rattle.inst_world.specs.Answering.{command_answer, after_command, script_answer, after_script, line_answer, after_line};
 
+use crate::follow_ups::follow_up;
 use crate::line_buffer::LineBuffer;
-use crate::slots::refusals_told;
+use crate::mode::Mode;
 use crate::world::World;
 use inst_base::Fault;
-use inst_command::Reply;
+use inst_command::{Answer, Reply, Step};
 use inst_json::LineReader;
 use inst_settings::Settings;
 
-/// Appends the reply to the line that ends by this many of the bytes that are held, and a newline, to
+/// Appends the answer to the line that ends by this many of the bytes that are held, and a newline, to
 /// `out`, and says whether it is a refusal. `Memory` comes where there is no room.
 pub(crate) fn answer(
     reader: &mut LineReader,
+    mode: Mode,
     world: &mut World,
     input: &LineBuffer,
     len: usize,
     out: &mut Vec<u8>,
 ) -> Result<bool, Fault>
     requires { len ≤ length (held input.now) }
-    ensures ok { IfOk result (λ refused. AnswersLine answering input.now.is_long (take len (held input.now))
+    ensures ok { IfOk result (λ refused. AnswersLine (answering mode) IsPastOf input.now.is_long (take len (held input.now))
         world.old world.new out.old.items out.new.items refused) }
     ensures fault { OnErr result (IsErrOf result Fault.Memory) }
 {
-    let reply = reply_to(reader, world, input, len)?;
-    append_reply(world.settings(), &reply, out)
+    let answer = answer_to(reader, mode, world, input, len)?;
+    append_answer(world.settings(), &answer, out)
 }
 
-/// The reply to a line as it is held. The only error is `Memory`.
-fn reply_to(
+/// The answer to a line as it is held. The only error is `Memory`.
+fn answer_to(
     reader: &mut LineReader,
+    mode: Mode,
     world: &mut World,
     input: &LineBuffer,
     len: usize,
-) -> Result<Reply, Fault>
+) -> Result<Answer, Fault>
     requires { len ≤ length (held input.now) }
-    ensures ok { IfOk result (λ reply. RepliesToLine input.now.is_long (take len (held input.now)) world.old world.new reply) }
+    ensures ok { IfOk result (λ answer. RepliesToLine mode input.now.is_long (take len (held input.now)) world.old world.new answer) }
     ensures only { IsOkUnless result Fault.Memory }
 {
     if input.is_too_long(len) {
-        return Ok(Reply::Refused(Fault::LineTooLong));
+        return Ok(Answer::Reply(Reply::Refused(Fault::LineTooLong)));
     }
-    reply_to_line(reader, world, &input.as_slice()[..len])
+    let line = &input.as_slice()[..len];
+    match mode {
+        Mode::Run => answer_command(reader, world, line),
+        Mode::Play => answer_step(reader, world, line),
+    }
 }
 
-/// Appends the text of a reply, and a newline, to `out`, and says whether it is a refusal.
-fn append_reply(settings: &Settings, reply: &Reply, out: &mut Vec<u8>) -> Result<bool, Fault>
-    requires { reply_can_be_written settings.now reply.now ≡ true }
-    ensures ok { OnOk result (out.new.items ≡ out.old.items ++ (compact_text (reply_data settings.now reply.now) ++ newline ∷ [])) }
-    ensures refusal { IfOk result (λ refused. refused ≡ is_refusal reply.now) }
+/// Appends the text of an answer, and a newline, to `out`, and says whether it is a refusal.
+fn append_answer(settings: &Settings, answer: &Answer, out: &mut Vec<u8>) -> Result<bool, Fault>
+    requires { answer_can_be_written settings.now answer.now ≡ true }
+    ensures ok { OnOk result (out.new.items ≡ out.old.items ++ (compact_text (answer_data settings.now answer.now) ++ newline ∷ [])) }
+    ensures refusal { IfOk result (λ refused. refused ≡ is_refusal answer.now) }
     ensures fault { OnErr result (IsErrOf result Fault.Memory) }
 {
-    inst_json::append_reply(settings, reply, out)?;
+    match answer {
+        Answer::Reply(reply) => inst_json::append_reply(settings, reply, out)?,
+        Answer::New(_) => {
+            let text = inst_json::write_answer(*out.allocator(), settings, answer)?;
+            out.extend_from_slice(&text)?;
+        }
+    }
     out.push(b'\n')?;
-    Ok(matches!(reply, Reply::Refused(_)))
+    Ok(matches!(answer, Answer::Reply(Reply::Refused(_))))
 }
 
-/// The reply to a line that isn't too long. The only error is `Memory`.
-#[tactic(auto, unfolding(crate::specs::World::line_reply, crate::specs::World::after_line))]
-fn reply_to_line(reader: &mut LineReader, world: &mut World, line: &[u8]) -> Result<Reply, Fault>
-    ensures reply { IfOk result (λ reply. reply ≡ line_reply world.old line.now) }
-    ensures after { OnOk result (world.new ≡ after_line world.old line.now) }
+/// The answer to a command, after which all transfers are followed up. The only error is `Memory`.
+fn answer_command(reader: &mut LineReader, world: &mut World, line: &[u8]) -> Result<Answer, Fault>
+    ensures ok { IfOk result (λ answer. RepliesToRead world.old world.new answer
+        (λ past. command_answer past (command_of_line world.old.board.settings line.now))
+        (λ past. after_command past (command_of_line world.old.board.settings line.now))) }
     ensures only { IsOkUnless result Fault.Memory }
 {
     match reader.read_command(world.settings(), line) {
-        Ok(ask) => world.answer(&ask),
-        Err(fault) => refusals_told(Err(fault)),
+        Ok(ask) => {
+            let at = ask.at;
+            let answer = world.step(&Step::Ask(ask))?;
+            follow_up(world, at)?;
+            Ok(answer)
+        }
+        Err(fault) => refused(fault),
+    }
+}
+
+/// The answer to a step. The only error is `Memory`.
+fn answer_step(reader: &mut LineReader, world: &mut World, line: &[u8]) -> Result<Answer, Fault>
+    ensures ok { IfOk result (λ answer. RepliesToRead world.old world.new answer
+        (λ past. script_answer past (step_of_line world.old.board.settings line.now))
+        (λ past. after_script past (step_of_line world.old.board.settings line.now))) }
+    ensures only { IsOkUnless result Fault.Memory }
+{
+    match reader.read_step(world.settings(), line) {
+        Ok(step) => world.step(&step),
+        Err(fault) => refused(fault),
+    }
+}
+
+/// What a line is answered that is refused in reading.
+fn refused(fault: Fault) -> Result<Answer, Fault>
+    ensures ok { IfOk result (λ answer. (answer ≡ Answer.Reply (Reply.Refused fault)) × (fault ≢ Fault.Memory)) }
+    ensures only { IsOkUnless result Fault.Memory }
+{
+    match fault {
+        Fault::Memory => Err(Fault::Memory),
+        fault => Ok(Answer::Reply(Reply::Refused(fault))),
     }
 }

@@ -1,22 +1,16 @@
 // Worked rows: lines in, lines out, over three participants with 2 places and 4 fundings each.
 use crate::run_lines;
-use inst_base::Code;
-use inst_settings::Settings;
+use crate::scripts::settings;
 use std::process::Abort;
 use std::test::Fail;
 
-/// The settings of the worked rows.
-pub(crate) fn settings(rt: &impl AllocGlobal) -> Result<Settings, Fail> {
-    let mut codes = Vec::new(rt.alloc());
-    for text in ["AAAADEFF", "BBBBFRPP", "CCCCITMM"] {
-        codes.push(Code::new(text)?)?;
-    }
-    Ok(Settings::check(codes, 2, 4, 10_000, 0, 1_000, 99_999_999_999, 0)?)
-}
-
 /// Compares what a run over these lines writes.
-fn row(rt: &(impl Abort + AllocGlobal), input: &str, expected: &str) -> Result<(), Fail> {
-    let settings = settings(rt)?;
+pub(crate) fn row(
+    rt: &(impl Abort + AllocGlobal),
+    input: &str,
+    expected: &str,
+) -> Result<(), Fail> {
+    let settings = settings(rt.alloc())?;
     let mut reader = input.as_bytes();
     let mut written = Vec::new(rt.alloc());
     run_lines(rt.alloc(), &settings, &mut reader, &mut written)?;

@@ -1,11 +1,12 @@
-// A run: each line that a reader gives is answered by one line to a writer.
+// Runs: each line that a reader gives is answered by one line to a writer.
 ghost use Rattle.std.specs.Prelude.{◌≡◌, OnOk, IfOk, IfErr, IfSome, length};
 ghost use Rattle.std.specs.Io.KnownBytes.{Appends, IsAtEnd};
 ghost use Rattle.inst_world.specs.Lines.{lines_of, IsWithinLimits};
 ghost use Rattle.inst_world.specs.Answers.{output, refusals, state_after};
-ghost use Rattle.inst_world.specs.World.{answering, opened};
+ghost use Rattle.inst_world.specs.Answering.{Past, IsPastOf, opened, answering, running, playing};
 ghost use Rattle.inst_world.specs.Session.{FailsAfter};
 
+use crate::mode::Mode;
 use crate::session::{Counts, Session};
 use crate::world::World;
 use inst_base::Fault;
@@ -13,7 +14,9 @@ use inst_settings::Settings;
 use std::alloc::Global;
 use std::io::{Read, Write};
 
-/// Answers each line that the reader gives by one line to the writer, and says how many there were.
+/// Answers each line that the reader gives by one line to the writer, and says how many there were. A
+/// line is a command; after each that is read without refusal all transfers taken so far are followed up
+/// at its reading.
 ///
 /// ```text
 /// let counts = run_lines(alloc, &settings, &mut input.as_bytes(), &mut output)?;
@@ -37,46 +40,79 @@ pub fn run_lines<R: Read, W: Write>(
     ensures end { OnOk result (IsAtEnd (R.remaining reader.new)) }
     ensures output { OnOk result (IfSome (R.remaining reader.old) (λ bytes.
         Appends (W.contents writer.old) (W.contents writer.new)
-        (output answering (opened settings.now) (lines_of bytes)))) }
+        (output running (opened settings.now) (lines_of bytes)))) }
     ensures lines { IfOk result (λ counts. IfSome (R.remaining reader.old) (λ bytes.
         counts.lines ≡ length (lines_of bytes))) }
     ensures refused { IfOk result (λ counts. IfSome (R.remaining reader.old) (λ bytes.
-        counts.refused ≡ refusals answering (opened settings.now) (lines_of bytes))) }
+        counts.refused ≡ refusals running (opened settings.now) (lines_of bytes))) }
     ensures limits { OnOk result (IfSome (R.remaining reader.old) IsWithinLimits) }
 
     // Some bytes were read: at `ReadFault` each line whose newline stands within the limits is
     // answered, and at another fault a front of the replies is written.
-    ensures err { IfErr result (FailsAfter answering (opened settings.now)
+    ensures err { IfErr result (FailsAfter running (opened settings.now)
         (W.contents writer.old) (W.contents writer.new)
         (R.remaining reader.old) (R.remaining reader.new)) }
 {
     let mut world = World::open(alloc, settings)?;
-    answer_lines(alloc, &mut world, reader, writer)
+    answer_lines(alloc, Mode::Run, &mut world, reader, writer)
 }
 
-/// The same over a world that is there.
-pub(crate) fn answer_lines<R: Read, W: Write>(
+/// Answers each line that the reader gives by one line to the writer, as `run_lines` does. Here a line is
+/// one step, or a command, which is one step too, and nothing else happens: what a run does by itself is
+/// played by hand.
+///
+/// ```text
+/// let counts = play_lines(alloc, &settings, &mut script.as_bytes(), &mut output)?;
+/// ```
+///
+/// `ReadFault`, `WriteFault` and `Memory` come as from `run_lines`.
+pub fn play_lines<R: Read, W: Write>(
     alloc: Global,
-    world: &mut World,
+    settings: &Settings,
     reader: &mut R,
     writer: &mut W,
 ) -> Result<Counts, Fault>
     ensures end { OnOk result (IsAtEnd (R.remaining reader.new)) }
     ensures output { OnOk result (IfSome (R.remaining reader.old) (λ bytes.
         Appends (W.contents writer.old) (W.contents writer.new)
-        (output answering world.old (lines_of bytes)))) }
-    ensures world { OnOk result (IfSome (R.remaining reader.old) (λ bytes.
-        world.new ≡ state_after answering world.old (lines_of bytes))) }
+        (output playing (opened settings.now) (lines_of bytes)))) }
     ensures lines { IfOk result (λ counts. IfSome (R.remaining reader.old) (λ bytes.
         counts.lines ≡ length (lines_of bytes))) }
     ensures refused { IfOk result (λ counts. IfSome (R.remaining reader.old) (λ bytes.
-        counts.refused ≡ refusals answering world.old (lines_of bytes))) }
+        counts.refused ≡ refusals playing (opened settings.now) (lines_of bytes))) }
     ensures limits { OnOk result (IfSome (R.remaining reader.old) IsWithinLimits) }
-    ensures err { IfErr result (FailsAfter answering world.old
+    ensures err { IfErr result (FailsAfter playing (opened settings.now)
+        (W.contents writer.old) (W.contents writer.new)
+        (R.remaining reader.old) (R.remaining reader.new)) }
+{
+    let mut world = World::open(alloc, settings)?;
+    answer_lines(alloc, Mode::Play, &mut world, reader, writer)
+}
+
+/// Answers lines at a world that is there, whatever it has gone through.
+pub(crate) fn answer_lines<R: Read, W: Write>(
+    alloc: Global,
+    mode: Mode,
+    world: &mut World,
+    reader: &mut R,
+    writer: &mut W,
+) -> Result<Counts, Fault>
+    ensures end { OnOk result (IsAtEnd (R.remaining reader.new)) }
+    ensures output { (past : Past) → IsPastOf past world.old → OnOk result (IfSome (R.remaining reader.old) (λ bytes.
+        Appends (W.contents writer.old) (W.contents writer.new)
+        (output (answering mode) past (lines_of bytes)))) }
+    ensures world { (past : Past) → IsPastOf past world.old → OnOk result (IfSome (R.remaining reader.old) (λ bytes.
+        IsPastOf (state_after (answering mode) past (lines_of bytes)) world.new)) }
+    ensures lines { (past : Past) → IsPastOf past world.old → IfOk result (λ counts. IfSome (R.remaining reader.old) (λ bytes.
+        counts.lines ≡ length (lines_of bytes))) }
+    ensures refused { (past : Past) → IsPastOf past world.old → IfOk result (λ counts. IfSome (R.remaining reader.old) (λ bytes.
+        counts.refused ≡ refusals (answering mode) past (lines_of bytes))) }
+    ensures limits { (past : Past) → IsPastOf past world.old → OnOk result (IfSome (R.remaining reader.old) IsWithinLimits) }
+    ensures err { (past : Past) → IsPastOf past world.old → IfErr result (FailsAfter (answering mode) past
         (W.contents writer.old) (W.contents writer.new)
         (R.remaining reader.old) (R.remaining reader.new)) }
 {
     let mut session = Session::new(alloc)?;
-    while session.turn(world, reader, writer)? {}
+    while session.turn(mode, world, reader, writer)? {}
     Ok(session.counts)
 }

@@ -1,21 +1,22 @@
-//! The slots of a hub, in a list by their participants' numbers.
-ghost use Rattle.std.specs.Prelude.{◌≡◌, ℕ, ◌<◌, true, [], length, replicate, slice_set, slice_index_or, IfOk, OnErr, IsOkUnless};
-ghost use Rattle.inst_settings.specs.Settings.{IsSettings, participants};
+//! The slots of a hub, in a list by their participants' numbers, over one board.
+ghost use Rattle.std.specs.Prelude.{◌≡◌, true, ◌∷◌, length, IfOk, OnErr, IsOkUnless};
+ghost use Rattle.inst_settings.specs.Settings.{IsSettings, participants, is_participant};
 ghost use Rattle.inst_command.specs.Ask.{ask_fits};
-ghost use Rattle.inst_world.specs.Book.{Book, is_served, own_reply, book_after};
-ghost use Rattle.inst_world.specs.World.{as_reply, refusals_told, book_at};
-ghost use Rattle.inst_world.specs.Slots.{AreSlots, IsHub, histories};
+ghost use Rattle.inst_command.specs.Step.{step_fits};
+ghost use Rattle.inst_command.specs.declared.step.Step.{Step};
+ghost use Rattle.inst_command.specs.declared.reply.Answer.{Answer};
+ghost use Rattle.inst_world.specs.HasRun.{Hub, IsHub, Runs, IsAsBefore, new_books, refusals_told};
 
-use crate::slot::Slot;
-use inst_base::Fault;
-use inst_command::{Ask, Reply};
+use inst_base::{Fault, Moment};
+use inst_board::{Place, PlainBoard};
+use inst_command::{Answer, Ask, Reply, Step};
 use inst_settings::Settings;
+use inst_slot::Slot;
 use std::alloc::Global;
 
 /// One slot for each participant, with no history.
 pub(crate) fn open(alloc: Global, settings: &Settings) -> Result<Vec<Slot>, Fault>
-    requires { IsSettings settings.now }
-    ensures ok { IfOk result (λ slots. IsHub settings.now slots.items × (histories slots.items ≡ replicate (participants settings.now) [])) }
+    ensures ok { IfOk result (λ slots. slots.items ≡ new_books settings.now (participants settings.now)) }
     ensures only { IsOkUnless result Fault.Memory }
 {
     let mut slots = Vec::new(alloc);
@@ -25,24 +26,117 @@ pub(crate) fn open(alloc: Global, settings: &Settings) -> Result<Vec<Slot>, Faul
     Ok(slots)
 }
 
-/// Answers an ask by the slot of its participant.
-pub(crate) fn answer(settings: &Settings, slots: &mut Vec<Slot>, ask: &Ask) -> Result<Reply, Fault>
-    requires hub { IsHub settings.now slots.old.items }
-    requires fits { ask_fits settings.now ask.now ≡ true }
-    requires served { is_served ask.now.command ≡ true }
-    ensures ok { let book = book_at settings.now slots.old.items ask.now.who in
-        IfOk result (λ reply. (reply ≡ as_reply (own_reply book ask.now))
-        × (slots.new.items ≡ slice_set slots.old.items ask.now.who (book_after book ask.now))) }
-    ensures err { OnErr result (slots.new.items ≡ slots.old.items) }
+/// Runs one step, by the slot of its participant.
+pub(crate) fn step(
+    slots: &mut Vec<Slot>,
+    board: &mut PlainBoard,
+    step: &Step,
+) -> Result<Answer, Fault>
+    requires hub { IsHub (record { books = slots.old.items; board = board.old }) }
+    requires fits { step_fits board.old.settings step.now ≡ true }
+    ensures ok { IfOk result (λ answer. Runs (record { books = slots.old.items; board = board.old }) step.now answer
+        (record { books = slots.new.items; board = board.new })) }
+    ensures err { OnErr result (IsAsBefore (record { books = slots.old.items; board = board.old }) (record { books = slots.new.items; board = board.new })) }
     ensures only { IsOkUnless result Fault.Memory }
-    ensures hub { IsHub settings.now slots.new.items }
+    ensures hub { IsHub (record { books = slots.new.items; board = board.new }) }
+    ensures settings { board.new.settings ≡ board.old.settings }
 {
-    let slot = &mut slots[usize::from(ask.who)];
-    refusals_told(slot.apply(ask))
+    match step {
+        Step::Ask(asked) => Ok(Answer::Reply(ask(slots, board, asked)?)),
+        Step::Deliver { from, place, to } => {
+            let place = Place {
+                owner: *from,
+                index: *place,
+            };
+            Ok(Answer::New(deliver(slots, board, place, *to)?))
+        }
+        Step::Learn { who, from, place } => {
+            let place = Place {
+                owner: *from,
+                index: *place,
+            };
+            Ok(Answer::New(learn(slots, board, *who, place)?))
+        }
+        Step::Expire { who, place, at } => {
+            Ok(Answer::New(expire(slots, board, *who, *place, *at)?))
+        }
+    }
+}
+
+/// What is pending at the place comes to the participant `to`: whether it is new to it.
+fn deliver(
+    slots: &mut Vec<Slot>,
+    board: &mut PlainBoard,
+    place: Place,
+    to: u8,
+) -> Result<bool, Fault>
+    requires hub { IsHub (record { books = slots.old.items; board = board.old }) }
+    requires participants { (is_participant board.old.settings place.owner ≡ true) × (is_participant board.old.settings to ≡ true) }
+    ensures ok { IfOk result (λ is_new. Runs (record { books = slots.old.items; board = board.old })
+        (Step.Deliver place.owner place.index to) (Answer.New is_new) (record { books = slots.new.items; board = board.new })) }
+    ensures err { OnErr result (IsAsBefore (record { books = slots.old.items; board = board.old }) (record { books = slots.new.items; board = board.new })) }
+    ensures only { IsOkUnless result Fault.Memory }
+    ensures hub { IsHub (record { books = slots.new.items; board = board.new }) }
+    ensures settings { board.new.settings ≡ board.old.settings }
+{
+    slots[usize::from(to)].deliver(board, place)
+}
+
+/// The participant `who` learns of the place: whether it books its outcome anew.
+fn learn(
+    slots: &mut Vec<Slot>,
+    board: &mut PlainBoard,
+    who: u8,
+    place: Place,
+) -> Result<bool, Fault>
+    requires hub { IsHub (record { books = slots.old.items; board = board.old }) }
+    requires participants { (is_participant board.old.settings who ≡ true) × (is_participant board.old.settings place.owner ≡ true) }
+    ensures ok { IfOk result (λ is_new. Runs (record { books = slots.old.items; board = board.old })
+        (Step.Learn who place.owner place.index) (Answer.New is_new) (record { books = slots.new.items; board = board.new })) }
+    ensures err { OnErr result (IsAsBefore (record { books = slots.old.items; board = board.old }) (record { books = slots.new.items; board = board.new })) }
+    ensures only { IsOkUnless result Fault.Memory }
+    ensures hub { IsHub (record { books = slots.new.items; board = board.new }) }
+    ensures settings { board.new.settings ≡ board.old.settings }
+{
+    slots[usize::from(who)].learn(board, place)
+}
+
+/// The transfer at this index of the participant's may expire: whether it books its outcome anew.
+fn expire(
+    slots: &mut Vec<Slot>,
+    board: &mut PlainBoard,
+    who: u8,
+    index: u16,
+    at: Moment,
+) -> Result<bool, Fault>
+    requires hub { IsHub (record { books = slots.old.items; board = board.old }) }
+    requires participant { is_participant board.old.settings who ≡ true }
+    ensures ok { IfOk result (λ is_new. Runs (record { books = slots.old.items; board = board.old })
+        (Step.Expire who index at) (Answer.New is_new) (record { books = slots.new.items; board = board.new })) }
+    ensures err { OnErr result (IsAsBefore (record { books = slots.old.items; board = board.old }) (record { books = slots.new.items; board = board.new })) }
+    ensures only { IsOkUnless result Fault.Memory }
+    ensures hub { IsHub (record { books = slots.new.items; board = board.new }) }
+    ensures settings { board.new.settings ≡ board.old.settings }
+{
+    slots[usize::from(who)].expire(board, index, at)
+}
+
+/// Answers an ask by the slot of its participant, a refusal as a reply.
+fn ask(slots: &mut Vec<Slot>, board: &mut PlainBoard, ask: &Ask) -> Result<Reply, Fault>
+    requires hub { IsHub (record { books = slots.old.items; board = board.old }) }
+    requires fits { ask_fits board.old.settings ask.now ≡ true }
+    ensures ok { IfOk result (λ reply. Runs (record { books = slots.old.items; board = board.old })
+        (Step.Ask ask.now) (Answer.Reply reply) (record { books = slots.new.items; board = board.new })) }
+    ensures err { OnErr result (IsAsBefore (record { books = slots.old.items; board = board.old }) (record { books = slots.new.items; board = board.new })) }
+    ensures only { IsOkUnless result Fault.Memory }
+    ensures hub { IsHub (record { books = slots.new.items; board = board.new }) }
+    ensures settings { board.new.settings ≡ board.old.settings }
+{
+    refusals_told(slots[usize::from(ask.who)].apply(board, ask))
 }
 
 /// What is answered, with each refusal but `Memory` as a reply.
-pub(crate) fn refusals_told(answer: Result<Reply, Fault>) -> Result<Reply, Fault>
+fn refusals_told(answer: Result<Reply, Fault>) -> Result<Reply, Fault>
     ensures { result ≡ refusals_told answer }
 {
     match answer {

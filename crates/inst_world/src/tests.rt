@@ -1,8 +1,7 @@
 // Runs over readers and writers that give and take little, or fail.
-use crate::rows::settings;
-use crate::{Counts, World, run_lines};
-use inst_base::{Cents, Fault, Ident, Moment};
-use inst_command::{Ask, Command, Reply};
+use crate::scripts::settings;
+use crate::{Counts, run_lines};
+use inst_base::Fault;
 use std::cell::Cell;
 use std::io::{self, ErrorKind, Read, Write};
 use std::process::Abort;
@@ -120,7 +119,7 @@ fn run(
     replies: &[&[u8]],
     refused: u64,
 ) -> Result<(), Fail> {
-    let settings = settings(rt)?;
+    let settings = settings(rt.alloc())?;
     let input = joined(rt, lines)?;
     let expected = joined(rt, replies)?;
     let mut reader = input.as_slice();
@@ -199,7 +198,7 @@ fn run_pieces(
     events: &[u8],
 ) -> Result<Result<Counts, Fault>, Fail> {
     let log = Log::new();
-    let settings = settings(rt)?;
+    let settings = settings(rt.alloc())?;
     let mut reader = Pieces {
         bytes: input,
         most,
@@ -216,54 +215,6 @@ fn run_pieces(
     assert_eq!(rt; writer.taken.as_slice(), expected);
     assert!(rt; log.is(events));
     Ok(outcome)
-}
-
-/// What the world answers to a command of a participant.
-fn reply(rt: &impl Abort, world: &mut World, who: u8, command: &Command) -> Result<Reply, Fail> {
-    let ask = Ask {
-        who,
-        command: *command,
-        at: Moment::new(0, 0)?,
-    };
-    assert!(rt; ask.fits(world.settings()));
-    Ok(world.answer(&ask)?)
-}
-
-#[test]
-fn a_world_keeps_books_apart(rt: HostRuntime) -> Result<(), Fail> {
-    let settings = settings(&rt)?;
-    let mut world = World::open(rt.alloc(), &settings)?;
-    let fund = Command::Fund {
-        reference: Ident::new("F1")?,
-        cents: Cents::new(500)?,
-    };
-    let done = reply(&rt, &mut world, 0, &fund)?;
-    assert!(rt; matches!(&done, Reply::Done { reference } if reference.text() == "F1"));
-    let own = reply(&rt, &mut world, 0, &Command::Position)?;
-    assert!(rt;
-        matches!(
-            &own,
-            Reply::Position {
-                position: 500,
-                reserved: 0,
-                available: 500
-            }
-        )
-    );
-    let other = reply(&rt, &mut world, 1, &Command::Position)?;
-    assert!(rt;
-        matches!(
-            &other,
-            Reply::Position {
-                position: 0,
-                reserved: 0,
-                available: 0
-            }
-        )
-    );
-    let waits = reply(&rt, &mut world, 1, &Command::Fetch { max: 1 })?;
-    assert!(rt; matches!(&waits, Reply::Refused(Fault::BadField)));
-    Ok(())
 }
 
 #[test]
@@ -323,7 +274,7 @@ fn stops_at_faults(rt: HostRuntime) -> Result<(), Fail> {
 
 #[test]
 fn ends_after_the_last_line(rt: HostRuntime) -> Result<(), Fail> {
-    let settings = settings(&rt)?;
+    let settings = settings(rt.alloc())?;
     let mut input = Vec::new(rt.alloc());
     input.resize(1_000_000, b'\n')?;
     let mut written = Vec::new(rt.alloc());

@@ -1,83 +1,156 @@
-ghost use Rattle.std.specs.Prelude.{◌≡◌, true, IfOk, OnErr, IsOkUnless};
+ghost use Rattle.std.specs.Prelude.{◌≡◌, true, List, [], ◌∷◌, reverse, option_map, IfOk, OnErr, IsOkUnless, IfSome};
 ghost use Rattle.inst_settings.specs.Settings.{IsSettings, is_participant};
-ghost use Rattle.inst_command.specs.Ask.{ask_fits};
+ghost use Rattle.inst_command.specs.Step.{step_fits};
 ghost use Rattle.inst_journal.specs.Sound.{IsSound};
-ghost use Rattle.inst_world.specs.World.{opened, book_of, reply_to_ask, after_ask};
+ghost use Rattle.inst_json.specs.Replies.{answer_can_be_written};
+ghost use Rattle.inst_model.specs.Opening.{Opening};
+ghost use Rattle.inst_model.specs.Interleaving.{IsInterleaving};
+ghost use Rattle.inst_model.specs.Trace.{trace};
+ghost use Rattle.inst_model.specs.Transfer.{at_place};
+ghost use Rattle.inst_command.specs.declared.step.Step.{Step};
+ghost use Rattle.inst_model.specs.Hub.{history};
+ghost use Rattle.inst_world.specs.HasRun.{HasRun, Runs, IsAsBefore, journal_of};
+ghost use Rattle.inst_world.specs.Headline.{run_of, IsRun, IsIsolated, HasOneOutcome, SettlesOnce, AddsUp, BooksOfFit, IsLocal};
 
-use crate::slot::Slot;
+mod next_opening;
+
 use crate::slots;
+use crate::trace::Trace;
 use inst_base::Fault;
-use inst_command::{Ask, Reply};
+use inst_board::{Board, Look, Place, PlainBoard};
+use inst_command::{Answer, Items, Step};
 use inst_journal::Journal;
 use inst_settings::Settings;
+use inst_slot::Slot;
 use std::alloc::Global;
 use std::marker::Model;
 
-/// All slots of a hub, for one thread.
+/// A hub in one thread: a slot for each participant, over one plain board.
 ///
 /// ```text
 /// let mut world = World::open(alloc, &settings)?;
-/// world.answer(&ask)?           // the reply, a refusal too
+/// world.step(&step)?            // the answer, a refusal too
 /// world.journal(0).position()   // what participant 0 has
 /// ```
-#[derive(Debug, Drop)]
+#[derive(Drop)]
 pub struct World {
     settings: Settings,
     slots: Vec<Slot>,
+    board: PlainBoard,
 }
 
 impl Model for World {
-    ghost use Rattle.inst_world.specs.World.{Hub};
-    ghost use Rattle.inst_world.specs.Slots.{histories, IsHub};
+    ghost use Rattle.std.specs.Prelude.{◌≡◌};
+    ghost use Rattle.inst_settings.specs.Settings.{IsSettings};
+    ghost use Rattle.inst_world.specs.HasRun.{Hub, IsHub, HasRunSomething};
 
     ghost Value = { Hub };
 
-    ghost view = { λ world. record {
-      settings = world.settings;
-      books = histories world.slots.items;
-    } };
+    ghost view = { λ world. record { books = world.slots.items; board = world.board } };
 
-    ghost invariant = { λ world. IsHub world.settings world.slots.items };
+    ghost invariant = { λ world. IsHub (record { books = world.slots.items; board = world.board })
+        × (world.board.settings ≡ world.settings)
+        × IsSettings world.board.settings
+        × HasRunSomething (record { books = world.slots.items; board = world.board }) };
 }
 
 impl World {
-    /// A hub with no history. `Memory` where there is no room for its slots.
+    /// A hub that opens for the first time. `Memory` where there is no room for its slots and places.
     pub fn open(alloc: Global, settings: &Settings) -> Result<World, Fault>
-        ensures ok { IfOk result (λ world. world ≡ opened settings.now) }
+        ensures ok { IfOk result (λ world. (world.board.settings ≡ settings.now) × HasRun Opening.First [] world) }
         ensures only { IsOkUnless result Fault.Memory }
     {
         let settings = settings.copy()?;
+        let board = PlainBoard::new(alloc, &settings)?;
         let slots = slots::open(alloc, &settings)?;
-        Ok(World { settings, slots })
+        Ok(World {
+            settings,
+            slots,
+            board,
+        })
     }
 
     /// The settings of the hub.
     pub fn settings(&self) -> &Settings
-        ensures { result.now ≡ self.now.settings }
+        ensures { result.now ≡ self.now.board.settings }
     {
         &self.settings
     }
 
     /// The history of a participant, which is sound.
     pub fn journal(&self, who: u8) -> &Journal
-        requires { is_participant self.now.settings who ≡ true }
-        ensures events { result.now.events ≡ (book_of self.now who).events }
-        ensures lawful { IsSettings self.now.settings }
-        ensures sound { IsSound self.now.settings who result.now.events }
+        requires { is_participant self.now.board.settings who ≡ true }
+        ensures events { result.now.events ≡ journal_of self.now who }
+        ensures history { (O : Opening) (L : List Step) → HasRun O L self.now → result.now.events ≡ history self.now.board.settings O L who }
+        ensures lawful { IsSettings self.now.board.settings }
+        ensures sound { IsSound self.now.board.settings who result.now.events }
     {
         self.slots[usize::from(who)].journal()
     }
 
-    /// Answers an ask, a refusal as a reply. The only error is `Memory`, and then the hub is as it was.
-    pub fn answer(&mut self, ask: &Ask) -> Result<Reply, Fault>
-        requires { ask_fits self.old.settings ask.now ≡ true }
-        ensures ok { IfOk result (λ reply. (reply ≡ reply_to_ask self.old ask.now) × (self.new ≡ after_ask self.old ask.now)) }
-        ensures err { OnErr result (self.new ≡ self.old) }
+    /// Runs one step. A refused ask is answered by its refusal. The only error is `Memory`, and then the
+    /// hub is as it was.
+    pub fn step(&mut self, step: &Step) -> Result<Answer, Fault>
+        requires fits { step_fits self.old.board.settings step.now ≡ true }
+        ensures ok { IfOk result (λ answer. Runs self.old step.now answer self.new) }
+        ensures writable { IfOk result (λ answer. answer_can_be_written self.old.board.settings answer ≡ true) }
+        ensures err { OnErr result (IsAsBefore self.old self.new) }
+        ensures unrun { OnErr result ((O : Opening) (L : List Step) → HasRun O L self.old → HasRun O L self.new) }
+        ensures only { IsOkUnless result Fault.Memory }
+        ensures settings { self.new.board.settings ≡ self.old.board.settings }
+    {
+        slots::step(&mut self.slots, &mut self.board, step)
+    }
+
+    /// The beneficiary of the transfer at the place, if one was taken there.
+    pub(crate) fn beneficiary_at(&mut self, place: Place) -> Option<u8>
+        ensures beneficiary { (O : Opening) (L : List Step) → HasRun O L self.old →
+            result ≡ option_map (λ x. x.to) (at_place place.owner (history self.old.board.settings O L place.owner) place.index) }
+        ensures participant { IfSome result (λ to. is_participant self.old.board.settings to ≡ true) }
+        ensures same { self.new ≡ self.old }
+    {
+        match self.board.look(place) {
+            Look::Unused => None,
+            Look::Pending(terms, _) | Look::Decided(terms, _) => Some(terms.to),
+        }
+    }
+
+    /// Runs the steps in order, at a hub that opens for the first time. `Memory` ends the run.
+    ///
+    /// What it returns keeps the headline: whoever sees the same in another run gets the same of it, a
+    /// transfer has one outcome, its money is settled or released at most once, the positions sum to the
+    /// net funding and what is untold, and the books fit one another.
+    pub fn run(alloc: Global, settings: &Settings, steps: &[Step]) -> Result<(World, Trace), Fault>
+        requires fits { IsInterleaving settings.now steps.now }
+        ensures ran { IfOk result (λ r. (r.0.board.settings ≡ settings.now) × HasRun Opening.First (reverse steps.now) r.0) }
+        ensures run { IfOk result (λ r. IsRun settings.now (run_of Opening.First steps.now (journal_of r.0) r.1.answers)) }
+        ensures isolation { IfOk result (λ r. IsIsolated settings.now (run_of Opening.First steps.now (journal_of r.0) r.1.answers)) }
+        ensures one_outcome { IfOk result (λ r. HasOneOutcome settings.now (run_of Opening.First steps.now (journal_of r.0) r.1.answers)) }
+        ensures once { IfOk result (λ r. SettlesOnce settings.now (run_of Opening.First steps.now (journal_of r.0) r.1.answers)) }
+        ensures sums { IfOk result (λ r. AddsUp settings.now (run_of Opening.First steps.now (journal_of r.0) r.1.answers)) }
+        ensures fit { IfOk result (λ r. BooksOfFit settings.now (run_of Opening.First steps.now (journal_of r.0) r.1.answers)) }
+        ensures locality { IfOk result (λ r. IsLocal settings.now (run_of Opening.First steps.now (journal_of r.0) r.1.answers)) }
         ensures only { IsOkUnless result Fault.Memory }
     {
-        if !Slot::serves(&ask.command) {
-            return Ok(Reply::Refused(Fault::BadField));
+        let mut world = World::open(alloc, settings)?;
+        let trace = world.run_steps(alloc, steps)?;
+        Ok((world, trace))
+    }
+
+    /// Runs the steps in order.
+    fn run_steps(&mut self, alloc: Global, steps: &[Step]) -> Result<Trace, Fault>
+        requires fits { IsInterleaving self.old.board.settings steps.now }
+        ensures ok { IfOk result (λ t. (O : Opening) → HasRun O [] self.old →
+            HasRun O (reverse steps.now) self.new × (t.answers ≡ trace self.old.board.settings O (reverse steps.now))) }
+        ensures only { IsOkUnless result Fault.Memory }
+        ensures settings { self.new.board.settings ≡ self.old.board.settings }
+    {
+        let mut answers = Vec::new(alloc);
+        for step in steps {
+            answers.push(self.step(step)?)?;
         }
-        slots::answer(&self.settings, &mut self.slots, ask)
+        Ok(Trace {
+            answers: Items::new(answers),
+        })
     }
 }

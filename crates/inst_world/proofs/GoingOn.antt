@@ -1,0 +1,51 @@
+-- What a hub has run, after a step that was run or was refused its memory.
+use Rattle.std.proofs.Common.{◌≡◌, ℕ, true, List, ◌∷◌, Some, Result, Ok, Err, IfOk, OnErr, sym, ap, subst, ◌∙◌}
+use Rattle.std.specs.Prelude.{slice_get}
+use Rattle.inst_base.specs.declared.fault.Fault.{Fault}
+use Rattle.inst_settings.specs.Settings.{HubSettings, IsSettings}
+use Rattle.inst_command.specs.Step.{step_fits}
+use Rattle.inst_command.specs.declared.reply.Answer.{Answer}
+use Rattle.inst_command.specs.declared.step.Step.{Step}
+use Rattle.inst_board.specs.declared.place.Place.{Place}
+use Rattle.inst_board.specs.Plain.{standing_at}
+use Rattle.inst_json.specs.Replies.{answer_can_be_written}
+use Rattle.inst_model.specs.Opening.{Opening, IsOpening}
+use Rattle.inst_model.specs.Interleaving.{IsInterleaving}
+use Rattle.inst_model.specs.Transfer.{at_place}
+use Rattle.inst_model.specs.Hub.{outcome, history}
+use Rattle.inst_slot.specs.Book.{Book, place_at}
+use Rattle.inst_world.specs.HasRun.{Hub, settings_of, IsBoardOf, HasRun, HasRunSomething, Runs, IsAsBefore}
+use Rattle.inst_world.proofs.Exactly.{same_for}
+use Rattle.inst_world.proofs.Writing.{answer_written}
+
+-- a hub that is as it was has run what it had
+pub still_has_run : (old new : Hub) → IsAsBefore old new → (O : Opening) (L : List Step) → HasRun O L old → HasRun O L new
+still_has_run old new same O L was =
+    let at : HubSettings → Type 0 = λ s. IsOpening s O × IsInterleaving s L × ((p : ℕ) (book : Book) → slice_get new.books p ≡ Some book → book.events ≡ history s O L p) × IsBoardOf s O L new.board in
+    let here : at (settings_of old) = (
+      was.opening,
+      was.steps,
+      λ p book there. was.histories p book (ap (λ (xs : List Book). slice_get xs p) (sym same.books_are) ∙ there),
+      λ p place.
+          let k : Place = place_at p place in
+          let s : HubSettings = settings_of old in
+          same_for s (outcome s O L p) (at_place p (history s O L p) place) (standing_at old.board k) (standing_at new.board k) (same.board_says k) (was.board p place),
+    ) in
+    let r : at (settings_of new) = subst at (sym same.settings_are) here in
+    record { opening = r.0; steps = r.1; histories = r.2; board = r.3 }
+
+-- it has run something in any case
+pub goes_on : (old new : Hub) (step : Step) (result : Result Answer Fault) → HasRunSomething old → IfOk result (λ answer. Runs old step answer new) → OnErr result (IsAsBefore old new) → HasRunSomething new
+goes_on old new step (Ok answer) was ran refused = (was.0, step ∷ was.1, (ran was.0 was.1 was.2).1)
+goes_on old new step (Err fault) was ran refused = (was.0, was.1, still_has_run old new refused was.0 was.1 was.2)
+
+-- and what it answers can be written
+pub written : (old new : Hub) (step : Step) (result : Result Answer Fault) → HasRunSomething old → IsSettings (settings_of old) → step_fits (settings_of old) step ≡ true → IfOk result (λ answer. Runs old step answer new)
+    → IfOk result (λ answer. answer_can_be_written (settings_of old) answer ≡ true)
+written old new step (Ok answer) was lawful fits ran =
+    ap (answer_can_be_written (settings_of old)) (ran was.0 was.1 was.2).0 ∙ answer_written (settings_of old) was.0 was.1 step lawful was.2.opening was.2.steps fits
+written old new step (Err fault) was lawful fits ran = tt
+
+pub unrun : (old new : Hub) (result : Result Answer Fault) → OnErr result (IsAsBefore old new) → OnErr result ((O : Opening) (L : List Step) → HasRun O L old → HasRun O L new)
+unrun old new (Ok answer) refused = tt
+unrun old new (Err fault) refused = still_has_run old new refused

@@ -1,0 +1,45 @@
+use Rattle.std.proofs.Common.{◌≡◌, ◌<◌, List, length, sym, ap, subst, ◌∙◌, arith}
+use Rattle.inst_settings.specs.Settings.{participants}
+use Rattle.inst_journal.specs.declared.event.Event.{Event}
+use Rattle.inst_journal.specs.Opened.{openings}
+use Rattle.inst_journal.specs.Sound.{IsSound}
+use Rattle.inst_slot.specs.Book.{Book}
+use Rattle.inst_slot.specs.Opening.{opened_again}
+use Rattle.inst_world.specs.NextOpening.{books_of, AreOpenedAgain}
+use Rattle.inst_world.proofs.Reopening.{book_at, none_opened, next_opened}
+use Rattle.inst_world.proofs.world.next_opening.open_slots.Goals as goal
+
+pub loop-who-init : goal.loop-who-init
+loop-who-init c =
+    subst (λ (xs : List Book). AreOpenedAgain c.args.settings.now (books_of c.args.journals.now) 0 (record { books = xs; board = c.args.board.now })) (sym c.new-slots.ensures.items)
+    (none_opened c.args.settings.now (books_of c.args.journals.now) c.args.board.now c.requires.settings c.requires.unused)
+
+pub open_from-requires-clause-board : goal.open_from-requires-clause-board
+open_from-requires-clause-board c = c.loop-who.invariant.next c.loop-who.who (omega arith)
+
+pub open_from-requires-clause-sound : goal.open_from-requires-clause-sound
+open_from-requires-clause-sound c =
+    let below : c.from.result < length c.args.journals.now = omega arith in
+    let its = book_at c.args.journals.now c.from.result c.loop-who.who c.index-journals-from.result below c.from.ensures c.index-journals-from.is in
+    subst (λ (J : List Event). IsSound c.args.settings.now c.loop-who.who J) its (c.requires.journals.books.sound c.loop-who.who)
+
+pub open_from-requires-clause-few : goal.open_from-requires-clause-few
+open_from-requires-clause-few c =
+    let below : c.from.result < length c.args.journals.now = omega arith in
+    let its = book_at c.args.journals.now c.from.result c.loop-who.who c.index-journals-from.result below c.from.ensures c.index-journals-from.is in
+    subst (λ (J : List Event). openings J < 500) its (c.requires.journals.books.few c.loop-who.who)
+
+pub loop-who-preserved : goal.loop-who-preserved
+loop-who-preserved c =
+    let below : c.from.result < length c.args.journals.now = omega arith in
+    let its = book_at c.args.journals.now c.from.result c.loop-who.who c.index-journals-from.result below c.from.ensures c.index-journals-from.is in
+    let e = c.open_from.ensures in
+    let f = c.in_ok-open_from.ensures in
+    let is = f.ok ∙ ap (opened_again c.args.settings.now c.loop-who.who) (sym its) in
+    next_opened c.args.settings.now (books_of c.args.journals.now) c.loop-who.who c.loop-who.slots.items c.push.new.self.items c.loop-who.board c.open_from.new.board c.in_ok-open_from.field-0
+    c.loop-who.invariant c.in_ok-push.ensures.items is f.opens f.lawful e.others e.stays
+
+pub returns-clause-ok : goal.returns-clause-ok
+returns-clause-ok c =
+    let all : c.loop-who.who ≡ participants c.args.settings.now = omega arith in
+    subst (λ n. AreOpenedAgain c.args.settings.now (books_of c.args.journals.now) n (record { books = c.loop-who.slots.items; board = c.loop-who.board })) all c.loop-who.invariant

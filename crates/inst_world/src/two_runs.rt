@@ -1,0 +1,42 @@
+ghost use Rattle.std.specs.Prelude.{◌≡◌, true, IfOk, IsOkUnless};
+ghost use Rattle.inst_settings.specs.Settings.{is_participant};
+ghost use Rattle.inst_model.specs.Interleaving.{IsInterleaving};
+ghost use Rattle.inst_model.specs.Opening.{Opening};
+ghost use Rattle.inst_world.specs.HasRun.{journal_of};
+ghost use Rattle.inst_world.specs.Headline.{run_of, IsRun, SeesTheSame, GotTheSame};
+
+use crate::trace::Trace;
+use crate::world::World;
+use inst_base::Fault;
+use inst_command::Step;
+use inst_settings::Settings;
+use std::alloc::Global;
+
+/// Two runs, each of a hub that opens for the first time, in which the participant `who` sees the same:
+/// whatever the others do, it gets the same of both. `Memory` where either run ends so.
+///
+/// ```text
+/// let (quiet, busy) = run_both(alloc, &settings, 1, &alone, &among_others)?;
+/// // participant 1 has the same replies, position and statement in both
+/// ```
+pub fn run_both(
+    alloc: Global,
+    settings: &Settings,
+    who: u8,
+    one: &[Step],
+    other: &[Step],
+) -> Result<((World, Trace), (World, Trace)), Fault>
+    requires one { IsInterleaving settings.now one.now }
+    requires other { IsInterleaving settings.now other.now }
+    requires participant { is_participant settings.now who ≡ true }
+    requires same { SeesTheSame settings.now who Opening.First Opening.First one.now other.now }
+    ensures one { IfOk result (λ r. IsRun settings.now (run_of Opening.First one.now (journal_of r.0.0) r.0.1.answers)) }
+    ensures other { IfOk result (λ r. IsRun settings.now (run_of Opening.First other.now (journal_of r.1.0) r.1.1.answers)) }
+    ensures isolation { IfOk result (λ r. GotTheSame who (run_of Opening.First one.now (journal_of r.0.0) r.0.1.answers)
+        (run_of Opening.First other.now (journal_of r.1.0) r.1.1.answers)) }
+    ensures only { IsOkUnless result Fault.Memory }
+{
+    let first = World::run(alloc, settings, one)?;
+    let second = World::run(alloc, settings, other)?;
+    Ok((first, second))
+}
