@@ -1,5 +1,5 @@
 -- Options that choose no settings that a hub can have, and the faults that say so.
-use Rattle.std.proofs.Common.{◌≡◌, ◌<◌, ◌≤◌, ◌^◌, ℕ, Bool, true, false, List, length, map, get_or, Some, Result, Ok, Err, option_map, IfErr, OnErr, OkIff, IsErrAnd, IsOkUnless, is_ok, Bor, ◌⊎◌, codes, refl, sym, ap, subst, ◌∙◌, inl, inr, arith}
+use Rattle.std.proofs.Common.{◌≡◌, ◌<◌, ◌≤◌, ◌^◌, ℕ, Bool, true, false, List, length, map, get_or, Option, Some, None, Result, Ok, Err, option_map, IfErr, OnErr, OkIff, IsErrAnd, IsOkUnless, is_ok, Bor, ◌⊎◌, codes, refl, sym, ap, ap₂, subst, ◌∙◌, inl, inr, arith}
 use Rattle.std.specs.List.{list_all}
 use Rattle.std.specs.Str.Parse.{digits_value, without_leading_plus}
 use Rattle.std.proofs.lemmas.Bool.{cases_lt}
@@ -13,6 +13,7 @@ use Rattle.inst_settings.specs.Settings.{HubSettings, IsSettings, are_different}
 use Rattle.inst_main.specs.Options.{AreChosen, AreGood, AreWhole, ChooseNone, Chooses, Gives, GivesNoneBelow, command_line, parts_of}
 use Rattle.inst_main.specs.Program.{IsRefusal, IsUnbegun}
 use Rattle.inst_main.specs.declared.program.Ending.TheVariants as ending
+use Rattle.inst_main.specs.declared.task.Task.{Task}
 
 -- the number of an option is one
 pub given_one : (rows : List Row) (name : List ℕ) (n m : ℕ) → Gives rows name n → Gives rows name m → n ≡ m
@@ -112,9 +113,22 @@ refused_by P Q (Ok x) bad weaker q = tt
 refused_by P Q (Err e) bad weaker q = inr (bad, weaker q)
 
 -- words whose options choose none are refused
-pub unsettled : (words : List (List ℕ)) (rows : List Row) (fault : Fault) → AreWhole words → option_map (λ p. p.1) (subcommand_of command_line words) ≡ Some rows →
+pub unsettled : (words : List (List ℕ)) (name : List ℕ) (rows : List Row) (fault : Fault) → AreWhole words → subcommand_of command_line words ≡ Some (name, rows) →
     IsRefusal (ChooseNone rows) fault → IsUnbegun words (ending.Fault fault)
-unsettled words rows fault whole at (inl memory) = inl memory
-unsettled words rows fault whole at (inr bad) = inr (bad.0, record { whole = whole; none = none }) where
-  none : (s : HubSettings) → AreChosen words s → ¬ (AreGood s)
-  none s (rows', at', chosen) = let same : rows' ≡ rows = cc in bad.1 s (subst (λ (r : List Row). Chooses r s) same chosen)
+unsettled words name rows fault whole at (inl memory) = inl memory
+unsettled words name rows fault whole at (inr bad) = inr (bad.0, record { whole = whole; none = none }) where
+  none : (task : Task) (s : HubSettings) → AreChosen words task s → ¬ (AreGood s)
+  none task s chosen =
+      let e : Some (chosen.0, chosen.1) ≡ Some (name, rows) = sym chosen.2 ∙ at in
+      let same : chosen.1 ≡ rows = ap (λ (o : Option (List ℕ × List Row)). elim o [ None ↦ rows | Some p ↦ p.1 ]) e in
+      bad.1 s (subst (λ (r : List Row). Chooses r s) same chosen.4)
+
+-- the name and the rows of a subcommand, found one by one
+pub both_of : {B : Type 0} (X : Option B) (n : B → List ℕ) (r : B → List Row) (name : List ℕ) (rows : List Row) → Some name ≡ option_map n X
+    → Some rows ≡ option_map (λ (p : List ℕ × List Row). p.1) (option_map {U = List ℕ × List Row} (λ b. (n b, r b)) X)
+    → option_map {U = List ℕ × List Row} (λ b. (n b, r b)) X ≡ Some (name, rows)
+both_of None n r name rows e f = let no : ⊥ = cc in absurd no
+both_of (Some b) n r name rows e f =
+    let first : n b ≡ name = cc in
+    let second : r b ≡ rows = cc in
+    ap₂ (λ (x : List ℕ) (y : List Row). Some (x, y)) first second

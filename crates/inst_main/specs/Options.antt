@@ -1,16 +1,20 @@
 -- The options of the program's command line, and the settings that their values choose. They are this hub's own choice.
-use Rattle.std.specs.Prelude.{◌≢◌, ◌⊎◌, ◌≡◌, ◌==◌, ◌≤◌, ◌-◌, ◌^◌, ℕ, true, List, ◌∷◌, [], Some, option_map, codes}
+use Rattle.std.specs.Prelude.{◌≢◌, ◌⊎◌, ◌≡◌, ◌==◌, ◌≤◌, ◌-◌, ◌^◌, ℕ, true, false, if◌then◌else◌, List, ◌∷◌, [], Some, codes}
 use Rattle.std.specs.List.{list_all, slice_split}
 use Rattle.std.specs.Str.Parse.{IsNumeral, digits_value, without_leading_plus}
 use Rattle.clap.specs.Words.{App, IsAmong, Kinds, fault_of, Row, Rule, Text, first_of, one_of, new_app, new_rule}
 use Rattle.clap.specs.Words.{subcommand_of, with_rule, with_subcommand}
 use Rattle.clap.specs.Simple.{on_top}
 use Rattle.clap.specs.declared.builder.action.ArgAction.TheVariants.{Set}
+use Rattle.clap.specs.declared.builder.command.Command.{Command}
+use Rattle.clap.specs.declared.builder.command.Command.TheViews.{out-Command}
 use Rattle.clap.specs.declared.error.kind.ErrorKind.{ErrorKind}
 use Rattle.clap.specs.declared.error.kind.ErrorKind.TheVariants.{DisplayHelp, DisplayVersion}
 use Rattle.clap.specs.declared.builder.value_parser.ValueParser.TheVariants.{Unsigned}
 use Rattle.inst_base.specs.Text.{is_code}
-use Rattle.inst_settings.specs.Settings.{HubSettings, IsSettings}
+use Rattle.inst_settings.specs.Settings.{HubSettings, IsSettings, same_text}
+use Rattle.inst_main.specs.declared.task.Task.{Task}
+use Rattle.inst_main.specs.declared.task.Task.TheVariants.{Run, Play}
 
 -- the participants' codes, which must be given
 abbrev pub participants_rule : Rule
@@ -20,10 +24,10 @@ participants_rule = record (new_rule (codes "participants")) { long = Some (code
 abbrev pub number_rule : List ℕ → List ℕ → Rule
 number_rule name value = record (new_rule name) { long = Some name; action = Some Set; parser = Some (Unsigned 0 (2 ^ 64 - 1)); defaults = value ∷ [] }
 
--- `run` and its options
-abbrev pub run_command : App
-run_command =
-    with_rule (with_rule (with_rule (with_rule (with_rule (with_rule (with_rule (with_rule (new_app (codes "run"))
+-- a subcommand of this name, with the options of a hub
+abbrev pub hub_command : List ℕ → App
+hub_command name =
+    with_rule (with_rule (with_rule (with_rule (with_rule (with_rule (with_rule (with_rule (new_app name)
     participants_rule)
     (number_rule (codes "places") (codes "256")))
     (number_rule (codes "fundings") (codes "256")))
@@ -33,9 +37,22 @@ run_command =
     (number_rule (codes "ceiling") (codes "99999999999")))
     (number_rule (codes "base") (codes "0"))
 
--- the whole command line, which needs a subcommand
+-- no option of the command is one of its subcommands' too
+abbrev pub IsLocal : Command → Type 0
+IsLocal command = (out-Command command).has_globals ≡ false
+
+-- the program without its subcommands, of which it needs one
+abbrev pub bare_command_line : App
+bare_command_line = on_top (λ top. record top { subcommand_required = true }) (new_app (codes "inst_main"))
+
+-- the whole command line: `run` and `play`, with the same options
 abbrev pub command_line : App
-command_line = with_subcommand (on_top (λ top. record top { subcommand_required = true }) (new_app (codes "inst_main"))) run_command.top
+command_line =
+    with_subcommand (with_subcommand bare_command_line (hub_command (codes "run")).top) (hub_command (codes "play")).top
+
+-- what the subcommand of this name does; the one that isn't `play` is `run`
+abbrev pub task_named : List ℕ → Task
+task_named name = if same_text name (codes "play") then Play else Run
 
 -- the option of this name has a text that is the number in digits, which may follow a plus
 abbrev pub Gives : List Row → List ℕ → ℕ → Type 0
@@ -87,11 +104,12 @@ AreWrong words = (kind : ErrorKind) × IsAmong kind (faults_of words) × (kind �
 abbrev pub AreWhole : List (List ℕ) → Type 0
 AreWhole words = faults_of words ≡ []
 
--- the words choose these settings, as the options of the subcommand that they name
-abbrev pub AreChosen : List (List ℕ) → HubSettings → Type 0
-AreChosen words s = (rows : List Row) × (option_map (λ p. p.1) (subcommand_of command_line words) ≡ Some rows) × Chooses rows s
+-- the words name this task, and choose these settings, as the options of the subcommand that they name
+abbrev pub AreChosen : List (List ℕ) → Task → HubSettings → Type 0
+AreChosen words task s = (name : List ℕ) × (rows : List Row) × (subcommand_of command_line words ≡ Some (name, rows))
+    × (task ≡ task_named name) × Chooses rows s
 
 -- the words are a whole command line and choose no settings that a hub can have
 pub record AreRefused (words : List (List ℕ)) : Type 0 where
   pub whole : AreWhole words
-  pub none : (s : HubSettings) → AreChosen words s → ¬ (AreGood s)
+  pub none : (task : Task) (s : HubSettings) → AreChosen words task s → ¬ (AreGood s)

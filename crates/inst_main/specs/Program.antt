@@ -7,11 +7,13 @@ use Rattle.clap.specs.declared.error.kind.ErrorKind.TheVariants.{OutOfMemory}
 use Rattle.inst_base.specs.declared.fault.Fault.{Fault}
 use Rattle.inst_base.specs.declared.fault.Fault.TheVariants.{BadSettings, Memory}
 use Rattle.inst_settings.specs.Settings.{HubSettings, IsSettings}
-use Rattle.inst_world.specs.Answers.{output}
+use Rattle.inst_world.specs.Answers.{Answerer, output}
+use Rattle.inst_world.specs.Answering.{Past, opened, running, playing}
 use Rattle.inst_world.specs.Lines.{lines_of}
 use Rattle.inst_world.specs.Session.{FailsAfter}
-use Rattle.inst_world.specs.World.{answering, opened}
 use Rattle.inst_main.specs.Options.{AreChosen, AreRefused, AreWhole, faults_of}
+use Rattle.inst_main.specs.declared.task.Task.{Task}
+use Rattle.inst_main.specs.declared.task.Task.TheVariants.{Run, Play}
 use Rattle.inst_main.specs.declared.program.Ending.{Ending}
 use Rattle.inst_main.specs.declared.program.Ending.TheVariants as ending
 
@@ -24,22 +26,29 @@ status_of _ = 3
 abbrev pub IsRefusal : Type 0 → Fault → Type 0
 IsRefusal deserved fault = (fault ≡ Memory) ⊎ ((fault ≡ BadSettings) × deserved)
 
--- a hub of the settings that the words choose answered all that the reader had left, and wrote the replies alone
+-- how lines are answered for a task
+abbrev pub answerer : Task → Answerer Past
+answerer Run = running
+answerer Play = playing
+
+-- a hub of the settings that the words choose answered, as the words ask for, all that the reader had left, and wrote the replies alone
 pub record Serves (words : List (List ℕ)) (left left' held held' : Option (List ℕ)) : Type 0 where
+  pub task : Task
   pub settings : HubSettings
   pub lawful : IsSettings settings
   pub whole : AreWhole words
-  pub chosen : AreChosen words settings
+  pub chosen : AreChosen words task settings
   pub at_end : IsAtEnd left'
-  pub answered : IfSome left (λ bytes. Appends held held' (output answering (opened settings) (lines_of bytes)))
+  pub answered : IfSome left (λ bytes. Appends held held' (output (answerer task) (opened settings) (lines_of bytes)))
 
 -- a hub of the settings that the words choose was ended by this fault
 pub record Fails (words : List (List ℕ)) (left left' held held' : Option (List ℕ)) (fault : Fault) : Type 0 where
+  pub task : Task
   pub settings : HubSettings
   pub lawful : IsSettings settings
   pub whole : AreWhole words
-  pub chosen : AreChosen words settings
-  pub after : FailsAfter answering (opened settings) held held' left left' fault
+  pub chosen : AreChosen words task settings
+  pub after : FailsAfter (answerer task) (opened settings) held held' left left' fault
 
 -- an error of the words of this kind, and want of memory as a fault
 abbrev pub IsOfKind : ErrorKind → Ending → Type 0

@@ -3,6 +3,7 @@ use Rattle.std.specs.Prelude.{◌≡◌, ℕ, List, [], ◌∷◌, codes}
 use Rattle.clap.specs.declared.error.kind.ErrorKind.TheVariants.{DisplayHelp, MissingRequiredArgument, MissingSubcommand}
 use Rattle.inst_settings.specs.Settings.{HubSettings, settings_with}
 use Rattle.inst_main.specs.Options.{AreChosen, AreGood, AreWhole, faults_of}
+use Rattle.inst_main.specs.declared.task.Task.TheVariants.{Run, Play}
 
 -- `inst_main run --participants AAAADEFF,BBBBFRPP --places 2`
 abbrev pub small_hub : List (List ℕ)
@@ -12,13 +13,20 @@ small_hub = codes "inst_main" ∷ codes "run" ∷ codes "--participants" ∷ cod
 abbrev pub small_settings : HubSettings
 small_settings = settings_with (codes "AAAADEFF" ∷ codes "BBBBFRPP" ∷ []) 2 256 10000 0 1000 99999999999 0
 
+-- the same words with `play` in the place of `run`
+abbrev pub small_script : List (List ℕ)
+small_script = codes "inst_main" ∷ codes "play" ∷ codes "--participants" ∷ codes "AAAADEFF,BBBBFRPP" ∷ codes "--places" ∷ codes "2" ∷ []
+
 pub record SmallHub : Type 0 where
   pub whole : AreWhole small_hub
-  pub chosen : AreChosen small_hub small_settings
+  pub chosen : AreChosen small_hub Run small_settings
+  pub script_whole : AreWhole small_script
+  pub script_chosen : AreChosen small_script Play small_settings
   pub good : AreGood small_settings
 
--- words that are no whole command line: `inst_main run`, `inst_main` and `inst_main --help`
+-- words that are no whole command line: `inst_main run`, `inst_main play`, `inst_main` and `inst_main --help`
 pub record NoHub : Type 0 where
   pub participants : faults_of (codes "inst_main" ∷ codes "run" ∷ []) ≡ MissingRequiredArgument ∷ []
+  pub script : faults_of (codes "inst_main" ∷ codes "play" ∷ []) ≡ MissingRequiredArgument ∷ []
   pub subcommand : faults_of (codes "inst_main" ∷ []) ≡ MissingSubcommand ∷ []
   pub help : faults_of (codes "inst_main" ∷ codes "--help" ∷ []) ≡ DisplayHelp ∷ []

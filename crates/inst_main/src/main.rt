@@ -1,9 +1,10 @@
-//! The program: lines on standard input, one reply for each on standard output.
+//! The program: lines on standard input, one answer for each on standard output.
 #![tactic(auto)]
 
 mod options;
 mod program;
 mod rows;
+mod task;
 #[cfg(test)]
 mod tests;
 

@@ -2,7 +2,7 @@ ghost use Rattle.std.specs.Prelude.{◌≡◌, ◌^◌, OkIff, true, IfOk, IfErr
 ghost use Rattle.std.specs.List.{list_all};
 ghost use Rattle.inst_base.specs.Text.{is_code};
 ghost use Rattle.clap.specs.Words.{app_of, first_of, found_of, rows_of, rule_of};
-ghost use Rattle.inst_main.specs.Options.{participants_rule, number_rule, command_line as the_command_line, parts_of};
+ghost use Rattle.inst_main.specs.Options.{participants_rule, number_rule, hub_command, IsLocal, command_line as the_command_line, parts_of};
 ghost use Rattle.inst_main.specs.Options.{Gives, GivesNoneBelow, Chooses, ChooseNone};
 ghost use Rattle.inst_main.specs.Program.{IsRefusal};
 ghost use Rattle.inst_settings.specs.Settings.{IsSettings};
@@ -16,8 +16,34 @@ use std::alloc::{AllocError, Global};
 pub(crate) fn command_line<'a>(alloc: Global) -> Result<Command<'a>, AllocError>
     ensures { IfOk result (λ command. app_of command ≡ the_command_line) }
 {
-    let run = Command::new(alloc, "run")
-        .about("Answers each command line of standard input by one line on standard output")
+    let run = hub_command(
+        alloc,
+        "run",
+        "Answers each command line of standard input by one line on standard output",
+    )?;
+    let play = hub_command(
+        alloc,
+        "play",
+        "The same for a script of steps: each line is one step, and nothing happens by itself",
+    )?;
+    Command::new(alloc, "inst_main")
+        .about("The clearing core of a hub for instant credit transfers")
+        .subcommand_required(true)
+        .subcommand(run)?
+        .subcommand(play)
+}
+
+/// A subcommand with the options of a hub.
+fn hub_command<'a>(
+    alloc: Global,
+    name: &'a str,
+    about: &'a str,
+) -> Result<Command<'a>, AllocError>
+    ensures shape { IfOk result (λ command. app_of command ≡ hub_command name.now) }
+    ensures local { IfOk result (λ command. IsLocal command) }
+{
+    Command::new(alloc, name)
+        .about(about)
         .arg(participants(alloc))?
         .arg(number(
             alloc,
@@ -60,11 +86,7 @@ pub(crate) fn command_line<'a>(alloc: Global) -> Result<Command<'a>, AllocError>
             "base",
             "0",
             "The milliseconds from which moments count, at most 2^62",
-        ))?;
-    Command::new(alloc, "inst_main")
-        .about("The clearing core of a hub for instant credit transfers")
-        .subcommand_required(true)
-        .subcommand(run)
+        ))
 }
 
 fn participants<'a>(alloc: Global) -> Arg<'a>

@@ -6,11 +6,12 @@ ghost use Rattle.inst_main.specs.Options.{AreChosen, AreRefused, AreWhole, AskFo
 ghost use Rattle.inst_main.specs.Program.{status_of, Serves, Fails, IsEnding, IsUnbegun, IsOfKind};
 
 use crate::options::{command_line, settings};
+use crate::task::Task;
 use clap::Error;
 use clap::error::ErrorKind;
 use inst_base::Fault;
 use inst_settings::Settings;
-use inst_world::run_lines;
+use inst_world::{play_lines, run_lines};
 use std::alloc::{AllocError, Global};
 use std::io::{self, Read, Write};
 
@@ -44,8 +45,10 @@ impl From<AllocError> for Ending {
     }
 }
 
-/// Does what the words of the command line say, the program's name first: `run` answers each line of
-/// `reader` by one line to `writer`. Answers the exit status: 0 at the end of the input and after
+/// Does what the words of the command line say, the program's name first. `run` answers each line of
+/// `reader`, a command, by one line to `writer`, and follows up all transfers after it; `play` does the
+/// same for a script, where each line is one step and nothing happens by itself. They have the same options.
+/// Answers the exit status: 0 at the end of the input and after
 /// `--help`, 2 for a command line that is wrong, with a text on `errors`, and for bad settings, 3
 /// for a run that failed and where memory was wanting before it began. A fault is one line
 /// `fault <number> <name>` on `errors`. What `errors` doesn't take is lost. It reads line by line: its time
@@ -121,15 +124,18 @@ fn serve<R: Read, W: Write>(
         ((reader.new ≡ reader.old) × (writer.new ≡ writer.old))
         (Fails (map string_bytes words.now) (R.remaining reader.old) (R.remaining reader.new) (W.contents writer.old) (W.contents writer.new))) }
 {
-    let settings = chosen(alloc, words)?;
-    run_lines(alloc, &settings, reader, writer)?;
+    let (task, settings) = chosen(alloc, words)?;
+    match task {
+        Task::Run => run_lines(alloc, &settings, reader, writer)?,
+        Task::Play => play_lines(alloc, &settings, reader, writer)?,
+    };
     Ok(())
 }
 
-/// The settings of the run that the words ask for.
-fn chosen(alloc: Global, words: &[String]) -> Result<Settings, Ending>
-    ensures lawful { IfOk result (λ settings. IsSettings settings) }
-    ensures chosen { IfOk result (AreChosen (map string_bytes words.now)) }
+/// What the words ask for, and the settings of its hub.
+fn chosen(alloc: Global, words: &[String]) -> Result<(Task, Settings), Ending>
+    ensures lawful { IfOk result (λ r. IsSettings r.1) }
+    ensures chosen { IfOk result (λ r. AreChosen (map string_bytes words.now) r.0 r.1) }
     ensures whole { OnOk result (AreWhole (map string_bytes words.now)) }
     ensures err { IfErr result (IsUnbegun (map string_bytes words.now)) }
 {
@@ -139,7 +145,7 @@ fn chosen(alloc: Global, words: &[String]) -> Result<Settings, Ending>
         Err(error) => return Err(ending_of(error)),
     };
     match matches.subcommand() {
-        Some((_, options)) => Ok(settings(alloc, options)?),
+        Some((name, options)) => Ok((Task::named(name), settings(alloc, options)?)),
         // A whole command line has a subcommand: this is never reached.
         None => Err(Ending::Fault(Fault::BadSettings)),
     }

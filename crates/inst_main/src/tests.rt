@@ -51,6 +51,18 @@ fn serves_lines(rt: HostRuntime) -> Result<(), Fail> {
 }
 
 #[test]
+fn plays_a_script(rt: HostRuntime) -> Result<(), Fail> {
+    let words = "inst_main play --participants AAAADEFF,BBBBFRPP --places 1";
+    let input = "{\"from\":\"AAAADEFF\",\"place\":0,\"step\":\"deliver\",\"who\":\"BBBBFRPP\"}\n";
+    let output = "{\"new\":false,\"reply\":\"step\"}\n";
+    let ran = run(&rt, words, input)?;
+    assert_eq!(rt; ran.status, 0);
+    assert_eq!(rt; ran.output.as_slice(), output.as_bytes());
+    assert!(rt; ran.errors.is_empty());
+    Ok(())
+}
+
+#[test]
 fn refuses_bad_settings(rt: HostRuntime) -> Result<(), Fail> {
     let bad = "fault 15 BadSettings\n";
     for words in [

@@ -1,39 +1,16 @@
-use Rattle.std.proofs.Common.{rules, ◌≡◌, ◌∙◌, ◌||◌, ap, ap₂, codes, true}
+use Rattle.std.proofs.Common.{rules, ◌≡◌, ◌∙◌, ap, ap₂, codes, true}
 use Rattle.std.proofs.lemmas.Result.{IfOk-weaker}
-use Rattle.clap.specs.Words.{App, app_of, rule_of, new_app, with_rule, with_subcommand}
+use Rattle.clap.specs.Words.{App, app_of, new_app, with_subcommand}
 use Rattle.clap.specs.Simple.{app_of_fields, on_top}
-use Rattle.inst_main.specs.Options.{number_rule, run_command}
+use Rattle.inst_main.specs.Options.{bare_command_line, hub_command}
 use Rattle.inst_main.proofs.options.command_line.Goals as goal
 
 pub returns : goal.returns
 returns c =
-    let named_run : app_of c.new.result ≡ new_app (codes "run") = search rules in
-    let run_is : app_of c.about.result ≡ new_app (codes "run") = ap app_of_fields c.about.ensures ∙ named_run in
-    let places : rule_of c.number.result ≡ number_rule (codes "places") (codes "256") = search rules in
-    let fundings : rule_of c.number-2.result ≡ number_rule (codes "fundings") (codes "256") = search rules in
-    let limit : rule_of c.number-3.result ≡ number_rule (codes "limit") (codes "10000") = search rules in
-    let margin : rule_of c.number-4.result ≡ number_rule (codes "margin") (codes "0") = search rules in
-    let ahead : rule_of c.number-5.result ≡ number_rule (codes "ahead") (codes "1000") = search rules in
-    let ceiling : rule_of c.number-6.result ≡ number_rule (codes "ceiling") (codes "99999999999") = search rules in
-    let base : rule_of c.number-7.result ≡ number_rule (codes "base") (codes "0") = search rules in
-    let with_1 = c.in_ok-arg.ensures.shape c.participants.ensures.local ∙ ap₂ with_rule run_is c.participants.ensures.rule in
-    let with_2 = c.in_ok-arg-2.ensures.shape c.number.ensures.local ∙ ap₂ with_rule with_1 places in
-    let with_3 = c.in_ok-arg-3.ensures.shape c.number-2.ensures.local ∙ ap₂ with_rule with_2 fundings in
-    let with_4 = c.in_ok-arg-4.ensures.shape c.number-3.ensures.local ∙ ap₂ with_rule with_3 limit in
-    let with_5 = c.in_ok-arg-5.ensures.shape c.number-4.ensures.local ∙ ap₂ with_rule with_4 margin in
-    let with_6 = c.in_ok-arg-6.ensures.shape c.number-5.ensures.local ∙ ap₂ with_rule with_5 ahead in
-    let with_7 = c.in_ok-arg-7.ensures.shape c.number-6.ensures.local ∙ ap₂ with_rule with_6 ceiling in
-    let with_8 : app_of c.in_ok-run.run' ≡ run_command = c.in_ok-run.ensures.shape c.number-7.ensures.local ∙ ap₂ with_rule with_7 base in
-    let local_0 = ap (λ fields. fields.has_globals) c.about.ensures ∙ c.new.ensures.local in
-    let local_1 = c.in_ok-arg.ensures.globals ∙ ap₂ (λ a b. a || b) local_0 c.participants.ensures.local in
-    let local_2 = c.in_ok-arg-2.ensures.globals ∙ ap₂ (λ a b. a || b) local_1 c.number.ensures.local in
-    let local_3 = c.in_ok-arg-3.ensures.globals ∙ ap₂ (λ a b. a || b) local_2 c.number-2.ensures.local in
-    let local_4 = c.in_ok-arg-4.ensures.globals ∙ ap₂ (λ a b. a || b) local_3 c.number-3.ensures.local in
-    let local_5 = c.in_ok-arg-5.ensures.globals ∙ ap₂ (λ a b. a || b) local_4 c.number-4.ensures.local in
-    let local_6 = c.in_ok-arg-6.ensures.globals ∙ ap₂ (λ a b. a || b) local_5 c.number-5.ensures.local in
-    let local_7 = c.in_ok-arg-7.ensures.globals ∙ ap₂ (λ a b. a || b) local_6 c.number-6.ensures.local in
-    let local_8 = c.in_ok-run.ensures.globals ∙ ap₂ (λ a b. a || b) local_7 c.number-7.ensures.local in
-    let named_top : app_of c.new-2.result ≡ new_app (codes "inst_main") = search rules in
-    let top : app_of c.subcommand_required.result ≡ on_top (λ top. record top { subcommand_required = true }) (new_app (codes "inst_main")) =
-    ap app_of_fields c.subcommand_required.ensures ∙ ap (on_top (λ top. record top { subcommand_required = true })) (ap app_of_fields c.about-2.ensures ∙ named_top) in
-    IfOk-weaker c.subcommand.result _ _ (λ command adds. adds.shape local_8 ∙ ap₂ with_subcommand top (ap (λ (a : App). a.top) with_8)) c.subcommand.ensures
+    let named_top : app_of c.new.result ≡ new_app (codes "inst_main") = search rules in
+    let top : app_of c.subcommand_required.result ≡ bare_command_line =
+    ap app_of_fields c.subcommand_required.ensures ∙ ap (on_top (λ top. record top { subcommand_required = true })) (ap app_of_fields c.about.ensures ∙ named_top) in
+    let run_is : app_of c.in_ok-run.run' ≡ hub_command (codes "run") = search rules in
+    let play_is : app_of c.in_ok-play.play ≡ hub_command (codes "play") = search rules in
+    let with_run = c.in_ok-subcommand.ensures.shape c.in_ok-run.ensures.local ∙ ap₂ with_subcommand top (ap (λ (a : App). a.top) run_is) in
+    IfOk-weaker c.subcommand-2.result _ _ (λ command adds. adds.shape c.in_ok-play.ensures.local ∙ ap₂ with_subcommand with_run (ap (λ (a : App). a.top) play_is)) c.subcommand-2.ensures

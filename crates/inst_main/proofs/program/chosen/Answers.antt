@@ -1,9 +1,11 @@
 use Rattle.std.proofs.Common.{◌≡◌, ◌∙◌, [], true, map, option_map, string_bytes, refl, sym, ap, subst}
 use Rattle.clap.proofs.OnLiterals.{clap_on_literals}
+use Rattle.std.specs.Box.{box_value}
+use Rattle.clap.specs.declared.parser.matches.ArgMatches.TheViews.{out-ArgMatches, out-SubCommand}
 use Rattle.clap.specs.Words.{HasKind, HasMatchesOf, fault_of, found_of, is_simple, is_simple_and_free, rows_of, subcommand_of, subcommand_rows_of}
 use Rattle.inst_main.specs.Options.{AreWhole, command_line}
 use Rattle.inst_main.proofs.Given.{failed, unbegun}
-use Rattle.inst_main.proofs.Refused.{unsettled}
+use Rattle.inst_main.proofs.Refused.{both_of, unsettled}
 use Rattle.inst_main.proofs.program.chosen.Goals as goal
 
 simple : is_simple command_line ≡ true
@@ -24,9 +26,15 @@ pub returns-in-Some-clause-chosen : goal.returns-in-Some-clause-chosen
 returns-in-Some-clause-chosen c =
     let words = map string_bytes c.args.words.now in
     let found : HasMatchesOf command_line words c.in-Ok.matches = subst (λ app. HasMatchesOf app words c.in-Ok.matches) c.in_ok-command.ensures c.in-Ok.ensures.matches in
-    let rows : subcommand_rows_of c.in-Ok.matches ≡ subcommand_of command_line words = (found simple).1 in (
-      rows_of (found_of c.in-Some.options.now),
-      sym (ap (option_map (λ p. p.1)) rows) ∙ sym c.subcommand.ensures.rows ∙ ap (option_map (λ p. rows_of (found_of p.1.now))) c.in-Some.is,
+    let rows : subcommand_rows_of c.in-Ok.matches ≡ subcommand_of command_line words = (found simple).1 in
+    let name = c.in-Some.name.now in
+    let own = rows_of (found_of c.in-Some.options.now) in (
+      name,
+      own,
+      sym rows ∙ both_of (out-ArgMatches c.in-Ok.matches).subcommand (λ b. (out-SubCommand (box_value b)).name.now) (λ b. rows_of (found_of (out-SubCommand (box_value b)).matches)) name own
+          (sym (ap (option_map (λ p. p.0.now)) c.in-Some.is) ∙ c.subcommand.ensures.name)
+          (sym (ap (option_map (λ p. rows_of (found_of p.1.now))) c.in-Some.is) ∙ c.subcommand.ensures.rows),
+      c.named.ensures,
       c.in_ok-settings-in-Some.ensures.chosen,
     )
 
@@ -41,6 +49,10 @@ returns-in_err-settings-in-Some-clause-err c =
     let whole : AreWhole words = (subst (λ app. is_simple_and_free app ≡ true → fault_of app words ≡ []) c.in_ok-command.ensures c.in-Ok.ensures.kinds) free in
     let found : HasMatchesOf command_line words c.in-Ok.matches = subst (λ app. HasMatchesOf app words c.in-Ok.matches) c.in_ok-command.ensures c.in-Ok.ensures.matches in
     let rows : subcommand_rows_of c.in-Ok.matches ≡ subcommand_of command_line words = (found simple).1 in
-    let at = sym (ap (option_map (λ p. p.1)) rows) ∙ sym c.subcommand.ensures.rows ∙ ap (option_map (λ p. rows_of (found_of p.1.now))) c.in-Some.is in
+    let name = c.in-Some.name.now in
+    let own = rows_of (found_of c.in-Some.options.now) in
+    let at = sym rows ∙ both_of (out-ArgMatches c.in-Ok.matches).subcommand (λ b. (out-SubCommand (box_value b)).name.now) (λ b. rows_of (found_of (out-SubCommand (box_value b)).matches)) name own
+    (sym (ap (option_map (λ p. p.0.now)) c.in-Some.is) ∙ c.subcommand.ensures.name)
+    (sym (ap (option_map (λ p. rows_of (found_of p.1.now))) c.in-Some.is) ∙ c.subcommand.ensures.rows) in
     failed words c.from_residual-in_err-settings-in-Some.result c.in_err-settings-in-Some.field-0.0 c.from_residual-in_err-settings-in-Some.ensures.1
-    (unsettled words (rows_of (found_of c.in-Some.options.now)) _ whole at c.in_err-settings-in-Some.ensures.fault)
+    (unsettled words name own _ whole at c.in_err-settings-in-Some.ensures.fault)

@@ -2,17 +2,43 @@ use Rattle.std.proofs.Common.{rules, [], option_map, refl, unwrap_or, codes, ari
 use Rattle.clap.specs.Words.{subcommand_of}
 use Rattle.clap.proofs.OnLiterals.{clap_on_literals}
 use Rattle.inst_main.specs.Options.{AreChosen, AreGood, AreWhole, command_line}
-use Rattle.inst_main.specs.Rows.{small_hub, small_settings}
+use Rattle.inst_main.specs.Rows.{small_hub, small_script, small_settings}
+use Rattle.inst_main.specs.declared.task.Task.TheVariants.{Run, Play}
 use Rattle.inst_main.proofs.rows.small_hub.Goals as goal
 
 whole : AreWhole small_hub
 unfolding clap_on_literals
 whole = refl
 
-chosen : AreChosen small_hub small_settings
+chosen : AreChosen small_hub Run small_settings
 unfolding clap_on_literals
 chosen = (
+  codes "run",
   unwrap_or (option_map (λ p. p.1) (subcommand_of command_line small_hub)) [],
+  refl,
+  refl,
+  record {
+    participants = (codes "AAAADEFF,BBBBFRPP", refl, refl);
+    places = (codes "2", refl, search rules, refl);
+    fundings = (codes "256", refl, search rules, refl);
+    limit = (codes "10000", refl, search rules, refl);
+    margin = (codes "0", refl, search rules, refl);
+    ahead = (codes "1000", refl, search rules, refl);
+    ceiling = (codes "99999999999", refl, search rules, refl);
+    base = (codes "0", refl, search rules, refl);
+  },
+)
+
+script_whole : AreWhole small_script
+unfolding clap_on_literals
+script_whole = refl
+
+script_chosen : AreChosen small_script Play small_settings
+unfolding clap_on_literals
+script_chosen = (
+  codes "play",
+  unwrap_or (option_map (λ p. p.1) (subcommand_of command_line small_script)) [],
+  refl,
   refl,
   record {
     participants = (codes "AAAADEFF,BBBBFRPP", refl, refl);
@@ -48,4 +74,4 @@ good = record {
 }
 
 pub returns : goal.returns
-returns c = record { whole = whole; chosen = chosen; good = good }
+returns c = record { whole = whole; chosen = chosen; script_whole = script_whole; script_chosen = script_chosen; good = good }
