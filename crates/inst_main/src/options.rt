@@ -34,11 +34,7 @@ pub(crate) fn command_line<'a>(alloc: Global) -> Result<Command<'a>, AllocError>
 }
 
 /// A subcommand with the options of a hub.
-fn hub_command<'a>(
-    alloc: Global,
-    name: &'a str,
-    about: &'a str,
-) -> Result<Command<'a>, AllocError>
+fn hub_command<'a>(alloc: Global, name: &'a str, about: &'a str) -> Result<Command<'a>, AllocError>
     ensures shape { IfOk result (λ command. app_of command ≡ hub_command name.now) }
     ensures local { IfOk result (λ command. IsLocal command) }
 {

@@ -15,6 +15,10 @@ impl Task {
     pub(crate) fn named(name: &str) -> Task
         ensures { result ≡ task_named name.now }
     {
-        if name == "play" { Task::Play } else { Task::Run }
+        if name == "play" {
+            Task::Play
+        } else {
+            Task::Run
+        }
     }
 }
