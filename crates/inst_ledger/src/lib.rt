@@ -10,3 +10,4 @@ mod totals;
 mod transfers;
 
 pub use ledger::Ledger;
+pub use name::Name;

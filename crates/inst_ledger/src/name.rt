@@ -10,8 +10,8 @@ use std::cmp::Ordering;
 
 /// An identifier as the key of a table in order: by its characters.
 #[derive(Clone, Copy, Debug, PartialEq, Eq)]
-pub(crate) struct Name {
-    pub(crate) id: Ident,
+pub struct Name {
+    pub id: Ident,
 }
 
 impl PartialOrd for Name {

@@ -1,9 +1,9 @@
 -- What is kept of a command fits the history, and what a decision keeps is a booking.
 use Rattle.std.proofs.Common.{◌≡◌, ℕ, false, List, [], ◌∷◌, ⊎_elim, refl, sym, ap, ◌∙◌, subst, Option, Some, None, is_some, true}
-use Rattle.std.specs.Prelude.{Result, Ok, Err, IfOk, OnOk, OnErr}
+use Rattle.std.specs.Prelude.{Result, Ok, Err, IfOk}
 use Rattle.inst_base.specs.declared.fault.Fault.{Fault}
 use Rattle.inst_base.specs.Fault.{IsUnlessMemory}
-use Rattle.inst_settings.specs.Settings.{HubSettings, IsSettings}
+use Rattle.inst_settings.specs.Settings.{HubSettings}
 use Rattle.inst_command.specs.declared.ask.Ask.{Ask}
 use Rattle.inst_command.specs.declared.outcome.Outcome.{Outcome}
 use Rattle.inst_board.specs.declared.place.Place.{Place}
@@ -13,11 +13,11 @@ use Rattle.inst_journal.specs.declared.event.Event.{Event}
 use Rattle.inst_journal.specs.declared.event.Event.TheVariants.{Funded, Defunded, Taken, Forwarded, Booked, Fetched, Opened}
 use Rattle.inst_journal.specs.declared.handle.Handled.{Handled}
 use Rattle.inst_journal.specs.Reply.{kept_event, kept_events}
-use Rattle.inst_journal.specs.Sound.{FitAfter, Fits, IsSound}
-use Rattle.inst_journal.proofs.Soundness.{sound_push}
-use Rattle.inst_ledger.specs.Book.{Book as Kept, MayKeep, brings_key, with_event}
+use Rattle.inst_journal.specs.Sound.{FitAfter, Fits}
+use Rattle.inst_ledger.specs.Book.{Book as Kept, MayKeep, brings_key}
 use Rattle.inst_slot.specs.Book.{Book}
 use Rattle.inst_slot.specs.Asking.{request, handle_ask, Opens}
+use Rattle.inst_slot.specs.Indexed.{is_booking}
 use Rattle.inst_slot.specs.LawfulBoard.{IsLawfulBoard}
 use Rattle.inst_slot.specs.Telling.{booking}
 use Rattle.inst_slot.proofs.Deciding.{asked}
@@ -37,11 +37,12 @@ event_fits book kept e fits is = (subst (λ (x : Option Event). FitAfter book.se
 -- a booking is what is kept of what was found
 pub record IsBooking (found : Option Outcome) (e : Event) : Type 0 where
   pub no_key : brings_key e ≡ false
+  pub booking : is_booking e ≡ true
   pub some : is_some found ≡ true
 
 booking_is : (owner : ℕ) (id : List ℕ) (found : Option Outcome) (e : Event) → kept_event (booking owner id found) ≡ e ∷ [] → IsBooking found e
 booking_is owner id None e is = let none : ⊥ = cc in absurd none
-booking_is owner id (Some o) e is = let same : Booked owner id o ≡ e = cc in record { no_key = ap brings_key (sym same); some = refl }
+booking_is owner id (Some o) e is = let same : Booked owner id o ≡ e = cc in record { no_key = ap brings_key (sym same); booking = ap is_booking (sym same); some = refl }
 
 answered_with : (r wanted : Result Handled Fault) (h : Handled) (e : Event) → IsUnlessMemory r wanted → r ≡ Ok h → h.kept ≡ Some e → kept_events wanted ≡ e ∷ []
 answered_with r wanted h e answer ok kept = ⊎_elim
@@ -54,14 +55,6 @@ pub settled_by : {B : Type 0} (settings : B → HubSettings) (knows : B → Fact
 settled_by settings knows has_role b book ask k found r h e was asks answer ok kept =
     let a = asked settings knows has_role b book ask.command k was asks in
     booking_is k.0.owner a.id found e (sym (a.kept ask.at found) ∙ answered_with r (handle_ask book ask found) h e answer ok kept)
-
--- a ledger that keeps an event that fits stays lawful
-pub keeps_lawful : (old new : Kept) (e : Event) (r : Result (Unit {0}) Fault) → IsSettings old.settings × IsSound old.settings old.who old.events → Fits old.settings old.who old.events e
-    → OnOk r (new ≡ with_event old e) → OnErr r (new ≡ old) → IsSettings new.settings × IsSound new.settings new.who new.events
-keeps_lawful old new e (Ok u) lawful fits ok err =
-    subst (λ (x : Kept). IsSettings x.settings × IsSound x.settings x.who x.events) (sym ok) (lawful.0, sound_push old.settings old.who old.events e lawful.1 fits)
-keeps_lawful old new e (Err fault) lawful fits ok err =
-    subst (λ (x : Kept). IsSettings x.settings × IsSound x.settings x.who x.events) (sym err) lawful
 
 -- no place is opened for an event that takes nothing
 pub opens_none : {B : Type 0} (margin : ℕ) (knows : B → Fact → Type 0) (book : Book) (e : Event) (b : B) → ((id : List ℕ) (to cents stamp : ℕ) → e ≡ Taken id to cents stamp → ⊥) → Opens margin knows book (e ∷ []) b b

@@ -15,3 +15,5 @@ pub mod Telling
 pub mod Opening
 pub mod Positions
 pub mod Found
+pub mod Indexed
+pub mod OwnIds

@@ -28,7 +28,7 @@ module _ {X : Type 0} (p : X → Bool) where
   pub position_cons : (x : X) (xs : List X) → position p (x ∷ xs) ≡ cond (p x) (Some 0) (later (position p xs))
   position_cons x xs = first_looked_at (p x) (position_or_len p xs) (length xs)
 
-  no_later : (o : Option ℕ) → later o ≡ None → o ≡ None
+  pub no_later : (o : Option ℕ) → later o ≡ None → o ≡ None
   no_later None e = refl
   no_later (Some n) e = let none : ⊥ = cc in absurd none
 

@@ -3,4 +3,5 @@ pub mod LawfulBoard
 pub mod Asking
 pub mod Telling
 pub mod Opening
+pub mod Indexed
 pub mod Laws

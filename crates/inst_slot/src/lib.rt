@@ -4,6 +4,7 @@
 mod arrival;
 mod finding;
 pub mod laws;
+mod own;
 mod slot;
 #[cfg(test)]
 mod tests;

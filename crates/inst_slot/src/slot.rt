@@ -12,6 +12,7 @@ mod telling;
 
 use crate::Arrival;
 use crate::arrival::arrived_at;
+use crate::own::Own;
 use inst_base::{Fault, Ident};
 use inst_board::Place;
 use inst_journal::Journal;
@@ -33,12 +34,12 @@ pub struct Slot {
     alloc: Global,
     ledger: Ledger,
     arrivals: Vec<Arrival>,
+    own: Own,
 }
 
 impl Model for Slot {
-    ghost use Rattle.inst_settings.specs.Settings.{IsSettings};
-    ghost use Rattle.inst_journal.specs.Sound.{IsSound};
     ghost use Rattle.inst_slot.specs.Book.{Book};
+    ghost use Rattle.inst_slot.specs.Indexed.{IsHeld};
 
     ghost Value = { Book };
 
@@ -49,8 +50,7 @@ impl Model for Slot {
       arrivals = slot.arrivals.items;
     } };
 
-    ghost invariant = { λ slot. IsSettings slot.ledger.book.settings
-        × IsSound slot.ledger.book.settings slot.ledger.book.who slot.ledger.book.events };
+    ghost invariant = { λ slot. IsHeld slot.ledger.book.settings slot.ledger.book.who slot.ledger.book.events slot.own };
 }
 
 impl Slot {
@@ -63,6 +63,7 @@ impl Slot {
             alloc,
             ledger: Ledger::open(alloc, settings, who)?,
             arrivals: Vec::new(alloc),
+            own: Own::new(alloc),
         })
     }
 
@@ -86,8 +87,7 @@ impl Slot {
     fn own_index(&self, id: &Ident) -> Option<u16>
         ensures { result ≡ position (takes id.now) (live_taken self.now.who self.now.events) }
     {
-        let index = self.ledger.journal().place_of(self.who(), id)?;
-        Some(index as u16)
+        self.own.index_of(id)
     }
 
     /// The place of a live transfer of the originator `from`: of the participant's own, or of one that was

@@ -5,7 +5,7 @@ ghost use Rattle.inst_settings.specs.Settings.{is_participant};
 ghost use Rattle.inst_command.specs.Ask.{ask_fits};
 ghost use Rattle.inst_board.specs.Learning.{KnowTheSame};
 ghost use Rattle.inst_journal.specs.Booked.{takes, booked};
-ghost use Rattle.inst_journal.specs.Opened.{live_taken};
+ghost use Rattle.inst_journal.specs.Opened.{is_opening, live_taken};
 ghost use Rattle.inst_journal.specs.Sound.{IsSound, Fits, FitAfter};
 ghost use Rattle.inst_journal.specs.Reply.{copies, kept_event};
 ghost use Rattle.inst_slot.specs.Book.{arrived_at};
@@ -93,21 +93,30 @@ impl Slot {
     {
         let index = self.ledger.live_submissions() as u16;
         let &Terms { to, cents, id } = terms;
-        self.ledger.keep(Event::Taken {
+        self.own.add(id)?;
+        match self.ledger.keep(Event::Taken {
             id,
             to,
             cents,
             stamp,
-        })?;
-        self.open_place(board, index, terms, stamp);
-        Ok(())
+        }) {
+            Ok(()) => {
+                self.open_place(board, index, terms, stamp);
+                Ok(())
+            }
+            Err(fault) => {
+                self.own.take_back();
+                Err(fault)
+            }
+        }
     }
 
-    /// Keeps an event that fits, and opens the next place where it takes a submission.
+    /// Keeps an event that fits, but for an opening, and opens the next place where it takes a submission.
     fn keep<B: Board>(&mut self, board: &mut B, event: &Event) -> Result<(), Fault>
         requires lawful { IsLawfulBoard B.settings B.knows B.has_role board.old self.old }
         requires participant { is_participant self.old.settings self.old.who ≡ true }
         requires fits { Fits self.old.settings self.old.who self.old.events event.now }
+        requires within { is_opening event.now ≡ false }
         ensures ok { OnOk result (self.new ≡ with_event self.old (Some event.now)) }
         ensures opens { OnOk result (Opens (B.settings board.old).margin B.knows self.old (event.now ∷ []) board.old board.new) }
         ensures err { OnErr result ((self.new ≡ self.old) × (board.new ≡ board.old)) }

@@ -1,26 +1,20 @@
 //! How the transfers of a slot expire.
 ghost use Rattle.std.specs.Prelude.{◌≡◌, Some};
 ghost use Rattle.inst_slot.specs.LawfulBoard.{IsLawfulBoard, KeepsOthers, AllAreAdopted};
-ghost use Rattle.inst_slot.specs.Telling.{taken_by, unbooked_at, ExpiresFor, Expires};
+ghost use Rattle.inst_slot.specs.Telling.{unbooked_at, ExpiresFor, Expires};
 
 use super::Slot;
 use super::telling::booked_event;
 use crate::finding::find;
 use inst_base::{Fault, Ident, Moment};
 use inst_board::{Board, Place, Wish};
-use inst_journal::Event;
 
 impl Slot {
     /// The identifier of the participant's live transfer at this index, where nothing is booked of it.
     fn unbooked_at(&self, index: u16) -> Option<Ident>
         ensures { result ≡ unbooked_at self.now index }
     {
-        let id = taken_by(
-            &self
-                .ledger
-                .journal()
-                .taken_at(self.who(), usize::from(index)),
-        )?;
+        let id = self.own.at(index)?;
         if self.ledger.booked(self.who(), &id).is_some() {
             return None;
         }
@@ -72,15 +66,5 @@ impl Slot {
             Some(id) => self.let_expire(board, index, id, at),
             None => Ok(false),
         }
-    }
-}
-
-/// The identifier of the transfer that the event takes, if any.
-fn taken_by(event: &Option<Event>) -> Option<Ident>
-    ensures { result ≡ taken_by event.now }
-{
-    match event {
-        Some(Event::Taken { id, .. }) => Some(*id),
-        _ => None,
     }
 }

@@ -18,6 +18,7 @@ ghost use Rattle.inst_slot.specs.Opening.{opened_again, MayOpenAgain, OpensPlace
 use super::Slot;
 use crate::Arrival;
 use crate::arrival::{awaits, carried_arrivals, is_unfound, position_of};
+use crate::own::carried_own;
 use inst_base::{Fault, Moment};
 use inst_board::{Board, Look, Place};
 use inst_journal::{Event, Journal};
@@ -64,10 +65,12 @@ impl Slot {
     {
         let ledger = Ledger::open_from(alloc, settings, who, journal)?;
         let arrivals = carried_arrivals(alloc, &ledger)?;
+        let own = carried_own(alloc, &ledger)?;
         Ok(Slot {
             alloc,
             ledger,
             arrivals,
+            own,
         })
     }
 

@@ -1,8 +1,9 @@
 //! What a board tells a slot: what is forwarded to it, and how its transfers ended.
-ghost use Rattle.std.specs.Prelude.{◌≡◌, is_some, OnErr, OnOk, IsOkUnless, Some};
+ghost use Rattle.std.specs.Prelude.{◌≡◌, true, is_some, OnErr, OnOk, IsOkUnless, Some};
 ghost use Rattle.inst_board.specs.declared.look.Look.{Look};
 ghost use Rattle.inst_board.specs.Learning.{Looks};
 ghost use Rattle.inst_journal.specs.Sound.{IsSound, Fits};
+ghost use Rattle.inst_slot.specs.Indexed.{is_booking};
 ghost use Rattle.inst_slot.specs.LawfulBoard.{IsLawfulBoard, KeepsOthers, AllAreAdopted};
 ghost use Rattle.inst_slot.specs.Telling.{delivery, with_delivery, is_party, lesson, with_event, Keeps};
 
@@ -117,6 +118,7 @@ impl Slot {
     /// Keeps an event that books an outcome.
     fn book(&mut self, event: Event) -> Result<(), Fault>
         requires fits { Fits self.old.settings self.old.who self.old.events event }
+        requires booking { is_booking event ≡ true }
         ensures ok { OnOk result (self.new ≡ with_event self.old (Some event)) }
         ensures err { OnErr result (self.new ≡ self.old) }
         ensures only { IsOkUnless result Fault.Memory }

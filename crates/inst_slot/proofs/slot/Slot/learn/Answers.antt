@@ -1,8 +1,9 @@
-use Rattle.std.proofs.Common.{refl, ◌∙◌, sym, subst}
+use Rattle.std.proofs.Common.{refl, ◌∙◌, sym, ap, subst}
 use Rattle.inst_slot.specs.Book.{Book}
+use Rattle.inst_slot.specs.Indexed.{is_booking}
 use Rattle.inst_slot.specs.LawfulBoard.{IsLawfulBoard}
 use Rattle.inst_slot.proofs.Looking.{looked_on}
-use Rattle.inst_slot.proofs.Learning.{lesson_keeps, lesson_fits}
+use Rattle.inst_slot.proofs.Learning.{teaches, lesson_keeps, lesson_fits}
 use Rattle.inst_slot.proofs.Others.{others_look}
 use Rattle.inst_slot.proofs.slot.Slot.learn.Goals as goal
 
@@ -35,7 +36,11 @@ returns-in_ok-book-in-Some-clause-lawful g c =
 pub book-requires : goal.book-requires
 book-requires g c =
     let b = g.B.Board in
-    record { fits = lesson_fits b.settings b.knows b.has_role (b.settings c.args.board.now).margin b.stood c.args.board.now c.look-look.new.self c.args.place c.look-look.result c.look-look.ensures.look c.args.self.now c.requires.lawful c.in-Some.event (sym c.lesson.ensures.event ∙ c.in-Some.is) }
+    let is = sym c.lesson.ensures.event ∙ c.in-Some.is in
+    record {
+      fits = lesson_fits b.settings b.knows b.has_role (b.settings c.args.board.now).margin b.stood c.args.board.now c.look-look.new.self c.args.place c.look-look.result c.look-look.ensures.look c.args.self.now c.requires.lawful c.in-Some.event is;
+      booking = ap is_booking (teaches c.args.self.now c.args.place c.look-look.result c.in-Some.event is).event_is;
+    }
 
 pub returns-in-None-clause-others : goal.returns-in-None-clause-others
 returns-in-None-clause-others g c =

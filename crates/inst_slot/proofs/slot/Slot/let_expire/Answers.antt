@@ -1,17 +1,18 @@
 use Rattle.std.proofs.Common.{◌≡◌, ◌∙◌, sym, ap, subst, inl, refl, ℕ, List}
-use Rattle.inst_settings.specs.Settings.{HubSettings, IsSettings}
+use Rattle.inst_settings.specs.Settings.{HubSettings}
 use Rattle.inst_command.specs.declared.outcome.Outcome.{Outcome}
 use Rattle.inst_board.specs.declared.wish.Wish.TheVariants.{Expire}
 use Rattle.inst_board.specs.Learning.{MayDecide}
 use Rattle.inst_journal.specs.declared.event.Event.{Event}
 use Rattle.inst_journal.specs.declared.event.Event.TheVariants.{Booked}
-use Rattle.inst_journal.specs.Sound.{Fits, IsSound}
+use Rattle.inst_journal.specs.Sound.{Fits}
 use Rattle.inst_ledger.specs.Book.{Book as Kept}
 use Rattle.inst_slot.specs.Book.{Book, place_at}
 use Rattle.inst_slot.proofs.Learning.{booking_fits}
 use Rattle.inst_slot.proofs.Settling.{unbooked_is}
 use Rattle.inst_slot.proofs.Deciding.{may_expire}
-use Rattle.inst_slot.proofs.Handling.{keeps_lawful}
+use Rattle.inst_slot.specs.Indexed.{IsHeld}
+use Rattle.inst_slot.proofs.OwnIds.{keeps_held, moves_none}
 use Rattle.inst_slot.proofs.slot.Slot.let_expire.Goals as goal
 
 pub find-requires-clause-may : goal.find-requires-clause-may
@@ -48,8 +49,9 @@ invariant_of-self-in-Some-2 g c =
     let book : Book = c.args.self.now in
     let old = c.find.new.ledger.book in
     let u = unbooked_is book c.args.index c.args.id c.requires.unbooked in
-    let lawful = subst (λ (x : Kept). IsSettings x.settings × IsSound x.settings x.who x.events) (sym c.find.ensures.book) c.self.invariant in
+    let ids = c.self.inside.own in
+    let held = subst (λ (x : Kept). IsHeld x.settings x.who x.events ids) (sym c.find.ensures.book) c.self.invariant in
     let fits = booking book c.self.inside.ledger.book old c.who-in-Some.result c.args.id c.in-Some.outcome c.booked_event-event.result c.find.ensures.book
     (ap (λ (x : Book). x.settings) c.self.view_is) (ap (λ (x : Book). x.who) c.self.view_is) (ap (λ (x : Book). x.events) c.self.view_is) c.who-in-Some.ensures c.booked_event-event.ensures
     (booking_fits b.settings b.knows b.has_role c.args.board.now book book.who c.args.id c.args.index c.in-Some.outcome c.requires.lawful (inl (refl, u.at)) u.none) in
-    keeps_lawful old c.keep.new.self.book c.booked_event-event.result c.keep.result lawful fits c.keep.ensures.ok c.keep.ensures.err
+    keeps_held old c.keep.new.self.book ids c.booked_event-event.result c.keep.result held fits (ap moves_none c.booked_event-event.ensures) c.keep.ensures.ok c.keep.ensures.err

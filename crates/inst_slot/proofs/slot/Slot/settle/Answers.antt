@@ -1,11 +1,16 @@
-use Rattle.std.proofs.Common.{sym, subst, Option}
-use Rattle.inst_settings.specs.Settings.{IsSettings}
+use Rattle.std.proofs.Common.{◌∙◌, refl, sym, ap, subst, Option}
+use Rattle.std.specs.Prelude.{Ok}
+use Rattle.inst_base.specs.Fault.{IsUnlessMemory}
 use Rattle.inst_journal.specs.declared.event.Event.{Event}
 use Rattle.inst_journal.specs.Reply.{kept_event}
-use Rattle.inst_journal.specs.Sound.{IsSound, FitAfter}
+use Rattle.inst_journal.specs.Sound.{FitAfter}
 use Rattle.inst_ledger.specs.Book.{Book as Kept}
 use Rattle.inst_slot.proofs.Deciding.{asked}
-use Rattle.inst_slot.proofs.Handling.{keeps_lawful}
+use Rattle.inst_slot.specs.Book.{Book}
+use Rattle.inst_slot.specs.Asking.{handle_ask}
+use Rattle.inst_slot.specs.Indexed.{IsHeld}
+use Rattle.inst_slot.proofs.Handling.{settled_by}
+use Rattle.inst_slot.proofs.OwnIds.{keeps_held, booking_moves_none}
 use Rattle.inst_slot.proofs.slot.Slot.settle.Goals as goal
 
 pub find-requires-clause-may : goal.find-requires-clause-may
@@ -15,8 +20,17 @@ find-requires-clause-may g c =
 
 pub invariant_of-self-in-Continue-branch-3 : goal.invariant_of-self-in-Continue-branch-3
 invariant_of-self-in-Continue-branch-3 g c =
+    let b = g.B.Board in
     let old = c.find.new.ledger.book in
-    let lawful = subst (λ (x : Kept). IsSettings x.settings × IsSound x.settings x.who x.events) (sym c.find.ensures.book) c.self.invariant in
+    let ids = c.self.inside.own in
+    let held = subst (λ (x : Kept). IsHeld x.settings x.who x.events ids) (sym c.find.ensures.book) c.self.invariant in
     let is = c.in-Some.is in
     let fits = (subst (λ (x : Option Event). FitAfter old.settings old.who old.events (kept_event x)) is c.in_ok-reply.ensures.kept).0 in
-    keeps_lawful old c.keep.new.self.book c.in-Some.event c.keep.result lawful fits c.keep.ensures.ok c.keep.ensures.err
+    let ask = c.args.ask.now in
+    let found = c.in_ok-found.found in
+    let handled = c.in_ok-reply.field-0 in
+    let view : Kept → Book = λ x. record { settings = x.settings; who = x.who; events = x.events; arrivals = c.self.inside.arrivals.items } in
+    let answered = subst (λ (x : Book). IsUnlessMemory (Ok handled) (handle_ask x ask found)) (ap view c.find.ensures.book ∙ c.self.view_is) c.in_ok-reply.ensures.reply in
+    let books = settled_by b.settings b.knows b.has_role c.args.board.now c.args.self.now ask (c.args.place, c.args.wish) found (Ok handled) handled c.in-Some.event c.requires.lawful c.requires.request
+    answered refl is in
+    keeps_held old c.keep.new.self.book ids c.in-Some.event c.keep.result held fits (booking_moves_none c.in-Some.event books.booking) c.keep.ensures.ok c.keep.ensures.err

@@ -1,0 +1,22 @@
+use Rattle.std.proofs.Common.{◌∙◌, sym, ap}
+use Rattle.inst_journal.specs.Booked.{booked}
+use Rattle.inst_slot.specs.Book.{Book}
+use Rattle.inst_slot.specs.Indexed.{own_ids}
+use Rattle.inst_slot.proofs.OwnIds.{one_there}
+use Rattle.inst_slot.proofs.slot.Slot.unbooked_at.Goals as goal
+
+pub returns-then-is_some : goal.returns-then-is_some
+returns-then-is_some c =
+    let book : Book = c.args.self.now in
+    let same = c.self.invariant.2 ∙ ap (λ (x : Book). own_ids x.who x.events) c.self.view_is in
+    let there = sym c.at.ensures ∙ c.in_ok-id.was in
+    let known = c.booked.ensures ∙ ap (λ n. booked n c.in_ok-id.id c.self.inside.ledger.book.events) c.who.ensures ∙ ap (λ (x : Book). booked book.who c.in_ok-id.id x.events) c.self.view_is in
+    sym (one_there book c.self.inside.own c.args.index c.in_ok-id.id c.booked.result _ same there known (sym c.if-is_some.ensures))
+
+pub returns : goal.returns
+returns c =
+    let book : Book = c.args.self.now in
+    let same = c.self.invariant.2 ∙ ap (λ (x : Book). own_ids x.who x.events) c.self.view_is in
+    let there = sym c.at.ensures ∙ c.in_ok-id.was in
+    let known = c.booked.ensures ∙ ap (λ n. booked n c.in_ok-id.id c.self.inside.ledger.book.events) c.who.ensures ∙ ap (λ (x : Book). booked book.who c.in_ok-id.id x.events) c.self.view_is in
+    sym (one_there book c.self.inside.own c.args.index c.in_ok-id.id c.booked.result _ same there known (sym c.if-is_some.ensures))

@@ -1,0 +1,42 @@
+-- What a slot keeps to find a transfer without a walk: the identifiers of the participant's own live transfers by the
+-- index of their places, and tables from what names a transfer to where it stands. This hub's own choice.
+use Rattle.std.specs.Prelude.{◌≡◌, ℕ, Bool, true, false, List, [], map, slice_get, Option, Some}
+use Rattle.std.specs.BTreeMap.{BTreeMap, get}
+use Rattle.inst_settings.specs.Settings.{HubSettings, IsSettings, same_text}
+use Rattle.inst_journal.specs.declared.event.Event.{Event}
+use Rattle.inst_journal.specs.declared.event.Event.TheVariants.{Taken, Booked}
+use Rattle.inst_journal.specs.Opened.{live_taken}
+use Rattle.inst_journal.specs.Sound.{IsSound}
+use Rattle.inst_ledger.specs.declared.name.Name.{Name}
+use Rattle.inst_ledger.specs.Name.{name_cmp}
+
+-- a table finds each key at the index where it stands, and nothing else
+pub record IsIndexed {K : Type 0} (found : K → Option ℕ) (keys : List K) : Type 0 where
+  pub at : (i : ℕ) (k : K) → slice_get keys i ≡ Some k → found k ≡ Some i
+  pub only : (k : K) (i : ℕ) → found k ≡ Some i → slice_get keys i ≡ Some k
+
+-- the index in the table under this identifier
+abbrev pub index_at : BTreeMap Name ℕ → List ℕ → Option ℕ
+index_at table id = get name_cmp table (record { id = id })
+
+-- whether another identifier is this one
+abbrev pub is_id : List ℕ → List ℕ → Bool
+is_id id other = same_text other id
+
+-- the identifier of the transfer that the event takes
+abbrev pub id_of : Event → List ℕ
+id_of (Taken id to cents stamp) = id
+id_of _ = []
+
+-- the identifiers of the participant's own live transfers, in the order of their places
+abbrev pub own_ids : ℕ → List Event → List (List ℕ)
+own_ids who J = map id_of (live_taken who J)
+
+-- whether the event books an outcome
+abbrev pub is_booking : Event → Bool
+is_booking (Booked from id outcome) = true
+is_booking _ = false
+
+-- what is right of a slot's history, and of the identifiers that it keeps beside it
+abbrev pub IsHeld : HubSettings → ℕ → List Event → List (List ℕ) → Type 0
+IsHeld s who J ids = IsSettings s × IsSound s who J × (ids ≡ own_ids who J)
