@@ -333,47 +333,47 @@ same_slot book k (Pending t d) = either (t.to == book.who)
     either true = (refl, refl)
     either false = (refl, refl)
 
--- what a slot makes of a transfer that is pending at the place
-module _ (book : Book) (k : Place) (t : Terms) (deadline : ℕ) (once : count_by (is_of k.owner t.id) book.arrivals ≤ 1) where
-  abbrev after : Book
-  after = with_arrivals book (map (found_at k t deadline) book.arrivals)
+-- what is made of a transfer that is pending at the place
+module _ (A : List Arrival) (k : Place) (t : Terms) (deadline : ℕ) (once : count_by (is_of k.owner t.id) A ≤ 1) where
+  abbrev after : List Arrival
+  after = map (found_at k t deadline) A
 
   pub record IsNotFound : Type 0 where
-    pub found : false ≡ list_any (awaits k t deadline) book.arrivals
-    pub kept : book ≡ after
+    pub found : false ≡ list_any (awaits k t deadline) A
+    pub kept : A ≡ after
 
-  not_found : NothingFound k t deadline book.arrivals → IsNotFound
-  not_found n = record { found = sym n.none; kept = ap (with_arrivals book) (sym n.same) }
+  not_found : NothingFound k t deadline A → IsNotFound
+  not_found n = record { found = sym n.none; kept = sym n.same }
 
-  pub no_arrival : position (is_of k.owner t.id) book.arrivals ≡ None → IsNotFound
-  no_arrival none = not_found (none_of_it k t deadline book.arrivals (none_passes (is_of k.owner t.id) book.arrivals none))
+  pub no_arrival : position (is_of k.owner t.id) A ≡ None → IsNotFound
+  no_arrival none = not_found (none_of_it k t deadline A (none_passes (is_of k.owner t.id) A none))
 
   set_again : (A : List Arrival) (i : ℕ) (x : Arrival) → slice_get A i ≡ Some x → set A i x ≡ A
   set_again [] i x e = let no : ⊥ = cc in absurd no
   set_again (y ∷ A) zero x e = let same : y ≡ x = cc in ap (λ (z : Arrival). z ∷ A) (sym same)
   set_again (y ∷ A) (suc i) x e = ap (λ (l : List Arrival). y ∷ l) (set_again A i x e)
 
-  pub read_there : (i : ℕ) (x : Arrival) → position (is_of k.owner t.id) book.arrivals ≡ Some i → x ≡ get_or book.arrivals i x → slice_get book.arrivals i ≡ Some x
+  pub read_there : (i : ℕ) (x : Arrival) → position (is_of k.owner t.id) A ≡ Some i → x ≡ get_or A i x → slice_get A i ≡ Some x
   read_there i x at read =
-      let p = passes_at (is_of k.owner t.id) book.arrivals i at in
-      p.1 ∙ ap (λ (y : Arrival). Some y) (sym (read ∙ get_or_from_slice_get book.arrivals i p.0 x p.1))
+      let p = passes_at (is_of k.owner t.id) A i at in
+      p.1 ∙ ap (λ (y : Arrival). Some y) (sym (read ∙ get_or_from_slice_get A i p.0 x p.1))
 
-  same_there : (x y : Arrival) (i : ℕ) → slice_get book.arrivals i ≡ Some x → slice_get book.arrivals i ≡ Some y → x ≡ y
+  same_there : (x y : Arrival) (i : ℕ) → slice_get A i ≡ Some x → slice_get A i ≡ Some y → x ≡ y
   same_there x y i there here = let both : Some x ≡ Some y = sym there ∙ here in cc
 
-  one : (i : ℕ) (x : Arrival) → position (is_of k.owner t.id) book.arrivals ≡ Some i → slice_get book.arrivals i ≡ Some x → OneFound k t deadline book.arrivals i x
+  one : (i : ℕ) (x : Arrival) → position (is_of k.owner t.id) A ≡ Some i → slice_get A i ≡ Some x → OneFound k t deadline A i x
   one i x at there =
-      let p = passes_at (is_of k.owner t.id) book.arrivals i at in
-      one_of_it k t deadline book.arrivals i x once there (ap (is_of k.owner t.id) (same_there x p.0 i there p.1) ∙ p.2)
+      let p = passes_at (is_of k.owner t.id) A i at in
+      one_of_it k t deadline A i x once there (ap (is_of k.owner t.id) (same_there x p.0 i there p.1) ∙ p.2)
 
-  pub another_arrival : (i : ℕ) (x : Arrival) → position (is_of k.owner t.id) book.arrivals ≡ Some i → slice_get book.arrivals i ≡ Some x → awaits k t deadline x ≡ false → IsNotFound
+  pub another_arrival : (i : ℕ) (x : Arrival) → position (is_of k.owner t.id) A ≡ Some i → slice_get A i ≡ Some x → awaits k t deadline x ≡ false → IsNotFound
   another_arrival i x at there other =
       let o = one i x at there in
-      not_found (record { none = o.any ∙ other; same = o.new ∙ ap (set book.arrivals i) (still_lies k t deadline x other) ∙ set_again book.arrivals i x there })
+      not_found (record { none = o.any ∙ other; same = o.new ∙ ap (set A i) (still_lies k t deadline x other) ∙ set_again A i x there })
 
-  pub this_arrival : (i : ℕ) (x : Arrival) → position (is_of k.owner t.id) book.arrivals ≡ Some i → slice_get book.arrivals i ≡ Some x → awaits k t deadline x ≡ true
-      → (true ≡ list_any (awaits k t deadline) book.arrivals) × (with_arrivals book (set book.arrivals i (record { entry = x.entry; index = Some k.index })) ≡ after)
+  pub this_arrival : (i : ℕ) (x : Arrival) → position (is_of k.owner t.id) A ≡ Some i → slice_get A i ≡ Some x → awaits k t deadline x ≡ true
+      → (true ≡ list_any (awaits k t deadline) A) × (set A i (record { entry = x.entry; index = Some k.index }) ≡ after)
   this_arrival i x at there yes_it =
       let o = one i x at there in
       let new : found_at k t deadline x ≡ record { entry = x.entry; index = Some k.index } = ap (λ (b : Bool). cond b (record { entry = x.entry; index = Some k.index }) x) yes_it in
-      (sym (o.any ∙ yes_it), ap (λ (y : Arrival). with_arrivals book (set book.arrivals i y)) (sym new) ∙ ap (with_arrivals book) (sym o.new))
+      (sym (o.any ∙ yes_it), ap (λ (y : Arrival). set A i y) (sym new) ∙ sym o.new)

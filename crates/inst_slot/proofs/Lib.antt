@@ -17,3 +17,4 @@ pub mod Positions
 pub mod Found
 pub mod Indexed
 pub mod OwnIds
+pub mod Arrived

@@ -8,7 +8,8 @@ use Rattle.inst_journal.specs.declared.event.Event.TheVariants.{Taken, Booked}
 use Rattle.inst_journal.specs.Opened.{live_taken}
 use Rattle.inst_journal.specs.Sound.{IsSound}
 use Rattle.inst_ledger.specs.declared.name.Name.{Name}
-use Rattle.inst_ledger.specs.Name.{name_cmp}
+use Rattle.inst_ledger.specs.Name.{name_cmp, key_cmp}
+use Rattle.inst_slot.specs.declared.arrival.Arrival.{Arrival}
 
 -- a table finds each key at the index where it stands, and nothing else
 pub record IsIndexed {K : Type 0} (found : K → Option ℕ) (keys : List K) : Type 0 where
@@ -18,6 +19,14 @@ pub record IsIndexed {K : Type 0} (found : K → Option ℕ) (keys : List K) : T
 -- the index in the table under this identifier
 abbrev pub index_at : BTreeMap Name ℕ → List ℕ → Option ℕ
 index_at table id = get name_cmp table (record { id = id })
+
+-- the position in the table under this originator and identifier
+abbrev pub position_at : BTreeMap (ℕ × Name) ℕ → ℕ × List ℕ → Option ℕ
+position_at table key = get key_cmp table (key.0, record { id = key.1 })
+
+-- the originator and the identifier that name the transfer of the arrival
+abbrev pub key_of : Arrival → ℕ × List ℕ
+key_of arrival = (arrival.entry.from, arrival.entry.id)
 
 -- whether another identifier is this one
 abbrev pub is_id : List ℕ → List ℕ → Bool

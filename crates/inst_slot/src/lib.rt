@@ -2,6 +2,7 @@
 #![tactic(auto)]
 
 mod arrival;
+mod arrivals;
 mod finding;
 pub mod laws;
 mod own;

@@ -10,8 +10,7 @@ mod expiring;
 mod opening;
 mod telling;
 
-use crate::Arrival;
-use crate::arrival::arrived_at;
+use crate::arrivals::Arrivals;
 use crate::own::Own;
 use inst_base::{Fault, Ident};
 use inst_board::Place;
@@ -22,7 +21,7 @@ use std::alloc::Global;
 use std::marker::Model;
 
 /// The books of one participant, over a board that holds its role. Its history is sound, always. What a
-/// command is answered comes from running totals and tables; finding a place walks the live transfers.
+/// command is answered comes from running totals and tables, and so does the place of a transfer.
 ///
 /// ```text
 /// let mut slot = Slot::open(alloc, &settings, 1)?;
@@ -33,7 +32,7 @@ use std::marker::Model;
 pub struct Slot {
     alloc: Global,
     ledger: Ledger,
-    arrivals: Vec<Arrival>,
+    arrivals: Arrivals,
     own: Own,
 }
 
@@ -47,7 +46,7 @@ impl Model for Slot {
       settings = slot.ledger.book.settings;
       who = slot.ledger.book.who;
       events = slot.ledger.book.events;
-      arrivals = slot.arrivals.items;
+      arrivals = slot.arrivals;
     } };
 
     ghost invariant = { λ slot. IsHeld slot.ledger.book.settings slot.ledger.book.who slot.ledger.book.events slot.own };
@@ -62,7 +61,7 @@ impl Slot {
         Ok(Slot {
             alloc,
             ledger: Ledger::open(alloc, settings, who)?,
-            arrivals: Vec::new(alloc),
+            arrivals: Arrivals::new(alloc),
             own: Own::new(alloc),
         })
     }
@@ -98,7 +97,7 @@ impl Slot {
         let index = if from == self.who() {
             self.own_index(id)?
         } else {
-            arrived_at(&self.arrivals, from, id)?
+            self.arrivals.arrived_at(from, id)?
         };
         Some(Place { owner: from, index })
     }

@@ -14,7 +14,6 @@ ghost use Rattle.inst_slot.specs.Asking.{wish_for, request, decides, AsksAdopted
 ghost use Rattle.inst_slot.specs.Telling.{with_event};
 
 use super::Slot;
-use crate::arrival::arrived_at;
 use crate::finding::find;
 use inst_base::{Fault, Ident, Moment};
 use inst_board::{Board, Place, Wish};
@@ -49,7 +48,7 @@ impl Slot {
         if self.ledger.booked(from, id).is_some() {
             return None;
         }
-        let index = arrived_at(&self.arrivals, from, id)?;
+        let index = self.arrivals.arrived_at(from, id)?;
         Some((Place { owner: from, index }, wish))
     }
 

@@ -16,8 +16,8 @@ ghost use Rattle.inst_slot.specs.LawfulBoard.{IsLawfulBoard, KeepsOthers, AllAre
 ghost use Rattle.inst_slot.specs.Opening.{opened_again, MayOpenAgain, OpensPlaces, is_of, awaits, found_at, finds_carried, with_found, unfound};
 
 use super::Slot;
-use crate::Arrival;
-use crate::arrival::{awaits, carried_arrivals, is_unfound, position_of};
+use crate::arrival::is_unfound;
+use crate::arrivals::carried_arrivals;
 use crate::own::carried_own;
 use inst_base::{Fault, Moment};
 use inst_board::{Board, Look, Place};
@@ -137,6 +137,7 @@ impl Slot {
         ensures { result ≡ unfound self.now }
     {
         self.arrivals
+            .list()
             .iter()
             .filter(|arrival| is_unfound(arrival))
             .count()
@@ -160,7 +161,6 @@ impl Slot {
 
     /// Keeps the place of a transfer that a look at it shows.
     fn find(&mut self, place: Place, look: &Look) -> bool
-        requires arrived { map (λ x. x.entry) self.old.arrivals ≡ live_inbox self.old.events }
         ensures found { result ≡ finds_carried self.old place look.now }
         ensures kept { self.new ≡ with_found self.old place look.now }
         ensures sound { IsSound self.old.settings self.old.who self.old.events }
@@ -169,27 +169,9 @@ impl Slot {
         let _ = &self.alloc;
         match look {
             Look::Pending(terms, deadline) => {
-                terms.to == self.who() && self.find_at(place, terms, *deadline)
+                terms.to == self.who() && self.arrivals.find_at(place, terms, *deadline)
             }
             Look::Unused | Look::Decided(..) => false,
         }
-    }
-
-    /// Keeps the place of the transfer that awaits it, if there is one.
-    fn find_at(&mut self, place: Place, terms: &Terms, deadline: Moment) -> bool
-        requires once { count_by (is_of place.owner terms.now.id) self.old.arrivals ≤ 1 }
-        ensures found { result ≡ list_any (awaits place terms.now deadline) self.old.arrivals }
-        ensures kept { self.new ≡ record self.old { arrivals = map (found_at place terms.now deadline) self.old.arrivals } }
-    {
-        let Some(position) = position_of(&self.arrivals, place.owner, &terms.id) else {
-            return false;
-        };
-        let Arrival { entry, .. } = self.arrivals[position];
-        if !awaits(&self.arrivals[position], place, terms, deadline) {
-            return false;
-        }
-        let index = Some(place.index);
-        self.arrivals[position] = Arrival { entry, index };
-        true
     }
 }

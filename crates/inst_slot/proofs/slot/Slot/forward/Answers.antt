@@ -6,8 +6,8 @@ use Rattle.inst_slot.specs.Book.{Book}
 use Rattle.inst_slot.proofs.OwnIds.{keeps_held}
 use Rattle.inst_slot.proofs.slot.Slot.forward.Goals as goal
 
-pub invariant_of-self-2 : goal.invariant_of-self-2
-invariant_of-self-2 c =
+pub invariant_of-self-in-Ok : goal.invariant_of-self-in-Ok
+invariant_of-self-in-Ok c =
     let entry = c.args.entry in
     let e : Event = Forwarded entry.from entry.id entry.cents entry.deadline in
     keeps_held c.self.inside.ledger.book c.keep.new.self.book c.self.inside.own e c.keep.result c.self.invariant

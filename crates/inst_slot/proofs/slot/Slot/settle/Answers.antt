@@ -29,7 +29,7 @@ invariant_of-self-in-Continue-branch-3 g c =
     let ask = c.args.ask.now in
     let found = c.in_ok-found.found in
     let handled = c.in_ok-reply.field-0 in
-    let view : Kept → Book = λ x. record { settings = x.settings; who = x.who; events = x.events; arrivals = c.self.inside.arrivals.items } in
+    let view : Kept → Book = λ x. record { settings = x.settings; who = x.who; events = x.events; arrivals = c.self.inside.arrivals } in
     let answered = subst (λ (x : Book). IsUnlessMemory (Ok handled) (handle_ask x ask found)) (ap view c.find.ensures.book ∙ c.self.view_is) c.in_ok-reply.ensures.reply in
     let books = settled_by b.settings b.knows b.has_role c.args.board.now c.args.self.now ask (c.args.place, c.args.wish) found (Ok handled) handled c.in-Some.event c.requires.lawful c.requires.request
     answered refl is in

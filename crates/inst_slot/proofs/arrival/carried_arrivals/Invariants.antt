@@ -1,6 +1,0 @@
-use Rattle.std.proofs.Common.{◌≡◌, take}
-use Rattle.inst_slot.proofs.Opening.{arrived_of}
-use Rattle.inst_slot.proofs.arrival.carried_arrivals.Given as goal
-
-abbrev pub invariant-loop-event : goal.invariant-loop-event
-invariant-loop-event l = l.arrivals.items ≡ arrived_of l.ledger.book.events (take l.event-index l.ledger.book.events)
