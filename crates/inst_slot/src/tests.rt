@@ -759,6 +759,37 @@ fn places_full_and_fetched(rt: HostRuntime) -> Result<(), Fail> {
     Ok(())
 }
 
+const EACH_AT_ITS_PLACE: &[Row] = &[
+    (
+        0,
+        Does::Submit("T2", 1, 200, 1500),
+        1500,
+        Told::Taken(11_500),
+    ),
+    (0, Does::TellPlace("T2"), 1500, Told::New(true)),
+    (0, Does::TellPlace("T3"), 1500, Told::New(false)),
+    (1, Does::Deliver(0, 1), 0, Told::New(true)),
+    (1, Does::Deliver(0, 0), 0, Told::New(true)),
+    (0, Does::Expire(0), 11_000, Told::New(true)),
+    (0, Does::Expire(1), 11_000, Told::New(false)),
+    (0, Does::Investigate("T2"), 11_000, Told::Pending),
+    (
+        1,
+        Does::Confirm(0, "T2"),
+        11_000,
+        Told::Decided(End::Accepted),
+    ),
+    (1, Does::Learn(0, 0), 0, Told::New(true)),
+    (1, Does::Position, 11_000, Told::Position(200, 0, 200)),
+];
+
+#[test]
+fn each_at_its_place(rt: HostRuntime) -> Result<(), Fail> {
+    let mut hub = Hub::open(rt.alloc(), 0)?;
+    answers(&rt, &mut hub, SUBMITTED)?;
+    answers(&rt, &mut hub, EACH_AT_ITS_PLACE)
+}
+
 const CONFIRMED_IN_THE_MARGIN: Case = Case {
     margin: 2000,
     rows: &[
