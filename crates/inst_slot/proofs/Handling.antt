@@ -17,7 +17,7 @@ use Rattle.inst_journal.specs.Sound.{FitAfter, Fits}
 use Rattle.inst_ledger.specs.Book.{Book as Kept, MayKeep, brings_key}
 use Rattle.inst_slot.specs.Book.{Book}
 use Rattle.inst_slot.specs.Asking.{request, handle_ask, Opens}
-use Rattle.inst_slot.specs.Indexed.{is_booking}
+use Rattle.inst_slot.specs.Waiting.{moves_none}
 use Rattle.inst_slot.specs.LawfulBoard.{IsLawfulBoard}
 use Rattle.inst_slot.specs.Telling.{booking}
 use Rattle.inst_slot.proofs.Deciding.{asked}
@@ -37,12 +37,12 @@ event_fits book kept e fits is = (subst (λ (x : Option Event). FitAfter book.se
 -- a booking is what is kept of what was found
 pub record IsBooking (found : Option Outcome) (e : Event) : Type 0 where
   pub no_key : brings_key e ≡ false
-  pub booking : is_booking e ≡ true
+  pub moves : moves_none e ≡ true
   pub some : is_some found ≡ true
 
 booking_is : (owner : ℕ) (id : List ℕ) (found : Option Outcome) (e : Event) → kept_event (booking owner id found) ≡ e ∷ [] → IsBooking found e
 booking_is owner id None e is = let none : ⊥ = cc in absurd none
-booking_is owner id (Some o) e is = let same : Booked owner id o ≡ e = cc in record { no_key = ap brings_key (sym same); booking = ap is_booking (sym same); some = refl }
+booking_is owner id (Some o) e is = let same : Booked owner id o ≡ e = cc in record { no_key = ap brings_key (sym same); moves = ap moves_none (sym same); some = refl }
 
 answered_with : (r wanted : Result Handled Fault) (h : Handled) (e : Event) → IsUnlessMemory r wanted → r ≡ Ok h → h.kept ≡ Some e → kept_events wanted ≡ e ∷ []
 answered_with r wanted h e answer ok kept = ⊎_elim

@@ -18,3 +18,4 @@ pub mod Found
 pub mod Indexed
 pub mod OwnIds
 pub mod Arrived
+pub mod Dues

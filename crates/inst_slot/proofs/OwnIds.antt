@@ -1,11 +1,14 @@
 -- The identifiers of a participant's own live transfers, and what the table of their indexes tells of the history.
-use Rattle.std.proofs.Common.{◌≡◌, ℕ, zero, suc, Bool, true, false, ◌||◌, cond, List, [], ◌∷◌, ◌++◌, length, refl, sym, ap, ◌∙◌, subst, Option, Some, None, is_none, is_some}
-use Rattle.std.specs.Prelude.{slice_get, position, map, Result, Ok, Err, OnOk, OnErr}
+use Rattle.std.proofs.Common.{◌≡◌, ℕ, zero, suc, Bool, true, false, not, ◌&&◌, ◌||◌, cond, take, ◌<◌, List, [], ◌∷◌, ◌++◌, length, refl, sym, ap, ◌∙◌, arith, subst, Option, Some, None, is_none, is_some}
+use Rattle.std.specs.Prelude.{slice_get, position, map, nat_eq}
 use Rattle.std.specs.List.{list_any, filter}
 use Rattle.std.specs.Cmp.Lexicographic.{same_text as text_same}
-use Rattle.std.proofs.lemmas.List.{map-append}
-use Rattle.std.proofs.lemmas.Bool.{true≢false}
-use Rattle.inst_base.specs.declared.fault.Fault.{Fault}
+use Rattle.std.proofs.lemmas.List.{map-append, length-map}
+use Rattle.std.proofs.Math.Seq.{take-append_seam}
+use Rattle.std.proofs.lemmas.Option.{slice_get_within}
+use Rattle.std.proofs.lemmas.Bool.{true≢false, eqb-true}
+use Rattle.inst_base.specs.TimeLimit.{deadline_of}
+use Rattle.inst_due.specs.Due.{is_of, has, comes_after, Adds, IsLeast}
 use Rattle.inst_settings.specs.Settings.{HubSettings, same_text}
 use Rattle.inst_settings.proofs.Numbering.{same_text_refl}
 use Rattle.inst_command.specs.declared.outcome.Outcome.{Outcome}
@@ -14,11 +17,15 @@ use Rattle.inst_journal.specs.declared.event.Event.TheVariants.{Funded, Defunded
 use Rattle.inst_journal.specs.Booked.{takes, is_taken, booked}
 use Rattle.inst_journal.specs.Opened.{carried, is_opening, takes_live, live_taken}
 use Rattle.inst_journal.specs.Sound.{Fits, IsSound}
+use Rattle.inst_journal.proofs.Counting.{stranger_unbooked}
+use Rattle.inst_journal.proofs.OwnBookings.{own_unforwarded}
 use Rattle.inst_journal.proofs.Soundness.{sound_push}
 use Rattle.inst_ledger.specs.Book.{Book as Kept, with_event}
 use Rattle.inst_slot.specs.Book.{Book}
 use Rattle.inst_slot.specs.Telling.{taken_by, if_unbooked, unbooked_at}
-use Rattle.inst_slot.specs.Indexed.{IsIndexed, is_id, id_of, own_ids, is_booking, IsHeld}
+use Rattle.inst_slot.specs.Indexed.{IsIndexed, is_id, id_of, own_ids}
+use Rattle.inst_slot.specs.Waiting.{Deadlines, IsRight, IsWaiting, GivesNextDue, moves_none, waits, takes_waiting, books_own, deadline_in}
+use Rattle.inst_slot.proofs.Dues.{waiting_after, and_true_is, taken_books_none, at_end, undone}
 use Rattle.inst_slot.proofs.Entering.{takes_the_next}
 use Rattle.inst_slot.proofs.Growing.{live_taken_push, live_taken_still}
 use Rattle.inst_slot.proofs.Indexed.{found_position, key_added, key_taken}
@@ -118,21 +125,6 @@ untaken id who C (Booked from other o ∷ J) none = untaken id who C J none
 untaken id who C (Fetched n ∷ J) none = untaken id who C J none
 untaken id who C (Opened ∷ J) none = untaken id who C J none
 
--- whether the event leaves the own live transfers as they are
-abbrev pub moves_none : Event → Bool
-moves_none (Taken id to cents stamp) = false
-moves_none Opened = false
-moves_none _ = true
-
-pub booking_moves_none : (e : Event) → is_booking e ≡ true → moves_none e ≡ true
-booking_moves_none (Booked from id outcome) h = refl
-booking_moves_none (Funded reference cents) h = refl
-booking_moves_none (Defunded reference cents) h = refl
-booking_moves_none (Forwarded from id cents d) h = refl
-booking_moves_none (Fetched n) h = refl
-booking_moves_none (Taken id to cents stamp) h = absurd (true≢false (sym h))
-booking_moves_none Opened h = absurd (true≢false (sym h))
-
 pub untaken_moves_none : (e : Event) → ((id : List ℕ) (to cents stamp : ℕ) → e ≡ Taken id to cents stamp → ⊥) → is_opening e ≡ false → moves_none e ≡ true
 untaken_moves_none (Booked from id outcome) other h = refl
 untaken_moves_none (Funded reference cents) other h = refl
@@ -142,8 +134,8 @@ untaken_moves_none (Fetched n) other h = refl
 untaken_moves_none (Taken id to cents stamp) other h = absurd (other id to cents stamp refl)
 untaken_moves_none Opened other h = absurd (true≢false h)
 
-pub own_still : (who : ℕ) (J : List Event) (e : Event) → moves_none e ≡ true → own_ids who (J ++ e ∷ []) ≡ own_ids who J
-own_still who J e still = ap (map id_of) (live_taken_still who J e (kinds e still).0 (kinds e still).1)
+pub still_taken : (who : ℕ) (J : List Event) (e : Event) → moves_none e ≡ true → live_taken who (J ++ e ∷ []) ≡ live_taken who J
+still_taken who J e still = live_taken_still who J e (kinds e still).0 (kinds e still).1
   where
     kinds : (e : Event) → moves_none e ≡ true → (is_opening e ≡ false) × (takes_live who (carried J) e ≡ false)
     kinds (Funded reference cents) h = (refl, refl)
@@ -154,27 +146,105 @@ own_still who J e still = ap (map id_of) (live_taken_still who J e (kinds e stil
     kinds (Taken other to cents stamp) h = absurd (true≢false (sym h))
     kinds Opened h = absurd (true≢false (sym h))
 
+pub more_taken : (s : HubSettings) (who : ℕ) (J : List Event) (id : List ℕ) (to cents stamp : ℕ) → IsSound s who J → Fits s who J (Taken id to cents stamp) → live_taken who (J ++ Taken id to cents stamp ∷ []) ≡ live_taken who J ++ Taken id to cents stamp ∷ []
+more_taken s who J id to cents stamp sound fits = live_taken_push who J (Taken id to cents stamp) true refl (takes_the_next s who J id to cents stamp sound fits)
+
+-- what waits, by what waited: one event more that moves none
+waits_still : (s : HubSettings) (who : ℕ) (J : List Event) (e : Event) (ids : List (List ℕ)) (w v : Deadlines) → ids ≡ own_ids who J → IsWaiting s who J w → moves_none e ≡ true → v.deadlines ≡ w.deadlines
+    → ((d k : ℕ) → has v.pairs d k ≡ (has w.pairs d k && not (books_own who e (slice_get ids k)))) → IsWaiting s who (J ++ e ∷ []) v
+waits_still s who J e ids w v held was still same out = record {
+  deadlines = same ∙ was.deadlines ∙ ap (map (deadline_in s)) (sym (still_taken who J e still));
+  pairs = λ d k.
+      let o : Option Event = slice_get (live_taken who J) k in
+      out d k ∙ ap (λ (b : Bool). b && not (books_own who e (slice_get ids k))) (was.pairs d k)
+      ∙ ap (λ (x : Option (List ℕ)). takes_waiting s who J d o && not (books_own who e x)) (ap (λ (l : List (List ℕ)). slice_get l k) held ∙ own_taken who J k)
+      ∙ sym (waiting_after s who J e d o)
+      ∙ ap (λ (l : List Event). takes_waiting s who (J ++ e ∷ []) d (slice_get l k)) (sym (still_taken who J e still));
+}
+
+pub keeps_right : (old new : Kept) (ids : List (List ℕ)) (w v : Deadlines) (e : Event) → IsRight old.settings old.who old.events ids w → Fits old.settings old.who old.events e → moves_none e ≡ true → new ≡ with_event old e
+    → v.deadlines ≡ w.deadlines → (who : ℕ) → who ≡ old.who → ((d k : ℕ) → has v.pairs d k ≡ (has w.pairs d k && not (books_own who e (slice_get ids k)))) → IsRight new.settings new.who new.events ids v
+keeps_right old new ids w v e right fits still ok same who own out =
+    subst (λ (x : Kept). IsRight x.settings x.who x.events ids v) (sym ok) (
+      right.0,
+      sound_push old.settings old.who old.events e right.1 fits,
+      right.2 ∙ ap (map id_of) (sym (still_taken old.who old.events e still)),
+      waits_still old.settings old.who old.events e ids w v right.2 right.3 still same (subst (λ (n : ℕ). (d k : ℕ) → has v.pairs d k ≡ (has w.pairs d k && not (books_own n e (slice_get ids k)))) own out),
+    )
+
+-- one submission more
+waits_more : (s : HubSettings) (who : ℕ) (J : List Event) (id : List ℕ) (to cents stamp : ℕ) (w v : Deadlines) → IsSound s who J → Fits s who J (Taken id to cents stamp) → IsWaiting s who J w → v.deadlines ≡ w.deadlines ++ deadline_of s.limit stamp ∷ []
+    → Adds w.pairs v.pairs (deadline_of s.limit stamp) (length w.deadlines) → IsWaiting s who (J ++ Taken id to cents stamp ∷ []) v
+waits_more s who J id to cents stamp w v sound fits was more adds =
+    let e : Event = Taken id to cents stamp in
+    let L : List Event = live_taken who J in
+    let new : live_taken who (J ++ e ∷ []) ≡ L ++ e ∷ [] = more_taken s who J id to cents stamp sound fits in
+    let none : booked who id J ≡ None = stranger_unbooked s who who id J sound (λ own. fits.new) (own_unforwarded s who id J sound) in
+    let long : length w.deadlines ≡ length L = ap length was.deadlines ∙ length-map L (deadline_in s) in
+    record {
+      deadlines = more ∙ ap (λ (l : List ℕ). l ++ deadline_of s.limit stamp ∷ []) was.deadlines ∙ sym (ap (map (deadline_in s)) new ∙ map-append (deadline_in s) L (e ∷ []));
+      pairs = λ d k.
+          let now : Event → Bool = λ x. takes_waiting s who (J ++ e ∷ []) d (Some x) in
+          let first : takes_waiting s who J d (slice_get L k) ≡ takes_waiting s who (J ++ e ∷ []) d (slice_get L k) =
+          and_true_is (takes_waiting s who J d (slice_get L k)) ∙ ap (λ (b : Bool). takes_waiting s who J d (slice_get L k) && not b) (sym (taken_books_none who id to cents stamp (taken_by (slice_get L k)))) ∙ sym (waiting_after s who J e d (slice_get L k)) in
+          let last : nat_eq d (deadline_of s.limit stamp) ≡ takes_waiting s who (J ++ e ∷ []) d (Some e) =
+          ap (λ (o : Option Outcome). is_none o && nat_eq d (deadline_of s.limit stamp)) (sym none) ∙ and_true_is (takes_waiting s who J d (Some e)) ∙ sym (waiting_after s who J e d (Some e)) in
+          adds d k ∙ ap (λ (b : Bool). b || is_of (deadline_of s.limit stamp) (length w.deadlines) (d, k)) (was.pairs d k ∙ first)
+          ∙ ap (λ (n : ℕ). takes_waiting s who (J ++ e ∷ []) d (slice_get L k) || (nat_eq d (deadline_of s.limit stamp) && nat_eq k n)) long
+          ∙ ap (λ (b : Bool). takes_waiting s who (J ++ e ∷ []) d (slice_get L k) || (b && nat_eq k (length L))) last
+          ∙ sym (at_end s who (J ++ e ∷ []) d e L k)
+          ∙ ap (λ (l : List Event). takes_waiting s who (J ++ e ∷ []) d (slice_get l k)) (sym new);
+    }
+
 pub own_more : (s : HubSettings) (who : ℕ) (J : List Event) (id : List ℕ) (to cents stamp : ℕ) → IsSound s who J → Fits s who J (Taken id to cents stamp) → own_ids who (J ++ Taken id to cents stamp ∷ []) ≡ own_ids who J ++ id ∷ []
 own_more s who J id to cents stamp sound fits =
     ap (map id_of) (live_taken_push who J (Taken id to cents stamp) true refl (takes_the_next s who J id to cents stamp sound fits))
     ∙ map-append id_of (live_taken who J) (Taken id to cents stamp ∷ [])
 
--- a ledger that keeps an event that fits and moves no own transfer stays right
-pub keeps_held : (old new : Kept) (ids : List (List ℕ)) (e : Event) (r : Result (Unit {0}) Fault) → IsHeld old.settings old.who old.events ids → Fits old.settings old.who old.events e → moves_none e ≡ true
-    → OnOk r (new ≡ with_event old e) → OnErr r (new ≡ old) → IsHeld new.settings new.who new.events ids
-keeps_held old new ids e (Ok u) held fits still ok err =
-    subst (λ (x : Kept). IsHeld x.settings x.who x.events ids) (sym ok)
-    (held.0, sound_push old.settings old.who old.events e held.1 fits, held.2 ∙ sym (own_still old.who old.events e still))
-keeps_held old new ids e (Err fault) held fits still ok err =
-    subst (λ (x : Kept). IsHeld x.settings x.who x.events ids) (sym err) held
-
--- a ledger that takes a submission, whose identifier came to the others
-pub takes_held : (old new : Kept) (ids more : List (List ℕ)) (id : List ℕ) (to cents stamp : ℕ) → IsHeld old.settings old.who old.events ids → Fits old.settings old.who old.events (Taken id to cents stamp)
-    → more ≡ ids ++ id ∷ [] → new ≡ with_event old (Taken id to cents stamp) → IsHeld new.settings new.who new.events more
-takes_held old new ids more id to cents stamp held fits added ok =
+pub takes_right : (old new : Kept) (ids more : List (List ℕ)) (w v : Deadlines) (id : List ℕ) (to cents stamp : ℕ) → IsRight old.settings old.who old.events ids w → Fits old.settings old.who old.events (Taken id to cents stamp)
+    → more ≡ ids ++ id ∷ [] → v.deadlines ≡ w.deadlines ++ deadline_of old.settings.limit stamp ∷ [] → Adds w.pairs v.pairs (deadline_of old.settings.limit stamp) (length w.deadlines) → new ≡ with_event old (Taken id to cents stamp)
+    → IsRight new.settings new.who new.events more v
+takes_right old new ids more w v id to cents stamp right fits added longer adds ok =
     let e : Event = Taken id to cents stamp in
-    subst (λ (x : Kept). IsHeld x.settings x.who x.events more) (sym ok) (
-      held.0,
-      sound_push old.settings old.who old.events e held.1 fits,
-      added ∙ ap (λ (l : List (List ℕ)). l ++ id ∷ []) held.2 ∙ sym (own_more old.settings old.who old.events id to cents stamp held.1 fits),
+    subst (λ (x : Kept). IsRight x.settings x.who x.events more v) (sym ok) (
+      right.0,
+      sound_push old.settings old.who old.events e right.1 fits,
+      added ∙ ap (λ (l : List (List ℕ)). l ++ id ∷ []) right.2 ∙ sym (own_more old.settings old.who old.events id to cents stamp right.1 fits),
+      waits_more old.settings old.who old.events id to cents stamp w v right.1 fits right.3 longer adds,
     )
+
+waits_within : (s : HubSettings) (who : ℕ) (J : List Event) (d : ℕ) (L : List Event) (k : ℕ) → takes_waiting s who J d (slice_get L k) ≡ true → k < length L
+waits_within s who J d L k there = go (slice_get L k) refl there
+  where
+    go : (o : Option Event) → slice_get L k ≡ o → takes_waiting s who J d o ≡ true → k < length L
+    go None at h = absurd (true≢false (sym h))
+    go (Some x) at h = slice_get_within L k x at
+
+-- a submission that was taken out again
+pub right_again : (s : HubSettings) (who : ℕ) (J : List Event) (ids same_ids : List (List ℕ)) (w v u : Deadlines) (x index : ℕ) → IsRight s who J ids w → same_ids ≡ ids → index ≡ length w.deadlines
+    → v.deadlines ≡ w.deadlines ++ x ∷ [] → Adds w.pairs v.pairs x (length w.deadlines) → u.deadlines ≡ take index v.deadlines → ((d k : ℕ) → has u.pairs d k ≡ (has v.pairs d k && not (nat_eq k index))) → IsRight s who J same_ids u
+right_again s who J ids same_ids w v u x index right same at longer adds cut out = (
+  right.0,
+  right.1,
+  same ∙ right.2,
+  record {
+    deadlines = cut ∙ ap (take index) longer ∙ ap (λ (n : ℕ). take n (w.deadlines ++ x ∷ [])) at ∙ take-append_seam w.deadlines (x ∷ []) ∙ right.3.deadlines;
+    pairs = λ d k. out d k ∙ ap (λ (b : Bool). b && not (nat_eq k index)) (adds d k) ∙ ap (λ (n : ℕ). (has w.pairs d k || (nat_eq d x && nat_eq k (length w.deadlines))) && not (nat_eq k n)) at
+        ∙ undone (has w.pairs d k) (nat_eq d x) (nat_eq k (length w.deadlines)) (λ was yes. absurd (past d k was (eqb-true k (length w.deadlines) yes))) ∙ right.3.pairs d k;
+  },
+)
+  where
+    past : (d k : ℕ) → has w.pairs d k ≡ true → k ≡ length w.deadlines → ⊥
+    past d k was e =
+        let within : k < length (live_taken who J) = waits_within s who J d (live_taken who J) k (sym (right.3.pairs d k) ∙ was) in
+        let long : length w.deadlines ≡ length (live_taken who J) = ap length right.3.deadlines ∙ length-map (live_taken who J) (deadline_in s) in
+        absurd (omega (arith, within, long, e))
+
+-- what comes next of what waits
+pub next_due : (book : Book) (pairs : List (ℕ × ℕ)) (pair : Option (ℕ × ℕ)) (next : Option (ℕ × ℕ)) → ((d k : ℕ) → has pairs d k ≡ waits book.settings book.who book.events d k) → IsLeast pairs (comes_after pair) next → GivesNextDue book pair next
+next_due book pairs pair None same least = λ d k there. least d k (same d k ∙ there)
+next_due book pairs pair (Some first) same least = record {
+  there = sym (same first.0 first.1) ∙ least.there;
+  passing = least.passing;
+  least = λ d k there after. least.least d k (same d k ∙ there) after;
+}

@@ -1,12 +1,11 @@
 -- What a slot keeps to find a transfer without a walk: the identifiers of the participant's own live transfers by the
 -- index of their places, and tables from what names a transfer to where it stands. This hub's own choice.
-use Rattle.std.specs.Prelude.{◌≡◌, ℕ, Bool, true, false, List, [], map, slice_get, Option, Some}
+use Rattle.std.specs.Prelude.{◌≡◌, ℕ, Bool, List, [], map, slice_get, Option, Some}
 use Rattle.std.specs.BTreeMap.{BTreeMap, get}
-use Rattle.inst_settings.specs.Settings.{HubSettings, IsSettings, same_text}
+use Rattle.inst_settings.specs.Settings.{same_text}
 use Rattle.inst_journal.specs.declared.event.Event.{Event}
-use Rattle.inst_journal.specs.declared.event.Event.TheVariants.{Taken, Booked}
+use Rattle.inst_journal.specs.declared.event.Event.TheVariants.{Taken}
 use Rattle.inst_journal.specs.Opened.{live_taken}
-use Rattle.inst_journal.specs.Sound.{IsSound}
 use Rattle.inst_ledger.specs.declared.name.Name.{Name}
 use Rattle.inst_ledger.specs.Name.{name_cmp, key_cmp}
 use Rattle.inst_slot.specs.declared.arrival.Arrival.{Arrival}
@@ -40,12 +39,3 @@ id_of _ = []
 -- the identifiers of the participant's own live transfers, in the order of their places
 abbrev pub own_ids : ℕ → List Event → List (List ℕ)
 own_ids who J = map id_of (live_taken who J)
-
--- whether the event books an outcome
-abbrev pub is_booking : Event → Bool
-is_booking (Booked from id outcome) = true
-is_booking _ = false
-
--- what is right of a slot's history, and of the identifiers that it keeps beside it
-abbrev pub IsHeld : HubSettings → ℕ → List Event → List (List ℕ) → Type 0
-IsHeld s who J ids = IsSettings s × IsSound s who J × (ids ≡ own_ids who J)

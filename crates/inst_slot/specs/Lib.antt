@@ -4,4 +4,5 @@ pub mod Asking
 pub mod Telling
 pub mod Opening
 pub mod Indexed
+pub mod Waiting
 pub mod Laws

@@ -9,6 +9,7 @@ mod own;
 mod slot;
 #[cfg(test)]
 mod tests;
+mod waiting;
 
 pub use arrival::Arrival;
 pub use slot::Slot;

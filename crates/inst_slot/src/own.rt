@@ -1,5 +1,5 @@
 //! The live transfers of a participant's own, by the index of their places.
-ghost use Rattle.std.specs.Prelude.{◌≡◌, ◌<◌, ◌-◌, ◌^◌, ◌++◌, ◌∷◌, [], false, length, take, position, slice_get, IfOk, OnOk, OnErr, IsOkUnless};
+ghost use Rattle.std.specs.Prelude.{◌≡◌, ℕ, ◌<◌, ◌-◌, ◌^◌, ◌++◌, ◌∷◌, [], false, length, take, position, slice_get, Some, IfOk, OnOk, OnErr, IsOkUnless};
 ghost use Rattle.std.specs.List.{list_any};
 ghost use Rattle.inst_journal.specs.Opened.{carried};
 ghost use Rattle.inst_slot.specs.Indexed.{is_id, own_ids};
@@ -44,7 +44,9 @@ impl Own {
 
     /// The index of the transfer with this identifier.
     pub(crate) fn index_of(&self, id: &Ident) -> Option<u16>
-        ensures { result ≡ position (is_id id.now) self.now }
+        ensures place { result ≡ position (is_id id.now) self.now }
+        ensures at { (k : ℕ) → slice_get self.now k ≡ Some id.now → result ≡ Some k }
+        ensures only { (k : ℕ) → result ≡ Some k → slice_get self.now k ≡ Some id.now }
     {
         self.indexes.get(&Name { id: *id }).copied()
     }

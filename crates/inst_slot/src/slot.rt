@@ -12,6 +12,7 @@ mod telling;
 
 use crate::arrivals::Arrivals;
 use crate::own::Own;
+use crate::waiting::Waiting;
 use inst_base::{Fault, Ident};
 use inst_board::Place;
 use inst_journal::Journal;
@@ -34,11 +35,12 @@ pub struct Slot {
     ledger: Ledger,
     arrivals: Arrivals,
     own: Own,
+    waiting: Waiting,
 }
 
 impl Model for Slot {
     ghost use Rattle.inst_slot.specs.Book.{Book};
-    ghost use Rattle.inst_slot.specs.Indexed.{IsHeld};
+    ghost use Rattle.inst_slot.specs.Waiting.{IsRight};
 
     ghost Value = { Book };
 
@@ -49,7 +51,7 @@ impl Model for Slot {
       arrivals = slot.arrivals;
     } };
 
-    ghost invariant = { λ slot. IsHeld slot.ledger.book.settings slot.ledger.book.who slot.ledger.book.events slot.own };
+    ghost invariant = { λ slot. IsRight slot.ledger.book.settings slot.ledger.book.who slot.ledger.book.events slot.own slot.waiting };
 }
 
 impl Slot {
@@ -63,6 +65,7 @@ impl Slot {
             ledger: Ledger::open(alloc, settings, who)?,
             arrivals: Arrivals::new(alloc),
             own: Own::new(alloc),
+            waiting: Waiting::new(alloc),
         })
     }
 

@@ -15,6 +15,7 @@ ghost use Rattle.inst_slot.specs.Telling.{with_event};
 
 use super::Slot;
 use crate::finding::find;
+use crate::waiting::add;
 use inst_base::{Fault, Ident, Moment};
 use inst_board::{Board, Place, Wish};
 use inst_command::{Ask, Command, Outcome, Reply};
@@ -92,7 +93,8 @@ impl Slot {
     {
         let index = self.ledger.live_submissions() as u16;
         let &Terms { to, cents, id } = terms;
-        self.own.add(id)?;
+        let deadline = stamp.deadline(self.ledger.settings().limit());
+        add(&mut self.own, &mut self.waiting, id, deadline)?;
         match self.ledger.keep(Event::Taken {
             id,
             to,
@@ -105,6 +107,7 @@ impl Slot {
             }
             Err(fault) => {
                 self.own.take_back();
+                self.waiting.take_back(index);
                 Err(fault)
             }
         }
@@ -136,7 +139,7 @@ impl Slot {
                 };
                 self.take(board, &terms, *stamp)
             }
-            _ => self.ledger.keep(*event),
+            _ => self.book(*event),
         }
     }
 
@@ -159,6 +162,8 @@ impl Slot {
         let Handled { reply, kept } = self.handle(ask, found)?;
         if let Some(event) = kept {
             self.ledger.keep(event)?;
+            let who = self.ledger.who();
+            self.waiting.book(&self.own, who, &event);
         }
         Ok(reply)
     }

@@ -2,6 +2,7 @@
 ghost use Rattle.std.specs.Prelude.{◌≡◌, Some};
 ghost use Rattle.inst_slot.specs.LawfulBoard.{IsLawfulBoard, KeepsOthers, AllAreAdopted};
 ghost use Rattle.inst_slot.specs.Telling.{unbooked_at, ExpiresFor, Expires};
+ghost use Rattle.inst_slot.specs.Waiting.{GivesNextDue};
 
 use super::Slot;
 use super::telling::booked_event;
@@ -19,6 +20,15 @@ impl Slot {
             return None;
         }
         Some(id)
+    }
+
+    /// Of the own live transfers with nothing booked, the pair of a deadline and an index that comes next
+    /// after this one, by deadline and then by index; of `None`, the first of all. The cost grows with the
+    /// logarithm of their number.
+    pub fn due_after(&self, pair: Option<(Moment, u16)>) -> Option<(Moment, u16)>
+        ensures { GivesNextDue self.now pair result }
+    {
+        self.waiting.after(pair)
     }
 
     /// Lets the transfer with this identifier, which lies at the index, expire.
@@ -45,6 +55,7 @@ impl Slot {
             Some(outcome) => {
                 let event = booked_event(self.who(), id, &outcome);
                 self.ledger.keep(event)?;
+                self.waiting.book(&self.own, place.owner, &event);
                 Ok(true)
             }
         }

@@ -19,6 +19,7 @@ use super::Slot;
 use crate::arrival::is_unfound;
 use crate::arrivals::carried_arrivals;
 use crate::own::carried_own;
+use crate::waiting::carried_waiting;
 use inst_base::{Fault, Moment};
 use inst_board::{Board, Look, Place};
 use inst_journal::{Event, Journal};
@@ -66,11 +67,13 @@ impl Slot {
         let ledger = Ledger::open_from(alloc, settings, who, journal)?;
         let arrivals = carried_arrivals(alloc, &ledger)?;
         let own = carried_own(alloc, &ledger)?;
+        let waiting = carried_waiting(alloc, &ledger)?;
         Ok(Slot {
             alloc,
             ledger,
             arrivals,
             own,
+            waiting,
         })
     }
 

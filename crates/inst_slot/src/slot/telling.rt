@@ -4,10 +4,10 @@ ghost use Rattle.std.specs.List.{list_any};
 ghost use Rattle.inst_board.specs.declared.look.Look.{Look};
 ghost use Rattle.inst_board.specs.Learning.{Looks};
 ghost use Rattle.inst_journal.specs.Sound.{IsSound, Fits};
-ghost use Rattle.inst_slot.specs.Indexed.{is_booking};
 ghost use Rattle.inst_slot.specs.LawfulBoard.{IsLawfulBoard, KeepsOthers, AllAreAdopted};
 ghost use Rattle.inst_slot.specs.Opening.{is_of};
 ghost use Rattle.inst_slot.specs.Telling.{delivery, with_delivery, is_party, lesson, with_event, Keeps};
+ghost use Rattle.inst_slot.specs.Waiting.{moves_none};
 
 use super::Slot;
 use crate::Arrival;
@@ -122,15 +122,18 @@ impl Slot {
         }
     }
 
-    /// Keeps an event that books an outcome.
-    fn book(&mut self, event: Event) -> Result<(), Fault>
+    /// Keeps an event that leaves the own live transfers as they are.
+    pub(super) fn book(&mut self, event: Event) -> Result<(), Fault>
         requires fits { Fits self.old.settings self.old.who self.old.events event }
-        requires booking { is_booking event ≡ true }
+        requires moves { moves_none event ≡ true }
         ensures ok { OnOk result (self.new ≡ with_event self.old (Some event)) }
         ensures err { OnErr result (self.new ≡ self.old) }
         ensures only { IsOkUnless result Fault.Memory }
     {
-        self.ledger.keep(event)
+        self.ledger.keep(event)?;
+        let who = self.ledger.who();
+        self.waiting.book(&self.own, who, &event);
+        Ok(())
     }
 
     /// Books the outcome of a place of the participant's, if it is decided and not yet booked: `true`

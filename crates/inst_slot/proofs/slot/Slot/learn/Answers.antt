@@ -1,6 +1,6 @@
 use Rattle.std.proofs.Common.{refl, ◌∙◌, sym, ap, subst}
 use Rattle.inst_slot.specs.Book.{Book}
-use Rattle.inst_slot.specs.Indexed.{is_booking}
+use Rattle.inst_slot.specs.Waiting.{moves_none}
 use Rattle.inst_slot.specs.LawfulBoard.{IsLawfulBoard}
 use Rattle.inst_slot.proofs.Looking.{looked_on}
 use Rattle.inst_slot.proofs.Learning.{teaches, lesson_keeps, lesson_fits}
@@ -39,7 +39,7 @@ book-requires g c =
     let is = sym c.lesson.ensures.event ∙ c.in-Some.is in
     record {
       fits = lesson_fits b.settings b.knows b.has_role (b.settings c.args.board.now).margin b.stood c.args.board.now c.look-look.new.self c.args.place c.look-look.result c.look-look.ensures.look c.args.self.now c.requires.lawful c.in-Some.event is;
-      booking = ap is_booking (teaches c.args.self.now c.args.place c.look-look.result c.in-Some.event is).event_is;
+      moves = ap moves_none (teaches c.args.self.now c.args.place c.look-look.result c.in-Some.event is).event_is;
     }
 
 pub returns-in-None-clause-others : goal.returns-in-None-clause-others

@@ -11,5 +11,5 @@ pub returns : goal.returns
 returns c =
     let id = c.args.id.now in
     let kept = c.self.inside.ledger.book in
-    c.index_of.ensures ∙ ap (position (is_id id)) c.self.invariant.2 ∙ own_position kept.who kept.events id
+    c.index_of.ensures.place ∙ ap (position (is_id id)) c.self.invariant.2 ∙ own_position kept.who kept.events id
     ∙ ap (λ (x : Book). position (takes id) (live_taken x.who x.events)) c.self.view_is

@@ -2,8 +2,14 @@ use Rattle.std.proofs.Common.{◌∙◌, sym, ap}
 use Rattle.inst_journal.specs.Booked.{booked}
 use Rattle.inst_slot.specs.Book.{Book}
 use Rattle.inst_slot.specs.Indexed.{own_ids}
-use Rattle.inst_slot.proofs.OwnIds.{one_there}
+use Rattle.inst_slot.proofs.OwnIds.{none_there, one_there}
 use Rattle.inst_slot.proofs.slot.Slot.unbooked_at.Goals as goal
+
+pub returns-in_err-id : goal.returns-in_err-id
+returns-in_err-id c =
+    let book : Book = c.args.self.now in
+    let same = c.self.invariant.2 ∙ ap (λ (x : Book). own_ids x.who x.events) c.self.view_is in
+    c.from_residual.ensures ∙ sym (none_there book c.self.inside.own c.args.index same (sym c.at.ensures ∙ c.in_err-id.was))
 
 pub returns-then-is_some : goal.returns-then-is_some
 returns-then-is_some c =

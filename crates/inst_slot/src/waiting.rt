@@ -1,0 +1,148 @@
+//! The own live transfers with nothing booked, in the order in which they are due.
+ghost use Rattle.std.specs.Prelude.{◌≡◌, ℕ, ◌<◌, ◌^◌, ◌++◌, ◌∷◌, [], ◌+◌, ◌&&◌, false, nat_eq, not, length, take, slice_get, IfOk, OnOk, OnErr, IsOkUnless};
+ghost use Rattle.std.specs.List.{list_any};
+ghost use Rattle.inst_due.specs.Due.{has, Adds, IsLeast, comes_after};
+ghost use Rattle.inst_journal.specs.Opened.{carried};
+ghost use Rattle.inst_slot.specs.Indexed.{is_id};
+ghost use Rattle.inst_slot.specs.Waiting.{books_own, IsWaiting};
+
+use crate::own::Own;
+use inst_base::{Fault, Ident, Moment};
+use inst_command::Outcome;
+use inst_due::Due;
+use inst_journal::Event;
+use inst_ledger::Ledger;
+use std::alloc::Global;
+use std::marker::Model;
+
+/// The deadlines of the own live transfers in the order of their places, and of those that wait the
+/// pairs of a deadline and an index.
+#[derive(Debug, Drop)]
+pub(crate) struct Waiting {
+    deadlines: Vec<Moment>,
+    due: Due,
+}
+
+impl Model for Waiting {
+    ghost use Rattle.inst_slot.specs.Waiting.{Deadlines, AreTimed};
+
+    ghost Value = { Deadlines };
+
+    ghost view = { λ w. record { deadlines = w.deadlines.items; pairs = w.due } };
+
+    ghost invariant = { λ w. AreTimed w.deadlines.items w.due };
+}
+
+impl Waiting {
+    /// No transfers.
+    pub(crate) fn new(alloc: Global) -> Self
+        ensures { (result.deadlines ≡ []) × (result.pairs ≡ []) }
+    {
+        Waiting {
+            deadlines: Vec::new(alloc),
+            due: Due::new(alloc),
+        }
+    }
+
+    /// Adds the next transfer, or answers `Memory` and stays as it was.
+    pub(crate) fn add(&mut self, deadline: Moment) -> Result<(), Fault>
+        requires { length self.old.deadlines < 2 ^ 16 }
+        ensures deadlines { OnOk result (self.new.deadlines ≡ self.old.deadlines ++ deadline ∷ []) }
+        ensures pairs { OnOk result (Adds self.old.pairs self.new.pairs deadline (length self.old.deadlines)) }
+        ensures err { OnErr result (self.new ≡ self.old) }
+        ensures only { IsOkUnless result Fault.Memory }
+    {
+        let index = self.deadlines.as_slice().len() as u16;
+        self.deadlines.try_reserve(1)?;
+        self.due.add(deadline, index)?;
+        self.deadlines.push_reserved(deadline);
+        Ok(())
+    }
+
+    /// Takes the last transfer, which has this index and still waits, out again.
+    pub(crate) fn take_back(&mut self, index: u16)
+        requires { index + 1 ≡ length self.old.deadlines }
+        ensures deadlines { self.new.deadlines ≡ take index self.old.deadlines }
+        ensures pairs { (d k : ℕ) → has self.new.pairs d k ≡ (has self.old.pairs d k && not (nat_eq k index)) }
+    {
+        self.take_out(index);
+        self.deadlines.truncate(usize::from(index));
+    }
+
+    /// Takes out the pair of an own transfer that the event books.
+    pub(crate) fn book(&mut self, own: &Own, who: u8, event: &Event)
+        ensures deadlines { self.new.deadlines ≡ self.old.deadlines }
+        ensures pairs { (d k : ℕ) → has self.new.pairs d k ≡ (has self.old.pairs d k && not (books_own who event.now (slice_get own.now k))) }
+    {
+        // The check is told of a type of another crate inside an event only where a function names it.
+        let _: Option<Outcome> = None;
+        if let Event::Booked { from, id, .. } = event {
+            if *from == who {
+                if let Some(index) = own.index_of(id) {
+                    self.take_out(index);
+                }
+            }
+        }
+    }
+
+    /// Takes out the pair at this index.
+    fn take_out(&mut self, index: u16)
+        ensures deadlines { self.new.deadlines ≡ self.old.deadlines }
+        ensures pairs { (d k : ℕ) → has self.new.pairs d k ≡ (has self.old.pairs d k && not (nat_eq k index)) }
+    {
+        if let Some(deadline) = self.deadlines.as_slice().get(usize::from(index)) {
+            self.due.take_out(*deadline, index);
+        }
+    }
+
+    /// The first pair after this one.
+    pub(crate) fn after(&self, pair: Option<(Moment, u16)>) -> Option<(Moment, u16)>
+        ensures { IsLeast self.now.pairs (comes_after pair) result }
+    {
+        self.due.next_after(pair)
+    }
+}
+
+/// Adds the next own transfer to both, or answers `Memory`, and both stay as they were.
+pub(crate) fn add(
+    own: &mut Own,
+    waiting: &mut Waiting,
+    id: Ident,
+    deadline: Moment,
+) -> Result<(), Fault>
+    requires few { length own.old < 2 ^ 16 }
+    requires same { length waiting.old.deadlines ≡ length own.old }
+    requires new { list_any (is_id id) own.old ≡ false }
+    ensures ids { OnOk result (own.new ≡ own.old ++ id ∷ []) }
+    ensures deadlines { OnOk result (waiting.new.deadlines ≡ waiting.old.deadlines ++ deadline ∷ []) }
+    ensures pairs { OnOk result (Adds waiting.old.pairs waiting.new.pairs deadline (length waiting.old.deadlines)) }
+    ensures err { OnErr result ((own.new ≡ own.old) × (waiting.new ≡ waiting.old)) }
+    ensures only { IsOkUnless result Fault.Memory }
+{
+    own.add(id)?;
+    match waiting.add(deadline) {
+        Ok(()) => Ok(()),
+        Err(fault) => {
+            own.take_back();
+            Err(fault)
+        }
+    }
+}
+
+/// What waits, where the history ends with an opening.
+pub(crate) fn carried_waiting(alloc: Global, ledger: &Ledger) -> Result<Waiting, Fault>
+    requires { carried ledger.now.book.events ≡ ledger.now.book.events }
+    ensures ok { IfOk result (λ w. IsWaiting ledger.now.book.settings ledger.now.book.who ledger.now.book.events w) }
+    ensures only { IsOkUnless result Fault.Memory }
+{
+    let _: Option<Outcome> = None;
+    let mut waiting = Waiting::new(alloc);
+    for event in ledger.journal().events() {
+        if let Event::Taken { id, stamp, .. } = event {
+            if ledger.booked(ledger.who(), id).is_none() {
+                waiting.add(stamp.deadline(ledger.settings().limit()))?;
+            }
+        }
+    }
+    Ok(waiting)
+}
