@@ -218,6 +218,8 @@ enum Does {
     Adopt(u8, u16),
     /// Whether the first participant tells a place of its transfer.
     TellPlace(&'static str),
+    /// Whether the first pair is followed by the second among what the first participant has waiting.
+    DueAfter(Option<(u64, u16)>, Option<(u64, u16)>),
 }
 
 /// What became of a transfer, likewise.
@@ -297,8 +299,17 @@ fn command(does: &Does) -> Result<Option<Command>, Fault> {
         | Does::Learn(..)
         | Does::Expire(..)
         | Does::Adopt(..)
-        | Does::TellPlace(..) => return Ok(None),
+        | Does::TellPlace(..)
+        | Does::DueAfter(..) => return Ok(None),
     }))
+}
+
+/// The pair of a deadline and an index.
+fn pair(pair: Option<(u64, u16)>) -> Result<Option<(Moment, u16)>, Fault> {
+    match pair {
+        None => Ok(None),
+        Some((deadline, index)) => Ok(Some((Moment::new(0, deadline)?, index))),
+    }
 }
 
 /// What a step is answered.
@@ -309,6 +320,7 @@ fn step(hub: &mut Hub, who: u8, does: &Does, at: u64) -> Result<bool, Fault> {
         Does::Expire(index) => hub.expire(who, index, at),
         Does::Adopt(owner, index) => Ok(hub.adopt(who, owner, index)),
         Does::TellPlace(id) => Ok(hub.first.place_of(0, &Ident::new(id)?).is_some()),
+        Does::DueAfter(before, next) => Ok(hub.first.due_after(pair(before)?) == pair(next)?),
         _ => Err(Fault::BadField),
     }
 }
@@ -788,6 +800,47 @@ fn each_at_its_place(rt: HostRuntime) -> Result<(), Fail> {
     let mut hub = Hub::open(rt.alloc(), 0)?;
     answers(&rt, &mut hub, SUBMITTED)?;
     answers(&rt, &mut hub, EACH_AT_ITS_PLACE)
+}
+
+const DUE_ONE_AFTER_ANOTHER: &[Row] = &[
+    (
+        0,
+        Does::Submit("T2", 1, 200, 500),
+        1000,
+        Told::Taken(10_500),
+    ),
+    (
+        0,
+        Does::DueAfter(None, Some((10_500, 1))),
+        1000,
+        Told::New(true),
+    ),
+    (
+        0,
+        Does::DueAfter(Some((10_500, 1)), Some((11_000, 0))),
+        1000,
+        Told::New(true),
+    ),
+    (0, Does::Expire(1), 10_500, Told::New(true)),
+    (
+        0,
+        Does::DueAfter(None, Some((11_000, 0))),
+        1000,
+        Told::New(true),
+    ),
+    (
+        0,
+        Does::DueAfter(Some((11_000, 0)), None),
+        1000,
+        Told::New(true),
+    ),
+];
+
+#[test]
+fn due_one_after_another(rt: HostRuntime) -> Result<(), Fail> {
+    let mut hub = Hub::open(rt.alloc(), 0)?;
+    answers(&rt, &mut hub, SUBMITTED)?;
+    answers(&rt, &mut hub, DUE_ONE_AFTER_ANOTHER)
 }
 
 const CONFIRMED_IN_THE_MARGIN: Case = Case {
