@@ -9,7 +9,8 @@ use Rattle.std.specs.Char.{digit_value}
 use Rattle.std.specs.List.{list_all}
 use Rattle.std.specs.Str.Parse.{IsNumeral}
 use Rattle.inst_base.specs.Text.{is_code, is_code_character}
-use Rattle.inst_settings.specs.Settings.{HubSettings, IsSettings, same_text, is_participant}
+use Rattle.inst_settings.specs.Settings.{HubSettings, same_text, is_participant}
+use Rattle.inst_settings.specs.Lawful.{IsSettings}
 use Rattle.inst_settings.proofs.Numbering.{number_of_code, number_of_code-at}
 use Rattle.inst_command.specs.Laws.{IsLineOf, IsSameButForSpaces}
 use Rattle.inst_command.specs.LineText.{left_in, right_in, kind_name, other_code, code_numbered, other_fits, last_number, line_text}

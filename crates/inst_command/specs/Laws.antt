@@ -4,7 +4,8 @@ use Rattle.std.specs.Prelude.{◌≡◌, ◌<◌, ◌≤◌, ◌^◌, true, IsTr
 use Rattle.std.specs.List.{list_all}
 use Rattle.inst_base.specs.Text.{is_code, is_identifier}
 use Rattle.inst_base.specs.declared.cents.TheConstants.{MOST_CENTS}
-use Rattle.inst_settings.specs.Settings.{HubSettings, IsSettings}
+use Rattle.inst_settings.specs.Settings.{HubSettings}
+use Rattle.inst_settings.specs.Lawful.{IsSettings}
 use Rattle.inst_command.specs.LineText.{left_in, line_fits, line_text}
 use Rattle.inst_command.specs.declared.line.Line.{Line}
 

@@ -6,7 +6,8 @@ use Rattle.std.proofs.lemmas.List.Sums.{sum_by-cons, sum_by-le-sum_by}
 use Rattle.std.proofs.Math.Nat.{mul-le-mul}
 use Rattle.std.specs.Cmp.Lexicographic.{same_text as text_same}
 use Rattle.inst_base.specs.declared.cents.TheConstants.{MOST_CENTS}
-use Rattle.inst_settings.specs.Settings.{HubSettings, IsSettings, participants, same_text}
+use Rattle.inst_settings.specs.Settings.{HubSettings, participants, same_text}
+use Rattle.inst_settings.specs.Lawful.{IsSettings}
 use Rattle.inst_journal.specs.declared.event.Event.{Event}
 use Rattle.inst_journal.specs.declared.event.Event.TheVariants.{Funded, Defunded, Taken, Forwarded, Booked, Fetched, Opened}
 use Rattle.inst_journal.specs.Booked.{or_else, is_taken, takes, is_forwarded, forwards, books, booked, same_transfer, is_forwarding}

@@ -9,7 +9,9 @@ use Rattle.inst_journal.specs.declared.event.Event.TheVariants.{Funded, Defunded
 use Rattle.inst_journal.specs.Booked.{booked, own_booked}
 use Rattle.inst_journal.specs.Sums.{funded, defunded, credits, debits, debit, reservation, if_accepted, if_unbooked}
 use Rattle.inst_journal.specs.Money.{reserved, position}
-use Rattle.inst_journal.specs.Laws.{if_released, taking, release, released, IsOneOf, IsInOnePlace, IsNeverOverdrawn, IsPlaced, IsWhereItIsBooked}
+use Rattle.inst_journal.specs.Laws.{taking, release, released, IsInOnePlace, IsPlaced, IsWhereItIsBooked}
+use Rattle.inst_journal.specs.Covered.{IsNeverOverdrawn}
+use Rattle.inst_journal.specs.OneOfThree.{if_released, IsOneOf}
 use Rattle.inst_journal.specs.Sound.{IsSound}
 use Rattle.inst_journal.proofs.Covering.{covered}
 use Rattle.inst_journal.proofs.OwnBookings.{own_booked-booked}

@@ -1,40 +1,23 @@
 -- The laws of one participant's books: nothing is overdrawn, each taken amount is in one place, each transfer is booked
 -- once, and what a command keeps leaves the books sound. They are this hub's own promises.
-use Rattle.std.specs.Prelude.{◌≡◌, ◌≢◌, ℕ, pos, ◌+◌, ◌≤◌, ◌+ℤ◌, ◌-ℤ◌, true, List, Option, Some, None, sum_by, count_by, is_some, ◌⊎◌}
+use Rattle.std.specs.Prelude.{◌≡◌, ◌≢◌, ℕ, ◌+◌, ◌≤◌, true, List, Option, Some, None, sum_by, count_by, is_some}
 use Rattle.inst_settings.specs.Settings.{HubSettings}
 use Rattle.inst_command.specs.Ask.{command_fits}
 use Rattle.inst_command.specs.declared.command.Command.{Command}
 use Rattle.inst_command.specs.declared.outcome.Outcome.{Outcome}
-use Rattle.inst_command.specs.declared.outcome.Outcome.TheVariants.{Accepted, Rejected, TimedOut}
+use Rattle.inst_command.specs.declared.outcome.Outcome.TheVariants.{Accepted}
 use Rattle.inst_journal.specs.declared.event.Event.{Event}
 use Rattle.inst_journal.specs.declared.event.Event.TheVariants.{Taken}
 use Rattle.inst_journal.specs.Booked.{books, booked, own_booked}
-use Rattle.inst_journal.specs.Sums.{net, funded, defunded, credits, debits, debit, reservation}
-use Rattle.inst_journal.specs.Money.{reserved, position, available}
+use Rattle.inst_journal.specs.Covered.{IsNeverOverdrawn}
+use Rattle.inst_journal.specs.OneOfThree.{if_released, IsOneOf}
+use Rattle.inst_journal.specs.Sums.{debits, debit, reservation}
+use Rattle.inst_journal.specs.Money.{reserved}
 use Rattle.inst_journal.specs.Reply.{history_after}
 use Rattle.inst_journal.specs.Sound.{IsSound}
 
--- what was paid out and what is reserved is covered by what came in, so the position is net funding and credits less
--- debits, what is available is the position less what is reserved, and neither is ever below 0
-pub record IsNeverOverdrawn (J : List Event) : Type 0 where
-  pub covered : defunded J + debits J + reserved J ≤ funded J + credits J
-  pub position_is : pos (position J) ≡ ((net J +ℤ pos (credits J)) -ℤ pos (debits J))
-  pub available_is : pos (available J) ≡ (pos (position J) -ℤ pos (reserved J))
-
 abbrev pub NothingIsOverdrawn : Type 0
 NothingIsOverdrawn = (s : HubSettings) (who : ℕ) (J : List Event) → IsSound s who J → IsNeverOverdrawn J
-
--- the amount where it is booked and not accepted
-abbrev pub if_released : Option Outcome → ℕ → ℕ
-if_released Option.None cents = 0
-if_released (Option.Some Accepted) cents = 0
-if_released (Option.Some (Rejected reason)) cents = cents
-if_released (Option.Some TimedOut) cents = cents
-
--- an amount is one of three, and the other two are nothing
-pub record IsOneOf (cents a b c : ℕ) : Type 0 where
-  pub one : (a ≡ cents) ⊎ ((b ≡ cents) ⊎ (c ≡ cents))
-  pub only : a + b + c ≡ cents
 
 -- the amount of a taken transfer
 abbrev pub taking : Event → ℕ

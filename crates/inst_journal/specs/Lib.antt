@@ -7,6 +7,8 @@ pub mod Keys
 pub mod Statement
 pub mod Reply
 pub mod Sound
+pub mod Covered
+pub mod OneOfThree
 pub mod Laws
 pub mod Pages
 pub mod Repeats

@@ -1,7 +1,7 @@
 //! What a command of a participant is answered on its events, and what they keep of it.
 ghost use Rattle.std.specs.Prelude.{◌≡◌, true, false};
 ghost use Rattle.inst_base.specs.Fault.{IsUnlessMemory};
-ghost use Rattle.inst_settings.specs.Settings.{IsSettings};
+ghost use Rattle.inst_settings.specs.Lawful.{IsSettings};
 ghost use Rattle.inst_command.specs.Ask.{command_fits};
 ghost use Rattle.inst_journal.specs.Reply.{handle, history_after, copies};
 ghost use Rattle.inst_journal.specs.Sound.{IsSound};

@@ -1,7 +1,7 @@
 //! Questions for the position, the inbox and the statement.
 ghost use Rattle.std.specs.Prelude.{◌≡◌, ◌≤◌, true, take, length, sum_by, IfOk, IsOk};
 ghost use Rattle.inst_base.specs.Fault.{IsUnlessMemory};
-ghost use Rattle.inst_settings.specs.Settings.{IsSettings};
+ghost use Rattle.inst_settings.specs.Lawful.{IsSettings};
 ghost use Rattle.inst_command.specs.Ask.{is_count};
 ghost use Rattle.inst_journal.specs.Money.{reserved, position, available};
 ghost use Rattle.inst_journal.specs.Reply.{entry_of, inbox, handed_out, unread, hand_out};

@@ -1,7 +1,7 @@
 //! The reply to a command of a participant, on its journal.
 ghost use Rattle.std.specs.Prelude.{◌≡◌, true, false};
 ghost use Rattle.inst_base.specs.Fault.{IsUnlessMemory};
-ghost use Rattle.inst_settings.specs.Settings.{IsSettings};
+ghost use Rattle.inst_settings.specs.Lawful.{IsSettings};
 ghost use Rattle.inst_command.specs.Ask.{command_fits};
 ghost use Rattle.inst_journal.specs.Reply.{reply, copies};
 ghost use Rattle.inst_journal.specs.Sound.{IsSound};

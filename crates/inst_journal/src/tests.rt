@@ -1,6 +1,7 @@
 // Replies on journals of the worked rows: three participants, with 2 places and 4 fundings each.
 ghost use Rattle.std.specs.Prelude.{◌≤◌, IfOk};
-ghost use Rattle.inst_settings.specs.Settings.{IsSettings, participants};
+ghost use Rattle.inst_settings.specs.Settings.{participants};
+ghost use Rattle.inst_settings.specs.Lawful.{IsSettings};
 ghost use Rattle.inst_journal.specs.Sound.{IsSound};
 
 use crate::{Event, Handled, Journal, handle_command, reply_of};

@@ -8,7 +8,8 @@ use Rattle.serde_json.specs.Written.{compact_text}
 use Rattle.inst_base.specs.Fault.{number_of}
 use Rattle.inst_base.specs.declared.fault.Fault.{Fault}
 use Rattle.inst_base.specs.declared.fault.Fault.TheVariants.{NotJson, BadField, BadIdentifier, BadAmount, BadMoment, UnknownParticipant, SelfTransfer, UnknownTransfer, Duplicate, StampAhead, Expired, Full, Shortage, Memory, BadSettings, LineTooLong, ReadFault, WriteFault}
-use Rattle.inst_settings.specs.Settings.{HubSettings, IsSettings, same_text, is_participant}
+use Rattle.inst_settings.specs.Settings.{HubSettings, same_text, is_participant}
+use Rattle.inst_settings.specs.Lawful.{IsSettings}
 use Rattle.inst_settings.proofs.Numbering.{number_of_code, number_of_code-at}
 use Rattle.inst_command.specs.LineText.{line_text, code_numbered}
 use Rattle.inst_command.specs.declared.outcome.Outcome.TheVariants.{Accepted, Rejected, TimedOut}

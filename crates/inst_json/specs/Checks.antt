@@ -5,7 +5,8 @@ use Rattle.inst_base.specs.Moment.{is_moment, moment_of}
 use Rattle.inst_base.specs.TimeLimit.{deadline_of}
 use Rattle.inst_base.specs.declared.fault.Fault.{Fault}
 use Rattle.inst_base.specs.declared.fault.Fault.TheVariants.{BadAmount, BadMoment, UnknownParticipant}
-use Rattle.inst_settings.specs.Settings.{HubSettings, index_of, is_within_ceiling}
+use Rattle.inst_settings.specs.Settings.{HubSettings, is_within_ceiling}
+use Rattle.inst_settings.specs.Codes.{index_of}
 use Rattle.inst_json.specs.Refusals.{◌>>=◌}
 
 -- an amount of 1 cent to the ceiling

@@ -3,7 +3,7 @@ use Rattle.std.specs.Prelude.{ℕ, nat_lt, List, Bool, true, false, Result, Ok, 
 use Rattle.inst_base.specs.Text.{code_of, reason_of}
 use Rattle.inst_base.specs.declared.fault.Fault.{Fault}
 use Rattle.inst_base.specs.declared.fault.Fault.TheVariants.{BadField}
-use Rattle.inst_settings.specs.Settings.{most_places}
+use Rattle.inst_settings.specs.Lawful.{most_places}
 use Rattle.inst_command.specs.Ask.{is_count}
 use Rattle.inst_scan.specs.Fields.{Found, missing, text, whole, other}
 use Rattle.inst_json.specs.Refusals.{◌>>=◌}

@@ -1,6 +1,7 @@
 -- What a ledger keeps beside a history with no events.
 use Rattle.std.proofs.Common.{◌≡◌, ℕ, List, [], Option, None, refl, sym, ap, subst, arith}
-use Rattle.inst_settings.specs.Settings.{HubSettings, IsSettings}
+use Rattle.inst_settings.specs.Settings.{HubSettings}
+use Rattle.inst_settings.specs.Lawful.{IsSettings}
 use Rattle.inst_command.specs.declared.entry.Entry.{Entry}
 use Rattle.inst_journal.specs.declared.event.Event.{Event}
 use Rattle.inst_ledger.specs.declared.references.Funding.{Funding}

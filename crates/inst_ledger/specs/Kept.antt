@@ -2,7 +2,8 @@
 -- would find first.
 use Rattle.std.specs.Prelude.{◌≡◌, ℕ, ◌+◌, ◌*◌, ◌≤◌, Bool, false, ◌&&◌, ◌==◌, if◌then◌else◌, List, length, Option, Some, None}
 use Rattle.inst_base.specs.declared.cents.TheConstants.{MOST_CENTS}
-use Rattle.inst_settings.specs.Settings.{HubSettings, IsSettings, same_text}
+use Rattle.inst_settings.specs.Settings.{HubSettings, same_text}
+use Rattle.inst_settings.specs.Lawful.{IsSettings}
 use Rattle.inst_command.specs.declared.outcome.Outcome.{Outcome}
 use Rattle.inst_command.specs.declared.submission.Submission.{Submission}
 use Rattle.inst_journal.specs.declared.event.Event.{Event}

@@ -1,5 +1,5 @@
 ghost use Rattle.std.specs.Prelude.{◌≡◌, ◌<◌, [], ◌∷◌, ◌++◌, IfOk, OnOk, IsOkUnless};
-ghost use Rattle.inst_settings.specs.Settings.{IsSettings};
+ghost use Rattle.inst_settings.specs.Lawful.{IsSettings};
 ghost use Rattle.inst_journal.specs.Opened.{openings};
 ghost use Rattle.inst_journal.specs.Sound.{IsSound};
 

@@ -1,7 +1,8 @@
 // Ledgers of the worked rows: three participants, with 2 places and 4 fundings each. Each answer is compared with that
 // of the plain functions on a journal with the same events.
 ghost use Rattle.std.specs.Prelude.{◌≡◌, ◌≤◌, [], ◌∷◌, IfOk};
-ghost use Rattle.inst_settings.specs.Settings.{IsSettings, participants};
+ghost use Rattle.inst_settings.specs.Settings.{participants};
+ghost use Rattle.inst_settings.specs.Lawful.{IsSettings};
 
 use crate::Ledger;
 use inst_base::{Cents, Code, Fault, Ident, Moment, Reason};

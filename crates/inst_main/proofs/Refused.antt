@@ -9,7 +9,8 @@ use Rattle.clap.specs.Words.{Row, subcommand_of}
 use Rattle.inst_base.specs.Text.{is_code}
 use Rattle.inst_base.specs.declared.fault.Fault.{Fault}
 use Rattle.inst_base.specs.declared.fault.Fault.TheVariants.{BadSettings}
-use Rattle.inst_settings.specs.Settings.{HubSettings, IsSettings, are_different}
+use Rattle.inst_settings.specs.Settings.{HubSettings}
+use Rattle.inst_settings.specs.Lawful.{IsSettings, are_different}
 use Rattle.inst_main.specs.Options.{AreChosen, AreGood, AreWhole, ChooseNone, Chooses, Gives, GivesNoneBelow, command_line, parts_of}
 use Rattle.inst_main.specs.Program.{IsRefusal, IsUnbegun}
 use Rattle.inst_main.specs.declared.program.Ending.TheVariants as ending

@@ -12,7 +12,8 @@ use Rattle.clap.specs.declared.error.kind.ErrorKind.{ErrorKind}
 use Rattle.clap.specs.declared.error.kind.ErrorKind.TheVariants.{DisplayHelp, DisplayVersion}
 use Rattle.clap.specs.declared.builder.value_parser.ValueParser.TheVariants.{Unsigned}
 use Rattle.inst_base.specs.Text.{is_code}
-use Rattle.inst_settings.specs.Settings.{HubSettings, IsSettings, same_text}
+use Rattle.inst_settings.specs.Settings.{HubSettings, same_text}
+use Rattle.inst_settings.specs.Lawful.{IsSettings}
 use Rattle.inst_main.specs.declared.task.Task.{Task}
 use Rattle.inst_main.specs.declared.task.Task.TheVariants.{Run, Play}
 

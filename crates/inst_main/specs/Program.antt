@@ -6,7 +6,8 @@ use Rattle.clap.specs.declared.error.kind.ErrorKind.{ErrorKind}
 use Rattle.clap.specs.declared.error.kind.ErrorKind.TheVariants.{OutOfMemory}
 use Rattle.inst_base.specs.declared.fault.Fault.{Fault}
 use Rattle.inst_base.specs.declared.fault.Fault.TheVariants.{BadSettings, Memory}
-use Rattle.inst_settings.specs.Settings.{HubSettings, IsSettings}
+use Rattle.inst_settings.specs.Settings.{HubSettings}
+use Rattle.inst_settings.specs.Lawful.{IsSettings}
 use Rattle.inst_world.specs.Answers.{Answerer, output}
 use Rattle.inst_world.specs.Answering.{Past, opened, running, playing}
 use Rattle.inst_world.specs.Lines.{lines_of}

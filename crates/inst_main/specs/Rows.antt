@@ -1,7 +1,8 @@
 -- Worked command lines, computed from the definitions. This hub's own choice.
 use Rattle.std.specs.Prelude.{◌≡◌, ℕ, List, [], ◌∷◌, codes}
 use Rattle.clap.specs.declared.error.kind.ErrorKind.TheVariants.{DisplayHelp, MissingRequiredArgument, MissingSubcommand}
-use Rattle.inst_settings.specs.Settings.{HubSettings, settings_with}
+use Rattle.inst_settings.specs.Settings.{HubSettings}
+use Rattle.inst_settings.specs.Lawful.{settings_with}
 use Rattle.inst_main.specs.Options.{AreChosen, AreGood, AreWhole, faults_of}
 use Rattle.inst_main.specs.declared.task.Task.TheVariants.{Run, Play}
 

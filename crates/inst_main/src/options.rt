@@ -5,7 +5,7 @@ ghost use Rattle.clap.specs.Words.{app_of, first_of, found_of, rows_of, rule_of}
 ghost use Rattle.inst_main.specs.Options.{participants_rule, number_rule, hub_command, IsLocal, command_line as the_command_line, parts_of};
 ghost use Rattle.inst_main.specs.Options.{Gives, GivesNoneBelow, Chooses, ChooseNone};
 ghost use Rattle.inst_main.specs.Program.{IsRefusal};
-ghost use Rattle.inst_settings.specs.Settings.{IsSettings};
+ghost use Rattle.inst_settings.specs.Lawful.{IsSettings};
 
 use clap::{Arg, ArgAction, ArgMatches, Command};
 use inst_base::{Code, Fault};

@@ -1,7 +1,7 @@
 ghost use Rattle.std.specs.Prelude.{◌≡◌, ◌≢◌, ◌⊎◌, map, string_bytes, OnOk, IfOk, IfErr};
 ghost use Rattle.clap.specs.Words.{kind_of};
 ghost use Rattle.inst_base.specs.declared.fault.Fault.{Fault as SomeFault};
-ghost use Rattle.inst_settings.specs.Settings.{IsSettings};
+ghost use Rattle.inst_settings.specs.Lawful.{IsSettings};
 ghost use Rattle.inst_main.specs.Options.{AreChosen, AreRefused, AreWhole, AskForHelp, AreWrong};
 ghost use Rattle.inst_main.specs.Program.{status_of, Serves, Fails, IsEnding, IsUnbegun, IsOfKind};
 

@@ -7,7 +7,7 @@ use Rattle.inst_command.specs.declared.outcome.Outcome.TheVariants.{Accepted, Re
 use Rattle.inst_journal.specs.declared.event.Event.{Event}
 use Rattle.inst_journal.specs.Booked.{booked, own_booked}
 use Rattle.inst_journal.specs.Sums.{if_accepted, if_unbooked}
-use Rattle.inst_journal.specs.Laws.{if_released, IsOneOf}
+use Rattle.inst_journal.specs.OneOfThree.{if_released, IsOneOf}
 use Rattle.inst_journal.specs.Sound.{IsSound}
 use Rattle.inst_journal.proofs.Counting.{booked_once}
 use Rattle.inst_journal.proofs.OwnBookings.{own_booked-booked}

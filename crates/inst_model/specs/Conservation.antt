@@ -9,7 +9,7 @@ use Rattle.inst_journal.specs.declared.event.Event.TheVariants.{Taken}
 use Rattle.inst_journal.specs.Booked.{booked}
 use Rattle.inst_journal.specs.Sums.{net, funded, defunded, reservation}
 use Rattle.inst_journal.specs.Money.{reserved, position}
-use Rattle.inst_journal.specs.Laws.{IsNeverOverdrawn}
+use Rattle.inst_journal.specs.Covered.{IsNeverOverdrawn}
 use Rattle.inst_model.specs.Interleaving.{IsInterleaving}
 use Rattle.inst_model.specs.Opening.{Opening, IsOpening}
 use Rattle.inst_model.specs.Hub.{outcome, history}

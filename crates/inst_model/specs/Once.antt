@@ -10,7 +10,7 @@ use Rattle.inst_journal.specs.declared.event.Event.{Event}
 use Rattle.inst_journal.specs.declared.event.Event.TheVariants.{Taken, Forwarded}
 use Rattle.inst_journal.specs.Booked.{books, booked}
 use Rattle.inst_journal.specs.Sums.{credit, debit, reservation}
-use Rattle.inst_journal.specs.Laws.{if_released, IsOneOf}
+use Rattle.inst_journal.specs.OneOfThree.{if_released, IsOneOf}
 use Rattle.inst_model.specs.Interleaving.{IsInterleaving}
 use Rattle.inst_model.specs.Opening.{Opening, IsOpening}
 use Rattle.inst_model.specs.Hub.{history}

@@ -6,7 +6,9 @@ use Rattle.std.proofs.lemmas.List.Sums.{position_or_len_is}
 use Rattle.std.proofs.lemmas.Slice.Eq.{bytes_eq-Decides}
 use Rattle.std.specs.Bool.{then_some}
 use Rattle.std.specs.List.{list_any}
-use Rattle.inst_settings.specs.Settings.{same_text, are_different, index_of}
+use Rattle.inst_settings.specs.Settings.{same_text}
+use Rattle.inst_settings.specs.Codes.{index_of}
+use Rattle.inst_settings.specs.Lawful.{are_different}
 use Rattle.inst_settings.specs.Finder.{holders_of, is_among, TellsAll}
 use Rattle.inst_settings.specs.declared.finder.Holders.{Holders}
 use Rattle.inst_settings.specs.declared.finder.Holders.TheVariants.{Nobody, Only}

@@ -4,7 +4,8 @@ use Rattle.std.proofs.lemmas.Bool.{and_parts, or_parts, not-true}
 use Rattle.std.proofs.lemmas.Bool.Decides.{nat_tests}
 use Rattle.std.proofs.lemmas.Slice.Eq.{bytes_eq-Decides}
 use Rattle.std.specs.List.{list_any}
-use Rattle.inst_settings.specs.Settings.{same_text, are_different}
+use Rattle.inst_settings.specs.Settings.{same_text}
+use Rattle.inst_settings.specs.Lawful.{are_different}
 
 -- the number of a code's first place
 abbrev pub number_of_code : List (List ℕ) → List ℕ → ℕ

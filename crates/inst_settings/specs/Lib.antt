@@ -1,2 +1,4 @@
 pub mod Settings
+pub mod Lawful
+pub mod Codes
 pub mod Finder

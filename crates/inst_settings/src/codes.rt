@@ -1,5 +1,6 @@
 ghost use Rattle.std.specs.Prelude.{◌≡◌};
-ghost use Rattle.inst_settings.specs.Settings.{are_different, index_of};
+ghost use Rattle.inst_settings.specs.Codes.{index_of};
+ghost use Rattle.inst_settings.specs.Lawful.{are_different};
 
 use inst_base::Code;
 

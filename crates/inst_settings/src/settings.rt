@@ -31,7 +31,8 @@ pub struct Settings {
 }
 
 impl Model for Settings {
-    ghost use Rattle.inst_settings.specs.Settings.{HubSettings, IsSettings};
+    ghost use Rattle.inst_settings.specs.Settings.{HubSettings};
+    ghost use Rattle.inst_settings.specs.Lawful.{IsSettings};
     ghost use Rattle.inst_settings.specs.Finder.{TellsAll};
 
     ghost Value = { HubSettings };
@@ -60,7 +61,9 @@ impl Model for Settings {
 }
 
 impl Settings {
-    ghost use Rattle.inst_settings.specs.Settings.{HubSettings, IsSettings, settings_with, participants, index_of, is_participant, is_within_ceiling};
+    ghost use Rattle.inst_settings.specs.Settings.{HubSettings, participants, is_participant, is_within_ceiling};
+    ghost use Rattle.inst_settings.specs.Codes.{index_of};
+    ghost use Rattle.inst_settings.specs.Lawful.{IsSettings, settings_with};
 
     /// The settings with these values, or `BadSettings` where one is outside its range or a code
     /// stands twice: 1 to 256 participants, 1 to 1,024 places and fundings, a `limit` of 1 to

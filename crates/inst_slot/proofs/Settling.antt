@@ -24,14 +24,6 @@ use Rattle.inst_slot.proofs.Keeping.{with_events}
 use Rattle.inst_slot.proofs.Looking.{looked_on, decided, undecided}
 use Rattle.inst_slot.proofs.Deciding.{asked}
 
--- what is unbooked at an index, by the event there
-pub none_unbooked : (book : Book) (index : ℕ) (o : Option Event) → o ≡ slice_get (live_taken book.who book.events) index → taken_by o ≡ None → unbooked_at book index ≡ None
-none_unbooked book index o there none = ap (λ (e : Option Event). if_unbooked book (taken_by e)) (sym there) ∙ ap (if_unbooked book) none
-
-pub this_unbooked : (book : Book) (index : ℕ) (o : Option Event) (id : List ℕ) → o ≡ slice_get (live_taken book.who book.events) index → taken_by o ≡ Some id → booked book.who id book.events ≡ None → unbooked_at book index ≡ Some id
-this_unbooked book index o id there named none =
-    ap (λ (e : Option Event). if_unbooked book (taken_by e)) (sym there) ∙ ap (if_unbooked book) named ∙ ap (λ (b : Option Outcome). cond (is_none b) (Some id) None) none
-
 pub none_if : {A : Type 0} (o : Option A) → is_some o ≡ false → o ≡ None
 none_if None e = refl
 none_if (Some x) e = absurd (false≢true (sym e))

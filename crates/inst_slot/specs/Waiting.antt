@@ -1,8 +1,9 @@
--- Which of a participant's own live transfers have nothing booked, by their deadlines. By deadline, as time limits end
--- (EPC004-16, chapter 4: time-out deadline); of one deadline by place: this hub's own choice.
+-- Which of a participant's own live transfers have nothing booked, by their deadlines: by deadline, as time limits end
+-- (EPC004-16, chapter 4: time-out deadline), and of one deadline by place, which is this hub's own choice.
 use Rattle.std.specs.Prelude.{◌≡◌, ℕ, Bool, true, false, ◌&&◌, ◌==◌, nat_eq, is_none, List, map, slice_get, Option, Some, None}
 use Rattle.inst_base.specs.TimeLimit.{deadline_of}
-use Rattle.inst_settings.specs.Settings.{HubSettings, IsSettings, same_text}
+use Rattle.inst_settings.specs.Settings.{HubSettings, same_text}
+use Rattle.inst_settings.specs.Lawful.{IsSettings}
 use Rattle.inst_due.specs.Due.{has, comes_before, comes_after}
 use Rattle.inst_journal.specs.declared.event.Event.{Event}
 use Rattle.inst_journal.specs.declared.event.Event.TheVariants.{Taken, Booked, Opened}

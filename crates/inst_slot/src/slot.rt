@@ -1,5 +1,5 @@
 ghost use Rattle.std.specs.Prelude.{◌≡◌, [], IfOk, IsOkUnless, position};
-ghost use Rattle.inst_settings.specs.Settings.{IsSettings};
+ghost use Rattle.inst_settings.specs.Lawful.{IsSettings};
 ghost use Rattle.inst_journal.specs.Booked.{takes};
 ghost use Rattle.inst_journal.specs.Opened.{live_taken};
 ghost use Rattle.inst_journal.specs.Sound.{IsSound};

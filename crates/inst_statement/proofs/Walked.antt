@@ -3,7 +3,8 @@ use Rattle.std.proofs.Common.{◌≡◌, ℕ, zero, suc, ◌+◌, ◌*◌, ◌^�
 use Rattle.std.specs.Option.{option_map}
 use Rattle.std.proofs.lemmas.List.{take_more}
 use Rattle.std.proofs.Math.Nat.{mul-le-mul}
-use Rattle.inst_settings.specs.Settings.{HubSettings, IsSettings}
+use Rattle.inst_settings.specs.Settings.{HubSettings}
+use Rattle.inst_settings.specs.Lawful.{IsSettings}
 use Rattle.inst_journal.specs.Statement.{line_of, statement_part}
 use Rattle.inst_journal.proofs.Counting.{count_push}
 use Rattle.inst_journal.proofs.Walking.{may_have_line, lines_few, rest_fits, sound_front}

@@ -1,6 +1,7 @@
 // Statements of journals of participants, compared with the worked rows.
 ghost use Rattle.std.specs.Prelude.{◌≡◌, ◌≤◌, true, IfOk};
-ghost use Rattle.inst_settings.specs.Settings.{IsSettings, participants, is_within_ceiling};
+ghost use Rattle.inst_settings.specs.Settings.{participants, is_within_ceiling};
+ghost use Rattle.inst_settings.specs.Lawful.{IsSettings};
 ghost use Rattle.inst_journal.specs.Sound.{IsSound};
 
 use crate::statement;

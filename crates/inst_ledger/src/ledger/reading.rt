@@ -1,6 +1,6 @@
 //! What a participant's history has, read off what stands beside it.
 ghost use Rattle.std.specs.Prelude.{◌≡◌, ◌<◌, ◌^◌};
-ghost use Rattle.inst_settings.specs.Settings.{IsSettings};
+ghost use Rattle.inst_settings.specs.Lawful.{IsSettings};
 ghost use Rattle.inst_journal.specs.Booked.{first_some, is_taken, is_forwarded, booked};
 ghost use Rattle.inst_journal.specs.Keys.{fundings, is_submission_repeat, is_fund_repeat, is_defund_repeat, has_reference};
 ghost use Rattle.inst_journal.specs.Money.{reserved, position, available};

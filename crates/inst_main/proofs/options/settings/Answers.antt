@@ -2,7 +2,8 @@ use Rattle.std.proofs.Common.{rules, ◌≡◌, ◌^◌, Some, codes, sym, subst
 use Rattle.std.proofs.lemmas.Result.{IfOk-weaker}
 use Rattle.clap.specs.Words.{first_of, found_of, rows_of}
 use Rattle.inst_main.specs.Options.{Gives, GivesNoneBelow, Chooses, ChooseNone}
-use Rattle.inst_settings.specs.Settings.{HubSettings, IsSettings, settings_with}
+use Rattle.inst_settings.specs.Settings.{HubSettings}
+use Rattle.inst_settings.specs.Lawful.{IsSettings, settings_with}
 use Rattle.inst_main.proofs.Refused.{none_in_range, no_places, no_fundings, no_limit, no_margin, no_ahead, no_ceiling, no_base, passed_on, refused_by}
 use Rattle.inst_main.proofs.options.settings.Goals as goal
 

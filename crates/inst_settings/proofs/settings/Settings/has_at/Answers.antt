@@ -1,7 +1,7 @@
 use Rattle.std.proofs.Common.{◌<◌, [], Some, sym, ap, ◌∙◌, arith, length}
 use Rattle.std.proofs.lemmas.Slice.Eq.{bytes_eq-Decides}
 use Rattle.std.proofs.lemmas.List.{get_or_read}
-use Rattle.inst_settings.specs.Settings.{index_of}
+use Rattle.inst_settings.specs.Codes.{index_of}
 use Rattle.inst_settings.proofs.Known.{number_known}
 use Rattle.inst_settings.proofs.settings.Settings.has_at.Goals as goal
 

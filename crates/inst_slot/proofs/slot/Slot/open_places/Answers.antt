@@ -2,7 +2,8 @@ use Rattle.std.proofs.Common.{◌≡◌, ◌++◌, ◌∷◌, [], true, false, n
 use Rattle.std.specs.Prelude.{IsTrue}
 use Rattle.std.specs.List.{filter}
 use Rattle.std.proofs.lemmas.List.{take_all}
-use Rattle.inst_settings.specs.Settings.{HubSettings, IsSettings, is_participant}
+use Rattle.inst_settings.specs.Settings.{HubSettings, is_participant}
+use Rattle.inst_settings.specs.Lawful.{IsSettings}
 use Rattle.inst_journal.specs.Booked.{booked}
 use Rattle.inst_journal.specs.declared.event.Event.{Event}
 use Rattle.inst_journal.specs.declared.event.Event.TheVariants.{Taken}
