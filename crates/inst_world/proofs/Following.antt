@@ -1,6 +1,6 @@
 -- What follows a line, step by step.
-use Rattle.std.proofs.Common.{◌≡◌, Bool, true, inl, inr, IfSome, ℕ, zero, suc, ◌+◌, ◌≤◌, List, [], ◌∷◌, ◌++◌, length, take, reverse, Option, Some, None, refl, sym, ap, ◌∙◌, arith, append_assoc}
-use Rattle.std.specs.Prelude.{slice_get, option_map}
+use Rattle.std.proofs.Common.{◌≡◌, Bool, true, cond, inl, inr, IfSome, ℕ, zero, suc, ◌+◌, ◌≤◌, List, [], ◌∷◌, ◌++◌, length, take, reverse, Option, Some, None, refl, sym, ap, ◌∙◌, arith, append_assoc}
+use Rattle.std.specs.Prelude.{slice_get, option_map, nat_lt}
 use Rattle.std.specs.List.{AllByRecursion, list_all, filter}
 use Rattle.std.proofs.lemmas.Bool.{and_parts, cases_Bool}
 use Rattle.std.proofs.lemmas.List.{reverse-append, take_all}
@@ -11,7 +11,10 @@ use Rattle.inst_command.specs.declared.step.Step.{Step}
 use Rattle.inst_command.specs.declared.step.Step.TheVariants.{Ask}
 use Rattle.inst_board.specs.declared.look.Look.{Look}
 use Rattle.inst_board.specs.declared.look.Look.TheVariants.{Unused, Pending, Decided}
-use Rattle.inst_board.specs.Standing.{Standing, look_of}
+use Rattle.inst_board.specs.declared.place.Place.{Place}
+use Rattle.inst_board.specs.declared.plain.Kept.TheVariants.{Unused as Nothing}
+use Rattle.inst_board.specs.Plain.{Contents, standing_at, standing_of, kept_or_unused, number_of}
+use Rattle.inst_board.specs.Standing.{Standing, look_of, is_place}
 use Rattle.inst_journal.specs.declared.event.Event.{Event}
 use Rattle.inst_journal.specs.declared.event.Event.TheVariants.{Funded, Defunded, Taken, Forwarded, Booked, Fetched, Opened}
 use Rattle.inst_journal.specs.Opened.{is_live}
@@ -36,7 +39,7 @@ all_append P (x ∷ xs) ys first second = (first.0, all_append P xs ys first.1 s
 pub one_on : (xs ys L : List Step) → reverse (xs ++ ys) ++ L ≡ reverse ys ++ (reverse xs ++ L)
 one_on xs ys L = ap (λ (t : List Step). t ++ L) (reverse-append xs ys) ∙ append_assoc (reverse ys) (reverse xs) L
 
-of_transfer_no_ask : (at p place to : ℕ) → AllByRecursion NoAsk (of_transfer at p place to)
+pub of_transfer_no_ask : (at p place to : ℕ) → AllByRecursion NoAsk (of_transfer at p place to)
 of_transfer_no_ask at p place to = (no_ask_deliver p place to, (no_ask_learn p p place, (no_ask_expire p place at, (no_ask_learn to p place, tt))))
 
 of_transfers_no_ask : (at p place : ℕ) (xs : List Transfer) → AllByRecursion NoAsk (of_transfers at p place xs)
@@ -81,19 +84,19 @@ take_length [] k x e = let no : ⊥ = cc in absurd no
 take_length (y ∷ T) zero x e = refl
 take_length (y ∷ T) (suc k) x e = ap suc (take_length T k x e)
 
-take_none : (T : List Transfer) (k : ℕ) → slice_get T k ≡ None → take k T ≡ T
-take_none [] zero e = refl
-take_none [] (suc k) e = refl
-take_none (y ∷ T) zero e = let no : ⊥ = cc in absurd no
-take_none (y ∷ T) (suc k) e = ap (λ (t : List Transfer). y ∷ t) (take_none T k e)
+take_past : (T : List Transfer) (k : ℕ) → slice_get T k ≡ None → take (suc k) T ≡ take k T
+take_past [] zero e = refl
+take_past [] (suc k) e = refl
+take_past (y ∷ T) zero e = let no : ⊥ = cc in absurd no
+take_past (y ∷ T) (suc k) e = ap (λ (t : List Transfer). y ∷ t) (take_past T k e)
+
+take_zero : (T : List Transfer) → take 0 T ≡ []
+take_zero [] = refl
+take_zero (y ∷ T) = refl
 
 some_of : (X : Option Transfer) (to : ℕ) → Some to ≡ option_map (λ (x : Transfer). x.to) X → (x : Transfer) × (X ≡ Some x) × (x.to ≡ to)
 some_of None to e = let no : ⊥ = cc in absurd no
 some_of (Some x) to e = let is : x.to ≡ to = cc in (x, refl, is)
-
-none_of : (X : Option Transfer) → None ≡ option_map (λ (x : Transfer). x.to) X → X ≡ None
-none_of None e = refl
-none_of (Some x) e = let no : ⊥ = cc in absurd no
 
 -- the first k transfers of the originator p have been gone over
 abbrev pub gone_over : HubSettings → Opening → List Step → ℕ → ℕ → ℕ → List Step
@@ -123,13 +126,20 @@ gone_on s O L at p k to e =
     from_none : (n : ℕ) → 0 + n ≡ n
     from_none n = omega arith
 
--- all, where there is none at the next place
-pub gone_over_all : (s : HubSettings) (O : Opening) (L : List Step) (at p k : ℕ) → None ≡ option_map (λ (x : Transfer). x.to) (at_place p (history s O (gone_over s O L at p k) p) k)
-    → gone_over s O L at p k ≡ reverse (of_transfers at p 0 (live_transfers p (history s O L p))) ++ L
-gone_over_all s O L at p k e =
+-- no more, where there is none at the next place
+pub gone_past : (s : HubSettings) (O : Opening) (L : List Step) (at p k : ℕ) → at_place p (history s O (gone_over s O L at p k) p) k ≡ None
+    → gone_over s O L at p (k + 1) ≡ gone_over s O L at p k
+gone_past s O L at p k none =
     let T : List Transfer = live_transfers p (history s O L p) in
-    let none = none_of (slice_get T k) (e ∙ ap (λ (U : List Transfer). option_map (λ (x : Transfer). x.to) (slice_get U k)) (same_live s O L at p k)) in
-    ap (λ (U : List Transfer). reverse (of_transfers at p 0 U) ++ L) (take_none T k none)
+    ap (λ (n : ℕ). reverse (of_transfers at p 0 (take n T)) ++ L) next
+    ∙ ap (λ (U : List Transfer). reverse (of_transfers at p 0 U) ++ L) (take_past T k (ap (λ (U : List Transfer). slice_get U k) (sym (same_live s O L at p k)) ∙ none))
+  where
+    next : k + 1 ≡ suc k
+    next = omega arith
+
+-- none yet
+pub gone_nowhere : (s : HubSettings) (O : Opening) (L : List Step) (at p : ℕ) → gone_over s O L at p 0 ≡ L
+gone_nowhere s O L at p = ap (λ (U : List Transfer). reverse (of_transfers at p 0 U) ++ L) (take_zero (live_transfers p (history s O L p)))
 
 -- all, where there are no more places
 pub gone_over_places : (s : HubSettings) (O : Opening) (L : List Step) (at p k : ℕ) → length (live_transfers p (history s O L p)) ≤ k
@@ -209,3 +219,18 @@ found_participant hub p k (Some to) was is =
     let s : HubSettings = settings_of hub in
     let x = some_of (at_place p (history s was.0 was.1 p) k) to (is was.0 was.1 was.2) in
     ap (is_participant s) (sym x.2) ∙ to_participant s p (history s was.0 was.1 p) k x.0 ((together s was.0 was.2.opening was.1 was.2.steps).sound p) x.1
+
+no_beneficiary : to_of (look_of (standing_of Nothing)) ≡ None
+no_beneficiary = refl
+
+-- whose place it is that has a beneficiary
+pub found_owner : (board : Contents) (place : Place) (found : Option ℕ) → found ≡ to_of (look_of (standing_at board place)) → IfSome found (λ to. is_participant board.settings place.owner ≡ true)
+found_owner board place None is = tt
+found_owner board place (Some to) is = elim (cases_Bool (is_place board.settings place)) [
+  | inl there ↦ (and_parts (is_participant board.settings place.owner) (nat_lt place.index board.settings.places) there).0
+  | inr outside ↦
+      let none : to_of (look_of (standing_at board place)) ≡ None = ap (λ (b : Bool). to_of (look_of (standing_of (cond b (kept_or_unused (slice_get board.kept (number_of board.settings place))) Nothing)))) outside in
+      let clash : Some to ≡ None = is ∙ none in
+      let no : ⊥ = cc in
+      absurd no
+]

@@ -1,4 +1,6 @@
 pub mod LinesLemmas
+pub mod Agendas
+pub mod Noting
 pub mod AnswersLemmas
 pub mod ProgressLemmas
 pub mod BufferLemmas
@@ -28,3 +30,7 @@ pub mod Carrying
 pub mod Reopening
 pub mod Carried
 pub mod Journals
+pub mod Settled
+pub mod AfterAsking
+pub mod Skipping
+pub mod GoingOver

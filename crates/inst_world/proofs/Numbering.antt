@@ -7,7 +7,8 @@ use Rattle.std.proofs.lemmas.Bool.Decides.{nat_tests}
 use Rattle.std.proofs.lemmas.List.Sums.{sum_by-cons, sum_by-le-sum_by}
 use Rattle.std.proofs.Math.Nat.{mul-le-mul}
 use Rattle.std.specs.Cmp.Lexicographic.{same_text as text_same}
-use Rattle.inst_settings.specs.Settings.{HubSettings, IsSettings, participants, is_participant, same_text}
+use Rattle.inst_settings.specs.Settings.{HubSettings, participants, is_participant, same_text}
+use Rattle.inst_settings.specs.Lawful.{IsSettings}
 use Rattle.inst_command.specs.declared.line.Line.{Line}
 use Rattle.inst_command.specs.declared.outcome.Outcome.{Outcome}
 use Rattle.inst_journal.specs.declared.event.Event.{Event}

@@ -58,7 +58,7 @@ live_at who C (Opened ∷ J) k = live_at who C J k
 pub at_taken : (who : ℕ) (J : List Event) (k : ℕ) → at_place who J k ≡ terms_in (slice_get (live_taken who J) k)
 at_taken who J k = live_at who (carried J) J k
 
-there_counts : {A : Type 0} (f : A → ℕ) (xs : List A) (k : ℕ) (x : A) → slice_get xs k ≡ Some x → 1 ≤ f x → 1 ≤ sum_by f xs
+pub there_counts : {A : Type 0} (f : A → ℕ) (xs : List A) (k : ℕ) (x : A) → slice_get xs k ≡ Some x → 1 ≤ f x → 1 ≤ sum_by f xs
 there_counts f [] k x e one = let no : ⊥ = cc in absurd no
 there_counts f (y ∷ xs) zero x e one = let same : f y ≡ f x = ap (λ (o : Option _). elim o [ None ↦ f y | Some z ↦ f z ]) e in omega (arith, sum_by-cons f y xs, same, one)
 there_counts f (y ∷ xs) (suc k) x e one = omega (arith, sum_by-cons f y xs, there_counts f xs k x e one)

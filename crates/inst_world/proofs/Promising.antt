@@ -1,5 +1,5 @@
 -- What the hub promises of each run follows from the laws of the model.
-use Rattle.std.proofs.Common.{◌≡◌, ℕ, zero, suc, ◌+◌, ◌≤◌, ◌<◌, pos, ℤ, ◌+ℤ◌, true, false, ltb, List, [], ◌∷◌, ◌++◌, length, reverse, take, Option, Some, None, is_some, refl, sym, ap, subst, ◌∙◌, inl, inr, ◌⊎◌, ⊎_elim, arith, Contains}
+use Rattle.std.proofs.Common.{◌≡◌, ℕ, zero, suc, ◌+◌, ◌≤◌, ◌<◌, pos, ℤ, ◌+ℤ◌, true, List, [], ◌∷◌, ◌++◌, length, reverse, take, Some, is_some, refl, sym, ap, subst, ◌∙◌, inl, inr, ◌⊎◌, ⊎_elim, arith, Contains}
 use Rattle.std.specs.Prelude.{slice_get}
 use Rattle.std.proofs.lemmas.Bool.{cases_Bool, ltb-true, ltb-false, lt-ltb}
 use Rattle.std.proofs.lemmas.Int.{ints}
@@ -7,19 +7,18 @@ use Rattle.std.proofs.lemmas.List.{reverse-append, reverse-reverse, length-rever
 use Rattle.std.proofs.lemmas.List.Elements.{Contains-append_right}
 use Rattle.std.proofs.lemmas.Option.{slice_get_cases, slice_get_past, none-some}
 use Rattle.inst_settings.specs.Settings.{HubSettings, participants, is_participant}
-use Rattle.inst_command.specs.declared.ask.Ask.{Ask as AskValue}
 use Rattle.inst_command.specs.declared.outcome.Outcome.{Outcome}
 use Rattle.inst_command.specs.declared.outcome.Outcome.TheVariants.{Accepted}
 use Rattle.inst_command.specs.declared.outcome.State.TheVariants.{Decided}
 use Rattle.inst_command.specs.declared.reply.Answer.{Answer}
-use Rattle.inst_command.specs.declared.reply.Answer.TheVariants.{Reply, New}
+use Rattle.inst_command.specs.declared.reply.Answer.TheVariants.{Reply}
 use Rattle.inst_command.specs.declared.reply.Reply.TheVariants.{State}
 use Rattle.inst_command.specs.declared.step.Step.{Step}
 use Rattle.inst_command.specs.declared.step.Step.TheVariants.{Ask, Deliver, Learn, Expire}
 use Rattle.inst_journal.specs.declared.event.Event.{Event}
 use Rattle.inst_journal.specs.declared.event.Event.TheVariants.{Taken, Forwarded, Booked}
 use Rattle.inst_journal.specs.Booked.{booked}
-use Rattle.inst_journal.specs.Laws.{IsNeverOverdrawn}
+use Rattle.inst_journal.specs.Covered.{IsNeverOverdrawn}
 use Rattle.inst_journal.specs.Money.{reserved, position, available}
 use Rattle.inst_journal.specs.Sound.{Fits, IsSound}
 use Rattle.inst_journal.specs.Statement.{statement}
@@ -34,7 +33,7 @@ use Rattle.inst_model.specs.Once.{IsSettledOnce}
 use Rattle.inst_model.specs.Opening.{Opening, IsOpening}
 use Rattle.inst_model.specs.Trace.{answer, trace, own_answers, replies}
 use Rattle.inst_model.specs.Transfer.{Transfer, transfer}
-use Rattle.inst_model.specs.Untold.{sum_below, signed_sum_below, total, signed_total, untold_by, untold}
+use Rattle.inst_model.specs.Untold.{signed_sum_below, total, signed_total, untold_by, untold}
 use Rattle.inst_model.proofs.Agreeing.{nothing_untold}
 use Rattle.inst_model.proofs.Conserved.{money_is_conserved}
 use Rattle.inst_model.proofs.Fitting.{histories_are_sound, histories_fit}
@@ -47,7 +46,7 @@ use Rattle.inst_model.proofs.Totals.{sum_below_same, sum_below_zero}
 use Rattle.inst_slot.proofs.Growing.{snoc_cases}
 use Rattle.inst_slot.specs.Book.{Book}
 use Rattle.inst_world.specs.HasRun.{Hub, settings_of, HasRun, IsHub, events_of, journal_of}
-use Rattle.inst_world.specs.Headline.{Run, run_of, IsRun, SeesTheSame, GotTheSame, IsIsolated, outcome_in, outcome_after, HasOneOutcome, SettlesOnce, AllAreTold, AddsUp, BooksOfFit, IsLocal}
+use Rattle.inst_world.specs.Headline.{Run, run_of, IsRun, SeesTheSame, GotTheSame, IsIsolated, HasOneOutcome, SettlesOnce, AddsUp, BooksOfFit, IsLocal}
 
 module _ (s : HubSettings) (run : Run) (is : IsRun s run) where
   -- the replies among the answers are the model's

@@ -7,7 +7,8 @@ use Rattle.std.proofs.lemmas.List.Elements.{All-contains}
 use Rattle.std.proofs.lemmas.List.Sums.{AllPass-from_list_all}
 use Rattle.inst_base.specs.TimeLimit.{deadline_of, is_ahead, is_due}
 use Rattle.inst_base.specs.declared.fault.Fault.{Fault}
-use Rattle.inst_settings.specs.Settings.{HubSettings, IsSettings, is_participant}
+use Rattle.inst_settings.specs.Settings.{HubSettings, is_participant}
+use Rattle.inst_settings.specs.Lawful.{IsSettings}
 use Rattle.inst_command.specs.Ask.{command_fits}
 use Rattle.inst_command.specs.LineText.{line_fits, other_fits}
 use Rattle.inst_command.specs.Step.{step_fits}

@@ -19,9 +19,11 @@ use Rattle.inst_model.specs.Opening.Opening.{First}
 use Rattle.inst_model.specs.Trace.{answer}
 use Rattle.inst_world.specs.declared.mode.Mode.{Mode}
 use Rattle.inst_world.specs.declared.mode.Mode.TheVariants.{Run, Play}
+use Rattle.inst_world.specs.declared.runner.Runner.{Runner}
 use Rattle.inst_world.specs.Answers.{Answerer, is_too_long, IsFront}
 use Rattle.inst_world.specs.FollowUps.{followed_up}
 use Rattle.inst_world.specs.HasRun.{Hub, settings_of, HasRun}
+use Rattle.inst_world.specs.Watching.{Watches}
 
 -- what a hub has gone through: how it was opened, and all steps since, the newest in front
 pub record Past : Type 0 where
@@ -37,6 +39,16 @@ opened s = record { settings = s; opening = First; steps = [] }
 pub record IsPastOf (past : Past) (hub : Hub) : Type 0 where
   pub settings_are : settings_of hub ≡ past.settings
   pub ran : HasRun past.opening past.steps hub
+
+-- so has a run's, and its agenda says what is left to do
+pub record IsRunOf (past : Past) (runner : Runner) : Type 0 where
+  pub settings_are : settings_of runner.world ≡ past.settings
+  pub watches : Watches past.opening past.steps runner.world runner.agenda
+
+-- what a runner has gone through, by what its lines stand for
+abbrev pub Keeps : Mode → Past → Runner → Type 0
+Keeps Run past runner = IsRunOf past runner
+Keeps Play past runner = IsPastOf past runner.world
 
 abbrev pub step_answer : Past → Step → Answer
 step_answer past step = answer past.settings past.opening past.steps step
@@ -118,17 +130,17 @@ abbrev pub after_any_line : Mode → Past → List ℕ → Past
 after_any_line mode past line = if is_too_long line then past else after_line mode past line
 
 -- a line is answered, of which this part is held and any front of it was let go
-pub record RepliesToLine (mode : Mode) (is_long : Bool) (part : List ℕ) (old new : Hub) (answer : Answer) : Type 0 where
-  pub told : (past : Past) → IsPastOf past old → (front : List ℕ) → IsFront is_long front →
+pub record RepliesToLine (mode : Mode) (is_long : Bool) (part : List ℕ) (old new : Runner) (answer : Answer) : Type 0 where
+  pub told : (past : Past) → Keeps mode past old → (front : List ℕ) → IsFront is_long front →
       answer ≡ any_line_answer mode past (front ++ part)
-  pub after : (past : Past) → IsPastOf past old → (front : List ℕ) → IsFront is_long front →
-      IsPastOf (after_any_line mode past (front ++ part)) new
-  pub same_settings : settings_of new ≡ settings_of old
-  pub can_be_written : answer_can_be_written (settings_of old) answer ≡ true
+  pub after : (past : Past) → Keeps mode past old → (front : List ℕ) → IsFront is_long front →
+      Keeps mode (after_any_line mode past (front ++ part)) new
+  pub same_settings : settings_of new.world ≡ settings_of old.world
+  pub can_be_written : answer_can_be_written (settings_of old.world) answer ≡ true
 
--- a line that was read is answered so and leaves this, whatever the world has gone through
-pub record RepliesToRead (old new : Hub) (answer : Answer) (answered : Past → Answer) (left : Past → Past) : Type 0 where
-  pub told : (past : Past) → IsPastOf past old → answer ≡ answered past
-  pub after : (past : Past) → IsPastOf past old → IsPastOf (left past) new
-  pub same_settings : settings_of new ≡ settings_of old
-  pub can_be_written : answer_can_be_written (settings_of old) answer ≡ true
+-- a line that was read is answered so and leaves this, whatever the runner has gone through
+pub record RepliesToRead (mode : Mode) (old new : Runner) (answer : Answer) (answered : Past → Answer) (left : Past → Past) : Type 0 where
+  pub told : (past : Past) → Keeps mode past old → answer ≡ answered past
+  pub after : (past : Past) → Keeps mode past old → Keeps mode (left past) new
+  pub same_settings : settings_of new.world ≡ settings_of old.world
+  pub can_be_written : answer_can_be_written (settings_of old.world) answer ≡ true

@@ -2,7 +2,7 @@
 -- runs in which it sees the same, whatever else goes on in them; a transfer has one outcome (EPC004-16, chapter 4: a
 -- confirmation or rejection is final); its money is settled or released at most once; the positions sum to the net funding
 -- and what is untold; and the books fit one another. This hub's own promise.
-use Rattle.std.specs.Prelude.{◌≡◌, ℕ, ◌+◌, ◌≤◌, pos, ◌+ℤ◌, true, false, List, [], ◌++◌, length, reverse, slice_get, take, Option, Some, is_some, Contains}
+use Rattle.std.specs.Prelude.{◌≡◌, ℕ, ◌+◌, ◌≤◌, pos, ◌+ℤ◌, true, false, List, [], ◌++◌, reverse, slice_get, take, Option, Some, is_some, Contains}
 use Rattle.inst_settings.specs.Settings.{HubSettings, is_participant}
 use Rattle.inst_command.specs.declared.outcome.Outcome.{Outcome}
 use Rattle.inst_command.specs.declared.outcome.State.TheVariants.{Decided}
@@ -13,7 +13,7 @@ use Rattle.inst_command.specs.declared.step.Step.{Step}
 use Rattle.inst_journal.specs.declared.event.Event.{Event}
 use Rattle.inst_journal.specs.declared.event.Event.TheVariants.{Booked}
 use Rattle.inst_journal.specs.Booked.{booked}
-use Rattle.inst_journal.specs.Laws.{IsNeverOverdrawn}
+use Rattle.inst_journal.specs.Covered.{IsNeverOverdrawn}
 use Rattle.inst_journal.specs.Money.{reserved, position, available}
 use Rattle.inst_journal.specs.Statement.{statement}
 use Rattle.inst_journal.specs.Sums.{net}

@@ -3,6 +3,10 @@ pub mod Lines
 pub mod Answers
 pub mod HasRun
 pub mod FollowUps
+pub mod Resting
+pub mod Agenda
+pub mod Naming
+pub mod Watching
 pub mod Answering
 pub mod LineBuffer
 pub mod Replies

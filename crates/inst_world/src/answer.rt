@@ -6,15 +6,15 @@ ghost use Rattle.inst_json.specs.Lines.{command_of_line, step_of_line};
 ghost use Rattle.inst_world.specs.LineBuffer.{held};
 ghost use Rattle.inst_world.specs.Lines.{newline};
 ghost use Rattle.inst_world.specs.Answers.{AnswersLine};
-ghost use Rattle.inst_world.specs.Answering.{IsPastOf, Past, is_refusal, answering, RepliesToLine, RepliesToRead};
+ghost use Rattle.inst_world.specs.Answering.{Keeps, Past, is_refusal, answering, RepliesToLine, RepliesToRead};
 ghost use Rattle.inst_world.specs.Answering.{command_answer, after_command, script_answer, after_script, line_answer, after_line};
 
 use crate::follow_ups::follow_up;
 use crate::line_buffer::LineBuffer;
 use crate::mode::Mode;
-use crate::world::World;
+use crate::runner::Runner;
 use inst_base::Fault;
-use inst_command::{Answer, Reply, Step};
+use inst_command::{Answer, Reply};
 use inst_json::LineReader;
 use inst_settings::Settings;
 
@@ -23,30 +23,30 @@ use inst_settings::Settings;
 pub(crate) fn answer(
     reader: &mut LineReader,
     mode: Mode,
-    world: &mut World,
+    runner: &mut Runner,
     input: &LineBuffer,
     len: usize,
     out: &mut Vec<u8>,
 ) -> Result<bool, Fault>
     requires { len ≤ length (held input.now) }
-    ensures ok { IfOk result (λ refused. AnswersLine (answering mode) IsPastOf input.now.is_long (take len (held input.now))
-        world.old world.new out.old.items out.new.items refused) }
+    ensures ok { IfOk result (λ refused. AnswersLine (answering mode) (Keeps mode) input.now.is_long (take len (held input.now))
+        runner.old runner.new out.old.items out.new.items refused) }
     ensures fault { OnErr result (IsErrOf result Fault.Memory) }
 {
-    let answer = answer_to(reader, mode, world, input, len)?;
-    append_answer(world.settings(), &answer, out)
+    let answer = answer_to(reader, mode, runner, input, len)?;
+    append_answer(runner.settings(), &answer, out)
 }
 
 /// The answer to a line as it is held. The only error is `Memory`.
 fn answer_to(
     reader: &mut LineReader,
     mode: Mode,
-    world: &mut World,
+    runner: &mut Runner,
     input: &LineBuffer,
     len: usize,
 ) -> Result<Answer, Fault>
     requires { len ≤ length (held input.now) }
-    ensures ok { IfOk result (λ answer. RepliesToLine mode input.now.is_long (take len (held input.now)) world.old world.new answer) }
+    ensures ok { IfOk result (λ answer. RepliesToLine mode input.now.is_long (take len (held input.now)) runner.old runner.new answer) }
     ensures only { IsOkUnless result Fault.Memory }
 {
     if input.is_too_long(len) {
@@ -54,8 +54,8 @@ fn answer_to(
     }
     let line = &input.as_slice()[..len];
     match mode {
-        Mode::Run => answer_command(reader, world, line),
-        Mode::Play => answer_step(reader, world, line),
+        Mode::Run => answer_command(reader, runner, line),
+        Mode::Play => answer_step(reader, runner, line),
     }
 }
 
@@ -78,17 +78,21 @@ fn append_answer(settings: &Settings, answer: &Answer, out: &mut Vec<u8>) -> Res
 }
 
 /// The answer to a command, after which all transfers are followed up. The only error is `Memory`.
-fn answer_command(reader: &mut LineReader, world: &mut World, line: &[u8]) -> Result<Answer, Fault>
-    ensures ok { IfOk result (λ answer. RepliesToRead world.old world.new answer
-        (λ past. command_answer past (command_of_line world.old.board.settings line.now))
-        (λ past. after_command past (command_of_line world.old.board.settings line.now))) }
+fn answer_command(
+    reader: &mut LineReader,
+    runner: &mut Runner,
+    line: &[u8],
+) -> Result<Answer, Fault>
+    ensures ok { IfOk result (λ answer. RepliesToRead Mode.Run runner.old runner.new answer
+        (λ past. command_answer past (command_of_line runner.old.world.board.settings line.now))
+        (λ past. after_command past (command_of_line runner.old.world.board.settings line.now))) }
     ensures only { IsOkUnless result Fault.Memory }
 {
-    match reader.read_command(world.settings(), line) {
+    match reader.read_command(runner.settings(), line) {
         Ok(ask) => {
             let at = ask.at;
-            let answer = world.step(&Step::Ask(ask))?;
-            follow_up(world, at)?;
+            let answer = runner.ask(ask)?;
+            follow_up(runner, at)?;
             Ok(answer)
         }
         Err(fault) => refused(fault),
@@ -96,14 +100,14 @@ fn answer_command(reader: &mut LineReader, world: &mut World, line: &[u8]) -> Re
 }
 
 /// The answer to a step. The only error is `Memory`.
-fn answer_step(reader: &mut LineReader, world: &mut World, line: &[u8]) -> Result<Answer, Fault>
-    ensures ok { IfOk result (λ answer. RepliesToRead world.old world.new answer
-        (λ past. script_answer past (step_of_line world.old.board.settings line.now))
-        (λ past. after_script past (step_of_line world.old.board.settings line.now))) }
+fn answer_step(reader: &mut LineReader, runner: &mut Runner, line: &[u8]) -> Result<Answer, Fault>
+    ensures ok { IfOk result (λ answer. RepliesToRead Mode.Play runner.old runner.new answer
+        (λ past. script_answer past (step_of_line runner.old.world.board.settings line.now))
+        (λ past. after_script past (step_of_line runner.old.world.board.settings line.now))) }
     ensures only { IsOkUnless result Fault.Memory }
 {
-    match reader.read_step(world.settings(), line) {
-        Ok(step) => world.step(&step),
+    match reader.read_step(runner.settings(), line) {
+        Ok(step) => runner.world.step(&step),
         Err(fault) => refused(fault),
     }
 }

@@ -1,45 +1,47 @@
-//! What a run does after each line that it reads: it goes over all transfers taken so far.
+//! What a run does after each line that it reads: it goes over the transfers of which there is something to do.
 ghost use Rattle.std.specs.Prelude.{◌≡◌, true, List, ◌++◌, reverse, OnOk, IsOkUnless};
 ghost use Rattle.inst_settings.specs.Settings.{is_participant};
 ghost use Rattle.inst_command.specs.declared.step.Step.{Step};
 ghost use Rattle.inst_model.specs.Opening.{Opening};
-ghost use Rattle.inst_model.specs.Transfer.{live_transfers};
-ghost use Rattle.inst_model.specs.Hub.{history};
 ghost use Rattle.inst_world.specs.HasRun.{HasRun};
-ghost use Rattle.inst_world.specs.FollowUps.{of_transfer, of_transfers, followed_up};
+ghost use Rattle.inst_world.specs.FollowUps.{of_transfer, followed_up};
+ghost use Rattle.inst_world.specs.Watching.{Watches, GoesOver};
 
+use crate::runner::Runner;
 use crate::world::World;
 use inst_base::{Fault, Moment};
 use inst_board::Place;
 use inst_command::Step;
 
-/// Goes over all transfers taken so far, at the reading `at`. `Memory` leaves some of them undone.
-pub(crate) fn follow_up(world: &mut World, at: Moment) -> Result<(), Fault>
-    ensures ok { OnOk result ((O : Opening) (L : List Step) → HasRun O L world.old →
-        HasRun O (followed_up world.old.board.settings O L at) world.new) }
+/// Goes over all transfers taken so far, at the reading `at`, but for those that this adds nothing to.
+/// `Memory` leaves some of them undone.
+pub(crate) fn follow_up(runner: &mut Runner, at: Moment) -> Result<(), Fault>
+    ensures ok { OnOk result ((O : Opening) (L : List Step) → Watches O L runner.old.world runner.old.agenda →
+        Watches O (followed_up runner.old.world.board.settings O L at) runner.new.world runner.new.agenda) }
     ensures only { IsOkUnless result Fault.Memory }
-    ensures settings { world.new.board.settings ≡ world.old.board.settings }
+    ensures settings { runner.new.world.board.settings ≡ runner.old.world.board.settings }
 {
-    for owner in 0..world.settings().participants() {
-        follow_up_originator(world, owner as u8, at)?;
+    runner.agenda.move_due(at)?;
+    while let Some(place) = runner.agenda.take_next() {
+        go_over(runner, place, at)?;
     }
     Ok(())
 }
 
-/// Goes over the transfers of one originator, in order of their places.
-fn follow_up_originator(world: &mut World, owner: u8, at: Moment) -> Result<(), Fault>
-    requires { is_participant world.old.board.settings owner ≡ true }
-    ensures ok { OnOk result ((O : Opening) (L : List Step) → HasRun O L world.old →
-        HasRun O (reverse (of_transfers at owner 0 (live_transfers owner (history world.old.board.settings O L owner))) ++ L) world.new) }
+/// Goes over the transfer at the place, if there is one. Where it stays pending it waits for its deadline.
+fn go_over(runner: &mut Runner, place: Place, at: Moment) -> Result<(), Fault>
+    ensures next { OnOk result (runner.new.agenda.next ≡ runner.old.agenda.next) }
+    ensures ok { OnOk result ((O : Opening) (L : List Step) → HasRun O L runner.old.world →
+        GoesOver O L at place runner.old.world runner.new.world runner.old.agenda runner.new.agenda) }
     ensures only { IsOkUnless result Fault.Memory }
-    ensures settings { world.new.board.settings ≡ world.old.board.settings }
+    ensures settings { runner.new.world.board.settings ≡ runner.old.world.board.settings }
 {
-    for index in 0..world.settings().places() {
-        let place = Place { owner, index };
-        let Some(to) = world.beneficiary_at(place) else {
-            return Ok(());
-        };
-        follow_up_transfer(world, place, to, at)?;
+    let Some(to) = runner.world.beneficiary_at(place) else {
+        return Ok(());
+    };
+    follow_up_transfer(&mut runner.world, place, to, at)?;
+    if let Some(deadline) = runner.world.pending_until(place) {
+        runner.agenda.wait(deadline, place)?;
     }
     Ok(())
 }

@@ -1,6 +1,7 @@
 //! A hub in one thread with all its slots, and whole runs: each line of the input is answered by one line.
 #![tactic(auto)]
 
+mod agenda;
 mod answer;
 mod follow_ups;
 pub mod laws;
@@ -13,6 +14,7 @@ mod replies;
 #[cfg(test)]
 mod rows;
 mod run;
+mod runner;
 #[cfg(test)]
 mod script_rows;
 #[cfg(test)]

@@ -3,12 +3,12 @@ ghost use Rattle.std.specs.Prelude.{◌≡◌, OnOk, IfOk, IfErr, IfSome, length
 ghost use Rattle.std.specs.Io.KnownBytes.{Appends, IsAtEnd};
 ghost use Rattle.inst_world.specs.Lines.{lines_of, IsWithinLimits};
 ghost use Rattle.inst_world.specs.Answers.{output, refusals, state_after};
-ghost use Rattle.inst_world.specs.Answering.{Past, IsPastOf, opened, answering, running, playing};
+ghost use Rattle.inst_world.specs.Answering.{Past, Keeps, opened, answering, running, playing};
 ghost use Rattle.inst_world.specs.Session.{FailsAfter};
 
 use crate::mode::Mode;
+use crate::runner::Runner;
 use crate::session::{Counts, Session};
-use crate::world::World;
 use inst_base::Fault;
 use inst_settings::Settings;
 use std::alloc::Global;
@@ -53,8 +53,8 @@ pub fn run_lines<R: Read, W: Write>(
         (W.contents writer.old) (W.contents writer.new)
         (R.remaining reader.old) (R.remaining reader.new)) }
 {
-    let mut world = World::open(alloc, settings)?;
-    answer_lines(alloc, Mode::Run, &mut world, reader, writer)
+    let mut runner = Runner::open(alloc, settings)?;
+    answer_lines(alloc, Mode::Run, &mut runner, reader, writer)
 }
 
 /// Answers each line that the reader gives by one line to the writer, as `run_lines` does. Here a line is
@@ -85,34 +85,34 @@ pub fn play_lines<R: Read, W: Write>(
         (W.contents writer.old) (W.contents writer.new)
         (R.remaining reader.old) (R.remaining reader.new)) }
 {
-    let mut world = World::open(alloc, settings)?;
-    answer_lines(alloc, Mode::Play, &mut world, reader, writer)
+    let mut runner = Runner::open(alloc, settings)?;
+    answer_lines(alloc, Mode::Play, &mut runner, reader, writer)
 }
 
-/// Answers lines at a world that is there, whatever it has gone through.
+/// Answers lines at a hub that is there, whatever it has gone through.
 pub(crate) fn answer_lines<R: Read, W: Write>(
     alloc: Global,
     mode: Mode,
-    world: &mut World,
+    runner: &mut Runner,
     reader: &mut R,
     writer: &mut W,
 ) -> Result<Counts, Fault>
     ensures end { OnOk result (IsAtEnd (R.remaining reader.new)) }
-    ensures output { (past : Past) → IsPastOf past world.old → OnOk result (IfSome (R.remaining reader.old) (λ bytes.
+    ensures output { (past : Past) → Keeps mode past runner.old → OnOk result (IfSome (R.remaining reader.old) (λ bytes.
         Appends (W.contents writer.old) (W.contents writer.new)
         (output (answering mode) past (lines_of bytes)))) }
-    ensures world { (past : Past) → IsPastOf past world.old → OnOk result (IfSome (R.remaining reader.old) (λ bytes.
-        IsPastOf (state_after (answering mode) past (lines_of bytes)) world.new)) }
-    ensures lines { (past : Past) → IsPastOf past world.old → IfOk result (λ counts. IfSome (R.remaining reader.old) (λ bytes.
+    ensures runner { (past : Past) → Keeps mode past runner.old → OnOk result (IfSome (R.remaining reader.old) (λ bytes.
+        Keeps mode (state_after (answering mode) past (lines_of bytes)) runner.new)) }
+    ensures lines { (past : Past) → Keeps mode past runner.old → IfOk result (λ counts. IfSome (R.remaining reader.old) (λ bytes.
         counts.lines ≡ length (lines_of bytes))) }
-    ensures refused { (past : Past) → IsPastOf past world.old → IfOk result (λ counts. IfSome (R.remaining reader.old) (λ bytes.
+    ensures refused { (past : Past) → Keeps mode past runner.old → IfOk result (λ counts. IfSome (R.remaining reader.old) (λ bytes.
         counts.refused ≡ refusals (answering mode) past (lines_of bytes))) }
-    ensures limits { (past : Past) → IsPastOf past world.old → OnOk result (IfSome (R.remaining reader.old) IsWithinLimits) }
-    ensures err { (past : Past) → IsPastOf past world.old → IfErr result (FailsAfter (answering mode) past
+    ensures limits { (past : Past) → Keeps mode past runner.old → OnOk result (IfSome (R.remaining reader.old) IsWithinLimits) }
+    ensures err { (past : Past) → Keeps mode past runner.old → IfErr result (FailsAfter (answering mode) past
         (W.contents writer.old) (W.contents writer.new)
         (R.remaining reader.old) (R.remaining reader.new)) }
 {
     let mut session = Session::new(alloc)?;
-    while session.turn(mode, world, reader, writer)? {}
+    while session.turn(mode, runner, reader, writer)? {}
     Ok(session.counts)
 }

@@ -7,7 +7,7 @@ use crate::limits::MOST_LINES;
 use crate::line_buffer::{LineBuffer, find_newline};
 use crate::mode::Mode;
 use crate::replies::ReplyBuffer;
-use crate::world::World;
+use crate::runner::Runner;
 use inst_base::Fault;
 use inst_json::LineReader;
 use std::alloc::Global;
@@ -36,7 +36,7 @@ pub struct Session {
 impl Session {
     ghost use Rattle.inst_world.specs.Lines.{NoNewline};
     ghost use Rattle.inst_world.specs.Limits.{most_lines};
-    ghost use Rattle.inst_world.specs.Answering.{answering, IsPastOf};
+    ghost use Rattle.inst_world.specs.Answering.{answering, Keeps};
     ghost use Rattle.inst_world.specs.LineBuffer.{held};
     ghost use Rattle.inst_world.specs.Session.{IsAnswered, IsReady, TakesLine, AnswersLast, IsNoReadFault, stage};
     ghost use Rattle.inst_world.specs.Session.{MovesOn, HasStopped, HasFinished, HasTurned, HasEnded, HasFailed};
@@ -65,16 +65,16 @@ impl Session {
 
     /// Answers the rest of a line, of which this many bytes are held, and lets go of it and of its
     /// newline. `Memory` comes where there is no room for the reply.
-    fn answer_line(&mut self, mode: Mode, world: &mut World, len: usize) -> Result<(), Fault>
+    fn answer_line(&mut self, mode: Mode, runner: &mut Runner, len: usize) -> Result<(), Fault>
         requires within { len ≤ length (held self.old.input) }
         requires room { self.old.counts.lines < most_lines }
-        ensures ok { OnOk result (TakesLine (answering mode) IsPastOf len self.old self.new world.old world.new) }
+        ensures ok { OnOk result (TakesLine (answering mode) (Keeps mode) len self.old self.new runner.old runner.new) }
         ensures fault { OnErr result (IsErrOf result Fault.Memory) }
     {
         let is_refused = answer(
             &mut self.reader,
             mode,
-            world,
+            runner,
             &self.input,
             len,
             &mut self.replies.bytes,
@@ -90,14 +90,14 @@ impl Session {
     fn answer_held<W: Write>(
         &mut self,
         mode: Mode,
-        world: &mut World,
+        runner: &mut Runner,
         writer: &mut W,
     ) -> Result<(), Fault>
-        ensures ok { OnOk result (MovesOn (answering mode) IsPastOf (stage self.old world.old (W.contents writer.old))
-            (stage self.new world.new (W.contents writer.new))) }
+        ensures ok { OnOk result (MovesOn (answering mode) (Keeps mode) (stage self.old runner.old (W.contents writer.old))
+            (stage self.new runner.new (W.contents writer.new))) }
         ensures done { OnOk result (NoNewline (held self.new.input) ⊎ (self.new.counts.lines ≡ most_lines)) }
         ensures taken { OnOk result (self.new.input.taken ≡ self.old.input.taken) }
-        ensures err { OnErr result (HasStopped (answering mode) IsPastOf (stage self.old world.old (W.contents writer.old))
+        ensures err { OnErr result (HasStopped (answering mode) (Keeps mode) (stage self.old runner.old (W.contents writer.old))
             (W.contents writer.new)) }
         ensures fault { IfErr result IsNoReadFault }
     {
@@ -105,23 +105,23 @@ impl Session {
             let Some(len) = find_newline(self.input.as_slice()) else {
                 return Ok(());
             };
-            self.answer_line(mode, world, len)?;
+            self.answer_line(mode, runner, len)?;
             self.replies.write_if_full(writer)?;
         }
         Ok(())
     }
 
     /// Answers a last line with no newline, if there is one. `Memory` comes as from `answer_line`.
-    fn answer_last(&mut self, mode: Mode, world: &mut World) -> Result<(), Fault>
+    fn answer_last(&mut self, mode: Mode, runner: &mut Runner) -> Result<(), Fault>
         requires { IsAnswered self.old }
-        ensures ok { OnOk result (AnswersLast (answering mode) IsPastOf self.old self.new world.old world.new) }
+        ensures ok { OnOk result (AnswersLast (answering mode) (Keeps mode) self.old self.new runner.old runner.new) }
         ensures fault { OnErr result (IsErrOf result Fault.Memory) }
     {
         if !self.input.is_in_line() {
             return Ok(());
         }
         let len = self.input.len();
-        self.answer_line(mode, world, len)
+        self.answer_line(mode, runner, len)
     }
 
     /// Answers a last line with no newline, and delivers what is left. `Memory` and `WriteFault`
@@ -129,17 +129,17 @@ impl Session {
     fn finish<W: Write>(
         &mut self,
         mode: Mode,
-        world: &mut World,
+        runner: &mut Runner,
         writer: &mut W,
     ) -> Result<(), Fault>
         requires { IsAnswered self.old }
-        ensures ok { OnOk result (HasFinished (answering mode) IsPastOf (stage self.old world.old (W.contents writer.old))
-            (stage self.new world.new (W.contents writer.new))) }
-        ensures err { OnErr result (HasStopped (answering mode) IsPastOf (stage self.old world.old (W.contents writer.old))
+        ensures ok { OnOk result (HasFinished (answering mode) (Keeps mode) (stage self.old runner.old (W.contents writer.old))
+            (stage self.new runner.new (W.contents writer.new))) }
+        ensures err { OnErr result (HasStopped (answering mode) (Keeps mode) (stage self.old runner.old (W.contents writer.old))
             (W.contents writer.new)) }
         ensures fault { IfErr result IsNoReadFault }
     {
-        self.answer_last(mode, world)?;
+        self.answer_last(mode, runner)?;
         self.replies.deliver(writer)
     }
 
@@ -148,25 +148,25 @@ impl Session {
     pub fn turn<R: Read, W: Write>(
         &mut self,
         mode: Mode,
-        world: &mut World,
+        runner: &mut Runner,
         reader: &mut R,
         writer: &mut W,
     ) -> Result<bool, Fault>
         requires { IsReady self.old }
-        ensures ok { let before = stage self.old world.old (W.contents writer.old) in
-            let after = stage self.new world.new (W.contents writer.new) in
+        ensures ok { let before = stage self.old runner.old (W.contents writer.old) in
+            let after = stage self.new runner.new (W.contents writer.new) in
             IfOk result (λ more. MatchBool more
-            (HasTurned (answering mode) IsPastOf before after (R.remaining reader.old) (R.remaining reader.new))
-            (HasEnded (answering mode) IsPastOf before after (R.remaining reader.old) (R.remaining reader.new))) }
-        ensures err { let before = stage self.old world.old (W.contents writer.old) in
-            IfErr result (HasFailed (answering mode) IsPastOf before (W.contents writer.new)
+            (HasTurned (answering mode) (Keeps mode) before after (R.remaining reader.old) (R.remaining reader.new))
+            (HasEnded (answering mode) (Keeps mode) before after (R.remaining reader.old) (R.remaining reader.new))) }
+        ensures err { let before = stage self.old runner.old (W.contents writer.old) in
+            IfErr result (HasFailed (answering mode) (Keeps mode) before (W.contents writer.new)
             (R.remaining reader.old) (R.remaining reader.new)) }
     {
         if self.input.fill(reader)? == 0 {
-            self.finish(mode, world, writer)?;
+            self.finish(mode, runner, writer)?;
             return Ok(false);
         }
-        self.answer_held(mode, world, writer)?;
+        self.answer_held(mode, runner, writer)?;
         self.replies.deliver(writer)?;
         if self.counts.lines == MOST_LINES && self.input.is_in_line() {
             return Err(Fault::ReadFault);

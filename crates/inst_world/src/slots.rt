@@ -1,6 +1,7 @@
 //! The slots of a hub, in a list by their participants' numbers, over one board.
 ghost use Rattle.std.specs.Prelude.{◌≡◌, true, ◌∷◌, length, IfOk, OnErr, IsOkUnless};
-ghost use Rattle.inst_settings.specs.Settings.{IsSettings, participants, is_participant};
+ghost use Rattle.inst_settings.specs.Settings.{participants, is_participant};
+ghost use Rattle.inst_settings.specs.Lawful.{IsSettings};
 ghost use Rattle.inst_command.specs.Ask.{ask_fits};
 ghost use Rattle.inst_command.specs.Step.{step_fits};
 ghost use Rattle.inst_command.specs.declared.step.Step.{Step};

@@ -1,14 +1,16 @@
-ghost use Rattle.std.specs.Prelude.{◌≡◌, true, List, [], ◌∷◌, reverse, option_map, IfOk, OnErr, IsOkUnless, IfSome};
-ghost use Rattle.inst_settings.specs.Settings.{IsSettings, is_participant};
+ghost use Rattle.std.specs.Prelude.{◌≡◌, ℕ, true, List, [], ◌∷◌, reverse, option_map, Some, None, IfOk, OnErr, IsOkUnless, IfSome};
+ghost use Rattle.inst_settings.specs.Settings.{is_participant};
+ghost use Rattle.inst_settings.specs.Lawful.{IsSettings};
 ghost use Rattle.inst_command.specs.Step.{step_fits};
 ghost use Rattle.inst_journal.specs.Sound.{IsSound};
 ghost use Rattle.inst_json.specs.Replies.{answer_can_be_written};
 ghost use Rattle.inst_model.specs.Opening.{Opening};
 ghost use Rattle.inst_model.specs.Interleaving.{IsInterleaving};
 ghost use Rattle.inst_model.specs.Trace.{trace};
-ghost use Rattle.inst_model.specs.Transfer.{at_place};
+ghost use Rattle.inst_model.specs.Transfer.{Transfer, at_place, deadline};
 ghost use Rattle.inst_command.specs.declared.step.Step.{Step};
-ghost use Rattle.inst_model.specs.Hub.{history};
+ghost use Rattle.inst_model.specs.Hub.{history, outcome};
+ghost use Rattle.inst_slot.specs.Book.{place_at};
 ghost use Rattle.inst_world.specs.HasRun.{HasRun, Runs, IsAsBefore, journal_of};
 ghost use Rattle.inst_world.specs.Headline.{run_of, IsRun, IsIsolated, HasOneOutcome, SettlesOnce, AddsUp, BooksOfFit, IsLocal};
 
@@ -16,7 +18,7 @@ mod next_opening;
 
 use crate::slots;
 use crate::trace::Trace;
-use inst_base::Fault;
+use inst_base::{Fault, Ident, Moment};
 use inst_board::{Board, Look, Place, PlainBoard};
 use inst_command::{Answer, Items, Step};
 use inst_journal::Journal;
@@ -41,7 +43,7 @@ pub struct World {
 
 impl Model for World {
     ghost use Rattle.std.specs.Prelude.{◌≡◌};
-    ghost use Rattle.inst_settings.specs.Settings.{IsSettings};
+    ghost use Rattle.inst_settings.specs.Lawful.{IsSettings};
     ghost use Rattle.inst_world.specs.HasRun.{Hub, IsHub, HasRunSomething};
 
     ghost Value = { Hub };
@@ -107,12 +109,36 @@ impl World {
         ensures beneficiary { (O : Opening) (L : List Step) → HasRun O L self.old →
             result ≡ option_map (λ x. x.to) (at_place place.owner (history self.old.board.settings O L place.owner) place.index) }
         ensures participant { IfSome result (λ to. is_participant self.old.board.settings to ≡ true) }
+        ensures owner { IfSome result (λ to. is_participant self.old.board.settings place.owner ≡ true) }
         ensures same { self.new ≡ self.old }
     {
         match self.board.look(place) {
             Look::Unused => None,
             Look::Pending(terms, _) | Look::Decided(terms, _) => Some(terms.to),
         }
+    }
+
+    /// The deadline of the transfer at the place, if one is pending there.
+    pub(crate) fn pending_until(&mut self, place: Place) -> Option<Moment>
+        ensures deadline { (O : Opening) (L : List Step) → HasRun O L self.old → (x : Transfer) →
+            at_place place.owner (history self.old.board.settings O L place.owner) place.index ≡ Some x →
+            outcome self.old.board.settings O L place.owner x.id ≡ None → result ≡ Some (deadline self.old.board.settings x) }
+        ensures same { self.new ≡ self.old }
+    {
+        match self.board.look(place) {
+            Look::Pending(_, deadline) => Some(deadline),
+            Look::Unused | Look::Decided(..) => None,
+        }
+    }
+
+    /// The place of the originator's live transfer with this identifier.
+    pub(crate) fn place_of(&self, from: u8, id: &Ident) -> Option<Place>
+        requires participant { is_participant self.now.board.settings from ≡ true }
+        ensures place { (O : Opening) (L : List Step) → HasRun O L self.now → (index : ℕ) (x : Transfer) →
+            at_place from (history self.now.board.settings O L from) index ≡ Some x → x.id ≡ id.now → result ≡ Some (place_at from index) }
+        ensures owner { IfSome result (λ place. place.owner ≡ from) }
+    {
+        self.slots[usize::from(from)].place_of(from, id)
     }
 
     /// Runs the steps in order, at a hub that opens for the first time. `Memory` ends the run.

@@ -1,6 +1,7 @@
 //! A hub that opens again from the journals of its participants.
 ghost use Rattle.std.specs.Prelude.{◌≡◌, ◌+◌, List, [], reverse, IfOk, IsOkUnless};
-ghost use Rattle.inst_settings.specs.Settings.{IsSettings, participants};
+ghost use Rattle.inst_settings.specs.Settings.{participants};
+ghost use Rattle.inst_settings.specs.Lawful.{IsSettings};
 ghost use Rattle.inst_board.specs.declared.place.Place.{Place};
 ghost use Rattle.inst_board.specs.declared.plain.Kept.TheVariants.{Unused as KeptUnused};
 ghost use Rattle.inst_board.specs.Plain.{kept_at};

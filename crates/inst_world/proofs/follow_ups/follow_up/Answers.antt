@@ -1,29 +1,30 @@
-use Rattle.std.proofs.Common.{◌≡◌, ◌∙◌, sym, ap, subst, ℕ, List, arith, ◌++◌, reverse}
-use Rattle.inst_settings.specs.Settings.{HubSettings, participants}
-use Rattle.inst_command.specs.declared.step.Step.{Step}
-use Rattle.inst_model.specs.Transfer.{live_transfers}
-use Rattle.inst_model.specs.Hub.{history}
-use Rattle.inst_world.specs.FollowUps.{of_transfers}
-use Rattle.inst_world.specs.HasRun.{HasRun}
-use Rattle.inst_world.proofs.Following.{gone_over_originators, originator_more}
+use Rattle.std.proofs.Common.{refl, sym, ◌∙◌, subst}
+use Rattle.inst_world.specs.Agenda.{Agenda}
+use Rattle.inst_world.specs.FollowUps.{followed_up}
+use Rattle.inst_world.specs.Watching.{Watches}
+use Rattle.inst_world.proofs.Skipping.{going_at_first, goes_on, skips_to_the_end}
 use Rattle.inst_world.proofs.follow_ups.follow_up.Goals as goal
 
-pub loop-owner-preserved : goal.loop-owner-preserved
-loop-owner-preserved c =
-    let s : HubSettings = c.args.world.now.board.settings in
-    let p = c.loop-owner.owner in
+pub loop-place-init : goal.loop-place-init
+loop-place-init c =
+    let world = c.args.runner.now.world in
     record {
-      settings = c.follow_up_originator.ensures.settings ∙ c.loop-owner.invariant.settings;
-      ran = λ O L was.
-          let M : List Step = gone_over_originators s O L c.args.at p in
-          subst (λ (N : List Step). HasRun O N c.follow_up_originator.new.world)
-          (ap (λ (t : HubSettings). reverse (of_transfers c.args.at p 0 (live_transfers p (history t O M p))) ++ M) c.loop-owner.invariant.settings ∙ sym (originator_more s O L c.args.at p))
-          (c.in_ok-follow_up_originator.ensures.ok O M (c.loop-owner.invariant.ran O L was));
+      settings = refl;
+      going = λ O L w. going_at_first world.board.settings O L c.args.at world c.args.runner.now.agenda c.move_due.new.self refl c.in_ok-move_due.ensures.ok.0 c.in_ok-move_due.ensures.ok.1 w;
+    }
+
+pub loop-place-preserved : goal.loop-place-preserved
+loop-place-preserved c =
+    let s = c.args.runner.now.world.board.settings in
+    record {
+      settings = c.go_over.ensures.settings ∙ c.loop-place.invariant.settings;
+      going = λ O L w.
+          goes_on s O L c.args.at c.loop-place.runner.world c.go_over.new.runner.world c.loop-place.runner.agenda c.take_next.new.self c.go_over.new.runner.agenda c.in-Some.place
+          c.in-Some.ensures c.go_over.ensures.settings c.in_ok-go_over.ensures.next (λ M ran. c.in_ok-go_over.ensures.ok O M ran) (c.loop-place.invariant.going O L w);
     }
 
 pub returns-clause-ok : goal.returns-clause-ok
-returns-clause-ok c = λ O L was.
-    let s : HubSettings = c.args.world.now.board.settings in
-    let count = c.participants-owner-end.ensures.value ∙ ap participants c.settings.ensures in
-    let all : c.loop-owner.owner ≡ participants s = omega (arith, count, c.loop-owner-test.false, c.loop-owner.auto.owner-end) in
-    subst (λ (n : ℕ). HasRun O (gone_over_originators s O L c.args.at n) c.loop-owner.world) all (c.loop-owner.invariant.ran O L was)
+returns-clause-ok c = λ O L w.
+    let s = c.args.runner.now.world.board.settings in
+    subst (λ (a : Agenda). Watches O (followed_up s O L c.args.at) c.loop-place.runner.world a) (sym c.in_default.ensures.0)
+    (skips_to_the_end s O L c.args.at c.loop-place.runner.world c.loop-place.runner.agenda c.in_default.ensures.1 (c.loop-place.invariant.going O L w))

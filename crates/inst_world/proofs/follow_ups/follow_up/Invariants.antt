@@ -1,12 +1,15 @@
-use Rattle.std.proofs.Common.{◌≡◌, List}
+use Rattle.std.proofs.Common.{◌≡◌, List, length}
 use Rattle.inst_command.specs.declared.step.Step.{Step}
 use Rattle.inst_model.specs.Opening.{Opening}
-use Rattle.inst_world.specs.HasRun.{HasRun}
-use Rattle.inst_world.proofs.Following.{gone_over_originators}
+use Rattle.inst_world.specs.Watching.{Watches}
+use Rattle.inst_world.proofs.Skipping.{IsGoing}
 use Rattle.inst_world.proofs.follow_ups.follow_up.Given as goal
 
-abbrev pub invariant-loop-owner : goal.invariant-loop-owner
-invariant-loop-owner l = record {
-  settings : l.world.board.settings ≡ l.initial.world.board.settings;
-  ran : (O : Opening) (L : List Step) → HasRun O L l.initial.world → HasRun O (gone_over_originators l.initial.world.board.settings O L l.at l.owner) l.world;
+abbrev pub invariant-loop-place : goal.invariant-loop-place
+invariant-loop-place l = record {
+  settings : l.runner.world.board.settings ≡ l.fn.runner.world.board.settings;
+  going : (O : Opening) (L : List Step) → Watches O L l.fn.runner.world l.fn.runner.agenda → IsGoing l.fn.runner.world.board.settings O L l.at l.runner.world l.runner.agenda;
 }
+
+abbrev pub decreases-loop-place : goal.decreases-loop-place
+decreases-loop-place l = length l.runner.agenda.next

@@ -1,5 +1,6 @@
 use Rattle.std.proofs.Common.{◌≡◌, ap, ◌∙◌, sym, subst}
-use Rattle.inst_settings.specs.Settings.{HubSettings, IsSettings, is_participant}
+use Rattle.inst_settings.specs.Settings.{HubSettings, is_participant}
+use Rattle.inst_settings.specs.Lawful.{IsSettings}
 use Rattle.inst_journal.specs.Sound.{IsSound}
 use Rattle.inst_model.specs.Hub.{history}
 use Rattle.inst_world.specs.HasRun.{Hub, HasRun, events_of, journal_of}

@@ -1,5 +1,6 @@
 use Rattle.std.proofs.Common.{sym, ap, ◌∙◌, [], subst}
-use Rattle.inst_settings.specs.Settings.{HubSettings, IsSettings, participants}
+use Rattle.inst_settings.specs.Settings.{HubSettings, participants}
+use Rattle.inst_settings.specs.Lawful.{IsSettings}
 use Rattle.inst_model.specs.Opening.Opening.{First}
 use Rattle.inst_world.specs.HasRun.{new_books}
 use Rattle.inst_world.proofs.Opening.{new_hub, new_has_run}

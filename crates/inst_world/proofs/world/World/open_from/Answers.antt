@@ -1,5 +1,6 @@
 use Rattle.std.proofs.Common.{◌≡◌, sym, ◌∙◌, [], subst}
-use Rattle.inst_settings.specs.Settings.{HubSettings, IsSettings}
+use Rattle.inst_settings.specs.Settings.{HubSettings}
+use Rattle.inst_settings.specs.Lawful.{IsSettings}
 use Rattle.inst_model.specs.Opening.{BooksCanOpen}
 use Rattle.inst_world.specs.HasRun.{Hub}
 use Rattle.inst_world.specs.NextOpening.{books_of, opening_from}

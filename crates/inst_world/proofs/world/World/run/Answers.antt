@@ -1,4 +1,4 @@
-use Rattle.std.proofs.Common.{◌≡◌, ◌∙◌, ap, subst, reverse}
+use Rattle.std.proofs.Common.{◌∙◌, ap, subst, reverse}
 use Rattle.inst_settings.specs.Settings.{HubSettings}
 use Rattle.inst_model.specs.Opening.Opening.{First}
 use Rattle.inst_model.specs.Trace.{trace}

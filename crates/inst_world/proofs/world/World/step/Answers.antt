@@ -1,5 +1,5 @@
 use Rattle.std.proofs.Common.{◌≡◌, ◌∙◌, sym, ap, subst, true, List, IfOk, OnErr}
-use Rattle.inst_settings.specs.Settings.{IsSettings}
+use Rattle.inst_settings.specs.Lawful.{IsSettings}
 use Rattle.inst_command.specs.Step.{step_fits}
 use Rattle.inst_json.specs.Replies.{answer_can_be_written}
 use Rattle.inst_model.specs.Opening.{Opening}
