@@ -1,6 +1,7 @@
 // Worlds, step by step and line by line, over three participants with 2 places and 4 fundings each.
 use crate::mode::Mode;
 use crate::run::answer_lines;
+use crate::runner::Runner;
 use crate::scripts::{confirm, fund, settings, submit};
 use crate::world::World;
 use inst_base::{Cents, Fault, Ident, Moment, Reason};
@@ -101,22 +102,28 @@ fn a_world_goes_step_by_step(rt: HostRuntime) -> Result<(), Fail> {
     money_is(&rt, &world, [(300, 0), (200, 0), (0, 0)])
 }
 
-/// Answers these lines at a world of its own.
-fn world_after(rt: &(impl Abort + AllocGlobal), lines: &str) -> Result<World, Fail> {
+/// Answers these lines at a hub of its own.
+fn run_after(rt: &(impl Abort + AllocGlobal), lines: &str) -> Result<Runner, Fail> {
     let settings = settings(rt.alloc())?;
-    let mut world = World::open(rt.alloc(), &settings)?;
+    let mut runner = Runner::open(rt.alloc(), &settings)?;
     let mut reader = lines.as_bytes();
     let mut written = Vec::new(rt.alloc());
-    let counts = answer_lines(rt.alloc(), Mode::Run, &mut world, &mut reader, &mut written)?;
+    let counts = answer_lines(
+        rt.alloc(),
+        Mode::Run,
+        &mut runner,
+        &mut reader,
+        &mut written,
+    )?;
     assert_eq!(rt; counts.refused, 0);
-    Ok(world)
+    Ok(runner)
 }
 
 /// The histories show what the replies of a run don't: that each side books each outcome, the originator
 /// before its transfer may expire.
 #[test]
 fn a_run_tells_both_sides(rt: HostRuntime) -> Result<(), Fail> {
-    let world = world_after(
+    let runner = run_after(
         &rt,
         r#"{"at":0,"cents":50000,"cmd":"fund","ref":"F1","who":"AAAADEFF"}
 {"at":1000,"cents":20000,"cmd":"submit","id":"T1","stamp":1000,"to":"BBBBFRPP","who":"AAAADEFF"}
@@ -130,18 +137,18 @@ fn a_run_tells_both_sides(rt: HostRuntime) -> Result<(), Fail> {
         forwarded(0, "T1", 20_000, 11_000)?,
         booked(0, "T1", rejected)?,
     ];
-    journal_is(&rt, &world, 1, &at_second)?;
+    journal_is(&rt, &runner.world, 1, &at_second)?;
     let at_third = [
         forwarded(0, "T2", 5000, 11_000)?,
         booked(0, "T2", Outcome::TimedOut)?,
     ];
-    journal_is(&rt, &world, 2, &at_third)?;
-    money_is(&rt, &world, [(50_000, 0), (0, 0), (0, 0)])
+    journal_is(&rt, &runner.world, 2, &at_third)?;
+    money_is(&rt, &runner.world, [(50_000, 0), (0, 0), (0, 0)])
 }
 
 #[test]
 fn a_run_moves_money(rt: HostRuntime) -> Result<(), Fail> {
-    let world = world_after(
+    let runner = run_after(
         &rt,
         r#"{"at":0,"cents":50000,"cmd":"fund","ref":"F1","who":"AAAADEFF"}
 {"at":0,"cents":700,"cmd":"fund","ref":"F2","who":"CCCCITMM"}
@@ -153,5 +160,5 @@ fn a_run_moves_money(rt: HostRuntime) -> Result<(), Fail> {
 {"at":11000,"cmd":"investigate","id":"T1","who":"CCCCITMM"}
 "#,
     )?;
-    money_is(&rt, &world, [(30_000, 0), (20_000, 5000), (700, 0)])
+    money_is(&rt, &runner.world, [(30_000, 0), (20_000, 5000), (700, 0)])
 }
