@@ -1,7 +1,7 @@
 -- The sets of an agenda do what its definitions say.
 use Rattle.std.proofs.Common.{◌≡◌, ℕ, suc, Bool, true, false, ◌||◌, cond, List, [], ◌∷◌, refl, sym, ap, ◌∙◌, arith, nat_cmp, is_gt, Ordering, inl, inr, ◌⊎◌}
 use Rattle.std.specs.List.{list_any, All}
-use Rattle.std.specs.Ordering.{ordering_then, is_lt}
+use Rattle.std.specs.Ordering.{ordering_then}
 use Rattle.std.specs.BTreeMap.{is_at}
 use Rattle.std.specs.BTreeMap.Range.{IsLtBy}
 use Rattle.std.specs.BTreeSet.{BTreeSet, contains, Updates, IsLowerBound}
@@ -24,9 +24,6 @@ same_place p k place = grind (arith, nat_tests)
 
 same_entry : (m p k : ℕ) (entry : ℕ × (ℕ × ℕ)) → is_at (entry_cmp (m, (p, k))) entry ≡ is_entry m p k entry
 same_entry m p k entry = grind (arith, nat_tests)
-
-less_place : (one other : ℕ × ℕ) → is_lt (place_cmp one other) ≡ comes_before one other
-less_place one other = grind (arith, nat_tests)
 
 any_place : (places : List (ℕ × ℕ)) (p k : ℕ) → list_any (is_place p k) places ≡ list_any (is_at (place_cmp (p, k))) places
 any_place [] p k = refl

@@ -220,9 +220,6 @@ found_participant hub p k (Some to) was is =
     let x = some_of (at_place p (history s was.0 was.1 p) k) to (is was.0 was.1 was.2) in
     ap (is_participant s) (sym x.2) ∙ to_participant s p (history s was.0 was.1 p) k x.0 ((together s was.0 was.2.opening was.1 was.2.steps).sound p) x.1
 
-no_beneficiary : to_of (look_of (standing_of Nothing)) ≡ None
-no_beneficiary = refl
-
 -- whose place it is that has a beneficiary
 pub found_owner : (board : Contents) (place : Place) (found : Option ℕ) → found ≡ to_of (look_of (standing_at board place)) → IfSome found (λ to. is_participant board.settings place.owner ≡ true)
 found_owner board place None is = tt

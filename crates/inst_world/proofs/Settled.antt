@@ -367,10 +367,6 @@ place_after_lesson s O L p n to q k =
     ap (λ (T : List Transfer). slice_get T k)
     (takes_none s O (Learn p p n) (Deliver p n to ∷ L) (no_ask_learn p p n) q ∙ takes_none s O (Deliver p n to) L (no_ask_deliver p n to) q)
 
--- and each outcome
-outcome_after_lesson : (s : HubSettings) (O : Opening) (L : List Step) (p n to q : ℕ) (id : List ℕ) → outcome s O (after_lesson p n to L) q id ≡ outcome s O L q id
-outcome_after_lesson s O L p n to q id = same_outcome s O (Learn p p n) (Deliver p n to ∷ L) refl q id ∙ same_outcome s O (Deliver p n to) L refl q id
-
 -- and what is at rest
 rests_after_lesson : (s : HubSettings) (O : Opening) (L : List Step) (q n to at p : ℕ) (x : Transfer) → Rests s O L at p x → Rests s O (after_lesson q n to L) at p x
 rests_after_lesson s O L q n to at p x rests =
