@@ -1,4 +1,4 @@
-pub mod Tables
+pub mod Found
 pub mod Lines
-pub mod Entries
-pub mod Walked
+pub mod Movements
+pub mod Stated

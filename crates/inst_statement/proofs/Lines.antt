@@ -1,6 +1,5 @@
--- The lines so far, event by event, and the part of them that is asked for.
-use Rattle.std.proofs.Common.{◌≡◌, ℕ, zero, suc, ◌+◌, Bool, true, false, ◌&&◌, cond, nat_le, nat_lt, List, [], ◌∷◌, ◌++◌, length, take, drop, Option, Some, None, refl, sym, ap, ◌∙◌, arith, append-nil, append_assoc}
-use Rattle.std.proofs.lemmas.Bool.Decides.{nat_tests}
+-- The lines so far, event by event.
+use Rattle.std.proofs.Common.{◌≡◌, ℕ, ◌+◌, false, List, [], ◌∷◌, ◌++◌, length, Option, Some, None, refl, sym, ap, ◌∙◌, arith, append-nil, append_assoc}
 use Rattle.inst_command.specs.declared.line.Line.{Line}
 use Rattle.inst_journal.specs.declared.event.Event.{Event}
 use Rattle.inst_journal.specs.declared.event.Event.TheVariants.{Opened}
@@ -8,7 +7,6 @@ use Rattle.inst_journal.specs.Money.{position}
 use Rattle.inst_journal.specs.Opened.{is_opening, carried, current}
 use Rattle.inst_journal.specs.Statement.{line_of, with_line, lines_after}
 use Rattle.inst_journal.proofs.Carrying.{carried_push, current_push, current_opened, carried_front}
-use Rattle.inst_statement.specs.Page.{added}
 
 -- the lines of the history J up to a front of it, since the last opening there
 abbrev pub so_far : List Event → List Event → List Line
@@ -57,41 +55,3 @@ so_far_more J front x other =
 
 pub so_far_anew : (J front : List Event) → so_far J (front ++ Opened ∷ []) ≡ []
 so_far_anew J front = ap (lines_after J (carried (front ++ Opened ∷ [])) 1) (current_opened front)
-
-drop_push : (skip : ℕ) (lines : List Line) (line : Line) → drop skip (lines ++ line ∷ []) ≡ drop skip lines ++ cond (nat_le skip (length lines)) (line ∷ []) []
-drop_push zero lines line =
-    let yes : nat_le zero (length lines) ≡ true = grind (arith, nat_tests) in
-    sym (ap (λ b. lines ++ cond b (line ∷ []) []) yes)
-drop_push (suc skip) [] line =
-    let no : nat_le (suc skip) 0 ≡ false = grind (arith, nat_tests) in
-    nothing skip ∙ sym (ap (λ b. cond b (line ∷ []) []) no)
-  where
-    nothing : (n : ℕ) → drop {A = Line} n [] ≡ []
-    nothing zero = refl
-    nothing (suc n) = refl
-drop_push (suc skip) (x ∷ lines) line =
-    let same : nat_le skip (length lines) ≡ nat_le (suc skip) (length (x ∷ lines)) = grind (arith, nat_tests) in
-    drop_push skip lines line ∙ ap (λ b. drop skip lines ++ cond b (line ∷ []) []) same
-
-take_push : (count : ℕ) (lines : List Line) (line : Line) → take count (lines ++ line ∷ []) ≡ take count lines ++ cond (nat_lt (length (take count lines)) count) (line ∷ []) []
-take_push zero lines line =
-    let no : nat_lt 0 0 ≡ false = grind (arith, nat_tests) in
-    sym (ap (λ b. cond b (line ∷ []) []) no)
-take_push (suc count) [] line =
-    let yes : nat_lt 0 (suc count) ≡ true = grind (arith, nat_tests) in
-    ap (λ l. line ∷ l) (nothing count) ∙ sym (ap (λ b. cond b (line ∷ []) []) yes)
-  where
-    nothing : (n : ℕ) → take {A = Line} n [] ≡ []
-    nothing zero = refl
-    nothing (suc n) = refl
-take_push (suc count) (x ∷ lines) line =
-    let same : nat_lt (length (take count lines)) count ≡ nat_lt (length (x ∷ take count lines)) (suc count) = grind (arith, nat_tests) in
-    ap (λ l. x ∷ l) (take_push count lines line ∙ ap (λ b. take count lines ++ cond b (line ∷ []) []) same)
-
--- what one more line adds to a part of the lines
-pub part_more : (skip count : ℕ) (lines : List Line) (line : Line) → take count (drop skip (lines ++ line ∷ [])) ≡ take count (drop skip lines) ++ added skip count (length lines) (take count (drop skip lines)) line
-part_more skip count lines line = ap (take count) (drop_push skip lines line) ∙ go (nat_le skip (length lines))
-  where
-    go : (b : Bool) → take count (drop skip lines ++ cond b (line ∷ []) []) ≡ take count (drop skip lines) ++ cond (b && nat_lt (length (take count (drop skip lines))) count) (line ∷ []) []
-    go true = take_push count (drop skip lines) line
-    go false = ap (take count) (append-nil (drop skip lines)) ∙ sym (append-nil (take count (drop skip lines)))

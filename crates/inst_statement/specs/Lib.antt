@@ -1,5 +1,1 @@
-pub mod Name
-pub mod Someones
-pub mod Entry
-pub mod Kept
-pub mod Page
+pub mod Statement

@@ -1,12 +1,10 @@
-//! A participant's statement, in one walk over its history.
+//! A participant's statement, kept line by line.
 #![tactic(auto)]
 
-mod entry;
-mod name;
-mod page;
+mod movement;
+mod statement;
 #[cfg(test)]
 mod tests;
-mod transfers;
-mod walk;
 
-pub use walk::statement;
+pub use movement::Movement;
+pub use statement::Statement;

@@ -1,4 +1,4 @@
--- An entry that is read off the events before it makes the line of its event, and moves the position by its amount.
+-- A movement that is read off the events before it makes the line of its event, and moves the position by its amount.
 use Rattle.std.proofs.Common.{◌≡◌, ◌≢◌, ℕ, ◌+◌, ◌≤◌, Bool, true, false, cond, List, [], ◌∷◌, ◌++◌, inl, inr, Option, Some, None, is_some, sum_by, count_by, refl, sym, ap, ◌∙◌, subst, arith}
 use Rattle.std.specs.Option.{option_map}
 use Rattle.std.proofs.lemmas.Bool.{false≢true, true≢false}
@@ -18,9 +18,9 @@ use Rattle.inst_journal.proofs.FirstSome.{first_some-append}
 use Rattle.inst_journal.proofs.KeyOnce.{forwarded_once, taken_once}
 use Rattle.inst_journal.proofs.Moving.{coming, credited_by, debited_by, position_funded, position_credited, position_debited, position_released}
 use Rattle.inst_journal.proofs.OwnBookings.{own_unforwarded}
-use Rattle.inst_statement.specs.declared.entry.Entry.{Entry}
-use Rattle.inst_statement.specs.Entry.{came, sent, accepted, accepted_entry, entry_of, line_with}
-use Rattle.inst_statement.proofs.Tables.{takes_sent, forwards_came, taken_found, forwarded_found, not_come}
+use Rattle.inst_statement.specs.declared.movement.Movement.{Movement}
+use Rattle.inst_statement.specs.Statement.{line_with}
+use Rattle.inst_statement.proofs.Found.{came, sent, accepted, accepted_movement, movement_of, takes_sent, forwards_came, taken_found, forwarded_found, not_come}
 
 map_cond : {A B : Type 0} (h : A → B) (b : Bool) (x : A) → cond b (Some (h x)) None ≡ option_map h (cond b (Some x) None)
 map_cond h true x = refl
@@ -79,7 +79,7 @@ terms_there s who front from id sound fits = elim fits.party [
 ]
 
 accepted_made : (s : HubSettings) (who : ℕ) (J : List Event) → IsSound s who J → (front : List Event) (from : ℕ) (id : List ℕ) (rest : List Event) → front ++ Booked from id Accepted ∷ rest ≡ J → Terms s who front from id → (number after : ℕ)
-    → accepted_line J number after from id ≡ option_map (line_with number after) (accepted_entry front from id)
+    → accepted_line J number after from id ≡ option_map (line_with number after) (accepted_movement front from id)
 accepted_made s who J whole front from id rest all (Coming cents came_is another) number after =
     let in_all : first_some (came from id) J ≡ Some cents = found_in_all (came from id) front (Booked from id Accepted) rest J cents all came_is in
     let there : is_forwarded from id J ≡ true = forwarded_found from id J ∙ ap is_some in_all in
@@ -95,18 +95,18 @@ accepted_made s who J whole front from id rest all (Own to cents none_came sent_
     ∙ ap (option_map (λ (terms : ℕ × ℕ). line_with number after (record { kind = Paid; other = Some terms.0; id = id; cents = terms.1 }))) in_all
     ∙ sym (ap (λ o. option_map (line_with number after) (accepted from id o (first_some (sent id) front))) none_came ∙ ap (λ o. option_map (line_with number after) (accepted from id None o)) sent_is)
 
--- the line of an event is that of its entry
-pub entry_line : (s : HubSettings) (who : ℕ) (J : List Event) → IsSound s who J → (front : List Event) (x : Event) (rest : List Event) → front ++ x ∷ rest ≡ J → IsSound s who front → Fits s who front x → (number after : ℕ)
-    → line_of J number after x ≡ option_map (line_with number after) (entry_of front x)
-entry_line s who J whole front (Booked from id Accepted) rest all sound fits number after = accepted_made s who J whole front from id rest all (terms_there s who front from id sound fits) number after
-entry_line s who J whole front (Booked from id (Rejected reason)) rest all sound fits number after = refl
-entry_line s who J whole front (Booked from id TimedOut) rest all sound fits number after = refl
-entry_line s who J whole front (Funded reference cents) rest all sound fits number after = refl
-entry_line s who J whole front (Defunded reference cents) rest all sound fits number after = refl
-entry_line s who J whole front (Taken id to cents stamp) rest all sound fits number after = refl
-entry_line s who J whole front (Forwarded from id cents deadline) rest all sound fits number after = refl
-entry_line s who J whole front (Fetched count) rest all sound fits number after = refl
-entry_line s who J whole front Opened rest all sound fits number after = refl
+-- the line of an event is that of its movement
+pub movement_line : (s : HubSettings) (who : ℕ) (J : List Event) → IsSound s who J → (front : List Event) (x : Event) (rest : List Event) → front ++ x ∷ rest ≡ J → IsSound s who front → Fits s who front x → (number after : ℕ)
+    → line_of J number after x ≡ option_map (line_with number after) (movement_of front x)
+movement_line s who J whole front (Booked from id Accepted) rest all sound fits number after = accepted_made s who J whole front from id rest all (terms_there s who front from id sound fits) number after
+movement_line s who J whole front (Booked from id (Rejected reason)) rest all sound fits number after = refl
+movement_line s who J whole front (Booked from id TimedOut) rest all sound fits number after = refl
+movement_line s who J whole front (Funded reference cents) rest all sound fits number after = refl
+movement_line s who J whole front (Defunded reference cents) rest all sound fits number after = refl
+movement_line s who J whole front (Taken id to cents stamp) rest all sound fits number after = refl
+movement_line s who J whole front (Forwarded from id cents deadline) rest all sound fits number after = refl
+movement_line s who J whole front (Fetched count) rest all sound fits number after = refl
+movement_line s who J whole front Opened rest all sound fits number after = refl
 
 -- what a key weighs, where it is found
 abbrev weight : {V : Type 0} → (V → ℕ) → Option V → ℕ
@@ -139,10 +139,10 @@ once_summed {V} p v g w weighs finds (event ∷ J) few =
         let one : cond (p event) 1 0 ≡ 1 = ap {B = ℕ} (λ b. cond b 1 0) is in
         omega (arith, zero_summed p v J (omega (arith, one, fewer)))
 
--- how an entry moves the position
-abbrev pub Moves : ℕ → ℕ → Option Entry → Type 0
+-- how a movement moves the position
+abbrev pub Moves : ℕ → ℕ → Option Movement → Type 0
 Moves before after None = after ≡ before
-Moves before after (Some entry) = after + lowered entry.kind entry.cents ≡ before + raised entry.kind entry.cents
+Moves before after (Some movement) = after + lowered movement.kind movement.cents ≡ before + raised movement.kind movement.cents
 
 came_weighs : (from : ℕ) (id : List ℕ) (e : Event) → cond (forwards from id e) (coming e) 0 ≡ weight (λ cents. cents) (came from id e)
 came_weighs from id (Forwarded other_from other cents deadline) = weigh_cond (same_transfer from id other_from other) cents
@@ -171,7 +171,7 @@ sent_weighs id (Fetched count) = refl
 sent_weighs id Opened = refl
 
 accepted_moves : (s : HubSettings) (who : ℕ) (front : List Event) (from : ℕ) (id : List ℕ) → IsSound s who front → Fits s who front (Booked from id Accepted) → Terms s who front from id
-    → Moves (position front) (position (front ++ Booked from id Accepted ∷ [])) (accepted_entry front from id)
+    → Moves (position front) (position (front ++ Booked from id Accepted ∷ [])) (accepted_movement front from id)
 accepted_moves s who front from id sound fits (Coming cents came_is another) =
     let moves : position front + (0 + credited_by from id Accepted front) ≡ position (front ++ Booked from id Accepted ∷ []) + (0 + 0) = position_credited s who front from id Accepted sound fits another in
     let amount : credited_by from id Accepted front ≡ cents =
@@ -192,14 +192,14 @@ accepted_moves s who front from id sound fits (Own to cents none_came sent_is ow
 still : (before after : ℕ) → before + (0 + 0) ≡ after + (0 + 0) → after ≡ before
 still before after same = omega (arith, same)
 
--- an entry moves the position by its amount, and nothing else moves it
-pub entry_moves : (s : HubSettings) (who : ℕ) (front : List Event) (x : Event) → IsSound s who front → Fits s who front x → Moves (position front) (position (front ++ x ∷ [])) (entry_of front x)
-entry_moves s who front (Booked from id Accepted) sound fits = accepted_moves s who front from id sound fits (terms_there s who front from id sound fits)
-entry_moves s who front (Booked from id (Rejected reason)) sound fits = still _ _ (position_released s who front from id (Rejected reason) sound fits (λ cents. refl))
-entry_moves s who front (Booked from id TimedOut) sound fits = still _ _ (position_released s who front from id TimedOut sound fits (λ cents. refl))
-entry_moves s who front (Funded reference cents) sound fits = omega (arith, position_funded s who front (Funded reference cents) sound fits refl)
-entry_moves s who front (Defunded reference cents) sound fits = omega (arith, position_funded s who front (Defunded reference cents) sound fits refl)
-entry_moves s who front (Taken id to cents stamp) sound fits = still _ _ (position_funded s who front (Taken id to cents stamp) sound fits refl)
-entry_moves s who front (Forwarded from id cents deadline) sound fits = still _ _ (position_funded s who front (Forwarded from id cents deadline) sound fits refl)
-entry_moves s who front (Fetched count) sound fits = still _ _ (position_funded s who front (Fetched count) sound fits refl)
-entry_moves s who front Opened sound fits = still _ _ (position_funded s who front Opened sound fits refl)
+-- a movement moves the position by its amount, and nothing else moves it
+pub movement_moves : (s : HubSettings) (who : ℕ) (front : List Event) (x : Event) → IsSound s who front → Fits s who front x → Moves (position front) (position (front ++ x ∷ [])) (movement_of front x)
+movement_moves s who front (Booked from id Accepted) sound fits = accepted_moves s who front from id sound fits (terms_there s who front from id sound fits)
+movement_moves s who front (Booked from id (Rejected reason)) sound fits = still _ _ (position_released s who front from id (Rejected reason) sound fits (λ cents. refl))
+movement_moves s who front (Booked from id TimedOut) sound fits = still _ _ (position_released s who front from id TimedOut sound fits (λ cents. refl))
+movement_moves s who front (Funded reference cents) sound fits = omega (arith, position_funded s who front (Funded reference cents) sound fits refl)
+movement_moves s who front (Defunded reference cents) sound fits = omega (arith, position_funded s who front (Defunded reference cents) sound fits refl)
+movement_moves s who front (Taken id to cents stamp) sound fits = still _ _ (position_funded s who front (Taken id to cents stamp) sound fits refl)
+movement_moves s who front (Forwarded from id cents deadline) sound fits = still _ _ (position_funded s who front (Forwarded from id cents deadline) sound fits refl)
+movement_moves s who front (Fetched count) sound fits = still _ _ (position_funded s who front (Fetched count) sound fits refl)
+movement_moves s who front Opened sound fits = still _ _ (position_funded s who front Opened sound fits refl)

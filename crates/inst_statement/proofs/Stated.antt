@@ -1,0 +1,144 @@
+-- A statement that is kept line by line goes on being that of the history, event by event.
+use Rattle.std.proofs.Common.{◌≡◌, ℕ, ◌+◌, ◌^◌, ◌<◌, ◌≤◌, true, false, cond, List, [], ◌∷◌, ◌++◌, length, take, append-nil, append_assoc, Option, Some, None, count_by, refl, sym, ap, subst, ◌∙◌, arith}
+use Rattle.std.specs.Option.{option_map}
+use Rattle.std.proofs.lemmas.List.Sums.{sum_by-cons, sum_by-append}
+use Rattle.inst_settings.specs.Settings.{HubSettings}
+use Rattle.inst_settings.specs.Lawful.{IsSettings}
+use Rattle.inst_command.specs.declared.line.Line.{Line}
+use Rattle.inst_journal.specs.declared.event.Event.{Event}
+use Rattle.inst_journal.specs.declared.event.Event.TheVariants.{Funded, Defunded, Taken, Forwarded, Booked, Fetched, Opened}
+use Rattle.inst_journal.specs.Lines.{raised, lowered}
+use Rattle.inst_journal.specs.Money.{position}
+use Rattle.inst_journal.specs.Opened.{is_opening, carried, current}
+use Rattle.inst_journal.specs.Sound.{Fits, FitAfter, IsSound}
+use Rattle.inst_journal.specs.Statement.{line_of, with_line, lines_after, statement}
+use Rattle.inst_journal.proofs.Carrying.{carried_front}
+use Rattle.inst_journal.proofs.Soundness.{sound_push}
+use Rattle.inst_journal.proofs.Walking.{may_have_line, lined, lines_few, front_fits, rest_fits}
+use Rattle.inst_statement.specs.declared.movement.Movement.{Movement}
+use Rattle.inst_statement.specs.Statement.{Stated, Covers, Adds, IsStatementOf, line_with}
+use Rattle.inst_statement.proofs.Found.{movement_of}
+use Rattle.inst_statement.proofs.Lines.{so_far, as_list, so_far_more, so_far_anew}
+use Rattle.inst_statement.proofs.Movements.{Moves, movement_line, movement_moves}
+
+module _ (s : HubSettings) (who : ℕ) (J : List Event) (new : Event) (sound : IsSound s who J) (fits : Fits s who J new) where
+  abbrev K : List Event
+  K = J ++ new ∷ []
+
+  whole : IsSound s who K
+  whole = sound_push s who J new sound fits
+
+  -- the events of a front have the same lines after one event more
+  lines_stand : (front events : List Event) → front ++ events ≡ J → IsSound s who front → FitAfter s who front events → (number : ℕ) → lines_after K front number events ≡ lines_after J front number events
+  lines_stand front [] all before after number = refl
+  lines_stand front (x ∷ events) all before after number =
+      let next : List Event = front ++ x ∷ [] in
+      let at : ℕ = position next in
+      let here : front ++ x ∷ (events ++ new ∷ []) ≡ K = sym (append_assoc front (x ∷ events) (new ∷ [])) ∙ ap (λ l. l ++ new ∷ []) all in
+      let same : line_of K number at x ≡ line_of J number at x =
+      movement_line s who K whole front x (events ++ new ∷ []) here before after.0 number at ∙ sym (movement_line s who J sound front x events all before after.0 number at) in
+      let rest : (n : ℕ) → lines_after K next n events ≡ lines_after J next n events =
+      lines_stand next events (append_assoc front (x ∷ []) events ∙ all) (sound_push s who front x before after.0) after.1 in
+      ap (λ o. with_line o (lines_after K next number events) (lines_after K next (number + 1) events)) same
+      ∙ ap (λ l. with_line (line_of J number at x) l (lines_after K next (number + 1) events)) (rest number)
+      ∙ ap (with_line (line_of J number at x) (lines_after J next number events)) (rest (number + 1))
+
+  split : IsSound s who (carried J ++ current J)
+  split = subst (IsSound s who) (sym (carried_front J)) sound
+
+  statement_stands : so_far K J ≡ statement J
+  statement_stands = lines_stand (carried J) (current J) (carried_front J) (front_fits s who [] (carried J) (current J) split) (rest_fits s who [] (carried J) (current J) split) 1
+
+  -- the line of the new event, if it has one, comes last
+  statement_more : is_opening new ≡ false → statement K ≡ statement J ++ as_list (option_map (line_with (1 + length (statement J)) (position K)) (movement_of J new))
+  statement_more other =
+      so_far_more K J new other ∙ ap (λ L. L ++ as_list (line_of K (1 + length L) (position K) new)) statement_stands
+      ∙ ap (λ o. statement J ++ as_list o) (movement_line s who K whole J new [] refl sound fits (1 + length (statement J)) (position K))
+
+  moves : (o : Option Movement) → movement_of J new ≡ o → Moves (position J) (position K) o
+  moves o is = subst (Moves (position J) (position K)) is (movement_moves s who J new sound fits)
+
+  -- an event with a movement is no opening, and may have a line
+  no_opening : (event : Event) (m : Movement) → movement_of J event ≡ Some m → (is_opening event ≡ false) × (may_have_line event ≡ true)
+  no_opening (Funded reference cents) m some = (refl, refl)
+  no_opening (Defunded reference cents) m some = (refl, refl)
+  no_opening (Booked from id outcome) m some = (refl, refl)
+  no_opening (Taken id to cents stamp) m some = absurd (cc)
+  no_opening (Forwarded from id cents deadline) m some = absurd (cc)
+  no_opening (Fetched count) m some = absurd (cc)
+  no_opening Opened m some = absurd (cc)
+
+  -- the position that a movement leads to
+  pub moved_to : (m : Movement) → movement_of J new ≡ Some m → position K + lowered m.kind m.cents ≡ position J + raised m.kind m.cents
+  moved_to m is = moves (Some m) is
+
+  pub covers_movement : (m : Movement) (stated : Stated) → movement_of J new ≡ Some m → IsStatementOf J stated → Covers stated.position m
+  covers_movement m stated is of = omega (arith, moves (Some m) is, of.is_position)
+
+  pub line_added : (m : Movement) (before after : Stated) → movement_of J new ≡ Some m → IsStatementOf J before → Adds before m after → IsStatementOf K after
+  line_added m before after is of adds =
+      let moved : position K + lowered m.kind m.cents ≡ position J + raised m.kind m.cents = moves (Some m) is in
+      let at : after.position ≡ position K = omega (arith, moved, adds.leads, of.is_position) in
+      let number : length before.lines + 1 ≡ 1 + length (statement J) = omega (arith, ap length of.are_lines) in
+      record {
+        are_lines =
+            adds.line ∙ ap (λ L. L ++ line_with (length before.lines + 1) after.position m ∷ []) of.are_lines
+            ∙ ap (λ n. statement J ++ line_with n after.position m ∷ []) number
+            ∙ ap (λ p. statement J ++ line_with (1 + length (statement J)) p m ∷ []) at
+            ∙ sym (statement_more (no_opening new m is).0 ∙ ap (λ o. statement J ++ as_list (option_map (line_with (1 + length (statement J)) (position K)) o)) is);
+        is_position = at;
+      }
+
+  -- an event without a movement has no line
+  pub line_less : (before after : Stated) → movement_of J new ≡ None → is_opening new ≡ false → after.lines ≡ before.lines → after.position ≡ before.position → IsStatementOf J before → IsStatementOf K after
+  line_less before after none other lines_same at of =
+      let still : position K ≡ position J = moves None none in
+      record {
+        are_lines =
+            lines_same ∙ of.are_lines ∙ sym (append-nil (statement J))
+            ∙ sym (statement_more other ∙ ap (λ o. statement J ++ as_list (option_map (line_with (1 + length (statement J)) (position K)) o)) none);
+        is_position = at ∙ of.is_position ∙ sym still;
+      }
+
+-- a statement begins anew at an opening
+pub line_anew : (s : HubSettings) (who : ℕ) (J : List Event) (before after : Stated) → IsSound s who J → Fits s who J Opened → after.lines ≡ [] → after.position ≡ before.position → IsStatementOf J before → IsStatementOf (J ++ Opened ∷ []) after
+line_anew s who J before after sound fits none at of =
+    let still : position (J ++ Opened ∷ []) ≡ position J = movement_moves s who J Opened sound fits in
+    record {
+      are_lines = none ∙ sym (so_far_anew (J ++ Opened ∷ []) J);
+      is_position = at ∙ of.is_position ∙ sym still;
+    }
+
+-- no more lines than events that may have one
+lines_count : (J front : List Event) (number : ℕ) (events : List Event) → length (lines_after J front number events) ≤ count_by may_have_line events
+lines_count J front number [] = omega arith
+lines_count J front number (x ∷ events) =
+    let next : List Event = front ++ x ∷ [] in
+    let counted : count_by may_have_line (x ∷ events) ≡ cond (may_have_line x) 1 0 + count_by may_have_line events = sum_by-cons (λ e. cond (may_have_line e) 1 0) x events in
+    go (line_of J number (position next) x) (lined J number (position next) x) (lines_count J next number events) (lines_count J next (number + 1) events) counted
+  where
+    go : (o : Option Line) → ((line : Line) → o ≡ Some line → may_have_line x ≡ true)
+        → length (lines_after J (front ++ x ∷ []) number events) ≤ count_by may_have_line events → length (lines_after J (front ++ x ∷ []) (number + 1) events) ≤ count_by may_have_line events
+        → count_by may_have_line (x ∷ events) ≡ cond (may_have_line x) 1 0 + count_by may_have_line events
+        → length (with_line o (lines_after J (front ++ x ∷ []) number events) (lines_after J (front ++ x ∷ []) (number + 1) events)) ≤ count_by may_have_line (x ∷ events)
+    go None may same more counted = omega (arith, same, counted)
+    go (Some line) may same more counted =
+        let one : ◌≡◌ {A = ℕ} (cond (may_have_line x) 1 0) 1 = ap {B = ℕ} (λ b. cond b 1 0) (may line refl) in
+        omega (arith, more, counted, one)
+
+-- a further line has a number of 32 bits
+pub number_fits : (s : HubSettings) (who : ℕ) (J : List Event) (stated : Stated) → IsSettings s → IsSound s who J → IsStatementOf J stated → length stated.lines + 1 < 2 ^ 32
+number_fits s who J stated lawful sound of =
+    let counted : length (statement J) ≤ count_by may_have_line (current J) = lines_count J (carried J) 1 (current J) in
+    let both : count_by may_have_line (carried J ++ current J) ≡ count_by may_have_line (carried J) + count_by may_have_line (current J) = sum_by-append (λ e. cond (may_have_line e) 1 0) (carried J) (current J) in
+    let all : count_by may_have_line (take (length J) J) ≤ 140000000 = lines_few s who J (length J) lawful sound in
+    let same : count_by may_have_line (carried J ++ current J) ≡ count_by may_have_line (take (length J) J) = ap (count_by may_have_line) (carried_front J ∙ sym (take_all J)) in
+    omega (arith, counted, both, all, same, ap length of.are_lines)
+  where
+    take_all : (l : List Event) → take (length l) l ≡ l
+    take_all [] = refl
+    take_all (x ∷ l) = ap (λ r. x ∷ r) (take_all l)
+
+-- no lines of no events
+pub nothing_stated : (stated : Stated) → stated.lines ≡ [] → stated.position ≡ 0 → IsStatementOf [] stated
+nothing_stated stated none at = record { are_lines = none; is_position = at }

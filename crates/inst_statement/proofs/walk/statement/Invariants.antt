@@ -1,6 +1,0 @@
-use Rattle.std.proofs.Common.{take}
-use Rattle.inst_statement.proofs.Walked.{Stands}
-use Rattle.inst_statement.proofs.walk.statement.Given as goal
-
-abbrev pub invariant-loop-event : goal.invariant-loop-event
-invariant-loop-event l = Stands l.journal.events (take l.event-index l.journal.events) l.skip l.count l.transfers l.page

@@ -1,0 +1,129 @@
+ghost use Rattle.std.specs.Prelude.{◌≡◌, ◌+◌, ◌<◌, ◌^◌, [], take, drop, length, IfOk, OnOk, IsOk, IsOkUnless};
+ghost use Rattle.inst_journal.specs.Lines.{raised};
+ghost use Rattle.inst_statement.specs.Statement.{Covers, LeadsTo, Adds};
+
+use crate::movement::Movement;
+use inst_base::Fault;
+use inst_command::{Line, LineKind};
+use std::alloc::Global;
+use std::marker::Model;
+
+/// A participant's statement since the last opening, kept line by line, with the position after the last
+/// line, in cents. A part of it costs its lines.
+///
+/// ```text
+/// let mut statement = Statement::new(alloc);
+/// statement.reserve()?;
+/// statement.add(funded); // 500 cents: line 1, position 500
+/// statement.part(alloc, 0, 10)
+/// ```
+#[derive(Debug, Drop)]
+pub struct Statement {
+    lines: Vec<Line>,
+    position: u64,
+}
+
+impl Model for Statement {
+    ghost use Rattle.std.specs.Prelude.{◌-◌, vec_len, vec_capacity};
+    ghost use Rattle.inst_statement.specs.Statement.{Stated};
+
+    ghost Value = { Stated };
+
+    ghost view = { λ statement. record {
+      lines = statement.lines.items;
+      position = statement.position;
+      room = vec_capacity statement.lines - vec_len statement.lines;
+    } };
+}
+
+impl Statement {
+    /// No lines, at position 0. It takes no memory.
+    pub fn new(alloc: Global) -> Self
+        ensures lines { result.lines ≡ [] }
+        ensures position { result.position ≡ 0 }
+    {
+        Statement {
+            lines: Vec::new(alloc),
+            position: 0,
+        }
+    }
+
+    /// The lines since the last opening, in order.
+    pub fn lines(&self) -> &[Line]
+        ensures { result.now ≡ self.now.lines }
+    {
+        self.lines.as_slice()
+    }
+
+    /// The position after the last line, in cents.
+    pub fn position(&self) -> u64
+        ensures { result ≡ self.now.position }
+    {
+        self.position
+    }
+
+    /// Begins anew at an opening, at the position that was reached.
+    pub fn begin(&mut self)
+        ensures lines { self.new.lines ≡ [] }
+        ensures position { self.new.position ≡ self.old.position }
+    {
+        self.lines.clear();
+    }
+
+    /// Makes room for one more line, or answers `Memory`. Where there is room it takes no memory. The
+    /// lines stay as they are.
+    pub fn reserve(&mut self) -> Result<(), Fault>
+        ensures lines { self.new.lines ≡ self.old.lines }
+        ensures position { self.new.position ≡ self.old.position }
+        ensures room { OnOk result (0 < self.new.room) }
+        ensures enough { 0 < self.old.room → IsOk result }
+        ensures only { IsOkUnless result Fault.Memory }
+    {
+        self.lines.try_reserve(1)?;
+        Ok(())
+    }
+
+    /// The position after a movement, in cents.
+    fn position_after(&self, movement: &Movement) -> u64
+        requires covered { Covers self.now.position movement.now }
+        requires fits { self.now.position + raised movement.now.kind movement.now.cents < 2 ^ 64 }
+        ensures { LeadsTo self.now.position movement.now result }
+    {
+        match movement.kind {
+            LineKind::Funded | LineKind::Received => self.position + movement.cents.get(),
+            LineKind::Defunded | LineKind::Paid => self.position - movement.cents.get(),
+        }
+    }
+
+    /// Adds the line of a movement, in room that was made.
+    pub fn add(&mut self, movement: &Movement)
+        requires room { 0 < self.old.room }
+        requires covered { Covers self.old.position movement.now }
+        requires fits { self.old.position + raised movement.now.kind movement.now.cents < 2 ^ 64 }
+        requires few { length self.old.lines + 1 < 2 ^ 32 }
+        ensures { Adds self.old movement.now self.new }
+    {
+        self.position = self.position_after(movement);
+        self.lines.push_reserved(Line {
+            number: self.lines.len() as u32 + 1,
+            kind: movement.kind,
+            other: movement.other,
+            id: movement.id,
+            cents: movement.cents,
+            position: self.position,
+        });
+    }
+
+    /// At most `count` lines after the first `skip`, or `Memory`. It costs the lines that it gives.
+    pub fn part(&self, alloc: Global, skip: u64, count: u32) -> Result<Vec<Line>, Fault>
+        ensures ok { IfOk result (λ lines. lines.items ≡ take count (drop skip self.now.lines)) }
+        ensures only { IsOkUnless result Fault.Memory }
+    {
+        let lines = self.lines();
+        if skip >= lines.len() as u64 {
+            return Ok(Vec::new(alloc));
+        }
+        let rest = &lines[skip as usize..];
+        Ok(rest[..rest.len().min(count as usize)].to_vec(alloc)?)
+    }
+}
