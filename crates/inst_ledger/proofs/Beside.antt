@@ -11,12 +11,14 @@ use Rattle.inst_journal.specs.Booked.{first_some, is_taken, is_forwarded, is_for
 use Rattle.inst_journal.specs.Keys.{is_funding}
 use Rattle.inst_journal.specs.Opened.{is_opening, carried, takes_live}
 use Rattle.inst_journal.specs.Reply.{inbox, handed_out}
-use Rattle.inst_journal.specs.Sound.{Fits}
+use Rattle.inst_journal.specs.Sound.{Fits, IsSound}
 use Rattle.inst_command.specs.declared.outcome.Outcome.TheVariants.{Accepted, Rejected, TimedOut}
 use Rattle.inst_journal.specs.Money.{position}
 use Rattle.inst_journal.specs.Sums.{if_accepted, funding, funded, credit, credits}
 use Rattle.inst_journal.proofs.Counting.{position_fits}
 use Rattle.inst_journal.proofs.OwnBookings.{own_unforwarded}
+use Rattle.inst_journal.proofs.Soundness.{sound_push}
+use Rattle.inst_settings.specs.Lawful.{IsSettings}
 use Rattle.inst_journal.proofs.Paging.{in_order_of_arrival}
 use Rattle.inst_journal.proofs.Pushing.{sum_by_push, sum_by-both}
 use Rattle.std.proofs.lemmas.List.Sums.{sum_by-le-sum_by}
@@ -57,6 +59,27 @@ read_same J event entries read other none is = record {
 amounts_push : (J : List Event) (event : Event) → amount_of event ≤ cond (is_funding event) MOST_CENTS 0 + cond (is_forwarding event) MOST_CENTS 0 → sum_by amount_of J ≤ most_of J → sum_by amount_of (J ++ event ∷ []) ≤ most_of (J ++ event ∷ [])
 amounts_push J event small before =
     omega (arith, before, small, sum_by_push amount_of J event, sum_by_push (λ e. cond (is_funding e) MOST_CENTS 0) J event, sum_by_push (λ e. cond (is_forwarding e) MOST_CENTS 0) J event)
+
+-- the position of a sound history has 64 bits
+pub position_below : (s : HubSettings) (who : ℕ) (J : List Event) → IsSettings s → IsSound s who J → sum_by amount_of J ≤ most_of J → position J < 2 ^ 64
+position_below s who J lawful sound amounts =
+    let both : sum_by (λ e. funding e + credit J e) J ≡ funded J + credits J = sum_by-both funding (credit J) J in
+    omega (arith, both, sum_by-le-sum_by (λ e. funding e + credit J e) amount_of J added, amounts, position_fits s who J lawful sound)
+  where
+    accepted_le : (o : Option Outcome) (cents : ℕ) → if_accepted o cents ≤ cents
+    accepted_le None cents = omega arith
+    accepted_le (Some Accepted) cents = omega arith
+    accepted_le (Some (Rejected reason)) cents = omega arith
+    accepted_le (Some TimedOut) cents = omega arith
+
+    added : (event : Event) → funding event + credit J event ≤ amount_of event
+    added (Funded reference cents) = omega arith
+    added (Defunded reference cents) = omega arith
+    added (Taken id to cents stamp) = omega arith
+    added (Forwarded from id cents deadline) = omega (arith, accepted_le (booked from id J) cents)
+    added (Booked from id outcome) = omega arith
+    added (Fetched count) = omega arith
+    added Opened = omega arith
 
 -- the counts of an event that is no opening, takes nothing and books nothing of the participant's own
 counted_same : (who : ℕ) (J : List Event) (event : Event) (live waiting since : ℕ) → is_opening event ≡ false → takes_live who (carried J) event ≡ false → takes_live who J event ≡ false
@@ -210,7 +233,7 @@ module _ (s : HubSettings) (who : ℕ) (J : List Event) (t : Totals) (T : ℕ ×
       forwarding_there (Some x) is = refl
 
   -- a booked transfer that was taken is the participant's own
-  taken_party : (from : ℕ) (id : List ℕ) (old : Option Outcome) (o : Outcome) (terms' : Terms) → Fits s who J (Booked from id o) → T (from, id) ≡ Some (record { origin = TakenTransfer terms'; outcome = old })
+  pub taken_party : (from : ℕ) (id : List ℕ) (old : Option Outcome) (o : Outcome) (terms' : Terms) → Fits s who J (Booked from id o) → T (from, id) ≡ Some (record { origin = TakenTransfer terms'; outcome = old })
       → (from ≡ who) × (is_taken id J ≡ true)
   taken_party from id old o terms' fits is = elim fits.party [
     | inl own ↦ own
@@ -218,7 +241,7 @@ module _ (s : HubSettings) (who : ℕ) (J : List Event) (t : Totals) (T : ℕ ×
   ]
 
   -- and one that was forwarded isn't
-  forwarded_party : (from : ℕ) (id : List ℕ) (old : Option Outcome) (o : Outcome) (forwarding : Forwarding) → Fits s who J (Booked from id o) → T (from, id) ≡ Some (record { origin = ForwardedTransfer forwarding; outcome = old })
+  pub forwarded_party : (from : ℕ) (id : List ℕ) (old : Option Outcome) (o : Outcome) (forwarding : Forwarding) → Fits s who J (Booked from id o) → T (from, id) ≡ Some (record { origin = ForwardedTransfer forwarding; outcome = old })
       → is_forwarded from id J ≡ true
   forwarded_party from id old o forwarding fits is = forwarded_found (from, id) J ∙ sym (ap is_some (b.kept.forwarded (from, id))) ∙ ap (λ x. is_some (forwarding_in x)) is
 
@@ -325,21 +348,8 @@ module _ (s : HubSettings) (who : ℕ) (J : List Event) (t : Totals) (T : ℕ ×
 
   -- the position has 64 bits
   pub position_small : position J < 2 ^ 64
-  position_small =
-      let both : sum_by (λ e. funding e + credit J e) J ≡ funded J + credits J = sum_by-both funding (credit J) J in
-      omega (arith, both, sum_by-le-sum_by (λ e. funding e + credit J e) amount_of J added, b.amounts, position_fits s who J b.kept.lawful b.kept.sound)
-    where
-      accepted_le : (o : Option Outcome) (cents : ℕ) → if_accepted o cents ≤ cents
-      accepted_le None cents = omega arith
-      accepted_le (Some Accepted) cents = omega arith
-      accepted_le (Some (Rejected reason)) cents = omega arith
-      accepted_le (Some TimedOut) cents = omega arith
+  position_small = position_below s who J b.kept.lawful b.kept.sound b.amounts
 
-      added : (event : Event) → funding event + credit J event ≤ amount_of event
-      added (Funded reference cents) = omega arith
-      added (Defunded reference cents) = omega arith
-      added (Taken id to cents stamp) = omega arith
-      added (Forwarded from id cents deadline) = omega (arith, accepted_le (booked from id J) cents)
-      added (Booked from id outcome) = omega arith
-      added (Fetched count) = omega arith
-      added Opened = omega arith
+  -- the position after one event more has 64 bits
+  pub position_next : (event : Event) → Fits s who J event → amount_of event ≤ cond (is_funding event) MOST_CENTS 0 + cond (is_forwarding event) MOST_CENTS 0 → position (J ++ event ∷ []) < 2 ^ 64
+  position_next event fits small = position_below s who (J ++ event ∷ []) b.kept.lawful (sound_push s who J event b.kept.sound fits) (amounts_push J event small b.amounts)

@@ -19,6 +19,10 @@ use Rattle.inst_ledger.specs.declared.transfers.Terms.{Terms}
 use Rattle.inst_ledger.specs.declared.transfers.Transfer.{Transfer}
 use Rattle.inst_ledger.specs.declared.transfers.Origin.{Origin}
 use Rattle.inst_ledger.specs.Kept.{IsTable, IsKept}
+use Rattle.inst_command.specs.declared.line.LineKind.TheVariants.{Received, Paid}
+use Rattle.inst_command.specs.declared.outcome.Outcome.TheVariants.{Accepted, Rejected, TimedOut}
+use Rattle.inst_statement.specs.declared.movement.Movement.{Movement}
+use Rattle.inst_statement.specs.Statement.{Stated, MayAdd, Adds, IsStatementOf}
 
 -- the terms, where the transfer is the participant's own
 abbrev pub terms_of_origin : Origin → Option Terms
@@ -97,3 +101,32 @@ pub record IsBeside (s : HubSettings) (who : ℕ) (J : List Event) (t : Totals) 
   pub counted : IsCounted who J live waiting since
   pub inboxed : IsRead J entries read
   pub amounts : sum_by amount_of J ≤ most_of J
+
+-- what an accepted transfer moves: the amount is paid to its beneficiary, or received from its originator
+abbrev pub movement_by : ℕ → List ℕ → Origin → Movement
+movement_by from id (TakenTransfer terms) =
+    record { kind = Paid; other = Some terms.to; id = id; cents = terms.cents }
+movement_by from id (ForwardedTransfer forwarding) =
+    record { kind = Received; other = Some from; id = id; cents = forwarding.cents }
+
+-- what a booked transfer moves, where it is accepted
+abbrev pub movement_booked : ℕ → List ℕ → Origin → Outcome → Option Movement
+movement_booked from id origin Accepted = Some (movement_by from id origin)
+movement_booked from id origin (Rejected reason) = None
+movement_booked from id origin TimedOut = None
+
+-- the line of what was moved, if anything was, may be added, and is
+abbrev pub MayAddIf : Stated → Option Movement → Type 0
+MayAddIf stated None = Unit {0}
+MayAddIf stated (Some movement) = MayAdd stated movement
+
+abbrev pub AddsIf : Stated → Option Movement → Stated → Type 0
+AddsIf before None after = (after.lines ≡ before.lines) × (after.position ≡ before.position)
+AddsIf before (Some movement) after = Adds before movement after
+
+-- the statement that is kept beside them is the history's too
+pub record IsLedger (s : HubSettings) (who : ℕ) (J : List Event) (t : Totals) (transfers : ℕ × List ℕ → Option Transfer)
+    (references : List ℕ → Option Funding) (live waiting since : ℕ) (entries : List Entry) (read : ℕ) (stated : Stated)
+    : Type 0 where
+  pub beside : IsBeside s who J t transfers references live waiting since entries read
+  pub lines : IsStatementOf J stated

@@ -14,11 +14,12 @@ use inst_base::Fault;
 use inst_command::{Entry, Outcome};
 use inst_journal::{Event, Journal};
 use inst_settings::Settings;
+use inst_statement::Statement;
 use std::alloc::Global;
 use std::marker::Model;
 
-/// The books of one participant: its history, which is sound, and beside it running totals and tables,
-/// so that only a statement walks the history.
+/// The books of one participant: its history, which is sound, and beside it running totals, tables and the
+/// statement, so that nothing walks the history.
 #[derive(Debug, Drop)]
 pub struct Ledger {
     settings: Settings,
@@ -32,10 +33,12 @@ pub struct Ledger {
     fundings: usize,
     inbox: Vec<Entry>,
     read: usize,
+    statement: Statement,
 }
 
 impl Model for Ledger {
-    ghost use Rattle.inst_ledger.specs.Beside.{IsBeside};
+    ghost use Rattle.std.specs.Prelude.{min};
+    ghost use Rattle.inst_ledger.specs.Beside.{IsLedger};
     ghost use Rattle.inst_ledger.specs.Book.{BookAndRoom};
     ghost use Rattle.inst_ledger.specs.References.{funding_at};
     ghost use Rattle.inst_ledger.specs.Transfers.{transfer_at};
@@ -44,11 +47,11 @@ impl Model for Ledger {
 
     ghost view = { λ l. record {
       book = record { settings = l.settings; who = l.who; events = l.journal.events };
-      room = l.journal.room;
+      room = min l.journal.room l.statement.room;
     } };
 
-    ghost invariant = { λ l. IsBeside l.settings l.who l.journal.events l.totals (transfer_at l.transfers)
-        (funding_at l.references) l.live l.waiting l.fundings l.inbox.items l.read };
+    ghost invariant = { λ l. IsLedger l.settings l.who l.journal.events l.totals (transfer_at l.transfers)
+        (funding_at l.references) l.live l.waiting l.fundings l.inbox.items l.read l.statement };
 }
 
 impl Ledger {
@@ -69,6 +72,7 @@ impl Ledger {
             fundings: 0,
             inbox: Vec::new(alloc),
             read: 0,
+            statement: Statement::new(alloc),
         })
     }
 
@@ -102,7 +106,6 @@ impl Ledger {
     /// The participant's history. It is sound.
     pub fn journal(&self) -> &Journal
         ensures events { result.now.events ≡ self.now.book.events }
-        ensures room { result.now.room ≡ self.now.room }
         ensures lawful { IsSettings self.now.book.settings }
         ensures sound { IsSound self.now.book.settings self.now.book.who self.now.book.events }
     {
@@ -115,6 +118,7 @@ impl Ledger {
         ensures room { OnOk result (0 < self.new.room) }
         ensures only { IsOkUnless result Fault.Memory }
     {
-        self.journal.reserve()
+        self.journal.reserve()?;
+        self.statement.reserve()
     }
 }

@@ -22,7 +22,7 @@ use Rattle.inst_statement.specs.declared.movement.Movement.{Movement}
 use Rattle.inst_statement.specs.Statement.{line_with}
 use Rattle.inst_statement.proofs.Found.{came, sent, accepted, accepted_movement, movement_of, takes_sent, forwards_came, taken_found, forwarded_found, not_come}
 
-map_cond : {A B : Type 0} (h : A → B) (b : Bool) (x : A) → cond b (Some (h x)) None ≡ option_map h (cond b (Some x) None)
+pub map_cond : {A B : Type 0} (h : A → B) (b : Bool) (x : A) → cond b (Some (h x)) None ≡ option_map h (cond b (Some x) None)
 map_cond h true x = refl
 map_cond h false x = refl
 
@@ -31,7 +31,7 @@ mapped_or h None made rest same = same
 mapped_or h (Some y) made rest same = refl
 
 -- the first of what is made of something else
-first_mapped : {A B C : Type 0} (f : A → Option C) (g : A → Option B) (h : B → C) → ((x : A) → f x ≡ option_map h (g x)) → (xs : List A) → first_some f xs ≡ option_map h (first_some g xs)
+pub first_mapped : {A B C : Type 0} (f : A → Option C) (g : A → Option B) (h : B → C) → ((x : A) → f x ≡ option_map h (g x)) → (xs : List A) → first_some f xs ≡ option_map h (first_some g xs)
 first_mapped f g h made [] = refl
 first_mapped f g h made (x ∷ xs) = ap (λ o. or_else o (first_some f xs)) (made x) ∙ mapped_or h (g x) (first_some f xs) (first_some g xs) (first_mapped f g h made xs)
 

@@ -16,7 +16,7 @@ use Rattle.inst_journal.proofs.Carrying.{carried_front}
 use Rattle.inst_journal.proofs.Soundness.{sound_push}
 use Rattle.inst_journal.proofs.Walking.{may_have_line, lined, lines_few, front_fits, rest_fits}
 use Rattle.inst_statement.specs.declared.movement.Movement.{Movement}
-use Rattle.inst_statement.specs.Statement.{Stated, Covers, Adds, IsStatementOf, line_with}
+use Rattle.inst_statement.specs.Statement.{Stated, Adds, IsStatementOf, line_with}
 use Rattle.inst_statement.proofs.Found.{movement_of}
 use Rattle.inst_statement.proofs.Lines.{so_far, as_list, so_far_more, so_far_anew}
 use Rattle.inst_statement.proofs.Movements.{Moves, movement_line, movement_moves}
@@ -72,7 +72,7 @@ module _ (s : HubSettings) (who : ℕ) (J : List Event) (new : Event) (sound : I
   pub moved_to : (m : Movement) → movement_of J new ≡ Some m → position K + lowered m.kind m.cents ≡ position J + raised m.kind m.cents
   moved_to m is = moves (Some m) is
 
-  pub covers_movement : (m : Movement) (stated : Stated) → movement_of J new ≡ Some m → IsStatementOf J stated → Covers stated.position m
+  pub covers_movement : (m : Movement) (stated : Stated) → movement_of J new ≡ Some m → IsStatementOf J stated → lowered m.kind m.cents ≤ stated.position + raised m.kind m.cents
   covers_movement m stated is of = omega (arith, moves (Some m) is, of.is_position)
 
   pub line_added : (m : Movement) (before after : Stated) → movement_of J new ≡ Some m → IsStatementOf J before → Adds before m after → IsStatementOf K after

@@ -1,6 +1,6 @@
 -- A statement that is kept line by line: the lines since the last opening, with the position after the last one. This
 -- hub's own choice.
-use Rattle.std.specs.Prelude.{◌≡◌, ℕ, ◌+◌, ◌≤◌, List, [], ◌∷◌, ◌++◌, length}
+use Rattle.std.specs.Prelude.{◌≡◌, ℕ, ◌+◌, ◌<◌, ◌≤◌, ◌^◌, List, [], ◌∷◌, ◌++◌, length}
 use Rattle.inst_command.specs.declared.line.Line.{Line}
 use Rattle.inst_journal.specs.declared.event.Event.{Event}
 use Rattle.inst_journal.specs.Lines.{raised, lowered}
@@ -13,10 +13,6 @@ pub record Stated : Type 0 where
   pub lines : List Line
   pub position : ℕ
   pub room : ℕ
-
--- the position covers what the movement takes from it
-abbrev pub Covers : ℕ → Movement → Type 0
-Covers position movement = lowered movement.kind movement.cents ≤ position + raised movement.kind movement.cents
 
 -- the movement leads from one position to another
 abbrev pub LeadsTo : ℕ → Movement → ℕ → Type 0
@@ -33,6 +29,13 @@ line_with number after movement = record {
   cents = movement.cents;
   position = after;
 }
+
+-- there is room for the line of the movement, the position covers it and stays within 64 bits, and its number has 32
+pub record MayAdd (before : Stated) (movement : Movement) : Type 0 where
+  pub room : 0 < before.room
+  pub covered : lowered movement.kind movement.cents ≤ before.position + raised movement.kind movement.cents
+  pub fits : before.position + raised movement.kind movement.cents < 2 ^ 64
+  pub few : length before.lines + 1 < 2 ^ 32
 
 -- the movement leads on, and has the next line
 pub record Adds (before : Stated) (movement : Movement) (after : Stated) : Type 0 where

@@ -1,6 +1,5 @@
-ghost use Rattle.std.specs.Prelude.{◌≡◌, ◌+◌, ◌<◌, ◌^◌, [], take, drop, length, IfOk, OnOk, IsOk, IsOkUnless};
-ghost use Rattle.inst_journal.specs.Lines.{raised};
-ghost use Rattle.inst_statement.specs.Statement.{Covers, LeadsTo, Adds};
+ghost use Rattle.std.specs.Prelude.{◌≡◌, ◌<◌, [], take, drop, IfOk, OnOk, IsOk, IsOkUnless};
+ghost use Rattle.inst_statement.specs.Statement.{MayAdd, LeadsTo, Adds};
 
 use crate::movement::Movement;
 use inst_base::Fault;
@@ -85,8 +84,7 @@ impl Statement {
 
     /// The position after a movement, in cents.
     fn position_after(&self, movement: &Movement) -> u64
-        requires covered { Covers self.now.position movement.now }
-        requires fits { self.now.position + raised movement.now.kind movement.now.cents < 2 ^ 64 }
+        requires { MayAdd self.now movement.now }
         ensures { LeadsTo self.now.position movement.now result }
     {
         match movement.kind {
@@ -97,10 +95,7 @@ impl Statement {
 
     /// Adds the line of a movement, in room that was made.
     pub fn add(&mut self, movement: &Movement)
-        requires room { 0 < self.old.room }
-        requires covered { Covers self.old.position movement.now }
-        requires fits { self.old.position + raised movement.now.kind movement.now.cents < 2 ^ 64 }
-        requires few { length self.old.lines + 1 < 2 ^ 32 }
+        requires { MayAdd self.old movement.now }
         ensures { Adds self.old movement.now self.new }
     {
         self.position = self.position_after(movement);

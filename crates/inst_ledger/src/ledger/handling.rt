@@ -13,7 +13,6 @@ use super::Ledger;
 use inst_base::{Cents, Fault, Ident, Moment};
 use inst_command::{Command, Entries, Entry, Lines, Outcome, Reply, Submission};
 use inst_journal::{Event, Handled, standing, still_pending};
-use inst_statement::statement;
 use std::alloc::{AllocError, Global};
 
 impl Ledger {
@@ -216,7 +215,7 @@ impl Ledger {
     fn statement(&self, alloc: Global, skip: u64, count: u32) -> Result<Handled, Fault>
         ensures { IsUnlessMemory result (answered (Reply.Statement (statement_part self.now.book.events skip count))) }
     {
-        let lines = statement(alloc, self.journal(), skip, count)?;
+        let lines = self.statement.part(alloc, skip, count)?;
         Ok(Handled {
             reply: Reply::Statement {
                 lines: Lines::new(lines),
@@ -257,8 +256,7 @@ impl Ledger {
     /// What a command, read at `at`, is answered, and the event that is to be kept of it, where its
     /// transfer is found to have the outcome `found`. Refused by the first of `SelfTransfer` to `Shortage`
     /// that holds; only a statement, and a fetch where something is unread, may answer `Memory`. A look at
-    /// a key costs the logarithm of their number; a statement walks the history once, and a fetch copies
-    /// what it hands out.
+    /// a key costs the logarithm of their number; a statement and a fetch copy what they give.
     pub fn handle(
         &self,
         alloc: Global,

@@ -2,14 +2,16 @@
 ghost use Rattle.std.specs.Prelude.{◌≡◌, ◌<◌, ◌≤◌, false, Some, OnOk, OnErr, IsOk, IsOkUnless};
 ghost use Rattle.inst_journal.specs.Sound.{Fits};
 ghost use Rattle.inst_journal.specs.Sums.{if_accepted};
+ghost use Rattle.inst_ledger.specs.Beside.{movement_booked, MayAddIf, AddsIf};
 ghost use Rattle.inst_ledger.specs.Book.{with_event, brings_key};
 
 use super::Ledger;
 use crate::references::Funding;
 use crate::transfers::{Forwarding, Origin, Terms, Transfer};
 use inst_base::{Cents, Fault, Ident};
-use inst_command::{Entry, Outcome};
+use inst_command::{Entry, LineKind, Outcome};
 use inst_journal::Event;
+use inst_statement::{Movement, Statement};
 
 impl Ledger {
     /// Keeps a funding.
@@ -23,11 +25,19 @@ impl Ledger {
             is_defunding: false,
             cents,
         };
+        let movement = Movement {
+            kind: LineKind::Funded,
+            other: None,
+            id: reference,
+            cents,
+        };
         let _ = self.journal.events().len();
         self.journal.reserve()?;
+        self.statement.reserve()?;
         self.references.put(reference, funding)?;
         self.journal.push(Event::Funded { reference, cents })?;
         self.totals.funded += u128::from(cents.get());
+        self.statement.add(&movement);
         self.fundings += 1;
         Ok(())
     }
@@ -43,11 +53,19 @@ impl Ledger {
             is_defunding: true,
             cents,
         };
+        let movement = Movement {
+            kind: LineKind::Defunded,
+            other: None,
+            id: reference,
+            cents,
+        };
         let _ = self.journal.events().len();
         self.journal.reserve()?;
+        self.statement.reserve()?;
         self.references.put(reference, funding)?;
         self.journal.push(Event::Defunded { reference, cents })?;
         self.totals.defunded += u128::from(cents.get());
+        self.statement.add(&movement);
         self.fundings += 1;
         Ok(())
     }
@@ -137,8 +155,13 @@ impl Ledger {
             outcome: *outcome,
         };
         let _ = self.journal.events().len();
+        self.statement.reserve()?;
         self.journal.push(event)?;
         self.transfers.put(from, id, transfer)?;
+        add_line(
+            &mut self.statement,
+            movement_booked(from, id, &origin, outcome),
+        );
         match &origin {
             Origin::Taken(terms) => {
                 let cents = u128::from(terms.cents.get());
@@ -177,6 +200,7 @@ impl Ledger {
         ensures only { IsOkUnless result Fault.Memory }
     {
         self.journal.push(Event::Opened)?;
+        self.statement.begin();
         self.live = self.waiting;
         self.fundings = 0;
         Ok(())
@@ -226,5 +250,38 @@ fn if_accepted(outcome: &Outcome, cents: u128) -> u128
     match outcome {
         Outcome::Accepted => cents,
         _ => 0,
+    }
+}
+
+/// What a booked transfer moves, where it is accepted.
+fn movement_booked(from: u8, id: Ident, origin: &Origin, outcome: &Outcome) -> Option<Movement>
+    ensures { result ≡ movement_booked from id origin.now outcome.now }
+{
+    if !matches!(outcome, Outcome::Accepted) {
+        return None;
+    }
+    Some(match origin {
+        Origin::Taken(terms) => Movement {
+            kind: LineKind::Paid,
+            other: Some(terms.to),
+            id,
+            cents: terms.cents,
+        },
+        Origin::Forwarded(forwarding) => Movement {
+            kind: LineKind::Received,
+            other: Some(from),
+            id,
+            cents: forwarding.cents,
+        },
+    })
+}
+
+/// Adds the line of what was moved, if anything was, in room that was made.
+fn add_line(statement: &mut Statement, movement: Option<Movement>)
+    requires { MayAddIf statement.old movement }
+    ensures { AddsIf statement.old movement statement.new }
+{
+    if let Some(movement) = movement {
+        statement.add(&movement);
     }
 }

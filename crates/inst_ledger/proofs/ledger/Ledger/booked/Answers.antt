@@ -6,5 +6,5 @@ use Rattle.inst_ledger.proofs.ledger.Ledger.booked.Goals as goal
 
 pub returns : goal.returns
 returns c =
-    c.outcome_in.ensures ∙ ap outcome_in c.get.ensures ∙ c.self.invariant.kept.booked (c.args.from, c.args.id.now)
+    c.outcome_in.ensures ∙ ap outcome_in c.get.ensures ∙ c.self.invariant.beside.kept.booked (c.args.from, c.args.id.now)
     ∙ ap (λ (b : BookAndRoom). booked c.args.from c.args.id.now b.book.events) c.self.view_is

@@ -1,10 +1,17 @@
 use Rattle.std.proofs.Common.{refl}
 use Rattle.inst_journal.specs.declared.event.Event.{Event}
 use Rattle.inst_ledger.proofs.Beside.{fetched_beside, beside_at, fits_at}
+use Rattle.inst_ledger.proofs.Stating.{stated_at}
+use Rattle.inst_statement.proofs.Stated.{line_less}
 use Rattle.inst_ledger.proofs.ledger.Ledger.keep_fetched.Goals as goal
 
 pub invariant_of-self-2 : goal.invariant_of-self-2
 invariant_of-self-2 c =
     let i = c.self.inside in
-    beside_at c.in_ok-push.ensures.ok refl
-    (fetched_beside i.settings i.who i.journal.events i.totals _ _ i.live i.waiting i.fundings i.inbox.items i.read c.self.invariant c.args.count (fits_at c.self.view_is (Event.Fetched c.args.count) c.requires))
+    let event = Event.Fetched c.args.count in
+    let fits = fits_at c.self.view_is event c.requires in
+    record {
+      beside = beside_at c.in_ok-push.ensures.ok refl
+          (fetched_beside i.settings i.who i.journal.events i.totals _ _ i.live i.waiting i.fundings i.inbox.items i.read c.self.invariant.beside c.args.count fits);
+      lines = stated_at c.in_ok-push.ensures.ok (line_less i.settings i.who i.journal.events event c.self.invariant.beside.kept.sound fits i.statement i.statement refl refl refl refl c.self.invariant.lines);
+    }

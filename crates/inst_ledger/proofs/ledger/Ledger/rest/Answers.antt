@@ -8,12 +8,12 @@ use Rattle.inst_ledger.proofs.ledger.Ledger.rest.Goals as goal
 pub after-requires : goal.after-requires
 after-requires c =
     let i = c.self.inside in
-    let b = c.self.invariant.inboxed in
-    omega (arith, b.were_read, ap length (c.as_slice.ensures.value ∙ b.came), handed_within i.settings i.who i.journal.events c.self.invariant.kept.sound)
+    let b = c.self.invariant.beside.inboxed in
+    omega (arith, b.were_read, ap length (c.as_slice.ensures.value ∙ b.came), handed_within i.settings i.who i.journal.events c.self.invariant.beside.kept.sound)
 
 pub returns : goal.returns
 returns c =
     let i = c.self.inside in
-    let b = c.self.invariant.inboxed in
+    let b = c.self.invariant.beside.inboxed in
     c.after.ensures ∙ ap (λ (entries : List Entry). drop i.read entries) (c.as_slice.ensures.value ∙ b.came)
     ∙ ap (λ (read : ℕ). drop read (inbox i.journal.events)) b.were_read ∙ ap (λ (b : BookAndRoom). unread b.book.events) c.self.view_is

@@ -1,0 +1,128 @@
+-- What the statement beside a history gains with an event: the line of what the event moves.
+use Rattle.std.proofs.Common.{◌≡◌, ℕ, ◌+◌, ◌^◌, ◌<◌, ◌≤◌, cond, List, [], ◌∷◌, ◌++◌, Option, Some, None, refl, sym, ap, subst, ◌∙◌, arith}
+use Rattle.std.specs.Option.{option_map}
+use Rattle.inst_settings.specs.Settings.{HubSettings, same_text}
+use Rattle.inst_command.specs.declared.entry.Entry.{Entry}
+use Rattle.inst_command.specs.declared.outcome.Outcome.{Outcome}
+use Rattle.inst_command.specs.declared.outcome.Outcome.TheVariants.{Accepted, Rejected, TimedOut}
+use Rattle.inst_journal.specs.declared.event.Event.{Event}
+use Rattle.inst_journal.specs.declared.event.Event.TheVariants.{Funded, Defunded, Taken, Forwarded, Booked, Fetched, Opened}
+use Rattle.inst_journal.specs.Booked.{first_some, is_forwarded, is_forwarding, same_transfer}
+use Rattle.inst_journal.specs.Lines.{raised, lowered}
+use Rattle.inst_journal.specs.Money.{position}
+use Rattle.inst_journal.specs.Sound.{Fits}
+use Rattle.inst_journal.proofs.OwnBookings.{own_unforwarded}
+use Rattle.inst_ledger.specs.declared.references.Funding.{Funding}
+use Rattle.inst_ledger.specs.declared.totals.Totals.{Totals}
+use Rattle.inst_ledger.specs.declared.transfers.Forwarding.{Forwarding}
+use Rattle.inst_ledger.specs.declared.transfers.Origin.{Origin}
+use Rattle.inst_ledger.specs.declared.transfers.Origin.TheVariants.{Taken as TakenTransfer, Forwarded as ForwardedTransfer}
+use Rattle.inst_ledger.specs.declared.transfers.Terms.{Terms}
+use Rattle.inst_ledger.specs.declared.transfers.Transfer.{Transfer}
+use Rattle.inst_ledger.specs.Beside.{terms_in, forwarding_in, amount_of, IsBeside, IsLedger, movement_by, movement_booked, MayAddIf, AddsIf}
+use Rattle.inst_ledger.specs.Kept.{terms_of, forwarding_of}
+use Rattle.inst_ledger.proofs.Beside.{taken_party, beside_same, beside_at, position_small, position_next}
+use Rattle.inst_statement.specs.declared.movement.Movement.{Movement}
+use Rattle.inst_statement.specs.Statement.{Stated, MayAdd, IsStatementOf}
+use Rattle.inst_statement.proofs.Found.{came, sent, accepted, accepted_movement, movement_of, not_come}
+use Rattle.inst_statement.proofs.Movements.{map_cond, first_mapped}
+use Rattle.inst_statement.proofs.Stated.{covers_movement, moved_to, line_added, line_less, number_fits}
+use Rattle.inst_command.specs.declared.line.LineKind.{LineKind}
+use Rattle.inst_command.specs.declared.line.LineKind.TheVariants.{Funded as FundedKind, Defunded as DefundedKind, Received, Paid}
+use Rattle.inst_base.specs.declared.cents.TheConstants.{MOST_CENTS}
+use Rattle.inst_journal.specs.Keys.{is_funding}
+
+-- the same lines and position by another name
+pub stated_same : {J : List Event} {before after : Stated} → after.lines ≡ before.lines → after.position ≡ before.position → IsStatementOf J before → IsStatementOf J after
+stated_same lines at of = record { are_lines = lines ∙ of.are_lines; is_position = at ∙ of.is_position }
+
+-- the same events by another name
+pub stated_at : {J K : List Event} {stated : Stated} → K ≡ J → IsStatementOf J stated → IsStatementOf K stated
+stated_at {J} {K} {stated} same of = subst (λ (E : List Event). IsStatementOf E stated) (sym same) of
+
+-- the same ledger by other names
+pub ledger_same : {s : HubSettings} {who : ℕ} {J K : List Event} {t : Totals} {T U : ℕ × List ℕ → Option Transfer} {R S : List ℕ → Option Funding} {live waiting since : ℕ} {entries : List Entry} {read : ℕ} {before after : Stated}
+    → K ≡ J → ((key : ℕ × List ℕ) → U key ≡ T key) → ((reference : List ℕ) → S reference ≡ R reference) → after.lines ≡ before.lines → after.position ≡ before.position
+    → IsLedger s who J t T R live waiting since entries read before → IsLedger s who K t U S live waiting since entries read after
+ledger_same events transfers references lines at l = record {
+  beside = beside_same events transfers references l.beside;
+  lines = stated_at events (stated_same lines at l.lines);
+}
+
+-- the same ledger, with the inbox by another name
+pub ledger_inbox : {s : HubSettings} {who : ℕ} {J : List Event} {t : Totals} {T : ℕ × List ℕ → Option Transfer} {R : List ℕ → Option Funding} {live waiting since : ℕ} {entries others : List Entry} {read : ℕ} {stated : Stated}
+    → others ≡ entries → IsLedger s who J t T R live waiting since entries read stated → IsLedger s who J t T R live waiting since others read stated
+ledger_inbox inbox l = record { beside = beside_at refl inbox l.beside; lines = l.lines }
+
+-- a movement leads from a position of 64 bits to one
+raised_fits : (m : Movement) (before after : ℕ) → after + lowered m.kind m.cents ≡ before + raised m.kind m.cents → before < 2 ^ 64 → after < 2 ^ 64 → before + raised m.kind m.cents < 2 ^ 64
+raised_fits m before after leads small next = by m.kind leads
+  where
+    by : (kind : LineKind) → after + lowered kind m.cents ≡ before + raised kind m.cents → before + raised kind m.cents < 2 ^ 64
+    by FundedKind leads' = omega (arith, leads', next)
+    by DefundedKind leads' = omega (arith, leads', small)
+    by Received leads' = omega (arith, leads', next)
+    by Paid leads' = omega (arith, leads', small)
+
+sent_terms : (id : List ℕ) (event : Event) → sent id event ≡ option_map (λ (t : Terms). (t.to, t.cents)) (terms_of id event)
+sent_terms id (Taken other to cents stamp) = map_cond (λ (t : Terms). (t.to, t.cents)) (same_text other id) (record { to = to; cents = cents; stamp = stamp })
+sent_terms id (Funded reference cents) = refl
+sent_terms id (Defunded reference cents) = refl
+sent_terms id (Forwarded from other cents deadline) = refl
+sent_terms id (Booked from other outcome) = refl
+sent_terms id (Fetched count) = refl
+sent_terms id Opened = refl
+
+came_forwarding : (from : ℕ) (id : List ℕ) (event : Event) → came from id event ≡ option_map (λ (f : Forwarding). f.cents) (forwarding_of (from, id) event)
+came_forwarding from id (Forwarded other_from other cents deadline) =
+    map_cond (λ (f : Forwarding). f.cents) (same_transfer from id other_from other) (record { cents = cents; deadline = deadline })
+came_forwarding from id (Funded reference cents) = refl
+came_forwarding from id (Defunded reference cents) = refl
+came_forwarding from id (Taken other to cents stamp) = refl
+came_forwarding from id (Booked other_from other outcome) = refl
+came_forwarding from id (Fetched count) = refl
+came_forwarding from id Opened = refl
+
+module _ (s : HubSettings) (who : ℕ) (J : List Event) (t : Totals) (T : ℕ × List ℕ → Option Transfer) (R : List ℕ → Option Funding) (live waiting since : ℕ) (entries : List Entry) (read : ℕ) (b : IsBeside s who J t T R live waiting since entries read) where
+  accepted_by : (from : ℕ) (id : List ℕ) (origin : Origin) (old : Option Outcome) → Fits s who J (Booked from id Accepted) → T (from, id) ≡ Some (record { origin = origin; outcome = old })
+      → accepted_movement J from id ≡ Some (movement_by from id origin)
+  accepted_by from id (TakenTransfer terms) old fits there =
+      let own = taken_party s who J t T R live waiting since entries read b from id old Accepted terms fits there in
+      let none : first_some (came from id) J ≡ None = not_come from id J (ap (λ f. is_forwarded f id J) own.0 ∙ own_unforwarded s who id J b.kept.sound) in
+      let at_who : T (who, id) ≡ Some (record { origin = TakenTransfer terms; outcome = old }) = ap (λ (f : ℕ). T (f, id)) (sym own.0) ∙ there in
+      let found : first_some (terms_of id) J ≡ Some terms = sym (b.kept.taken id) ∙ ap terms_in at_who in
+      let gone : first_some (sent id) J ≡ Some (terms.to, terms.cents) =
+      first_mapped (sent id) (terms_of id) (λ (t : Terms). (t.to, t.cents)) (sent_terms id) J ∙ ap (option_map (λ (t : Terms). (t.to, t.cents))) found in
+      ap (λ o. accepted from id o (first_some (sent id) J)) none ∙ ap (accepted from id None) gone
+  accepted_by from id (ForwardedTransfer forwarding) old fits there =
+      let found : first_some (forwarding_of (from, id)) J ≡ Some forwarding = sym (b.kept.forwarded (from, id)) ∙ ap forwarding_in there in
+      let come : first_some (came from id) J ≡ Some forwarding.cents =
+      first_mapped (came from id) (forwarding_of (from, id)) (λ (f : Forwarding). f.cents) (came_forwarding from id) J ∙ ap (option_map (λ (f : Forwarding). f.cents)) found in
+      ap (λ o. accepted from id o (first_some (sent id) J)) come
+
+  -- a booking moves what the transfer in the table tells
+  pub booking_moves : (from : ℕ) (id : List ℕ) (outcome : Outcome) (origin : Origin) (old : Option Outcome) → Fits s who J (Booked from id outcome) → T (from, id) ≡ Some (record { origin = origin; outcome = old })
+      → movement_of J (Booked from id outcome) ≡ movement_booked from id origin outcome
+  booking_moves from id Accepted origin old fits there = accepted_by from id origin old fits there
+  booking_moves from id (Rejected reason) origin old fits there = refl
+  booking_moves from id TimedOut origin old fits there = refl
+
+  -- the line of a movement may be added where there is room
+  pub may_add : (event : Event) (m : Movement) (stated : Stated) → movement_of J event ≡ Some m → Fits s who J event → amount_of event ≤ cond (is_funding event) MOST_CENTS 0 + cond (is_forwarding event) MOST_CENTS 0
+      → IsStatementOf J stated → 0 < stated.room → MayAdd stated m
+  may_add event m stated is fits small of room = record {
+    room = room;
+    covered = covers_movement s who J event b.kept.sound fits m stated is of;
+    fits = subst (λ (p : ℕ). p + raised m.kind m.cents < 2 ^ 64) (sym of.is_position)
+        (raised_fits m (position J) (position (J ++ event ∷ [])) (moved_to s who J event b.kept.sound fits m is) (position_small s who J t T R live waiting since entries read b) (position_next s who J t T R live waiting since entries read b event fits small));
+    few = number_fits s who J stated b.kept.lawful b.kept.sound of;
+  }
+
+  pub may_add_if : (from : ℕ) (id : List ℕ) (outcome : Outcome) (o : Option Movement) (stated : Stated) → movement_of J (Booked from id outcome) ≡ o → Fits s who J (Booked from id outcome) → IsStatementOf J stated → 0 < stated.room → MayAddIf stated o
+  may_add_if from id outcome None stated is fits of room = tt
+  may_add_if from id outcome (Some m) stated is fits of room = may_add (Booked from id outcome) m stated is fits (omega arith) of room
+
+  pub added_if : (from : ℕ) (id : List ℕ) (outcome : Outcome) (o : Option Movement) (before after : Stated) → movement_of J (Booked from id outcome) ≡ o → Fits s who J (Booked from id outcome) → IsStatementOf J before → AddsIf before o after
+      → IsStatementOf (J ++ Booked from id outcome ∷ []) after
+  added_if from id outcome None before after is fits of same = line_less s who J (Booked from id outcome) b.kept.sound fits before after is refl same.0 same.1 of
+  added_if from id outcome (Some m) before after is fits of adds = line_added s who J (Booked from id outcome) b.kept.sound fits m before after is of adds

@@ -1,0 +1,6 @@
+use Rattle.std.proofs.Common.{refl}
+use Rattle.inst_ledger.proofs.Stating.{ledger_same}
+use Rattle.inst_ledger.proofs.ledger.Ledger.reserve.Goals as goal
+
+pub invariant_of-self-2 : goal.invariant_of-self-2
+invariant_of-self-2 c = ledger_same c.reserve.ensures.events (λ _. refl) (λ _. refl) c.reserve-2.ensures.lines c.reserve-2.ensures.position c.self.invariant
