@@ -1,4 +1,3 @@
-pub mod Keys
 pub mod Tables
 pub mod Amounts
 pub mod Forwards

@@ -1,4 +1,3 @@
-pub mod Name
 pub mod References
 pub mod Transfers
 pub mod Kept

@@ -1,13 +1,12 @@
 -- What a table of fundings holds at a reference.
 use Rattle.std.specs.Prelude.{◌≡◌, ℕ, cond, List, Option, Some}
-use Rattle.std.specs.BTreeMap.{get}
+use Rattle.indexmap.specs.IndexMap.{get}
 use Rattle.inst_settings.specs.Settings.{same_text}
 use Rattle.inst_ledger.specs.declared.references.Funding.{Funding}
 use Rattle.inst_ledger.specs.declared.references.References.{References}
-use Rattle.inst_ledger.specs.Name.{name_cmp}
 
 abbrev pub funding_at : References → List ℕ → Option Funding
-funding_at references reference = get name_cmp references.table (record { id = reference })
+funding_at references reference = get same_text references.table reference
 
 -- the funding is put at the reference, and each other reference has what it had
 abbrev pub PutsFunding : References → List ℕ → Funding → References → Type 0

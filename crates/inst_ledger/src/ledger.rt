@@ -77,7 +77,7 @@ impl Ledger {
     }
 
     /// The books of the participant `who` with this history, opened again from them. `Memory` where it
-    /// can't be copied. Each event costs the logarithm of the number of keys.
+    /// can't be copied. It costs a look at a table for each event.
     pub fn open_from(
         alloc: Global,
         settings: &Settings,

@@ -2,7 +2,6 @@
 #![tactic(auto)]
 
 mod ledger;
-mod name;
 mod references;
 #[cfg(test)]
 mod tests;
@@ -10,4 +9,3 @@ mod totals;
 mod transfers;
 
 pub use ledger::Ledger;
-pub use name::Name;

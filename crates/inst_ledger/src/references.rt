@@ -2,10 +2,9 @@
 ghost use Rattle.std.specs.Prelude.{◌≡◌, ℕ, List, None, OnOk, OnErr, IsOkUnless};
 ghost use Rattle.inst_ledger.specs.References.{funding_at, PutsFunding};
 
-use crate::name::Name;
+use indexmap::IndexMap;
 use inst_base::{Cents, Fault, Ident};
 use std::alloc::Global;
-use std::collections::BTreeMap;
 
 /// A kept fund or defund command.
 #[derive(Clone, Copy, Debug, PartialEq, Eq)]
@@ -14,10 +13,10 @@ pub(crate) struct Funding {
     pub(crate) cents: Cents,
 }
 
-/// The fundings of a history. The table is ordered and not hashed, as that of the transfers is.
+/// The fundings of a history.
 #[derive(Debug, Drop)]
 pub(crate) struct References {
-    table: BTreeMap<Name, Funding>,
+    table: IndexMap<Ident, Funding>,
 }
 
 impl References {
@@ -26,7 +25,7 @@ impl References {
         ensures { (reference : List ℕ) → funding_at result reference ≡ None }
     {
         References {
-            table: BTreeMap::new(alloc),
+            table: IndexMap::new(alloc),
         }
     }
 
@@ -34,7 +33,7 @@ impl References {
     pub(crate) fn get(&self, reference: &Ident) -> Option<Funding>
         ensures { result ≡ funding_at self.now reference.now }
     {
-        self.table.get(&Name { id: *reference }).copied()
+        self.table.get(reference).copied()
     }
 
     /// Puts the funding at this reference. After `Memory` all is as it was.
@@ -43,7 +42,7 @@ impl References {
         ensures err { OnErr result ((key : List ℕ) → funding_at self.new key ≡ funding_at self.old key) }
         ensures only { IsOkUnless result Fault.Memory }
     {
-        self.table.insert(Name { id: reference }, funding)?;
+        self.table.insert(reference, funding)?;
         Ok(())
     }
 }

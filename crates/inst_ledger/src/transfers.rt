@@ -2,11 +2,10 @@
 ghost use Rattle.std.specs.Prelude.{◌≡◌, ℕ, List, true, is_some, None, OnOk, OnErr, IsOk, IsOkUnless};
 ghost use Rattle.inst_ledger.specs.Transfers.{transfer_at, PutsTransfer};
 
-use crate::name::Name;
+use indexmap::IndexMap;
 use inst_base::{Cents, Fault, Ident, Moment};
 use inst_command::Outcome;
 use std::alloc::Global;
-use std::collections::BTreeMap;
 
 /// The terms of a taken submission.
 #[derive(Clone, Copy, Debug, PartialEq, Eq)]
@@ -37,11 +36,10 @@ pub(crate) struct Transfer {
     pub(crate) outcome: Option<Outcome>,
 }
 
-/// The transfers of a history. The table is ordered and not hashed, since identifiers are what other
-/// banks choose.
+/// The transfers of a history.
 #[derive(Debug, Drop)]
 pub(crate) struct Transfers {
-    table: BTreeMap<(u8, Name), Transfer>,
+    table: IndexMap<(u8, Ident), Transfer>,
 }
 
 impl Transfers {
@@ -50,7 +48,7 @@ impl Transfers {
         ensures { (key : ℕ × List ℕ) → transfer_at result key ≡ None }
     {
         Transfers {
-            table: BTreeMap::new(alloc),
+            table: IndexMap::new(alloc),
         }
     }
 
@@ -58,7 +56,7 @@ impl Transfers {
     pub(crate) fn get(&self, from: u8, id: &Ident) -> Option<Transfer>
         ensures { result ≡ transfer_at self.now (from, id.now) }
     {
-        self.table.get(&(from, Name { id: *id })).copied()
+        self.table.get(&(from, *id)).copied()
     }
 
     /// Puts the transfer at this key. Where one is there, it succeeds; else it may answer `Memory`, and
@@ -71,7 +69,7 @@ impl Transfers {
     {
         // The check is told of an enum inside a struct only where a function names it.
         let _: Option<(Origin, Outcome)> = None;
-        self.table.insert((from, Name { id }), transfer)?;
+        self.table.insert((from, id), transfer)?;
         Ok(())
     }
 }

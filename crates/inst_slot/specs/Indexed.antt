@@ -1,13 +1,12 @@
 -- What a slot keeps to find a transfer without a walk: the identifiers of the participant's own live transfers by the
 -- index of their places, and tables from what names a transfer to where it stands. This hub's own choice.
 use Rattle.std.specs.Prelude.{◌≡◌, ℕ, Bool, List, [], map, slice_get, Option, Some}
-use Rattle.std.specs.BTreeMap.{BTreeMap, get}
+use Rattle.indexmap.specs.IndexMap.{IndexMap, get}
 use Rattle.inst_settings.specs.Settings.{same_text}
 use Rattle.inst_journal.specs.declared.event.Event.{Event}
 use Rattle.inst_journal.specs.declared.event.Event.TheVariants.{Taken}
 use Rattle.inst_journal.specs.Opened.{live_taken}
-use Rattle.inst_ledger.specs.declared.name.Name.{Name}
-use Rattle.inst_ledger.specs.Name.{name_cmp, key_cmp}
+use Rattle.inst_ledger.specs.Transfers.{same_key}
 use Rattle.inst_slot.specs.declared.arrival.Arrival.{Arrival}
 
 -- a table finds each key at the index where it stands, and nothing else
@@ -16,12 +15,12 @@ pub record IsIndexed {K : Type 0} (found : K → Option ℕ) (keys : List K) : T
   pub only : (k : K) (i : ℕ) → found k ≡ Some i → slice_get keys i ≡ Some k
 
 -- the index in the table under this identifier
-abbrev pub index_at : BTreeMap Name ℕ → List ℕ → Option ℕ
-index_at table id = get name_cmp table (record { id = id })
+abbrev pub index_at : {S : Type 0} → IndexMap (List ℕ) ℕ S → List ℕ → Option ℕ
+index_at table id = get same_text table id
 
 -- the position in the table under this originator and identifier
-abbrev pub position_at : BTreeMap (ℕ × Name) ℕ → ℕ × List ℕ → Option ℕ
-position_at table key = get key_cmp table (key.0, record { id = key.1 })
+abbrev pub position_at : {S : Type 0} → IndexMap (ℕ × List ℕ) ℕ S → ℕ × List ℕ → Option ℕ
+position_at table key = get same_key table key
 
 -- the originator and the identifier that name the transfer of the arrival
 abbrev pub key_of : Arrival → ℕ × List ℕ

@@ -7,22 +7,21 @@ ghost use Rattle.inst_slot.specs.Opening.{unplaced, is_of, awaits, found_at};
 
 use crate::Arrival;
 use crate::arrival::awaits;
+use indexmap::IndexMap;
 use inst_base::{Fault, Ident, Moment};
 use inst_board::Place;
 use inst_command::{Entry, Outcome};
 use inst_journal::Event;
-use inst_ledger::{Ledger, Name};
+use inst_ledger::Ledger;
 use inst_terms::Terms;
 use std::alloc::Global;
-use std::collections::BTreeMap;
 use std::marker::Model;
 
-/// The arrivals in their order, with a table that finds the position of each. The table is ordered and
-/// not hashed, since identifiers are what other banks choose.
+/// The arrivals in their order, with a table that finds the position of each.
 #[derive(Debug, Drop)]
 pub(crate) struct Arrivals {
     list: Vec<Arrival>,
-    positions: BTreeMap<(u8, Name), usize>,
+    positions: IndexMap<(u8, Ident), usize>,
 }
 
 impl Model for Arrivals {
@@ -44,7 +43,7 @@ impl Arrivals {
     {
         Arrivals {
             list: Vec::new(alloc),
-            positions: BTreeMap::new(alloc),
+            positions: IndexMap::new(alloc),
         }
     }
 
@@ -59,7 +58,7 @@ impl Arrivals {
     fn position_of(&self, from: u8, id: &Ident) -> Option<usize>
         ensures { result ≡ position (is_of from id.now) self.now }
     {
-        self.positions.get(&(from, Name { id: *id })).copied()
+        self.positions.get(&(from, *id)).copied()
     }
 
     /// The index of the place from which this transfer was forwarded.
@@ -78,10 +77,9 @@ impl Arrivals {
         ensures only { IsOkUnless result Fault.Memory }
     {
         let Arrival { entry, .. } = arrival;
-        let name = Name { id: entry.id };
         let position = self.list.as_slice().len();
         self.list.try_reserve(1)?;
-        self.positions.insert((entry.from, name), position)?;
+        self.positions.insert((entry.from, entry.id), position)?;
         self.list.push_reserved(arrival);
         Ok(())
     }
@@ -92,7 +90,7 @@ impl Arrivals {
     {
         if let Some(arrival) = self.list.pop() {
             let Entry { from, id, .. } = arrival.entry;
-            self.positions.remove(&(from, Name { id }));
+            self.positions.swap_remove(&(from, id));
         }
     }
 

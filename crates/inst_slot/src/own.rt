@@ -4,20 +4,20 @@ ghost use Rattle.std.specs.List.{list_any};
 ghost use Rattle.inst_journal.specs.Opened.{carried};
 ghost use Rattle.inst_slot.specs.Indexed.{is_id, own_ids};
 
+use indexmap::IndexMap;
 use inst_base::{Fault, Ident};
 use inst_command::Outcome;
 use inst_journal::Event;
-use inst_ledger::{Ledger, Name};
+use inst_ledger::Ledger;
 use std::alloc::Global;
-use std::collections::BTreeMap;
 use std::marker::Model;
 
 /// The identifiers of the own live transfers in the order of their places, with a table that finds the
-/// index of each. The table is ordered and not hashed, since identifiers are what others choose.
+/// index of each.
 #[derive(Debug, Drop)]
 pub(crate) struct Own {
     ids: Vec<Ident>,
-    indexes: BTreeMap<Name, u16>,
+    indexes: IndexMap<Ident, u16>,
 }
 
 impl Model for Own {
@@ -38,7 +38,7 @@ impl Own {
     {
         Own {
             ids: Vec::new(alloc),
-            indexes: BTreeMap::new(alloc),
+            indexes: IndexMap::new(alloc),
         }
     }
 
@@ -48,7 +48,7 @@ impl Own {
         ensures at { (k : ℕ) → slice_get self.now k ≡ Some id.now → result ≡ Some k }
         ensures only { (k : ℕ) → result ≡ Some k → slice_get self.now k ≡ Some id.now }
     {
-        self.indexes.get(&Name { id: *id }).copied()
+        self.indexes.get(id).copied()
     }
 
     /// The identifier of the transfer at this index.
@@ -68,7 +68,7 @@ impl Own {
     {
         let index = self.ids.as_slice().len() as u16;
         self.ids.try_reserve(1)?;
-        self.indexes.insert(Name { id }, index)?;
+        self.indexes.insert(id, index)?;
         self.ids.push_reserved(id);
         Ok(())
     }
@@ -78,7 +78,7 @@ impl Own {
         ensures { self.new ≡ take (length self.old - 1) self.old }
     {
         if let Some(id) = self.ids.pop() {
-            self.indexes.remove(&Name { id });
+            self.indexes.swap_remove(&id);
         }
     }
 }

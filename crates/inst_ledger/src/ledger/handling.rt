@@ -256,7 +256,7 @@ impl Ledger {
     /// What a command, read at `at`, is answered, and the event that is to be kept of it, where its
     /// transfer is found to have the outcome `found`. Refused by the first of `SelfTransfer` to `Shortage`
     /// that holds; only a statement, and a fetch where something is unread, may answer `Memory`. A look at
-    /// a key costs the logarithm of their number; a statement and a fetch copy what they give.
+    /// a key is one look at a hash table; a statement and a fetch copy what they give.
     pub fn handle(
         &self,
         alloc: Global,

@@ -1,8 +1,7 @@
-use Rattle.std.proofs.Common.{◌∙◌, ◌++◌, ◌∷◌, [], length, List, cond, Some, sym, ap, subst}
+use Rattle.std.proofs.Common.{◌∙◌, ◌++◌, ◌∷◌, [], length, List, sym, ap, subst}
 use Rattle.std.specs.Prelude.{map}
 use Rattle.std.specs.List.{list_any}
 use Rattle.std.proofs.lemmas.List.{length-map}
-use Rattle.inst_ledger.proofs.Keys.{key_test}
 use Rattle.inst_slot.specs.declared.arrival.Arrival.{Arrival}
 use Rattle.inst_slot.specs.Indexed.{IsIndexed, position_at, key_of}
 use Rattle.inst_slot.specs.Opening.{is_of}
@@ -18,5 +17,4 @@ invariant_of-self-2 c =
     subst (λ (l : List Arrival). IsIndexed (position_at c.insert.new.self) (map key_of l)) (sym items)
     (arrival_added (position_at c.self.inside.positions) (position_at c.insert.new.self) old x n c.self.invariant
     (ap (list_any (is_of x.entry.from x.entry.id)) c.self.view_is ∙ c.requires) (ap length c.as_slice-position.ensures.value ∙ sym (length-map old key_of))
-    (λ q. c.in_ok-insert.ensures.updates.0 (q.0, record { id = q.1 })
-    ∙ ap (λ b. cond b (Some n) (position_at c.self.inside.positions q)) (key_test x.entry.from x.entry.id (q.0, record { id = q.1 }))))
+    (λ q. c.in_ok-insert.ensures.updates.0 q))

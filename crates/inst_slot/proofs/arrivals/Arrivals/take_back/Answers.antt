@@ -1,6 +1,5 @@
-use Rattle.std.proofs.Common.{◌∙◌, List, cond, None, ap, subst}
+use Rattle.std.proofs.Common.{List, subst}
 use Rattle.std.specs.Prelude.{map}
-use Rattle.inst_ledger.proofs.Keys.{key_test}
 use Rattle.inst_slot.specs.declared.arrival.Arrival.{Arrival}
 use Rattle.inst_slot.specs.Indexed.{IsIndexed, position_at, key_of}
 use Rattle.inst_slot.proofs.Arrived.{arrival_taken}
@@ -10,7 +9,6 @@ pub invariant_of-self : goal.invariant_of-self
 invariant_of-self c =
     let rest = c.pop.new.self.items in
     let x = c.in-Some.arrival in
-    arrival_taken (position_at c.self.inside.positions) (position_at c.remove.new.self) rest x
+    arrival_taken (position_at c.self.inside.positions) (position_at c.swap_remove.new.self) rest x
     (subst (λ (l : List Arrival). IsIndexed (position_at c.self.inside.positions) (map key_of l)) c.in-Some.ensures.items c.self.invariant)
-    (λ q. c.remove.ensures.updates.0 (q.0, record { id = q.1 })
-    ∙ ap (λ b. cond b None (position_at c.self.inside.positions q)) (key_test x.entry.from x.entry.id (q.0, record { id = q.1 })))
+    (λ q. c.swap_remove.ensures.updates.0 q)

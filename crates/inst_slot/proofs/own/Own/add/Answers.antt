@@ -1,5 +1,4 @@
-use Rattle.std.proofs.Common.{◌∙◌, ◌++◌, ◌∷◌, [], length, ℕ, List, cond, Some, sym, ap, subst}
-use Rattle.inst_ledger.proofs.Keys.{name_test}
+use Rattle.std.proofs.Common.{◌∙◌, ◌++◌, ◌∷◌, [], length, ℕ, List, sym, ap, subst}
 use Rattle.std.specs.List.{list_any}
 use Rattle.inst_slot.specs.Indexed.{IsIndexed, index_at, is_id}
 use Rattle.inst_slot.proofs.OwnIds.{id_added}
@@ -12,4 +11,4 @@ invariant_of-self-2 c =
     subst (IsIndexed (index_at c.insert.new.self)) (sym items)
     (id_added (index_at c.self.inside.indexes) (index_at c.insert.new.self) old c.args.id (length c.as_slice.result.now) c.self.invariant
     (ap (list_any (is_id c.args.id)) c.self.view_is ∙ c.requires.new) (ap length c.as_slice.ensures.value)
-    (λ q. c.in_ok-insert.ensures.updates.0 (record { id = q }) ∙ ap (λ b. cond b (Some (length c.as_slice.result.now)) (index_at c.self.inside.indexes q)) (name_test c.args.id (record { id = q }))))
+    (λ q. c.in_ok-insert.ensures.updates.0 q))
