@@ -310,6 +310,12 @@ fn fetches_confirms_and_rejects(rt: HostRuntime) -> Result<(), Fail> {
             &None,
             &Told::Position(20_000, 0, 20_000),
         ),
+        (
+            &Command::Statement { skip: 0, count: 10 },
+            1000,
+            &None,
+            &Told::Statement(1),
+        ),
     ];
     answers(&rt, &mut ledger, &rows)?;
     assert_eq!(rt; ledger.journal().events().len(), 6);
@@ -339,6 +345,12 @@ fn opens_from_books(rt: HostRuntime) -> Result<(), Fail> {
             1000,
             &None,
             &Told::Position(20_000, 0, 20_000),
+        ),
+        (
+            &Command::Statement { skip: 0, count: 10 },
+            1000,
+            &None,
+            &Told::Statement(1),
         ),
     ];
     answers(&rt, &mut ledger, &rows)
