@@ -23,8 +23,9 @@ use Rattle.inst_ledger.specs.Beside.{terms_in, forwarding_in, amount_of, IsBesid
 use Rattle.inst_ledger.specs.Kept.{terms_of, forwarding_of}
 use Rattle.inst_ledger.proofs.Beside.{taken_party, beside_same, beside_at, position_small, position_next}
 use Rattle.inst_statement.specs.declared.movement.Movement.{Movement}
-use Rattle.inst_statement.specs.Statement.{Stated, MayAdd, IsStatementOf}
-use Rattle.inst_statement.proofs.Found.{came, sent, accepted, accepted_movement, movement_of, not_come}
+use Rattle.inst_statement.specs.KeptStatement.{Stated, MayAdd, IsStatementOf}
+use Rattle.inst_statement.specs.Movement.{came, sent, accepted, accepted_movement, movement_of}
+use Rattle.inst_statement.proofs.Found.{not_come}
 use Rattle.inst_statement.proofs.Movements.{map_cond, first_mapped}
 use Rattle.inst_statement.proofs.Stated.{covers_movement, moved_to, line_added, line_less, number_fits}
 use Rattle.inst_command.specs.declared.line.LineKind.{LineKind}

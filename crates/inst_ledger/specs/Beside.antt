@@ -22,7 +22,7 @@ use Rattle.inst_ledger.specs.Kept.{IsTable, IsKept}
 use Rattle.inst_command.specs.declared.line.LineKind.TheVariants.{Received, Paid}
 use Rattle.inst_command.specs.declared.outcome.Outcome.TheVariants.{Accepted, Rejected, TimedOut}
 use Rattle.inst_statement.specs.declared.movement.Movement.{Movement}
-use Rattle.inst_statement.specs.Statement.{Stated, MayAdd, Adds, IsStatementOf}
+use Rattle.inst_statement.specs.KeptStatement.{Stated, MayAdd, Adds, IsStatementOf}
 
 -- the terms, where the transfer is the participant's own
 abbrev pub terms_of_origin : Origin → Option Terms

@@ -1,13 +1,9 @@
 -- What a table of transfers holds at a key: an originator and an identifier.
-use Rattle.std.specs.Prelude.{◌≡◌, ℕ, Bool, ◌==◌, ◌&&◌, cond, List, Option, Some}
+use Rattle.std.specs.Prelude.{◌≡◌, ℕ, cond, List, Option, Some}
+pub use Rattle.inst_statement.specs.Kept.{same_key}
 use Rattle.indexmap.specs.IndexMap.{get}
-use Rattle.inst_settings.specs.Settings.{same_text}
 use Rattle.inst_ledger.specs.declared.transfers.Transfer.{Transfer}
 use Rattle.inst_ledger.specs.declared.transfers.Transfers.{Transfers}
-
--- whether two keys are of the same transfer
-abbrev pub same_key : ℕ × List ℕ → ℕ × List ℕ → Bool
-same_key x y = (x.0 == y.0) && same_text x.1 y.1
 
 abbrev pub transfer_at : Transfers → ℕ × List ℕ → Option Transfer
 transfer_at transfers key = get same_key transfers.table key

@@ -14,7 +14,7 @@ use inst_base::Fault;
 use inst_command::{Entry, Outcome};
 use inst_journal::{Event, Journal};
 use inst_settings::Settings;
-use inst_statement::Statement;
+use inst_statement::KeptStatement;
 use std::alloc::Global;
 use std::marker::Model;
 
@@ -33,7 +33,7 @@ pub struct Ledger {
     fundings: usize,
     inbox: Vec<Entry>,
     read: usize,
-    statement: Statement,
+    statement: KeptStatement,
 }
 
 impl Model for Ledger {
@@ -72,7 +72,7 @@ impl Ledger {
             fundings: 0,
             inbox: Vec::new(alloc),
             read: 0,
-            statement: Statement::new(alloc),
+            statement: KeptStatement::new(alloc),
         })
     }
 

@@ -1,46 +1,12 @@
--- What the events of a history give of a transfer: where its amount and its terms are found, and the movement of each event.
+-- Where the amount and the terms of a transfer are found in a history.
 use Rattle.std.proofs.Common.{◌≡◌, ℕ, Bool, true, false, ◌||◌, cond, List, [], ◌∷◌, Option, Some, None, is_some, refl, sym, ap, ◌∙◌}
 use Rattle.std.specs.List.{list_any}
 use Rattle.std.proofs.lemmas.Bool.{true≢false}
 use Rattle.inst_settings.specs.Settings.{same_text}
-use Rattle.inst_command.specs.declared.line.LineKind.TheVariants.{Funded as FundedKind, Defunded as DefundedKind, Received, Paid}
-use Rattle.inst_command.specs.declared.outcome.Outcome.TheVariants.{Accepted, Rejected, TimedOut}
 use Rattle.inst_journal.specs.declared.event.Event.{Event}
 use Rattle.inst_journal.specs.declared.event.Event.TheVariants.{Funded, Defunded, Taken, Forwarded, Booked, Fetched, Opened}
 use Rattle.inst_journal.specs.Booked.{or_else, first_some, takes, is_taken, forwards, is_forwarded, same_transfer}
-use Rattle.inst_statement.specs.declared.movement.Movement.{Movement}
-
--- the amount of the transfer with this key, where the event forwards it
-abbrev pub came : ℕ → List ℕ → Event → Option ℕ
-came from id (Forwarded other_from other cents deadline) = cond (same_transfer from id other_from other) (Some cents) None
-came from id _ = None
-
--- the beneficiary and the amount of the transfer with this identifier, where the event takes it
-abbrev pub sent : List ℕ → Event → Option (ℕ × ℕ)
-sent id (Taken other to cents stamp) = cond (same_text other id) (Some (to, cents)) None
-sent id _ = None
-
--- the movement of an accepted transfer that came with this amount, or else was sent with these terms
-abbrev pub accepted : ℕ → List ℕ → Option ℕ → Option (ℕ × ℕ) → Option Movement
-accepted from id (Some cents) terms = Some (record { kind = Received; other = Some from; id = id; cents = cents })
-accepted from id None (Some terms) = Some (record { kind = Paid; other = Some terms.0; id = id; cents = terms.1 })
-accepted from id None None = None
-
--- the movement of an accepted transfer after these events
-abbrev pub accepted_movement : List Event → ℕ → List ℕ → Option Movement
-accepted_movement front from id = accepted from id (first_some (came from id) front) (first_some (sent id) front)
-
--- the movement of an event after these events, if it has one
-abbrev pub movement_of : List Event → Event → Option Movement
-movement_of front (Funded reference cents) = Some (record { kind = FundedKind; other = None; id = reference; cents = cents })
-movement_of front (Defunded reference cents) = Some (record { kind = DefundedKind; other = None; id = reference; cents = cents })
-movement_of front (Booked from id Accepted) = accepted_movement front from id
-movement_of front (Booked from id (Rejected reason)) = None
-movement_of front (Booked from id TimedOut) = None
-movement_of front (Taken id to cents stamp) = None
-movement_of front (Forwarded from id cents deadline) = None
-movement_of front (Fetched count) = None
-movement_of front Opened = None
+use Rattle.inst_statement.specs.Movement.{came, sent}
 
 none_of : {A : Type 0} (o : Option A) → is_some o ≡ false → o ≡ None
 none_of None h = refl
@@ -83,6 +49,9 @@ taken_found id J = any_first (takes id) (sent id) (takes_sent id) J
 
 pub forwarded_found : (from : ℕ) (id : List ℕ) (J : List Event) → is_forwarded from id J ≡ is_some (first_some (came from id) J)
 forwarded_found from id J = any_first (forwards from id) (came from id) (forwards_came from id) J
+
+pub unsent : (id : List ℕ) (J : List Event) → is_taken id J ≡ false → first_some (sent id) J ≡ None
+unsent id J none = none_of (first_some (sent id) J) (sym (taken_found id J) ∙ none)
 
 pub not_come : (from : ℕ) (id : List ℕ) (J : List Event) → is_forwarded from id J ≡ false → first_some (came from id) J ≡ None
 not_come from id J none = none_of (first_some (came from id) J) (sym (forwarded_found from id J) ∙ none)

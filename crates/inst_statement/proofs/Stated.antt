@@ -16,10 +16,29 @@ use Rattle.inst_journal.proofs.Carrying.{carried_front}
 use Rattle.inst_journal.proofs.Soundness.{sound_push}
 use Rattle.inst_journal.proofs.Walking.{may_have_line, lined, lines_few, front_fits, rest_fits}
 use Rattle.inst_statement.specs.declared.movement.Movement.{Movement}
-use Rattle.inst_statement.specs.Statement.{Stated, Adds, IsStatementOf, line_with}
-use Rattle.inst_statement.proofs.Found.{movement_of}
+use Rattle.inst_statement.specs.KeptStatement.{Stated, Adds, IsStatementOf, line_with}
+use Rattle.inst_statement.specs.Movement.{movement_of}
 use Rattle.inst_statement.proofs.Lines.{so_far, as_list, so_far_more, so_far_anew}
 use Rattle.inst_statement.proofs.Movements.{Moves, movement_line, movement_moves}
+
+-- an event with a movement is no opening, and may have a line
+no_opening : (front : List Event) (event : Event) (m : Movement) → movement_of front event ≡ Some m → is_opening event ≡ false
+no_opening front (Funded reference cents) m some = refl
+no_opening front (Defunded reference cents) m some = refl
+no_opening front (Booked from id outcome) m some = refl
+no_opening front (Taken id to cents stamp) m some = refl
+no_opening front (Forwarded from id cents deadline) m some = refl
+no_opening front (Fetched count) m some = refl
+no_opening front Opened m some = absurd (cc)
+
+pub may_line : (front : List Event) (event : Event) (m : Movement) → movement_of front event ≡ Some m → may_have_line event ≡ true
+may_line front (Funded reference cents) m some = refl
+may_line front (Defunded reference cents) m some = refl
+may_line front (Booked from id outcome) m some = refl
+may_line front (Taken id to cents stamp) m some = absurd (cc)
+may_line front (Forwarded from id cents deadline) m some = absurd (cc)
+may_line front (Fetched count) m some = absurd (cc)
+may_line front Opened m some = absurd (cc)
 
 module _ (s : HubSettings) (who : ℕ) (J : List Event) (new : Event) (sound : IsSound s who J) (fits : Fits s who J new) where
   abbrev K : List Event
@@ -58,16 +77,6 @@ module _ (s : HubSettings) (who : ℕ) (J : List Event) (new : Event) (sound : I
   moves : (o : Option Movement) → movement_of J new ≡ o → Moves (position J) (position K) o
   moves o is = subst (Moves (position J) (position K)) is (movement_moves s who J new sound fits)
 
-  -- an event with a movement is no opening, and may have a line
-  no_opening : (event : Event) (m : Movement) → movement_of J event ≡ Some m → (is_opening event ≡ false) × (may_have_line event ≡ true)
-  no_opening (Funded reference cents) m some = (refl, refl)
-  no_opening (Defunded reference cents) m some = (refl, refl)
-  no_opening (Booked from id outcome) m some = (refl, refl)
-  no_opening (Taken id to cents stamp) m some = absurd (cc)
-  no_opening (Forwarded from id cents deadline) m some = absurd (cc)
-  no_opening (Fetched count) m some = absurd (cc)
-  no_opening Opened m some = absurd (cc)
-
   -- the position that a movement leads to
   pub moved_to : (m : Movement) → movement_of J new ≡ Some m → position K + lowered m.kind m.cents ≡ position J + raised m.kind m.cents
   moved_to m is = moves (Some m) is
@@ -85,7 +94,7 @@ module _ (s : HubSettings) (who : ℕ) (J : List Event) (new : Event) (sound : I
             adds.line ∙ ap (λ L. L ++ line_with (length before.lines + 1) after.position m ∷ []) of.are_lines
             ∙ ap (λ n. statement J ++ line_with n after.position m ∷ []) number
             ∙ ap (λ p. statement J ++ line_with (1 + length (statement J)) p m ∷ []) at
-            ∙ sym (statement_more (no_opening new m is).0 ∙ ap (λ o. statement J ++ as_list (option_map (line_with (1 + length (statement J)) (position K)) o)) is);
+            ∙ sym (statement_more (no_opening J new m is) ∙ ap (λ o. statement J ++ as_list (option_map (line_with (1 + length (statement J)) (position K)) o)) is);
         is_position = at;
       }
 

@@ -1,1 +1,4 @@
-pub mod Statement
+pub mod Someones
+pub mod Movement
+pub mod Kept
+pub mod KeptStatement

@@ -1,10 +1,15 @@
-//! A participant's statement, kept line by line.
+//! A participant's statement: kept line by line, or made by one walk over its history.
 #![tactic(auto)]
 
+mod kept_statement;
 mod movement;
-mod statement;
 #[cfg(test)]
 mod tests;
+mod transfers;
+mod walk;
+#[cfg(test)]
+mod walk_tests;
 
+pub use kept_statement::KeptStatement;
 pub use movement::Movement;
-pub use statement::Statement;
+pub use walk::statement;

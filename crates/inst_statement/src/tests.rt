@@ -1,5 +1,5 @@
 // The lines of a participant that funds, pays, receives and defunds, and the parts of them that are asked for.
-use crate::{Movement, Statement};
+use crate::{KeptStatement, Movement};
 use inst_base::{Cents, Ident};
 use inst_command::{Line, LineKind};
 use std::process::Abort;
@@ -8,7 +8,7 @@ use std::test::Fail;
 /// Adds the line of a movement, in room that is made for it.
 fn add(
     rt: &impl Abort,
-    statement: &mut Statement,
+    statement: &mut KeptStatement,
     kind: LineKind,
     other: Option<u8>,
     id: Ident,
@@ -49,7 +49,7 @@ fn line(
 /// Compares at most `count` lines after the first `skip`.
 fn shows(
     rt: &(impl Abort + AllocGlobal),
-    statement: &Statement,
+    statement: &KeptStatement,
     skip: u64,
     count: u32,
     wanted: &[Line],
@@ -62,7 +62,7 @@ fn shows(
 /// 500 cents are funded, 200 paid, 300 received and 100 defunded: four lines, of which parts are asked for.
 #[test]
 fn shows_what_moved_the_position(rt: HostRuntime) -> Result<(), Fail> {
-    let mut statement = Statement::new(rt.alloc());
+    let mut statement = KeptStatement::new(rt.alloc());
     let (f1, t1, g1) = (Ident::new("F1")?, Ident::new("T1")?, Ident::new("G1")?);
     let (all, paid) = (Cents::new(500)?, Cents::new(200)?);
     let (got, back) = (Cents::new(300)?, Cents::new(100)?);
@@ -89,7 +89,7 @@ fn shows_what_moved_the_position(rt: HostRuntime) -> Result<(), Fail> {
 /// After an opening the lines count from 1 again, from the position that was reached.
 #[test]
 fn begins_anew_after_an_opening(rt: HostRuntime) -> Result<(), Fail> {
-    let mut statement = Statement::new(rt.alloc());
+    let mut statement = KeptStatement::new(rt.alloc());
     let (f1, f2) = (Ident::new("F1")?, Ident::new("F2")?);
     let (before, after) = (Cents::new(500)?, Cents::new(300)?);
     add(&rt, &mut statement, LineKind::Funded, None, f1, before)?;

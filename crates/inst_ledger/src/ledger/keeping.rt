@@ -11,7 +11,7 @@ use crate::transfers::{Forwarding, Origin, Terms, Transfer};
 use inst_base::{Cents, Fault, Ident};
 use inst_command::{Entry, LineKind, Outcome};
 use inst_journal::Event;
-use inst_statement::{Movement, Statement};
+use inst_statement::{KeptStatement, Movement};
 
 impl Ledger {
     /// Keeps a funding.
@@ -277,7 +277,7 @@ fn movement_booked(from: u8, id: Ident, origin: &Origin, outcome: &Outcome) -> O
 }
 
 /// Adds the line of what was moved, if anything was, in room that was made.
-fn add_line(statement: &mut Statement, movement: Option<Movement>)
+fn add_line(statement: &mut KeptStatement, movement: Option<Movement>)
     requires { MayAddIf statement.old movement }
     ensures { AddsIf statement.old movement statement.new }
 {

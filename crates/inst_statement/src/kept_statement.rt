@@ -1,5 +1,5 @@
 ghost use Rattle.std.specs.Prelude.{◌≡◌, ◌<◌, [], take, drop, IfOk, OnOk, IsOk, IsOkUnless};
-ghost use Rattle.inst_statement.specs.Statement.{MayAdd, LeadsTo, Adds};
+ghost use Rattle.inst_statement.specs.KeptStatement.{MayAdd, LeadsTo, Adds};
 
 use crate::movement::Movement;
 use inst_base::Fault;
@@ -11,20 +11,20 @@ use std::marker::Model;
 /// line, in cents. A part of it costs its lines.
 ///
 /// ```text
-/// let mut statement = Statement::new(alloc);
+/// let mut statement = KeptStatement::new(alloc);
 /// statement.reserve()?;
 /// statement.add(funded); // 500 cents: line 1, position 500
 /// statement.part(alloc, 0, 10)
 /// ```
 #[derive(Debug, Drop)]
-pub struct Statement {
+pub struct KeptStatement {
     lines: Vec<Line>,
     position: u64,
 }
 
-impl Model for Statement {
+impl Model for KeptStatement {
     ghost use Rattle.std.specs.Prelude.{◌-◌, vec_len, vec_capacity};
-    ghost use Rattle.inst_statement.specs.Statement.{Stated};
+    ghost use Rattle.inst_statement.specs.KeptStatement.{Stated};
 
     ghost Value = { Stated };
 
@@ -35,13 +35,13 @@ impl Model for Statement {
     } };
 }
 
-impl Statement {
+impl KeptStatement {
     /// No lines, at position 0. It takes no memory.
     pub fn new(alloc: Global) -> Self
         ensures lines { result.lines ≡ [] }
         ensures position { result.position ≡ 0 }
     {
-        Statement {
+        KeptStatement {
             lines: Vec::new(alloc),
             position: 0,
         }

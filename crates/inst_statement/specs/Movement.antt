@@ -1,0 +1,42 @@
+-- What an event moves: the kind of its line, the other participant, the identifier or reference, and the amount, read off
+-- the events before it. This hub's own choice.
+use Rattle.std.specs.Prelude.{ℕ, if◌then◌else◌, List, Option, Some, None}
+use Rattle.inst_settings.specs.Settings.{same_text}
+use Rattle.inst_command.specs.declared.line.LineKind.TheVariants.{Funded as FundedKind, Defunded as DefundedKind, Received, Paid}
+use Rattle.inst_command.specs.declared.outcome.Outcome.TheVariants.{Accepted, Rejected, TimedOut}
+use Rattle.inst_journal.specs.declared.event.Event.{Event}
+use Rattle.inst_journal.specs.declared.event.Event.TheVariants.{Funded, Defunded, Taken, Forwarded, Booked, Fetched, Opened}
+use Rattle.inst_journal.specs.Booked.{first_some, same_transfer}
+use Rattle.inst_statement.specs.declared.movement.Movement.{Movement}
+
+-- the amount of the transfer with this key, where the event forwards it
+abbrev pub came : ℕ → List ℕ → Event → Option ℕ
+came from id (Forwarded other_from other cents deadline) = if same_transfer from id other_from other then Some cents else None
+came from id _ = None
+
+-- the beneficiary and the amount of the transfer with this identifier, where the event takes it
+abbrev pub sent : List ℕ → Event → Option (ℕ × ℕ)
+sent id (Taken other to cents stamp) = if same_text other id then Some (to, cents) else None
+sent id _ = None
+
+-- the movement of an accepted transfer that came with this amount, or else was sent with these terms
+abbrev pub accepted : ℕ → List ℕ → Option ℕ → Option (ℕ × ℕ) → Option Movement
+accepted from id (Some cents) terms = Some (record { kind = Received; other = Some from; id = id; cents = cents })
+accepted from id None (Some terms) = Some (record { kind = Paid; other = Some terms.0; id = id; cents = terms.1 })
+accepted from id None None = None
+
+-- the movement of an accepted transfer after these events
+abbrev pub accepted_movement : List Event → ℕ → List ℕ → Option Movement
+accepted_movement front from id = accepted from id (first_some (came from id) front) (first_some (sent id) front)
+
+-- the movement of an event after these events, if it has one
+abbrev pub movement_of : List Event → Event → Option Movement
+movement_of front (Funded reference cents) = Some (record { kind = FundedKind; other = None; id = reference; cents = cents })
+movement_of front (Defunded reference cents) = Some (record { kind = DefundedKind; other = None; id = reference; cents = cents })
+movement_of front (Booked from id Accepted) = accepted_movement front from id
+movement_of front (Booked from id (Rejected reason)) = None
+movement_of front (Booked from id TimedOut) = None
+movement_of front (Taken id to cents stamp) = None
+movement_of front (Forwarded from id cents deadline) = None
+movement_of front (Fetched count) = None
+movement_of front Opened = None
