@@ -1,4 +1,5 @@
 use Rattle.std.proofs.Common.{◌≡◌, ◌≢◌, ℕ, List, [], ◌∷◌, ◌++◌, refl, sym, ap, subst, ◌∙◌}
+use Rattle.std.proofs.lemmas.Bool.{true≢false}
 use Rattle.inst_settings.specs.Settings.{HubSettings}
 use Rattle.inst_board.specs.declared.place.Place.{Place}
 use Rattle.inst_board.specs.declared.plain.Kept.{Kept}
@@ -14,6 +15,7 @@ use Rattle.inst_slot.specs.Opening.{opened_again, MayOpenAgain, OpensPlaces}
 use Rattle.inst_slot.proofs.Opening.{may_open_first, others_may_open}
 use Rattle.inst_slot.proofs.Together.{Stands, AreBooks, stayed, three}
 use Rattle.inst_slot.proofs.tests.hub.Hub.open_from.Goals as goal
+use Rattle.inst_slot.proofs.tests.hub.Hub.open_from.Goals.{then-is_short-2, else-is_short-2}
 
 -- any may open over a board that is new
 first_may : (b : Contents) (s : HubSettings) (who : ℕ) → b.settings ≡ s → ((k : Place) → kept_at b k ≡ Unused) → MayOpenAgain (λ (x : Contents). x.settings) plain_knows (λ _ _. Unit {0}) b s who
@@ -57,6 +59,12 @@ open_from-requires-3-clause-board c =
     next_may c.open_from.new.board c.open_from-2.new.board s 1 2 c.args.second.now.events y.field-0 y.ensures.stays (λ e. cc) y.ensures.ok y.ensures.opens y.ensures.lawful
     (next_may c.in_ok-board.board c.open_from.new.board s 0 2 c.args.first.now.events x.field-0 x.ensures.stays (λ e. cc) x.ensures.ok x.ensures.opens x.ensures.lawful
     (first_may c.in_ok-board.board s 2 n.0 n.1))
+
+pub open_from-requires-3-clause-few : goal.open_from-requires-3-clause-few
+open_from-requires-3-clause-few c = elim c.if-is_short-2.branch [
+  | then-is_short-2 w ↦ w.is_short-are_few.ensures (sym w.are_few-is ∙ c.if-not-are_few.false)
+  | else-is_short-2 w ↦ absurd (true≢false (sym c.if-not-are_few.false ∙ w.are_few-is ∙ w.if-is_short-2.false))
+]
 
 pub invariant_of-result : goal.invariant_of-result
 invariant_of-result c =
