@@ -1,0 +1,10 @@
+mod Tally
+mod Stepping
+mod Knowing
+mod Moving
+mod Numbers
+mod Boards
+mod Learnt
+mod Meeting
+mod Opening
+mod Seeing

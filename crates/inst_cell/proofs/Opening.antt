@@ -1,0 +1,151 @@
+-- The boards of a hub that opens.
+use Rattle.std.proofs.Common.{◌≡◌, ℕ, zero, suc, ◌*◌, ◌+◌, ◌-◌, ◌<◌, ◌≤◌, List, [], ◌∷◌, ◌++◌, length, get_or, take, drop, replicate, inl, inr, ⊎_elim, ◌⊎◌, sym, refl, ap, ◌∙◌, subst, arith, Some, None, length-append}
+use Rattle.std.specs.Prelude.{Contains, slice_get, ◌↔◌}
+use Rattle.std.proofs.Math.Nat.{suc-mul}
+use Rattle.inst_settings.specs.Settings.{HubSettings, participants}
+use Rattle.inst_board.specs.Plain.{number_of}
+use Rattle.inst_cell.specs.declared.view.Known.{Known}
+use Rattle.inst_cell.specs.declared.view.View.{View}
+use Rattle.inst_cell.specs.declared.shared_board.SharedBoard.{SharedBoard}
+use Rattle.inst_cell.specs.declared.teller.Teller.{Teller}
+use Rattle.inst_cell.specs.View.{known, all_of, count, roles_from, first_view, with_role, without_role, told}
+use Rattle.inst_cell.specs.Rule.{total}
+use Rattle.inst_cell.specs.Held.{settings_of, table_of, view_of, roles_of, has_role, AtOneTable}
+use Rattle.inst_cell.specs.Seen.{board_of}
+use Rattle.inst_cell.specs.Opening.{IsOpened, IsAdmitted, IsNobody, AreDealt}
+use Rattle.inst_cell.proofs.Stepping.{no_fact}
+use Rattle.inst_cell.proofs.Tally.{count_one, only_role}
+
+pub some_words : (a b x : ℕ) → 1 ≤ a → 1 ≤ b → x ≡ b * a * 6 → 0 < x
+some_words a zero x ha hb e = absurd (omega arith)
+some_words zero (suc b) x ha hb e = absurd (omega arith)
+some_words (suc a) (suc b) x ha hb e = let s = suc-mul b (suc a) in omega arith
+
+pub five_words : (a b x : ℕ) → 1 ≤ a → 1 ≤ b → x ≡ b * a * 6 → 5 < x
+five_words a zero x ha hb e = absurd (omega arith)
+five_words zero (suc b) x ha hb e = absurd (omega arith)
+five_words (suc a) (suc b) x ha hb e = let s = suc-mul b (suc a) in omega arith
+
+-- there is a first place
+pub first_below : (s : HubSettings) (a b : ℕ) → 1 ≤ a → 1 ≤ b → a ≡ participants s → b ≡ s.places → 0 < total s
+first_below s a b ha hb ea eb =
+    subst (λ (x : ℕ). 0 < x * participants s) eb (subst (λ (x : ℕ). 0 < b * x) ea (product a b ha hb))
+  where
+    product : (a b : ℕ) → 1 ≤ a → 1 ≤ b → 0 < b * a
+    product a zero ha hb = absurd (omega arith)
+    product zero (suc b) ha hb = absurd (omega arith)
+    product (suc a) (suc b) ha hb = let s = suc-mul b (suc a) in omega arith
+
+abbrev pub blank : ℕ → List ℕ
+blank n = replicate n 0
+
+pub zeros : (n x : ℕ) → get_or (blank n) x 0 ≡ 0
+zeros zero x = refl
+zeros (suc n) zero = refl
+zeros (suc n) (suc x) = zeros n x
+
+snoc_cases : {A : Type 0} (xs : List A) (x b : A) (p : ℕ) → slice_get (xs ++ x ∷ []) p ≡ Some b → (slice_get xs p ≡ Some b) ⊎ ((p ≡ length xs) × (x ≡ b))
+snoc_cases [] x b zero e = let is : x ≡ b = cc in inr (refl, is)
+snoc_cases [] x b (suc p) e = let no : ⊥ = cc in absurd no
+snoc_cases (y ∷ ys) x b zero e = inl e
+snoc_cases (y ∷ ys) x b (suc p) e = ⊎_elim (λ old. inl old) (λ new. inr (ap suc new.0, new.1)) (snoc_cases ys x b p e)
+
+pub sized_as : (l a b : ℕ) (s t : HubSettings) → l ≡ a * b * 6 → a ≡ t.places → b ≡ participants t → s ≡ t → l ≡ total s * 6
+sized_as l a b s t e p q f = e ∙ (ap (λ (x : ℕ). x * b * 6) p ∙ (ap (λ (x : ℕ). t.places * x * 6) q ∙ ap (λ (x : HubSettings). total x * 6) (sym f)))
+
+no_some : {A : Type 0} (b : A) → None ≡ Some b → ⊥
+no_some b e = cc
+
+roles_cut : (i n : ℕ) → i < n → roles_from i (n - i) ≡ i ∷ roles_from (suc i) (n - suc i)
+roles_cut i n h = let e : n - i ≡ suc (n - suc i) = omega arith in ap (λ (m : ℕ). roles_from i m) e
+
+-- the boards of the participants below `next`, and the board that has the other roles
+pub record Dealt (all0 : SharedBoard) (n next : ℕ) (all : SharedBoard) (boards : List SharedBoard) : Type 0 where
+  pub enough : length boards ≡ next
+  pub one : AtOneTable all0 all
+  pub roles : roles_of all ≡ roles_from next (n - next)
+  pub facts : all_of (view_of all) ≡ []
+  pub each : (p : ℕ) (b : SharedBoard) → slice_get boards p ≡ Some b → IsOpened (settings_of all0) (table_of all0) p b
+
+pub dealt_none : (all : SharedBoard) (n : ℕ) → n ≡ participants (settings_of all) → view_of all ≡ first_view (settings_of all) → Dealt all n 0 all []
+dealt_none all n m v = record {
+  enough = refl;
+  one = (refl, refl);
+  roles = ap (λ (u : View). u.roles) v ∙ (ap (λ (x : ℕ). roles_from 0 x) (let z : participants (settings_of all) ≡ n - 0 = omega arith in z));
+  facts = ap all_of v;
+  each = λ p b f. absurd (no_some b f);
+}
+
+-- a board that has the role i alone
+alone_role : (b : SharedBoard) (i q : ℕ) → roles_of b ≡ i ∷ [] → has_role b q ↔ (q ≡ i)
+alone_role b i q e = (
+  λ h. only_role i q (subst (λ (r : List ℕ). 0 < count q r) e h),
+  λ h. subst (λ (r : List ℕ). 0 < count q r) (sym e) (subst (λ (x : ℕ). 0 < count x (i ∷ [])) (sym h) (count_one i)),
+)
+
+pub dealt_more : (all0 : SharedBoard) (n i : ℕ) (all later new : SharedBoard) (boards : List SharedBoard) → Dealt all0 n i all boards → i < n
+    → AtOneTable all new → view_of new ≡ with_role (view_of all)
+    → AtOneTable all later → view_of later ≡ without_role (view_of all)
+    → Dealt all0 n (i + 1) later (boards ++ new ∷ [])
+dealt_more all0 n i all later new boards d below t1 v1 t2 v2 =
+    let cut : roles_of all ≡ i ∷ roles_from (suc i) (n - suc i) = d.roles ∙ roles_cut i n below in
+    let next : suc i ≡ i + 1 = omega arith in
+    let mine : roles_of new ≡ i ∷ [] = ap (λ (u : View). u.roles) v1 ∙ ap (λ (r : List ℕ). take 1 r) cut in
+    let rest : roles_of later ≡ roles_from (suc i) (n - suc i) = ap (λ (u : View). u.roles) v2 ∙ ap (λ (r : List ℕ). drop 1 r) cut in
+    let empty : all_of (view_of new) ≡ [] = ap all_of v1 ∙ d.facts in
+    let opened : IsOpened (settings_of all0) (table_of all0) i new = record {
+      settings = t1.1 ∙ d.one.1;
+      table = t1.0 ∙ d.one.0;
+      role = λ q. alone_role new i q mine;
+      nothing = λ f h. no_fact (known (number_of (settings_of new) f.place) f.about) (subst (λ (l : List Known). Contains l (known (number_of (settings_of new) f.place) f.about)) empty h.1);
+    } in
+    let many = d.enough in
+    record {
+      enough = length-append boards (new ∷ []) ∙ (let z : length boards + length (new ∷ []) ≡ i + 1 = omega arith in z);
+      one = (t2.0 ∙ d.one.0, t2.1 ∙ d.one.1);
+      roles = rest ∙ ap (λ (x : ℕ). roles_from x (n - x)) next;
+      facts = ap all_of v2 ∙ d.facts;
+      each = λ p b f. ⊎_elim (λ old. d.each p b old)
+          (λ last. subst (λ (x : SharedBoard). IsOpened (settings_of all0) (table_of all0) p x) last.1 (subst (λ (x : ℕ). IsOpened (settings_of all0) (table_of all0) x new) (sym (last.0 ∙ d.enough)) opened))
+          (snoc_cases boards new b p f);
+    }
+
+-- all roles were handed over
+pub all_dealt : (all0 : SharedBoard) (n : ℕ) (all : SharedBoard) (boards : List SharedBoard) → n ≡ participants (settings_of all0) → Dealt all0 n n all boards → AreDealt all0 boards
+all_dealt all0 n all boards m d = record { enough = d.enough ∙ m; each = d.each }
+
+pub rest_dealt : (all0 : SharedBoard) (n : ℕ) (all : SharedBoard) (boards : List SharedBoard) → Dealt all0 n n all boards → AtOneTable all0 all × IsNobody all
+rest_dealt all0 n all boards d = (d.one, record { roles = d.roles ∙ ap (λ (x : ℕ). roles_from n x) (let z : n - n ≡ 0 = omega arith in z); nothing = d.facts })
+
+-- the tellers that were admitted by a board that knows nothing
+pub record Seated (all0 : SharedBoard) (next : ℕ) (all : SharedBoard) (tellers : List Teller) : Type 0 where
+  pub enough : length tellers ≡ next
+  pub one : AtOneTable all0 all
+  pub nobody : IsNobody all
+  pub each : (i : ℕ) (t : Teller) → slice_get tellers i ≡ Some t → IsAdmitted (settings_of all0) (table_of all0) t
+
+pub seated_none : (all : SharedBoard) → IsNobody all → Seated all 0 all []
+seated_none all nobody = record { enough = refl; one = (refl, refl); nobody = nobody; each = λ i t f. absurd (no_some t f) }
+
+pub seated_more : (all0 : SharedBoard) (i : ℕ) (all later : SharedBoard) (new : Teller) (tellers : List Teller) → Seated all0 i all tellers
+    → AtOneTable all (board_of new) → view_of (board_of new) ≡ told (view_of all)
+    → AtOneTable all later → view_of later ≡ view_of all
+    → Seated all0 (i + 1) later (tellers ++ new ∷ [])
+seated_more all0 i all later new tellers d t1 v1 t2 v2 =
+    let b = board_of new in
+    let empty : all_of (view_of b) ≡ [] = ap all_of v1 ∙ d.nobody.nothing in
+    let admitted : IsAdmitted (settings_of all0) (table_of all0) new = record {
+      settings = t1.1 ∙ d.one.1;
+      table = t1.0 ∙ d.one.0;
+      roles = ap (λ (u : View). u.roles) v1;
+      nothing = λ f h. no_fact (known (number_of (settings_of b) f.place) f.about) (subst (λ (l : List Known). Contains l (known (number_of (settings_of b) f.place) f.about)) empty h.1);
+    } in
+    let many = d.enough in
+    record {
+      enough = length-append tellers (new ∷ []) ∙ (let z : length tellers + length (new ∷ []) ≡ i + 1 = omega arith in z);
+      one = (t2.0 ∙ d.one.0, t2.1 ∙ d.one.1);
+      nobody = record { roles = ap (λ (u : View). u.roles) v2 ∙ d.nobody.roles; nothing = ap all_of v2 ∙ d.nobody.nothing };
+      each = λ p t f. ⊎_elim (λ old. d.each p t old)
+          (λ last. subst (λ (x : Teller). IsAdmitted (settings_of all0) (table_of all0) x) last.1 admitted)
+          (snoc_cases tellers new t p f);
+    }

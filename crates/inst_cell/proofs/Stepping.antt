@@ -1,0 +1,248 @@
+-- What a step does to the rule.
+use Rattle.std.proofs.Common.{◌≡◌, ℕ, eqb, cond, zero, suc, ◌+◌, ◌*◌, ◌/◌, ◌<◌, ◌≢◌, ◌⊎◌, Bool, List, [], ◌∷◌, ◌++◌, length, get_or, set, inl, inr, ⊎_elim, sym, refl, ap, ◌∙◌, subst, arith, length-set, get_or-set_same, eq-eqb, ne_eqb, Some}
+use Rattle.std.specs.Prelude.{Contains}
+use Rattle.std.proofs.lemmas.List.Elements.{Contains-append_left, Contains-append_right, Contains-append_cases}
+use mathlib.Core.Option.{some}
+use mathlib.Core.Logic.{dite}
+use native.Mathlib.Decide.{ℕ_discrete}
+use lib.ListN.{get_elem?}
+use Rattle.atomic_table.proofs.Lists.{at_set}
+use Rattle.inst_command.specs.declared.outcome.Outcome.{Outcome}
+use Rattle.inst_settings.specs.Settings.{HubSettings}
+use Rattle.inst_terms.specs.declared.terms.Terms.{Terms}
+use Rattle.inst_terms.specs.Terms.{words_of}
+use Rattle.inst_board.specs.declared.about.About.{About}
+use Rattle.inst_board.specs.declared.about.About.TheVariants.{Opened, HasTerms, Due, Decided}
+use Rattle.inst_board.specs.Standing.{Standing, unused, pending, final, Says}
+use Rattle.inst_board.specs.Learning.{IsOfOpening, IsAnswer}
+use Rattle.inst_cell.specs.declared.view.Known.{Known}
+use Rattle.inst_cell.specs.declared.view.View.{View}
+use Rattle.inst_cell.specs.View.{known, all_true, all_of, count, note, learnt, with_note, united}
+use Rattle.inst_cell.specs.Rule.{encode, IsShowable, total, Keeps}
+use Rattle.inst_cell.proofs.Tally.{held-set, held_two, noted_then}
+
+pub get_or-set_else : (l : List ℕ) (i j n : ℕ) → j ≢ i → get_or (set l i n) j 0 ≡ get_or l j 0
+get_or-set_else [] i j n ne = refl
+get_or-set_else (x ∷ xs) zero zero n ne = absurd (ne refl)
+get_or-set_else (x ∷ xs) zero (suc j) n ne = refl
+get_or-set_else (x ∷ xs) (suc i) zero n ne = refl
+get_or-set_else (x ∷ xs) (suc i) (suc j) n ne = get_or-set_else xs i j n (λ e. ne (ap suc e))
+
+apart : (j k : ℕ) → j ≢ k → j * 6 + 5 ≢ k * 6 + 5
+apart j k ne e = ne (omega arith)
+
+no_term : (j k i : ℕ) → i < 5 → j * 6 + i ≢ k * 6 + 5
+no_term j k i h e = absurd (omega arith)
+
+no_outcome : (j k i : ℕ) → i < 5 → j * 6 + 5 ≢ k * 6 + i
+no_outcome j k i h e = absurd (omega arith)
+
+pub one_place : (j k i h : ℕ) → i < 5 → h < 5 → j * 6 + h ≡ k * 6 + i → (j ≡ k) × (h ≡ i)
+one_place j k i h a b e = (omega arith, omega arith)
+
+module _ (world : ℕ → Standing) (k : ℕ) (q : Standing) where
+  abbrev pub after : ℕ → Standing
+  after j = cond (eqb j k) q (world j)
+
+  pub after_by : (P : Standing → Type 0) (j : ℕ) → (j ≡ k → P q) → (j ≢ k → P (world j)) → P (after j)
+  after_by P j here there = dite (ℕ_discrete j k)
+      (λ e. subst (λ (b : Bool). P (cond b q (world j))) (sym (eq-eqb j k e)) (here e))
+      (λ ne. subst (λ (b : Bool). P (cond b q (world j))) (sym (ne_eqb j k ne)) (there ne))
+
+pub in_cons : {A : Type 0} (a b : A) (l : List A) → Contains (a ∷ l) b → (a ≡ b) ⊎ Contains l b
+in_cons a b l (zero, below, is) = inl is
+in_cons a b l (suc i, below, is) = inr (i, omega arith, is)
+
+pub no_fact : (f : Known) → Contains [] f → ⊥
+no_fact f c = let z = c.1 in omega arith
+
+true_at : (k : ℕ) (q : Standing) (a : About) (f : Known) → Says q a → known k a ≡ f → (f.place ≡ k) × Says q f.about
+true_at k q a f says is = (ap (λ (g : Known). g.place) (sym is), subst (λ (g : Known). Says q g.about) is says)
+
+-- what is read is true of the place
+pub read_true : (k : ℕ) (q : Standing) (f : Known) → Contains (all_true k q) f → (f.place ≡ k) × Says q f.about
+read_true k unused f h = absurd (no_fact f h)
+read_true k (pending t d) f (zero, b, e) = true_at k (pending t d) Opened f tt e
+read_true k (pending t d) f (suc zero, b, e) = true_at k (pending t d) (HasTerms t) f refl e
+read_true k (pending t d) f (suc (suc zero), b, e) = true_at k (pending t d) (Due d) f refl e
+read_true k (pending t d) f (suc (suc (suc i)), b, e) = absurd (omega arith)
+read_true k (final t d o m) f (zero, b, e) = true_at k (final t d o m) Opened f tt e
+read_true k (final t d o m) f (suc zero, b, e) = true_at k (final t d o m) (HasTerms t) f refl e
+read_true k (final t d o m) f (suc (suc zero), b, e) = true_at k (final t d o m) (Due d) f refl e
+read_true k (final t d o m) f (suc (suc (suc zero)), b, e) = true_at k (final t d o m) (Decided o) f refl e
+read_true k (final t d o m) f (suc (suc (suc (suc i))), b, e) = absurd (omega arith)
+
+-- all that is true of the place is read
+pub read_all : (k : ℕ) (q : Standing) (a : About) → Says q a → Contains (all_true k q) (known k a)
+read_all k unused a h = absurd h
+read_all k (pending t d) Opened h = (0, omega arith, refl)
+read_all k (pending t d) (HasTerms u) h = (1, omega arith, ap (λ (x : Terms). known k (HasTerms x)) (sym h))
+read_all k (pending t d) (Due e) h = (2, omega arith, ap (λ (x : ℕ). known k (Due x)) (sym h))
+read_all k (pending t d) (Decided o) h = absurd h
+read_all k (final t d p m) Opened h = (0, omega arith, refl)
+read_all k (final t d p m) (HasTerms u) h = (1, omega arith, ap (λ (x : Terms). known k (HasTerms x)) (sym h))
+read_all k (final t d p m) (Due e) h = (2, omega arith, ap (λ (x : ℕ). known k (Due x)) (sym h))
+read_all k (final t d p m) (Decided o) h = (3, omega arith, ap (λ (x : Outcome). known k (Decided x)) (sym h))
+
+pub all_left : (v : View) (k : ℕ) (q : Standing) (f : Known) → Contains (all_of v) f → Contains (all_of (learnt v k q)) f
+all_left v k q f c = ⊎_elim
+    (λ l. Contains-append_left (v.facts ++ all_true k q) v.heard f (Contains-append_left v.facts (all_true k q) f l))
+    (λ r. Contains-append_right (v.facts ++ all_true k q) v.heard f r)
+    (Contains-append_cases v.facts v.heard f c)
+
+pub all_right : (v : View) (k : ℕ) (q : Standing) (f : Known) → Contains (all_true k q) f → Contains (all_of (learnt v k q)) f
+all_right v k q f c = Contains-append_left (v.facts ++ all_true k q) v.heard f (Contains-append_right v.facts (all_true k q) f c)
+
+pub all_cases : (v : View) (k : ℕ) (q : Standing) (f : Known) → Contains (all_of (learnt v k q)) f → Contains (all_of v) f ⊎ Contains (all_true k q) f
+all_cases v k q f c = ⊎_elim
+    (λ l. ⊎_elim (λ a. inl (Contains-append_left v.facts v.heard f a)) (λ b. inr b) (Contains-append_cases v.facts (all_true k q) f l))
+    (λ r. inl (Contains-append_right v.facts v.heard f r))
+    (Contains-append_cases (v.facts ++ all_true k q) v.heard f c)
+
+-- all that both knew
+pub united_cases : (v w : View) (f : Known) → Contains (all_of (united v w)) f → Contains (all_of v) f ⊎ Contains (all_of w) f
+united_cases v w f c = ⊎_elim
+    (λ l. ⊎_elim (λ x. inl (Contains-append_left v.facts v.heard f x)) (λ y. inr (Contains-append_left w.facts w.heard f y)) (Contains-append_cases v.facts w.facts f l))
+    (λ r. ⊎_elim (λ x. inl (Contains-append_right v.facts v.heard f x)) (λ y. inr (Contains-append_right w.facts w.heard f y)) (Contains-append_cases v.heard w.heard f r))
+    (Contains-append_cases (v.facts ++ w.facts) (v.heard ++ w.heard) f c)
+
+pub united_all : (v w : View) (f : Known) → Contains (all_of v) f ⊎ Contains (all_of w) f → Contains (all_of (united v w)) f
+united_all v w f c = ⊎_elim
+    (λ l. ⊎_elim
+    (λ x. Contains-append_left (v.facts ++ w.facts) (v.heard ++ w.heard) f (Contains-append_left v.facts w.facts f x))
+    (λ y. Contains-append_right (v.facts ++ w.facts) (v.heard ++ w.heard) f (Contains-append_left v.heard w.heard f y))
+    (Contains-append_cases v.facts v.heard f l))
+    (λ r. ⊎_elim
+    (λ x. Contains-append_left (v.facts ++ w.facts) (v.heard ++ w.heard) f (Contains-append_right v.facts w.facts f x))
+    (λ y. Contains-append_right (v.facts ++ w.facts) (v.heard ++ w.heard) f (Contains-append_right v.heard w.heard f y))
+    (Contains-append_cases w.facts w.heard f r))
+    c
+
+pub itself : (v : View) (f : Known) → Contains v.facts f → Contains (all_of v) f
+itself v f c = Contains-append_left v.facts v.heard f c
+
+each_set : (l : List View) (id : ℕ) (w : View) (P : View → Type 0) → P w → ((i : ℕ) (v : View) → get_elem? l i ≡ some v → i ≢ id → P v) → (i : ℕ) (v : View) → get_elem? (set l id w) i ≡ some v → P v
+each_set l id w P here there i v e = ⊎_elim (λ t. subst P t.1 here) (λ t. there i v t.1 t.0) (at_set l id i w v e)
+
+module _ (s : HubSettings) (words : List ℕ) (views : List View) (r : Keeps s words views) (id : ℕ) (v : View) (at : get_elem? views id ≡ some v) where
+  -- the seat that has the role of an unused place writes one of its terms words
+  pub writes : (k i n : ℕ) → k < total s → i < 5 → 0 < count (k / s.places) v.roles → ¬ Says (r.world k) Opened
+      → Keeps s (set words (k * 6 + i) n) (set views id (with_note v (k * 6 + i) n))
+  writes k i n within small role free =
+      let x : ℕ = k * 6 + i in
+      let w : View = with_note v x n in
+      let sized = r.sized in
+      let there : x < length words = omega arith in
+      record {
+        world = r.world;
+        sized = length-set words x n ∙ r.sized;
+        shown = λ j below. get_or-set_else words x (j * 6 + 5) n (no_outcome j k i small) ∙ r.shown j below;
+        written = λ j h t below under says. dite (ℕ_discrete j k)
+            (λ e. absurd (free (subst (λ y. Says (r.world y) Opened) e (opened_of (r.world j) (HasTerms t) says))))
+            (λ ne. get_or-set_else words x (j * 6 + h) n (λ e. ne (one_place j k i h small under e).0) ∙ r.written j h t below under says);
+        showable = r.showable;
+        honest = each_set views id w (λ u. (f : Known) → Contains (all_of u) f → Says (r.world f.place) f.about) (r.honest id v at) (λ i u e ne. r.honest i u e);
+        whole = each_set views id w (λ u. (j : ℕ) → 0 < count (j / s.places) u.roles → (a : About) → IsOfOpening a → Says (r.world j) a → Contains u.facts (known j a))
+            (r.whole id v at) (λ i u e ne. r.whole i u e);
+        answered = each_set views id w (λ u. (j : ℕ) (t : Terms) → Says (r.world j) (HasTerms t) → 0 < count t.to u.roles → (o : Outcome) → IsAnswer o → Says (r.world j) (Decided o) → Contains u.facts (known j (HasTerms t)) × Contains u.facts (known j (Decided o)))
+            (r.answered id v at) (λ i u e ne. r.answered i u e);
+        noted = each_set views id w (λ u. (j h m : ℕ) → j < total s → h < 5 → note u.notes (j * 6 + h) ≡ Some m → (0 < count (j / s.places) u.roles) × (¬ Says (r.world j) Opened → get_or (set words x n) (j * 6 + h) 0 ≡ m))
+            (λ j h m below under nt. ⊎_elim
+            (λ mine. (
+              subst (λ y. 0 < count (y / s.places) v.roles) (sym (one_place j k i h small under mine.0).0) role,
+              λ closed. ap (λ y. get_or (set words x n) y 0) mine.0 ∙ (get_or-set_same words x n 0 there ∙ mine.1),
+            ))
+            (λ old. let was = r.noted id v at j h m below under old.1 in (was.0, λ closed. get_or-set_else words x (j * 6 + h) n old.0 ∙ was.1 closed))
+            (noted_then v.notes x n (j * 6 + h) m nt))
+            (λ i' u e ne j h m below under nt. let was = r.noted i' u e j h m below under nt in (
+              was.0,
+              λ closed. dite (ℕ_discrete j k)
+                  (λ same.
+                  let two = held_two (k / s.places) views id i' v u at e ne in
+                  let one = r.alone (k / s.places) in
+                  let more : 0 < count (k / s.places) u.roles = subst (λ y. 0 < count (y / s.places) u.roles) same was.0 in absurd (omega arith))
+                  (λ other. get_or-set_else words x (j * 6 + h) n (λ e. other (one_place j k i h small under e).0) ∙ was.1 closed),
+            ));
+        alone = λ q. let one = r.alone q in let same = held-set q views id v w at in omega arith;
+      }
+    where
+      opened_of : (p : Standing) (a : About) → Says p a → Says p Opened
+      opened_of unused a h = h
+      opened_of (pending t d) a h = tt
+      opened_of (final t d o m) a h = tt
+
+  -- the outcome word of the place k changes, or is read
+  module _ (k : ℕ) (within : k < total s) (q : Standing) (showable : IsShowable s.margin q) (follows : (a : About) → Says (r.world k) a → Says q a)
+      (terms : (i : ℕ) (t : Terms) → i < 5 → Says q (HasTerms t) → get_or words (k * 6 + i) 0 ≡ get_or (words_of t) i 0)
+      (backed : ((a : About) → IsOfOpening a → Says q a → Says (r.world k) a) ⊎ (0 < count (k / s.places) v.roles))
+      (replied : ((o : Outcome) → IsAnswer o → Says q (Decided o) → Says (r.world k) (Decided o) × ((t : Terms) → Says q (HasTerms t) → Says (r.world k) (HasTerms t)))
+      ⊎ ((t : Terms) → Says q (HasTerms t) → 0 < count t.to v.roles)) where
+    abbrev W : ℕ → Standing
+    W = after r.world k q
+
+    abbrev X : ℕ
+    X = k * 6 + 5
+
+    abbrev fs : List Known
+    fs = all_true k q
+
+    lasts : (j : ℕ) (a : About) → Says (r.world j) a → Says (W j) a
+    lasts j a h = after_by r.world k q (λ p. Says p a) j (λ e. follows a (subst (λ i. Says (r.world i) a) e h)) (λ ne. h)
+
+    before : (P : Standing → Type 0) (j : ℕ) → P (W j) → ((j ≡ k) × P q) ⊎ ((j ≢ k) × P (r.world j))
+    before P j h = dite (ℕ_discrete j k)
+        (λ e. inl (e, subst (λ (b : Bool). P (cond b q (r.world j))) (eq-eqb j k e) h))
+        (λ ne. inr (ne, subst (λ (b : Bool). P (cond b q (r.world j))) (ne_eqb j k ne) h))
+
+    pub moved : Keeps s (set words X (encode q)) (set views id (learnt v k q))
+    moved = let w : View = learnt v k q in let sized = r.sized in let there : X < length words = omega arith in record {
+      world = W;
+      sized = length-set words X (encode q) ∙ r.sized;
+      shown = λ j below. after_by r.world k q (λ p. get_or (set words X (encode q)) (j * 6 + 5) 0 ≡ encode p) j
+          (λ e. ap (λ y. get_or (set words X (encode q)) (y * 6 + 5) 0) e ∙ get_or-set_same words X (encode q) 0 there)
+          (λ ne. get_or-set_else words X (j * 6 + 5) (encode q) (apart j k ne) ∙ r.shown j below);
+      written = λ j h t below under says. get_or-set_else words X (j * 6 + h) (encode q) (no_term j k h under)
+          ∙ after_by r.world k q (λ p. Says p (HasTerms t) → get_or words (j * 6 + h) 0 ≡ get_or (words_of t) h 0) j
+          (λ e says. ap (λ y. get_or words (y * 6 + h) 0) e ∙ terms h t under says)
+          (λ ne says. r.written j h t below under says)
+          says;
+      showable = λ j. after_by r.world k q (IsShowable s.margin) j (λ e. showable) (λ ne. r.showable j);
+      honest = each_set views id w (λ u. (f : Known) → Contains (all_of u) f → Says (W f.place) f.about)
+          (λ f c. ⊎_elim (λ old. lasts f.place f.about (r.honest id v at f old))
+          (λ new. let t = read_true k q f new in after_by r.world k q (λ p. Says p f.about) f.place (λ e. t.1) (λ ne. absurd (ne t.0)))
+          (all_cases v k q f c))
+          (λ i u e ne f c. lasts f.place f.about (r.honest i u e f c));
+      whole = each_set views id w (λ u. (j : ℕ) → 0 < count (j / s.places) u.roles → (a : About) → IsOfOpening a → Says (W j) a → Contains u.facts (known j a))
+          (λ j role a ts says. ⊎_elim
+          (λ here. Contains-append_right v.facts fs (known j a) (subst (λ i. Contains fs (known i a)) (sym here.0) (read_all k q a here.1)))
+          (λ there. Contains-append_left v.facts fs (known j a) (r.whole id v at j role a ts there.1))
+          (before (λ p. Says p a) j says))
+          (λ i u e ne j role a ts says. ⊎_elim
+          (λ here. ⊎_elim
+          (λ back. r.whole i u e j role a ts (subst (λ i. Says (r.world i) a) (sym here.0) (back a ts here.1)))
+          (λ mine. let two = held_two (k / s.places) views id i v u at e ne in let one = r.alone (k / s.places) in
+          let role' : 0 < count (k / s.places) u.roles = subst (λ i. 0 < count (i / s.places) u.roles) here.0 role in absurd (omega arith))
+          backed)
+          (λ there. r.whole i u e j role a ts there.1)
+          (before (λ p. Says p a) j says));
+      answered = each_set views id w (λ u. (j : ℕ) (t : Terms) → Says (W j) (HasTerms t) → 0 < count t.to u.roles → (o : Outcome) → IsAnswer o → Says (W j) (Decided o) → Contains u.facts (known j (HasTerms t)) × Contains u.facts (known j (Decided o)))
+          (λ j t has role o ans says. ⊎_elim
+          (λ here. (
+            Contains-append_right v.facts fs (known j (HasTerms t)) (subst (λ i. Contains fs (known i (HasTerms t))) (sym here.0) (read_all k q (HasTerms t) here.1.0)),
+            Contains-append_right v.facts fs (known j (Decided o)) (subst (λ i. Contains fs (known i (Decided o))) (sym here.0) (read_all k q (Decided o) here.1.1)),
+          ))
+          (λ there. let was = r.answered id v at j t there.1.0 role o ans there.1.1 in (Contains-append_left v.facts fs (known j (HasTerms t)) was.0, Contains-append_left v.facts fs (known j (Decided o)) was.1))
+          (before (λ p. Says p (HasTerms t) × Says p (Decided o)) j (has, says)))
+          (λ i u e ne j t has role o ans says. ⊎_elim
+          (λ here. ⊎_elim
+          (λ back. let b = back o ans here.1.1 in
+          r.answered i u e j t (subst (λ y. Says (r.world y) (HasTerms t)) (sym here.0) (b.1 t here.1.0)) role o ans (subst (λ y. Says (r.world y) (Decided o)) (sym here.0) b.0))
+          (λ mine. let two = held_two t.to views id i v u at e ne in let one = r.alone t.to in let role' = mine t here.1.0 in absurd (omega arith))
+          replied)
+          (λ there. r.answered i u e j t there.1.0 role o ans there.1.1)
+          (before (λ p. Says p (HasTerms t) × Says p (Decided o)) j (has, says)));
+      noted = each_set views id w (λ u. (j h m : ℕ) → j < total s → h < 5 → note u.notes (j * 6 + h) ≡ Some m → (0 < count (j / s.places) u.roles) × (¬ Says (W j) Opened → get_or (set words X (encode q)) (j * 6 + h) 0 ≡ m))
+          (λ j h m below under nt. let was = r.noted id v at j h m below under nt in (was.0, λ closed. get_or-set_else words X (j * 6 + h) (encode q) (no_term j k h under) ∙ was.1 (λ old. closed (lasts j Opened old))))
+          (λ i u e ne j h m below under nt. let was = r.noted i u e j h m below under nt in (was.0, λ closed. get_or-set_else words X (j * 6 + h) (encode q) (no_term j k h under) ∙ was.1 (λ old. closed (lasts j Opened old))));
+      alone = λ p. let one = r.alone p in let same = held-set p views id v w at in omega arith;
+    }

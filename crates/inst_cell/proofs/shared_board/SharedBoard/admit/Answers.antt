@@ -1,0 +1,17 @@
+use Rattle.std.proofs.Common.{◌≡◌, ◌+◌, List, ap, sym, subst, ◌∙◌}
+use Rattle.inst_cell.specs.declared.teller.Teller.{Teller}
+use Rattle.inst_cell.specs.declared.shared_board.SharedBoard.{SharedBoard}
+use Rattle.inst_cell.specs.View.{told}
+use Rattle.inst_cell.specs.Held.{view_of, AtOneTable}
+use Rattle.inst_cell.proofs.Opening.{Seated, seated_more}
+use Rattle.inst_cell.proofs.shared_board.SharedBoard.admit.Goals as goal
+
+pub loop-next-preserved : goal.loop-next-preserved
+loop-next-preserved c =
+    let all = c.loop-next.self in
+    let n = c.in_ok-board.ensures.new in
+    let o = c.in_ok-board.ensures.old in
+    let t1 : AtOneTable all c.of.result.board = subst (λ (b : SharedBoard). AtOneTable all b) (sym c.of.ensures) n.0 in
+    let v1 : view_of c.of.result.board ≡ told (view_of all) = ap view_of c.of.ensures ∙ n.1 in
+    let more = seated_more c.args.self.now c.loop-next._next all c.copy.new.self c.of.result c.loop-next.all.items c.loop-next.invariant t1 v1 o.0 o.1 in
+    subst (λ (l : List Teller). Seated c.args.self.now (c.loop-next._next + 1) c.copy.new.self l) (sym c.in_ok-push.ensures.items) more

@@ -1,0 +1,11 @@
+use Rattle.std.proofs.Common.{◌+◌, List, sym, subst, arith}
+use Rattle.inst_cell.specs.declared.shared_board.SharedBoard.{SharedBoard}
+use Rattle.inst_cell.proofs.Opening.{Dealt, dealt_more}
+use Rattle.inst_cell.proofs.shared_board.SharedBoard.deal.Goals as goal
+
+pub loop-next-preserved : goal.loop-next-preserved
+loop-next-preserved c =
+    let n = c.in_ok-board.ensures.new in
+    let o = c.in_ok-board.ensures.old in
+    let more = dealt_more c.args.self.now c.args.participants c.loop-next._next c.loop-next.self c.hand_over.new.self c.in_ok-board.board c.loop-next.boards.items c.loop-next.invariant (omega arith) n.0 n.1 o.0 o.1 in
+    subst (λ (l : List SharedBoard). Dealt c.args.self.now c.args.participants (c.loop-next._next + 1) c.hand_over.new.self l) (sym c.in_ok-push.ensures.items) more

@@ -1,0 +1,101 @@
+use Rattle.std.proofs.Common.{◌<◌, ℕ, List, ◌∙◌, sym, ap, subst, ⊎_elim, inl, inr, None, Some}
+use Rattle.std.specs.Prelude.{Option}
+use Rattle.inst_command.specs.declared.outcome.Outcome.{Outcome}
+use Rattle.inst_settings.specs.Settings.{HubSettings}
+use Rattle.inst_board.specs.declared.about.About.TheVariants.{Opened, HasTerms, Due}
+use Rattle.inst_board.specs.Learning.{Answers, Learns}
+use Rattle.inst_board.proofs.PlainSteps.{wanted_in_time}
+use Rattle.inst_cell.specs.View.{count}
+use Rattle.inst_cell.specs.Rule.{IsShowable}
+use Rattle.inst_cell.specs.Held.{settings_of, knows, has_role, stood}
+use Rattle.inst_cell.proofs.Boards.{wants_at, learns_as, learns_two, says_known, stood_from, stood_across, knew_before, due_of, opened_not_unused, answers_final, answers_pending, answers_settled, settled, answers_party, place_still}
+use Rattle.inst_cell.proofs.shared_board.board.SharedBoardBoard.decide.Goals as goal
+
+pub returns-in_err-outcome-in-Pending-clause-decides :
+    goal.returns-in_err-outcome-in-Pending-clause-decides
+returns-in_err-outcome-in-Pending-clause-decides c =
+    let b = c.args.self.now in let k = c.args.place in
+    let l = c.load-word.ensures in
+    let s = l.shows in
+    let word = c.read_word.ensures _ s.standing s.showable s.is in
+    record {
+      standing = s.standing;
+      learns = learns_as b c.load-word.new.self k s.standing c.requires.opened.0 l.stays.settings s.learns s.showable s.agrees;
+      answers = subst (λ (r : Option Outcome). Answers (settings_of b).margin (stood b k) c.args.wish c.args.at s.standing r) (sym c.from_residual.ensures)
+          (answers_pending (settings_of b).margin (stood b k) c.args.wish c.args.at s.standing c.read_word.result c.in-Pending.deadline word c.in-Pending.is (wants_at c.load-word.new.self.margin (settings_of b).margin c.args.wish c.in-Pending.deadline c.args.at None (c.load-word.new.self.margin_is ∙ ap (λ (z : HubSettings). z.margin) l.stays.settings) (sym c.outcome.ensures ∙ c.in_err-outcome-in-Pending.was)));
+    }
+
+pub settle-word-requires-clause-in_time : goal.settle-word-requires-clause-in_time
+settle-word-requires-clause-in_time c =
+    let m = c.load-word.new.self in
+    wanted_in_time (settings_of m).margin c.args.wish c.in-Pending.deadline c.args.at c.in_ok-outcome-in-Pending.outcome (wants_at m.margin (settings_of m).margin c.args.wish c.in-Pending.deadline c.args.at (Some c.in_ok-outcome-in-Pending.outcome) m.margin_is (sym c.outcome.ensures ∙ c.in_ok-outcome-in-Pending.was))
+
+pub settle-word-requires-clause-due : goal.settle-word-requires-clause-due
+settle-word-requires-clause-due c =
+    let l = c.load-word.ensures in
+    let s = l.shows in
+    let word = c.read_word.ensures _ s.standing s.showable s.is in
+    (says_known c.args.self.now c.load-word.new.self c.args.place s.standing c.requires.opened.0 l.stays.settings s.learns (Due c.in-Pending.deadline) (due_of s.standing c.read_word.result c.in-Pending.deadline word c.in-Pending.is))
+
+pub settle-word-requires-clause-terms : goal.settle-word-requires-clause-terms
+settle-word-requires-clause-terms c =
+    let l = c.load-word.ensures in
+    let s = l.shows in
+    let may = c.requires in
+    let wants = sym c.outcome.ensures ∙ c.in_ok-outcome-in-Pending.was in (
+      may.terms,
+      (says_known c.args.self.now c.load-word.new.self c.args.place s.standing may.opened.0 l.stays.settings s.learns (HasTerms may.terms) (s.agrees (HasTerms may.terms) may.has_terms.1)),
+      λ ans. subst (λ (r : List ℕ). 0 < count may.terms.to r) (sym l.stays.roles)
+          (answers_party c.load-word.new.self.margin (has_role c.args.self.now) c.args.wish c.args.place may.terms c.in-Pending.deadline c.args.at c.in_ok-outcome-in-Pending.outcome wants may.party ans),
+    )
+
+pub unreachable-requires : goal.unreachable-requires
+unreachable-requires c =
+    let l = c.load-word.ensures in
+    let s = l.shows in
+    let word = c.read_word.ensures _ s.standing s.showable s.is in
+    let due = (says_known c.args.self.now c.load-word.new.self c.args.place s.standing c.requires.opened.0 l.stays.settings s.learns (Due c.in-Pending.deadline) (due_of s.standing c.read_word.result c.in-Pending.deadline word c.in-Pending.is)).1 in
+    let t = c.settle-word.ensures.shows in
+    let word' = c.read_word-in-Pending.ensures _ t.standing t.showable t.is in
+    let z = settled t.standing c.read_word-in-Pending.result c.in-Pending.deadline c.settle-word.result (t.agrees (Due c.in-Pending.deadline) due) word' t.is c.settle-word.ensures.moved in
+    c.in_default.not-Final z.0 z.1 z.2
+
+pub unreachable-requires-in-Unused : goal.unreachable-requires-in-Unused
+unreachable-requires-in-Unused c =
+    let s = c.load-word.ensures.shows in
+    opened_not_unused s.standing c.read_word.result (s.agrees Opened c.requires.opened.1) (c.read_word.ensures _ s.standing s.showable s.is) c.in-Unused.is
+
+pub returns-in-Final-clause-decides : goal.returns-in-Final-clause-decides
+returns-in-Final-clause-decides c =
+    let b = c.args.self.now in let k = c.args.place in
+    let l = c.load-word.ensures in
+    let s = l.shows in
+    let word = c.read_word.ensures _ s.standing s.showable s.is in
+    record {
+      standing = s.standing;
+      learns = learns_as b c.load-word.new.self k s.standing c.requires.opened.0 l.stays.settings s.learns s.showable s.agrees;
+      answers = answers_final (settings_of b).margin (stood b k) c.args.wish c.args.at s.standing c.read_word.result c.in-Final.outcome c.in-Final.field-1 word c.in-Final.is
+          (λ o says. stood_from b k c.requires.opened.0 s.standing s.agrees (knew_before _ _ _ _ s).1 o says);
+    }
+
+pub returns-in-Final-read_word-clause-decides : goal.returns-in-Final-read_word-clause-decides
+returns-in-Final-read_word-clause-decides c =
+    let b = c.args.self.now in let m = c.load-word.new.self in let d = c.settle-word.new.self in let k = c.args.place in
+    let l = c.load-word.ensures in
+    let s = l.shows in
+    let word = c.read_word.ensures _ s.standing s.showable s.is in
+    let place = c.requires.opened.0 in
+    let deadline = c.in-Pending.deadline in
+    let due = (says_known b m k s.standing place l.stays.settings s.learns (Due deadline) (due_of s.standing c.read_word.result deadline word c.in-Pending.is)).1 in
+    let e = c.settle-word.ensures in
+    let t = e.shows in
+    let word' = c.read_word-in-Pending.ensures _ t.standing t.showable t.is in
+    let one = learns_as b m k s.standing place l.stays.settings s.learns s.showable s.agrees in
+    let two = subst (λ (z : HubSettings). Learns z.margin knows m k t.standing d) l.stays.settings (learns_as m d k t.standing (place_still b m k l.stays place) e.stays.settings t.learns t.showable t.agrees) in
+    record {
+      standing = t.standing;
+      learns = learns_two (settings_of b).margin knows b m d k s.standing t.standing one two;
+      answers = answers_settled (settings_of b).margin (stood b k) c.args.wish c.args.at t.standing c.read_word-in-Pending.result deadline c.in_ok-outcome-in-Pending.outcome c.in-Final-read_word.outcome c.in-Final-read_word.field-1 c.settle-word.result
+          word' c.in-Final-read_word.is t.is (subst (λ (z : ℕ). IsShowable z t.standing) (m.bounded ∙ ap (λ (z : HubSettings). z.margin) l.stays.settings) t.showable) e.word (t.agrees (Due deadline) due) (wants_at m.margin (settings_of b).margin c.args.wish deadline c.args.at (Some c.in_ok-outcome-in-Pending.outcome) (m.margin_is ∙ ap (λ (z : HubSettings). z.margin) l.stays.settings) (sym c.outcome.ensures ∙ c.in_ok-outcome-in-Pending.was))
+          (⊎_elim (λ own. inl own) (λ knew. inr (λ o says. stood_across b m k s.standing t.standing c.read_word.result deadline l.stays one word c.in-Pending.is t.agrees knew.1 o says)) t.before);
+    }

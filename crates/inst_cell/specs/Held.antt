@@ -1,0 +1,69 @@
+-- What the holder of a shared board has and knows: which places, with which terms and deadlines, and how they ended;
+-- and whose roles it has. Roles and seats are this hub's own choice.
+use Rattle.std.proofs.Common.{sym, subst}
+use Rattle.std.specs.Prelude.{◌≡◌, ◌⊎◌, ◌↔◌, ℕ, ◌<◌, List, Contains}
+use Rattle.std.specs.Arc.{arc_value}
+use Rattle.atomic_table.specs.Seated.{TableId}
+use Rattle.inst_command.specs.declared.outcome.Outcome.{Outcome}
+use Rattle.inst_command.specs.declared.outcome.Outcome.TheVariants.{TimedOut}
+use Rattle.inst_settings.specs.Settings.{HubSettings}
+use Rattle.inst_terms.specs.declared.terms.Terms.{Terms}
+use Rattle.inst_terms.specs.Terms.{IsTerms}
+use Rattle.inst_board.specs.declared.place.Place.{Place}
+use Rattle.inst_board.specs.declared.about.About.TheVariants.{HasTerms, Decided}
+use Rattle.inst_board.specs.declared.about.Fact.{Fact}
+use Rattle.inst_board.specs.Standing.{IsPlace, about}
+use Rattle.inst_board.specs.Plain.{number_of}
+use Rattle.inst_cell.specs.declared.view.View.{View}
+use Rattle.inst_cell.specs.declared.shared_board.SharedBoard.{SharedBoard}
+use Rattle.inst_cell.specs.View.{known, all_of, count, HasNoted}
+
+-- the settings of the hub
+abbrev pub settings_of : SharedBoard → HubSettings
+settings_of b = (arc_value b.table).shared.key.value
+
+-- which words they are
+abbrev pub table_of : SharedBoard → TableId
+table_of b = b.seat.table_id
+
+abbrev pub view_of : SharedBoard → View
+view_of b = b.seat.me.0
+
+-- whose roles it has
+abbrev pub roles_of : SharedBoard → List ℕ
+roles_of b = (view_of b).roles
+
+abbrev pub knows_at : HubSettings → View → Fact → Type 0
+knows_at s v f = IsPlace s f.place × Contains (all_of v) (known (number_of s f.place) f.about)
+
+abbrev pub knows : SharedBoard → Fact → Type 0
+knows b f = knows_at (settings_of b) (view_of b) f
+
+abbrev pub has_role : SharedBoard → ℕ → Type 0
+has_role b p = 0 < count p (roles_of b)
+
+-- the five words of the terms were written last to the place
+abbrev pub wrote : SharedBoard → Place → Terms → Type 0
+wrote b k t = IsPlace (settings_of b) k × IsTerms t × HasNoted (view_of b) (number_of (settings_of b) k) t
+
+-- who is the beneficiary knows what it answered: else only the time-out may have stood
+abbrev pub stood : SharedBoard → Place → Outcome → Type 0
+stood b k o = (t : Terms) → knows b (about k (HasTerms t)) → has_role b t.to →
+    knows b (about k (Decided o)) ⊎ (o ≡ TimedOut)
+
+-- both are boards over the same words, of one hub
+abbrev pub AtOneTable : SharedBoard → SharedBoard → Type 0
+AtOneTable a b = (table_of b ≡ table_of a) × (settings_of b ≡ settings_of a)
+
+-- the same holder later: over the same words, with the same roles
+pub record Stays (a b : SharedBoard) : Type 0 where
+  pub settings : settings_of b ≡ settings_of a
+  pub table : table_of b ≡ table_of a
+  pub roles : roles_of b ≡ roles_of a
+
+-- its roles stay
+pub roles_same : (a b : SharedBoard) (p : ℕ) → Stays a b → has_role a p ↔ has_role b p
+roles_same a b p stays = (
+  λ h. subst (λ (roles : List ℕ). 0 < count p roles) (sym stays.roles) h,
+  λ h. subst (λ (roles : List ℕ). 0 < count p roles) stays.roles h,
+)

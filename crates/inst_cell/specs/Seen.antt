@@ -1,0 +1,28 @@
+-- What a caller sees of a transfer: that it is pending, or how it ended, and never less than what it saw before. That
+-- callers may look at any time is this hub's own choice.
+use Rattle.std.specs.Prelude.{◌≡◌}
+use Rattle.inst_command.specs.declared.outcome.State.{State}
+use Rattle.inst_command.specs.declared.outcome.State.TheVariants.{Unused, Pending, Decided}
+use Rattle.inst_board.specs.declared.place.Place.{Place}
+use Rattle.inst_board.specs.Standing.{Standing, unused, pending, final}
+use Rattle.inst_board.specs.Learning.{Learns}
+use Rattle.inst_board.specs.declared.about.Fact.{Fact}
+use Rattle.inst_cell.specs.declared.shared_board.SharedBoard.{SharedBoard}
+use Rattle.inst_cell.specs.declared.teller.Teller.{Teller}
+use Rattle.inst_cell.specs.Held.{knows, settings_of}
+
+-- the seat that it sees with
+abbrev pub board_of : Teller → SharedBoard
+board_of t = t.board
+
+abbrev pub sees : Teller → Fact → Type 0
+sees t f = knows (board_of t) f
+
+abbrev pub state_of : Standing → State
+state_of unused = Unused
+state_of (pending terms deadline) = Pending
+state_of (final terms deadline outcome at) = Decided outcome
+
+-- what the teller learns of the place as it peeks, and what it answers of that
+abbrev pub Peeks : Teller → Place → State → Teller → Type 0
+Peeks t k found u = (p : Standing) × Learns (settings_of (board_of t)).margin sees t k p u × (found ≡ state_of p)

@@ -1,0 +1,58 @@
+//! What holders at one table tell each other.
+ghost use Rattle.std.specs.Prelude.{◌≡◌, ◌⊎◌, ◌↔◌, ◌++◌, ℕ};
+ghost use Rattle.inst_cell.specs.Held.{view_of, roles_of, has_role, Stays, AtOneTable};
+ghost use Rattle.inst_cell.specs.Meeting.{KnowsBoth, KnowsTruth, Vouches};
+
+use super::SharedBoard;
+use crate::steps::{Tell, Unite, Vouching};
+
+impl SharedBoard {
+    /// Each then knows what either knew. What the other knew of a board's own places, and of the answers
+    /// of its participants, the board knew already. It costs a load for each of the two boards.
+    pub fn meet(&mut self, other: &mut SharedBoard)
+        requires one { AtOneTable self.old other.old }
+        ensures mine { KnowsBoth self.old other.old self.new }
+        ensures yours { KnowsBoth self.old other.old other.new }
+        ensures truly { KnowsTruth self.new × KnowsTruth other.new }
+        ensures vouches { Vouches self.old other.old × Vouches other.old self.old }
+        ensures stays { Stays self.old self.new × Stays other.old other.new }
+    {
+        self.inform(other);
+        other.inform(self);
+    }
+
+    /// One board with the roles of both that knows what both knew. What one knew of the other's own
+    /// places, and of the answers of its participants, the other knew already.
+    pub fn join(&mut self, other: SharedBoard)
+        requires one { AtOneTable self.old other }
+        ensures both { KnowsBoth self.old other self.new }
+        ensures truly { KnowsTruth self.new }
+        ensures vouches { Vouches self.old other × Vouches other self.old }
+        ensures roles { roles_of self.new ≡ roles_of self.old ++ roles_of other }
+        ensures role { (p : ℕ) → has_role self.new p ↔ (has_role self.old p ⊎ has_role other p) }
+        ensures one { AtOneTable self.old self.new }
+    {
+        let mut other = other;
+        self.meet(&mut other);
+        let SharedBoard { seat, .. } = other;
+        let shared = &self.table.shared;
+        shared.join_seat::<Unite>(&mut self.seat, seat);
+        shared.load::<Vouching>(&mut self.seat, 5);
+    }
+
+    /// The other then knows what either knew.
+    pub(crate) fn inform(&mut self, other: &mut SharedBoard)
+        requires one { AtOneTable self.old other.old }
+        ensures yours { KnowsBoth self.old other.old other.new }
+        ensures truly { KnowsTruth other.new }
+        ensures vouches { Vouches other.old self.old }
+        ensures stays { Stays self.old self.new × Stays other.old other.new }
+        ensures same { view_of self.new ≡ view_of self.old }
+        ensures own { (view_of other.new).facts ≡ (view_of other.old).facts }
+    {
+        let shared = &self.table.shared;
+        let copy = shared.split_seat::<Tell>(&mut self.seat);
+        shared.join_seat::<Unite>(&mut other.seat, copy);
+        other.table.shared.load::<Vouching>(&mut other.seat, 5);
+    }
+}

@@ -1,0 +1,126 @@
+//! How the words of a hub are made, with a seat for each of its slots and tellers.
+ghost use Rattle.std.specs.Prelude.{◌≡◌, ◌⊎◌, ◌↔◌, Err, length, IfOk, IfErr, IsOkUnless};
+ghost use Rattle.inst_cell.specs.View.{first_view, with_role, without_role, told};
+ghost use Rattle.inst_cell.specs.Held.{settings_of, view_of, AtOneTable};
+ghost use Rattle.inst_cell.specs.Opening.{IsNobody, AreDealt, AreAdmitted, AreOpened, MayOpen};
+
+use super::SharedBoard;
+use crate::Teller;
+use crate::steps::{HandOver, Tell};
+use atomic_table::Table;
+use inst_base::Fault;
+use inst_settings::Settings;
+use std::alloc::{AllocError, Global};
+use std::snapshot::Snapshot;
+use std::sync::Arc;
+
+/// The most tellers that a hub can open with.
+pub const MOST_TELLERS: u8 = 16;
+
+impl SharedBoard {
+    /// A new board with the first of its roles, which knows as much.
+    fn hand_over(&mut self) -> Result<SharedBoard, AllocError>
+        ensures new { IfOk result (λ b. AtOneTable self.old b × (view_of b ≡ with_role (view_of self.old))) }
+        ensures old { IfOk result (λ b. AtOneTable self.old self.new × (view_of self.new ≡ without_role (view_of self.old))) }
+    {
+        let table = Arc::try_clone(&self.table)?;
+        let seat = self.table.shared.split_seat::<HandOver>(&mut self.seat);
+        Ok(SharedBoard {
+            table,
+            seat,
+            participants: self.participants,
+            places: self.places,
+            margin: self.margin,
+        })
+    }
+
+    /// A new board without roles, which knows as much.
+    fn copy(&mut self) -> Result<SharedBoard, AllocError>
+        ensures new { IfOk result (λ b. AtOneTable self.old b × (view_of b ≡ told (view_of self.old))) }
+        ensures old { IfOk result (λ b. AtOneTable self.old self.new × (view_of self.new ≡ view_of self.old)) }
+    {
+        let table = Arc::try_clone(&self.table)?;
+        let seat = self.table.shared.split_seat::<Tell>(&mut self.seat);
+        Ok(SharedBoard {
+            table,
+            seat,
+            participants: self.participants,
+            places: self.places,
+            margin: self.margin,
+        })
+    }
+
+    /// A board with all roles, which knows nothing.
+    fn whole(alloc: Global, settings: &Settings) -> Result<SharedBoard, Fault>
+        ensures board { IfOk result (λ b. (settings_of b ≡ settings.now) × (view_of b ≡ first_view settings.now)) }
+        ensures only { IsOkUnless result Fault.Memory }
+    {
+        let participants = settings.participants();
+        let places = settings.places();
+        let size = usize::from(places) * usize::from(participants) * 6;
+        let words = vec![in alloc; 0; size]?;
+        let key = Snapshot::of(settings);
+        let (table, seat) = Table::of_words(alloc, words.as_slice(), &key)?;
+        let table = Arc::new(alloc, table)?;
+        Ok(SharedBoard {
+            table,
+            seat,
+            participants,
+            places,
+            margin: settings.margin(),
+        })
+    }
+}
+
+impl SharedBoard {
+    /// The boards of the participants, by number, where this one has all roles.
+    fn deal(&mut self, alloc: Global, participants: u16) -> Result<Vec<SharedBoard>, Fault>
+        requires whole { view_of self.old ≡ first_view (settings_of self.old) }
+        requires all { participants ≡ length (settings_of self.old).codes }
+        ensures boards { IfOk result (λ boards. AreDealt self.old boards.items) }
+        ensures rest { IfOk result (λ _. AtOneTable self.old self.new × IsNobody self.new) }
+        ensures only { IsOkUnless result Fault.Memory }
+    {
+        let mut boards = Vec::new(alloc);
+        for _next in 0..participants {
+            let board = self.hand_over()?;
+            boards.push(board)?;
+        }
+        Ok(boards)
+    }
+
+    /// Tellers that know as much as this one, which is nothing.
+    fn admit(&mut self, alloc: Global, tellers: u8) -> Result<Vec<Teller>, Fault>
+        requires { IsNobody self.old }
+        ensures tellers { IfOk result (λ all. AreAdmitted self.old tellers all.items) }
+        ensures only { IsOkUnless result Fault.Memory }
+    {
+        let mut all = Vec::new(alloc);
+        for _next in 0..tellers {
+            let board = self.copy()?;
+            all.push(Teller::of(board))?;
+        }
+        Ok(all)
+    }
+
+    /// A hub that opens: a board for each participant, by number, with its role and a seat of its own,
+    /// and as many tellers as are wanted, which know nothing. `BadSettings` where these are not 1 to 16,
+    /// `Memory` where there is no room.
+    pub fn open(
+        alloc: Global,
+        settings: &Settings,
+        tellers: u8,
+    ) -> Result<(Vec<SharedBoard>, Vec<Teller>), Fault>
+        ensures ok { IfOk result (λ r. AreOpened settings.now tellers r.0.items r.1.items) }
+        ensures bad { (result ≡ Err Fault.BadSettings) ↔ ¬ MayOpen tellers }
+        ensures only { IfErr result (λ e. (e ≡ Fault.Memory) ⊎ (e ≡ Fault.BadSettings)) }
+    {
+        if tellers == 0 || tellers > MOST_TELLERS {
+            return Err(Fault::BadSettings);
+        }
+        let mut all = SharedBoard::whole(alloc, settings)?;
+        let boards = all.deal(alloc, settings.participants())?;
+        let tellers = all.admit(alloc, tellers)?;
+        Ok((boards, tellers))
+    }
+}

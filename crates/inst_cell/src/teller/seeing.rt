@@ -1,0 +1,50 @@
+//! What a teller sees of the shared words.
+ghost use Rattle.std.specs.Prelude.{◌≡◌, ◌≢◌};
+ghost use Rattle.inst_command.specs.declared.outcome.Outcome.{Outcome};
+ghost use Rattle.inst_command.specs.declared.outcome.State.TheVariants.{Unused, Decided as IsDecided};
+ghost use Rattle.inst_board.specs.declared.about.About.TheVariants.{Opened, Decided};
+ghost use Rattle.inst_board.specs.Standing.{about};
+ghost use Rattle.inst_cell.specs.Held.{Stays, AtOneTable};
+ghost use Rattle.inst_cell.specs.Meeting.{KnowsBoth};
+ghost use Rattle.inst_cell.specs.Seen.{board_of, sees, Peeks};
+
+use super::Teller;
+use crate::Ticket;
+use inst_board::{Board, Look};
+use inst_command::State;
+
+impl Teller {
+    /// What the words show of the ticket's place now, which is at least what the teller knows.
+    pub fn peek(&mut self, ticket: &Ticket) -> State
+        ensures peek { Peeks self.old ticket.now result self.new }
+        ensures opened { sees self.old (about ticket.now Opened) → result ≢ Unused }
+        ensures outcome { (o : Outcome) → sees self.old (about ticket.now (Decided o)) → result ≡ IsDecided o }
+        ensures shown { (o : Outcome) → result ≡ IsDecided o → sees self.new (about ticket.now (Decided o)) }
+        ensures stays { Stays (board_of self.old) (board_of self.new) }
+    {
+        match self.board.look(ticket.place()) {
+            Look::Unused => State::Unused,
+            Look::Pending(_, _) => State::Pending,
+            Look::Decided(_, outcome) => State::Decided(outcome),
+        }
+    }
+
+    /// Each then knows what either knew.
+    pub fn meet(&mut self, other: &mut Teller)
+        requires one { AtOneTable (board_of self.old) (board_of other.old) }
+        ensures mine { KnowsBoth (board_of self.old) (board_of other.old) (board_of self.new) }
+        ensures yours { KnowsBoth (board_of self.old) (board_of other.old) (board_of other.new) }
+        ensures stays { Stays (board_of self.old) (board_of self.new) × Stays (board_of other.old) (board_of other.new) }
+    {
+        self.board.meet(&mut other.board);
+    }
+
+    /// One teller that knows what both knew.
+    pub fn join(&mut self, other: Teller)
+        requires one { AtOneTable (board_of self.old) (board_of other) }
+        ensures both { KnowsBoth (board_of self.old) (board_of other) (board_of self.new) }
+        ensures stays { Stays (board_of self.old) (board_of self.new) }
+    {
+        self.board.join(other.board);
+    }
+}

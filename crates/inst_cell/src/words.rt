@@ -1,0 +1,55 @@
+//! The words of a place, with what they are words of.
+ghost use Rattle.std.specs.Prelude.{◌≡◌, ℕ, IsTrue};
+ghost use Rattle.inst_base.specs.Moment.{is_moment};
+ghost use Rattle.inst_terms.specs.Terms.{IsTerms, words_of};
+ghost use Rattle.inst_terms.specs.Word.{number, outcome_number, IsOutcome};
+ghost use Rattle.inst_board.specs.Standing.{Standing};
+ghost use Rattle.inst_cell.specs.Rule.{encode, IsShowable, word_of};
+
+use inst_base::Moment;
+use inst_command::Outcome;
+use inst_terms::{Terms, Word, pack, pack_outcome, read_outcome};
+
+/// The outcome word of a place that is pending until the deadline.
+pub(crate) fn pending_word(deadline: Moment) -> u64
+    ensures value { result ≡ number deadline 0 0 }
+    ensures moment { IsTrue (is_moment deadline) }
+{
+    // The check is told the range of a moment only by a call.
+    let _ = deadline.past_base();
+    pack_outcome(&Word::Pending(deadline))
+}
+
+/// The outcome word of a place that was decided at the reading `at`.
+pub(crate) fn final_word(outcome: &Outcome, at: Moment) -> u64
+    ensures value { result ≡ outcome_number outcome.now at }
+    ensures word { IsOutcome outcome.now × IsTrue (is_moment at) }
+{
+    if let Outcome::Rejected(reason) = outcome {
+        let _ = reason.text();
+    }
+    let _ = at.past_base();
+    pack_outcome(&Word::Final(*outcome, at))
+}
+
+/// What the outcome word of a place says.
+pub(crate) fn read_word(word: u64) -> Word
+    requires { (margin : ℕ) × (p : Standing) × IsShowable margin p × (word ≡ encode p) }
+    ensures { (margin : ℕ) (p : Standing) → IsShowable margin p → word ≡ encode p → result ≡ word_of p }
+{
+    match read_outcome(word) {
+        Some(read) => read,
+        None => unreachable!(),
+    }
+}
+
+/// The terms words.
+pub(crate) fn pack_terms(terms: &Terms) -> [u64; 5]
+    ensures value { result ≡ words_of terms.now }
+    ensures form { IsTerms terms.now }
+{
+    let &Terms { to: _to, cents, id } = terms;
+    let _ = cents.get();
+    let _ = id.text();
+    pack(terms)
+}
