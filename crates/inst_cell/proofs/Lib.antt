@@ -8,3 +8,4 @@ mod Learnt
 mod Meeting
 mod Opening
 mod Seeing
+mod Trying
