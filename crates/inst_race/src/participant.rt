@@ -1,0 +1,88 @@
+ghost use Rattle.std.specs.Prelude.{◌≡◌};
+ghost use Rattle.atomic_table.specs.Seated.{TableId};
+ghost use Rattle.inst_cell.specs.Opening.{IsOpened};
+
+use inst_base::{Fault, Moment};
+use inst_board::Place;
+use inst_cell::SharedBoard;
+use inst_command::{Ask, Command, Outcome, Reply};
+use inst_journal::Journal;
+use inst_settings::Settings;
+use inst_slot::Slot;
+use std::alloc::Global;
+use std::marker::Model;
+
+/// A participant's slot with the board that has its role. The board is lawful for the slot.
+#[derive(Drop)]
+pub(crate) struct Participant {
+    who: u8,
+    settings: Settings,
+    board: SharedBoard,
+    slot: Slot,
+}
+
+impl Model for Participant {
+    ghost use Rattle.std.specs.Prelude.{◌≡◌};
+    ghost use Rattle.inst_cell.specs.Held.{settings_of, knows, has_role};
+    ghost use Rattle.inst_slot.specs.Book.{Book};
+    ghost use Rattle.inst_slot.specs.LawfulBoard.{IsLawfulBoard, AllAreAdopted};
+
+    ghost Value = { Book };
+
+    ghost view = { λ p. p.slot };
+
+    ghost invariant = { λ p. IsLawfulBoard settings_of knows has_role p.board p.slot
+        × AllAreAdopted p.slot
+        × (p.slot.who ≡ p.who)
+        × (p.slot.settings ≡ p.settings) };
+}
+
+impl Participant {
+    /// The participant whose board this is, as the hub opens.
+    pub(crate) fn open(
+        alloc: Global,
+        settings: &Settings,
+        board: SharedBoard,
+        who: u8,
+    ) -> Result<Participant, Fault>
+        requires { (table : TableId) × IsOpened settings.now table who board }
+    {
+        // The check is told of a type of another crate inside an event only where a function names it.
+        let _: Option<Outcome> = None;
+        Ok(Participant {
+            who,
+            settings: settings.copy()?,
+            board,
+            slot: Slot::open(alloc, settings, who)?,
+        })
+    }
+
+    /// What its slot answers. `BadField` where the command doesn't fit the settings.
+    pub(crate) fn ask(&mut self, command: Command, at: Moment) -> Result<Reply, Fault> {
+        let ask = Ask {
+            who: self.who,
+            command,
+            at,
+        };
+        if !ask.fits(&self.settings) {
+            return Err(Fault::BadField);
+        }
+        self.slot.apply(&mut self.board, &ask)
+    }
+
+    pub(crate) fn deliver(&mut self, place: Place) -> Result<bool, Fault> {
+        self.slot.deliver(&mut self.board, place)
+    }
+
+    pub(crate) fn learn(&mut self, place: Place) -> Result<bool, Fault> {
+        self.slot.learn(&mut self.board, place)
+    }
+
+    pub(crate) fn expire(&mut self, index: u16, at: Moment) -> Result<bool, Fault> {
+        self.slot.expire(&mut self.board, index, at)
+    }
+
+    pub(crate) fn journal(&self) -> &Journal {
+        self.slot.journal()
+    }
+}
