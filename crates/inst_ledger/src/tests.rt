@@ -136,7 +136,6 @@ fn answers(
 #[test]
 fn funds_submits_and_investigates(rt: HostRuntime) -> Result<(), Fail> {
     let settings = hub(rt.alloc())?;
-    let mut ledger = Ledger::open(rt.alloc(), &settings, 0)?;
     let t1 = Ident::new("T1")?;
     let t2 = Ident::new("T2")?;
     let t3 = Ident::new("T3")?;
@@ -214,6 +213,7 @@ fn funds_submits_and_investigates(rt: HostRuntime) -> Result<(), Fail> {
             &Told::Statement(2),
         ),
     ];
+    let mut ledger = Ledger::open(rt.alloc(), &settings, 0)?;
     answers(&rt, &mut ledger, &rows)?;
     assert_eq!(rt; ledger.journal().events().len(), 6);
     assert_eq!(rt; ledger.live_submissions(), 2);
@@ -266,7 +266,6 @@ fn fetches_confirms_and_rejects(rt: HostRuntime) -> Result<(), Fail> {
     let deadline = Moment::new(0, 11_000)?;
     let reason = Reason::new("AC04")?;
     assert!(rt; settings.participants() >= 3);
-    let mut ledger = forwarded(rt.alloc(), &settings, id, cents, deadline)?;
     let fetch = Command::Fetch { max: 1 };
     let confirm = |from, id| Command::Confirm { from, id };
     let reject = Command::Reject {
@@ -317,6 +316,7 @@ fn fetches_confirms_and_rejects(rt: HostRuntime) -> Result<(), Fail> {
             &Told::Statement(1),
         ),
     ];
+    let mut ledger = forwarded(rt.alloc(), &settings, id, cents, deadline)?;
     answers(&rt, &mut ledger, &rows)?;
     assert_eq!(rt; ledger.journal().events().len(), 6);
     assert!(rt; ledger.is_forwarded(0, &id) && !ledger.is_forwarded(1, &id));
