@@ -19,11 +19,11 @@ use Rattle.inst_main.specs.declared.task.Task.TheVariants.{Run, Play}
 
 -- the participants' codes, which must be given
 abbrev pub participants_rule : Rule
-participants_rule = record (new_rule (codes "participants")) { long = Some (codes "participants"); required = true; action = Some Set }
+participants_rule = record (new_rule (codes "participants")) { long = Some (codes "participants"); required = true; action = Some Set; value_names = 1 }
 
 -- a whole number of 64 bits, and what it is where it isn't given
 abbrev pub number_rule : List ℕ → List ℕ → Rule
-number_rule name value = record (new_rule name) { long = Some name; action = Some Set; parser = Some (Unsigned 0 (2 ^ 64 - 1)); defaults = value ∷ [] }
+number_rule name value = record (new_rule name) { long = Some name; action = Some Set; parser = Some (Unsigned 0 (2 ^ 64 - 1)); defaults = value ∷ []; value_names = 1 }
 
 -- a subcommand of this name, with the options of a hub
 abbrev pub hub_command : List ℕ → App
@@ -42,9 +42,9 @@ hub_command name =
 abbrev pub IsLocal : Command → Type 0
 IsLocal command = (out-Command command).has_globals ≡ false
 
--- the program without its subcommands, of which it needs one
+-- the program without its subcommands, of which it needs one; it tells its version
 abbrev pub bare_command_line : App
-bare_command_line = on_top (λ top. record top { subcommand_required = true }) (new_app (codes "inst_main"))
+bare_command_line = on_top (λ top. record top { has_version = true; subcommand_required = true }) (new_app (codes "inst_main"))
 
 -- the whole command line: `run` and `play`, with the same options
 abbrev pub command_line : App

@@ -1,6 +1,6 @@
 -- Worked command lines, computed from the definitions. This hub's own choice.
 use Rattle.std.specs.Prelude.{◌≡◌, ℕ, List, [], ◌∷◌, codes}
-use Rattle.clap.specs.declared.error.kind.ErrorKind.TheVariants.{DisplayHelp, MissingRequiredArgument, MissingSubcommand}
+use Rattle.clap.specs.declared.error.kind.ErrorKind.TheVariants.{DisplayHelp, DisplayVersion, MissingRequiredArgument, MissingSubcommand}
 use Rattle.inst_settings.specs.Settings.{HubSettings}
 use Rattle.inst_settings.specs.Lawful.{settings_with}
 use Rattle.inst_main.specs.Options.{AreChosen, AreGood, AreWhole, faults_of}
@@ -25,9 +25,11 @@ pub record SmallHub : Type 0 where
   pub script_chosen : AreChosen small_script Play small_settings
   pub good : AreGood small_settings
 
--- words that are no whole command line: `inst_main run`, `inst_main play`, `inst_main` and `inst_main --help`
+-- words that are no whole command line: `inst_main run`, `inst_main play`, `inst_main`, `inst_main --help` and
+-- `inst_main --version`
 pub record NoHub : Type 0 where
   pub participants : faults_of (codes "inst_main" ∷ codes "run" ∷ []) ≡ MissingRequiredArgument ∷ []
   pub script : faults_of (codes "inst_main" ∷ codes "play" ∷ []) ≡ MissingRequiredArgument ∷ []
   pub subcommand : faults_of (codes "inst_main" ∷ []) ≡ MissingSubcommand ∷ []
   pub help : faults_of (codes "inst_main" ∷ codes "--help" ∷ []) ≡ DisplayHelp ∷ []
+  pub version : faults_of (codes "inst_main" ∷ codes "--version" ∷ []) ≡ DisplayVersion ∷ []

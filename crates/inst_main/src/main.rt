@@ -7,6 +7,7 @@ mod rows;
 mod task;
 #[cfg(test)]
 mod tests;
+mod texts;
 
 use program::program;
 use std::env;

@@ -7,10 +7,14 @@ ghost use Rattle.inst_main.specs.Options.{Gives, GivesNoneBelow, Chooses, Choose
 ghost use Rattle.inst_main.specs.Program.{IsRefusal};
 ghost use Rattle.inst_settings.specs.Lawful.{IsSettings};
 
+use crate::texts;
 use clap::{Arg, ArgAction, ArgMatches, Command};
 use inst_base::{Code, Fault};
 use inst_settings::Settings;
 use std::alloc::{AllocError, Global};
+
+/// What `--version` says: the first number changes where lines, replies, faults, options or exit statuses do.
+const VERSION: &str = "1.0.0";
 
 /// The command line of the program.
 pub(crate) fn command_line<'a>(alloc: Global) -> Result<Command<'a>, AllocError>
@@ -20,68 +24,85 @@ pub(crate) fn command_line<'a>(alloc: Global) -> Result<Command<'a>, AllocError>
         alloc,
         "run",
         "Answers each command line of standard input by one line on standard output",
+        texts::RUN,
     )?;
     let play = hub_command(
         alloc,
         "play",
         "The same for a script of steps: each line is one step, and nothing happens by itself",
+        texts::PLAY,
     )?;
     Command::new(alloc, "inst_main")
+        .version(VERSION)
         .about("The clearing core of a hub for instant credit transfers")
+        .after_help(texts::PROGRAM)
         .subcommand_required(true)
         .subcommand(run)?
         .subcommand(play)
 }
 
 /// A subcommand with the options of a hub.
-fn hub_command<'a>(alloc: Global, name: &'a str, about: &'a str) -> Result<Command<'a>, AllocError>
+fn hub_command<'a>(
+    alloc: Global,
+    name: &'a str,
+    about: &'a str,
+    more: &'a str,
+) -> Result<Command<'a>, AllocError>
     ensures shape { IfOk result (λ command. app_of command ≡ hub_command name.now) }
     ensures local { IfOk result (λ command. IsLocal command) }
 {
     Command::new(alloc, name)
         .about(about)
+        .after_help(more)
         .arg(participants(alloc))?
         .arg(number(
             alloc,
             "places",
+            "COUNT",
             "256",
-            "Taken submissions of each originator, 1 to 1024",
+            "Submissions of each originator that have places, 1 to 1024",
         ))?
         .arg(number(
             alloc,
             "fundings",
+            "COUNT",
             "256",
-            "Kept fundings of each participant, 1 to 1024",
+            "Fund and defund commands of each participant, 1 to 1024",
         ))?
         .arg(number(
             alloc,
             "limit",
+            "MS",
             "10000",
-            "From time stamp to deadline in ms, 1 to 3600000",
+            "From time stamp to deadline, in milliseconds, 1 to 3600000",
         ))?
         .arg(number(
             alloc,
             "margin",
+            "MS",
             "0",
-            "From the last acceptance to the deadline in ms, below the limit",
+            "From the last acceptance to the deadline, in milliseconds, 0 to limit - 1",
         ))?
         .arg(number(
             alloc,
             "ahead",
+            "MS",
             "1000",
-            "From reading to time stamp in ms, at most 60000",
+            "From the reading to a time stamp ahead of it, in milliseconds, 0 to 60000",
         ))?
         .arg(number(
             alloc,
             "ceiling",
+            "CENTS",
             "99999999999",
-            "The largest amount in cents",
+            "The largest amount of one command, in cents, 1 to 99999999999",
         ))?
         .arg(number(
             alloc,
             "base",
+            "MS",
             "0",
-            "The milliseconds from which moments count, at most 2^62",
+            "The first moment of all, in milliseconds, 0 to 4611686018427387904 (2^62)",
         ))
 }
 
@@ -93,10 +114,11 @@ fn participants<'a>(alloc: Global) -> Arg<'a>
         .long("participants")
         .required(true)
         .action(ArgAction::Set)
-        .help("The participants' codes with commas between them, numbered from 0")
+        .value_name("CODES")
+        .help("1 to 256 different codes of 8 or 11 characters of A-Z 0-9, with commas between them")
 }
 
-fn number<'a>(alloc: Global, name: &'a str, value: &'a str, help: &'a str) -> Arg<'a>
+fn number<'a>(alloc: Global, name: &'a str, unit: &'a str, value: &'a str, help: &'a str) -> Arg<'a>
     ensures rule { rule_of result ≡ number_rule name.now value.now }
     ensures local { result.global ≡ false }
 {
@@ -105,6 +127,7 @@ fn number<'a>(alloc: Global, name: &'a str, value: &'a str, help: &'a str) -> Ar
         .action(ArgAction::Set)
         .value_parser(clap::value_parser!(u64))
         .default_value(value)
+        .value_name(unit)
         .help(help)
 }
 

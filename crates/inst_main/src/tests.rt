@@ -101,6 +101,11 @@ fn refuses_bad_words(rt: HostRuntime) -> Result<(), Fail> {
     assert_eq!(rt; ran.status, 0);
     assert!(rt; ran.output.starts_with(b"The clearing core"));
     assert!(rt; ran.errors.is_empty());
+    let ran = run(&rt, "inst_main --version", "[]\n")?;
+    assert_eq!(rt; ran.status, 0);
+    let version = "inst_main 1.0.0\n";
+    assert_eq!(rt; ran.output.as_slice(), version.as_bytes());
+    assert!(rt; ran.errors.is_empty());
     Ok(())
 }
 

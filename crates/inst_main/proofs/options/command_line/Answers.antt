@@ -9,7 +9,7 @@ pub returns : goal.returns
 returns c =
     let named_top : app_of c.new.result ≡ new_app (codes "inst_main") = search rules in
     let top : app_of c.subcommand_required.result ≡ bare_command_line =
-    ap app_of_fields c.subcommand_required.ensures ∙ ap (on_top (λ top. record top { subcommand_required = true })) (ap app_of_fields c.about.ensures ∙ named_top) in
+    ap app_of_fields c.subcommand_required.ensures ∙ ap (on_top (λ top. record top { subcommand_required = true })) (ap app_of_fields c.after_help.ensures ∙ ap app_of_fields c.about.ensures ∙ ap app_of_fields c.version.ensures ∙ ap (on_top (λ top. record top { has_version = true })) named_top) in
     let run_is : app_of c.in_ok-run.run' ≡ hub_command (codes "run") = search rules in
     let play_is : app_of c.in_ok-play.play ≡ hub_command (codes "play") = search rules in
     let with_run = c.in_ok-subcommand.ensures.shape c.in_ok-run.ensures.local ∙ ap₂ with_subcommand top (ap (λ (a : App). a.top) run_is) in
