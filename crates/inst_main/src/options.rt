@@ -46,14 +46,15 @@ fn hub_command<'a>(
     alloc: Global,
     name: &'a str,
     about: &'a str,
-    more: &'a str,
+    long_about: &'a str,
 ) -> Result<Command<'a>, AllocError>
     ensures shape { IfOk result (λ command. app_of command ≡ hub_command name.now) }
     ensures local { IfOk result (λ command. IsLocal command) }
 {
     Command::new(alloc, name)
         .about(about)
-        .after_help(more)
+        .long_about(long_about)
+        .after_help(texts::MOMENTS)
         .arg(participants(alloc))?
         .arg(number(
             alloc,

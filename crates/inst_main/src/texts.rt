@@ -1,5 +1,31 @@
 //! What help says beside the options.
 
+/// What `run` does, at length.
+pub(crate) const RUN: &str = "\
+Answers each command line of standard input by one line on standard output
+
+A line in is a command of a participant, `who`, at a reading of the clock, `at`; then its line out:
+  {\"at\":0,\"cents\":50000,\"cmd\":\"fund\",\"ref\":\"F1\",\"who\":\"AAAADEFF\"}
+  {\"ref\":\"F1\",\"reply\":\"done\"}
+docs/FORMATS.md has all commands, replies and refusals.";
+
+/// What `play` does, at length.
+pub(crate) const PLAY: &str = "\
+The same for a script of steps: each line is one step, and nothing happens by itself
+
+A line in is a command, as in a run, or a step line; then its line out:
+  {\"from\":\"AAAADEFF\",\"place\":0,\"step\":\"deliver\",\"who\":\"BBBBFRPP\"}
+  {\"new\":true,\"reply\":\"step\"}
+docs/FORMATS.md has all commands, step lines, replies and refusals.";
+
+/// At the end of the help of `run` and of `play`.
+pub(crate) const MOMENTS: &str = "\
+Moments are milliseconds of any clock that all participants share; the hub has no clock of its own. They begin at
+the base and end 2^41 - 1 ms after it. Unix time in milliseconds fits base 0 until 2039-09-07. A hub that is to run
+past that needs a base near its start, as --base 1767225600000, which is 2026-01-01 00:00 UTC.
+
+Exit status: 0 at the end of the input, 2 for wrong words or settings, 3 where fault 14, 17 or 18 ended the run.";
+
 /// At the end of the program's help.
 pub(crate) const PROGRAM: &str = "\
 Exit status:
@@ -9,25 +35,3 @@ Exit status:
   3  a fault ended the run; standard error has its line, as `fault 17 ReadFault`
 
 `inst_main run --help` has the options. README.md and docs/FORMATS.md tell of lines, replies and refusals.";
-
-/// At the end of the help of `run`.
-pub(crate) const RUN: &str = "\
-A line in is a command of a participant, `who`, at a reading of the clock, `at`; then its line out:
-  {\"at\":0,\"cents\":50000,\"cmd\":\"fund\",\"ref\":\"F1\",\"who\":\"AAAADEFF\"}
-  {\"ref\":\"F1\",\"reply\":\"done\"}
-docs/FORMATS.md has all commands, replies and refusals.
-
-Moments are milliseconds of any clock that all participants share; the hub has no clock of its own. They begin at
-the base and end 2^41 - 1 ms after it. Unix time in milliseconds fits base 0 until 2039-09-07. A hub that is to run
-past that needs a base near its start, as --base 1767225600000, which is 2026-01-01 00:00 UTC.
-
-Exit status: 0 at the end of the input, 2 for wrong words or settings, 3 where fault 14, 17 or 18 ended the run.";
-
-/// At the end of the help of `play`.
-pub(crate) const PLAY: &str = "\
-A line in is a command, as in a run, or a step line; then its line out:
-  {\"from\":\"AAAADEFF\",\"place\":0,\"step\":\"deliver\",\"who\":\"BBBBFRPP\"}
-  {\"new\":true,\"reply\":\"step\"}
-docs/FORMATS.md has all commands, step lines, replies and refusals.
-
-Moments and exit statuses are those of `inst_main run --help`.";

@@ -8,7 +8,7 @@ use Rattle.inst_main.proofs.options.hub_command.Goals as goal
 pub returns-clause-shape : goal.returns-clause-shape
 returns-clause-shape c =
     let named : app_of c.new.result ≡ new_app c.args.name.now = c.new.ensures.app in
-    let run_is : app_of c.after_help.result ≡ new_app c.args.name.now = ap app_of_fields c.after_help.ensures ∙ ap app_of_fields c.about.ensures ∙ named in
+    let run_is : app_of c.after_help.result ≡ new_app c.args.name.now = ap app_of_fields c.after_help.ensures ∙ ap app_of_fields c.long_about.ensures ∙ ap app_of_fields c.about.ensures ∙ named in
     let places : rule_of c.number.result ≡ number_rule (codes "places") (codes "256") = search rules in
     let fundings : rule_of c.number-2.result ≡ number_rule (codes "fundings") (codes "256") = search rules in
     let limit : rule_of c.number-3.result ≡ number_rule (codes "limit") (codes "10000") = search rules in
@@ -27,7 +27,7 @@ returns-clause-shape c =
 
 pub returns-clause-local : goal.returns-clause-local
 returns-clause-local c =
-    let local_0 = ap (λ fields. fields.has_globals) c.after_help.ensures ∙ ap (λ fields. fields.has_globals) c.about.ensures ∙ c.new.ensures.local in
+    let local_0 = ap (λ fields. fields.has_globals) c.after_help.ensures ∙ ap (λ fields. fields.has_globals) c.long_about.ensures ∙ ap (λ fields. fields.has_globals) c.about.ensures ∙ c.new.ensures.local in
     let local_1 = c.in_ok-arg.ensures.globals ∙ ap₂ (λ a b. a || b) local_0 c.participants.ensures.local in
     let local_2 = c.in_ok-arg-2.ensures.globals ∙ ap₂ (λ a b. a || b) local_1 c.number.ensures.local in
     let local_3 = c.in_ok-arg-3.ensures.globals ∙ ap₂ (λ a b. a || b) local_2 c.number-2.ensures.local in
