@@ -1,0 +1,3 @@
+pub mod Tally
+pub mod Locks
+pub mod Seeing

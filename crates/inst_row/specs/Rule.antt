@@ -1,0 +1,35 @@
+-- What holds of a row of locks and of all its seats between any two steps. That a participant's books lie behind a lock
+-- is this hub's own choice.
+use Rattle.std.specs.Prelude.{◌≡◌, ℕ, ◌<◌, ◌≤◌, List, [], length, slice_index, Contains, Option, Some}
+use mathlib.Core.Option.{some}
+use mathlib.Core.List.{IsPrefix}
+use lib.ListN.{get_elem?}
+use Rattle.atomic_table.specs.Table.{State}
+use Rattle.inst_row.specs.declared.view.Front.{Front}
+use Rattle.inst_row.specs.declared.view.View.{View}
+use Rattle.inst_row.specs.View.{held, parts}
+
+-- Each lock has a latest history.
+-- sized: there is a slot for each word
+-- counted, bit: a word is the number of seats that have its lock, at most 1
+-- home: where no seat has it, the value lies in its slot, keeps its law, and has the latest history
+-- known: what a seat has seen is a beginning of the latest history
+-- mine: who has a lock found its latest history
+-- dealt: all seats together have all parts
+-- holder: who has no part has no lock
+-- named: a seat knows what the row was told
+pub record Guarded {T E K : Type 0} (law : K → ℕ → T → Type 0) (history : T → List E) (key : K)
+    (s : State (Option T) (View E K)) : Type 0 where
+  pub latest : ℕ → List E
+  pub sized : length s.homes ≡ length s.words
+  pub counted : (p : ℕ) → slice_index s.words p ≡ held p s.views
+  pub bit : (p : ℕ) → slice_index s.words p ≤ 1
+  pub home : (p : ℕ) → p < length s.words → slice_index s.words p ≡ 0 →
+      (x : T) × (get_elem? s.homes p ≡ some (some (Some x))) × law key p x × (history x ≡ latest p)
+  pub known : (id : ℕ) (v : View E K) → get_elem? s.views id ≡ some v → (f : Front E) → Contains v.fronts f →
+      IsPrefix f.history (latest f.lock)
+  pub mine : (id : ℕ) (v : View E K) → get_elem? s.views id ≡ some v → (f : Front E) → Contains v.held f →
+      f.history ≡ latest f.lock
+  pub dealt : parts s.views ≡ 16
+  pub holder : (id : ℕ) (v : View E K) → get_elem? s.views id ≡ some v → v.parts ≡ 0 → v.held ≡ []
+  pub named : (id : ℕ) (v : View E K) → get_elem? s.views id ≡ some v → (k : K) → v.about ≡ Some k → k ≡ key

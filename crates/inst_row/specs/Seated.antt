@@ -1,0 +1,64 @@
+-- A seat on a row as its holder knows it: free, or with one lock. That nobody has two locks, so that nobody waits for
+-- itself or for a ring of others, is this hub's own choice.
+use Rattle.std.specs.Prelude.{◌≡◌, ◌⊎◌, ◌↔◌, ℕ, ◌+◌, ◌<◌, List, [], ◌∷◌, ◌++◌, Contains, Some, None}
+use mathlib.Core.List.{IsPrefix}
+use Rattle.atomic_table.specs.Seated.{TableId}
+use Rattle.inst_row.specs.declared.view.View.{View}
+use Rattle.inst_row.specs.declared.seat.RowSeat.{RowSeat}
+use Rattle.inst_row.specs.View.{front}
+
+module _ {T E K : Type 0} where
+  abbrev pub view_of : RowSeat T E K → View E K
+  view_of s = s.seat.me.0
+
+  -- the seat is on the row with this name, which was told of the key
+  pub record IsOn (id : TableId) (key : K) (s : RowSeat T E K) : Type 0 where
+    pub row : s.seat.table_id ≡ id
+    pub about : (view_of s).about ≡ Some key
+
+  -- it has no lock
+  pub record IsIdle (s : RowSeat T E K) : Type 0 where
+    pub hands : s.seat.me.1 ≡ []
+    pub no_lock : (view_of s).held ≡ []
+
+  -- it has no lock, and may take one
+  pub record IsFree (s : RowSeat T E K) : Type 0 where
+    pub idle : IsIdle s
+    pub part : 0 < (view_of s).parts
+
+  -- it has the lock p and no other, where it found the history h
+  pub record Has (p : ℕ) (h : List E) (s : RowSeat T E K) : Type 0 where
+    pub hands : s.seat.me.1 ≡ (p, None) ∷ []
+    pub lock : (view_of s).held ≡ front p h ∷ []
+    pub part : 0 < (view_of s).parts
+
+  -- it has seen this beginning of the history behind the lock p
+  abbrev pub HasSeen : ℕ → List E → RowSeat T E K → Type 0
+  HasSeen p h s = Contains (view_of s).fronts (front p h)
+
+  -- the history goes on from all that it has seen behind the lock p
+  abbrev pub GoesOn : ℕ → List E → RowSeat T E K → Type 0
+  GoesOn p h s = (seen : List E) → HasSeen p seen s → IsPrefix seen h
+
+  -- it has the parts that it had, and has seen what it had, and this
+  pub record Sees (p : ℕ) (h : List E) (old new : RowSeat T E K) : Type 0 where
+    pub parts : (view_of new).parts ≡ (view_of old).parts
+    pub seen : (view_of new).fronts ≡ (view_of old).fronts ++ front p h ∷ []
+
+  -- it is free and has all parts of the row
+  pub record HasAll (s : RowSeat T E K) : Type 0 where
+    pub free : IsFree s
+    pub parts : (view_of s).parts ≡ 16
+
+  -- a seat that gave one of its parts to another one, which has seen as much
+  pub record Halves (old new other : RowSeat T E K) : Type 0 where
+    pub idle : IsIdle new
+    pub parts : (view_of new).parts + 1 ≡ (view_of old).parts
+    pub seen : (view_of new).fronts ≡ (view_of old).fronts
+    pub free : IsFree other
+    pub part : (view_of other).parts ≡ 1
+    pub told : (view_of other).fronts ≡ (view_of old).fronts
+
+  -- it has seen exactly what either of these had
+  abbrev pub SeesBoth : RowSeat T E K → RowSeat T E K → RowSeat T E K → Type 0
+  SeesBoth old other new = (p : ℕ) (h : List E) → HasSeen p h new ↔ (HasSeen p h old ⊎ HasSeen p h other)

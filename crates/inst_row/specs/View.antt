@@ -1,0 +1,55 @@
+-- What a seat on a row of locks has and has seen. That a caller sees what it saw before, or more, is this hub's own
+-- choice.
+use Rattle.std.specs.Prelude.{ℕ, ◌+◌, ◌-◌, min, cond, ◌==◌, List, [], ◌∷◌, ◌++◌, Some, None}
+use Rattle.inst_row.specs.declared.view.Front.{Front}
+use Rattle.inst_row.specs.declared.view.View.{View}
+
+abbrev pub front : {E : Type 0} → ℕ → List E → Front E
+front p h = record { lock = p; history = h }
+
+-- how often the lock p is among these
+abbrev pub count : {E : Type 0} → ℕ → List (Front E) → ℕ
+count p [] = 0
+count p (f ∷ fs) = cond (f.lock == p) 1 0 + count p fs
+
+-- how many seats have the lock p
+abbrev pub held : {E K : Type 0} → ℕ → List (View E K) → ℕ
+held p [] = 0
+held p (v ∷ vs) = count p v.held + held p vs
+
+-- the parts of all seats
+abbrev pub parts : {E K : Type 0} → List (View E K) → ℕ
+parts [] = 0
+parts (v ∷ vs) = v.parts + parts vs
+
+abbrev pub behind : {E : Type 0} → List (Front E) → List (Front E)
+behind [] = []
+behind (f ∷ fs) = fs
+
+module _ {E K : Type 0} where
+  -- the first seat has all parts
+  abbrev pub first_view : K → View E K
+  first_view key = record { about = Some key; parts = 16; held = []; fronts = [] }
+
+  -- after the lock p was taken, with the history h
+  abbrev pub took : View E K → ℕ → List E → View E K
+  took v p h = record { about = v.about; parts = v.parts; held = front p h ∷ v.held; fronts = v.fronts ++ front p h ∷ [] }
+
+  -- after the lock that was taken last was given back, with the history h
+  abbrev pub gave : View E K → ℕ → List E → View E K
+  gave v p h = record { about = v.about; parts = v.parts; held = behind v.held; fronts = v.fronts ++ front p h ∷ [] }
+
+  -- a new seat beside this one
+  abbrev pub told : View E K → View E K
+  told v = record { about = v.about; parts = min 1 v.parts; held = []; fronts = v.fronts }
+
+  -- this one, once there is a new seat beside it
+  abbrev pub left_of : View E K → View E K
+  left_of v = record { about = v.about; parts = v.parts - 1; held = v.held; fronts = v.fronts }
+
+  abbrev pub united : View E K → View E K → View E K
+  united v w = record { about = v.about; parts = v.parts + w.parts; held = v.held ++ w.held; fronts = v.fronts ++ w.fronts }
+
+  -- a seat that was joined away
+  abbrev pub nobody : View E K
+  nobody = record { about = None; parts = 0; held = []; fronts = [] }

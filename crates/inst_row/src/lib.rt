@@ -1,0 +1,16 @@
+//! A row of locks over values that each keep a law and have a history that only grows. Whoever takes a lock
+//! finds a history that goes on from all that it has seen.
+#![tactic(auto)]
+
+mod lawful;
+mod row;
+mod rule;
+mod seat;
+mod steps;
+mod view;
+
+pub use lawful::Lawful;
+pub use row::{LockRow, PARTS};
+pub use rule::Guarding;
+pub use seat::RowSeat;
+pub use view::{Front, View};

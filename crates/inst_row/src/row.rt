@@ -1,0 +1,30 @@
+ghost use Rattle.std.specs.Prelude.{◌≡◌, length};
+
+mod closing;
+mod locking;
+mod opening;
+mod seating;
+
+use crate::lawful::Lawful;
+use crate::rule::Guarding;
+use crate::view::View;
+use atomic_table::Table;
+use std::alloc::Global;
+
+/// How many parts a row has, and so the most seats that can take its locks.
+pub const PARTS: u64 = 16;
+
+/// Values behind locks, by number. Threads share it by reference, each with a seat of its own. Only `open`
+/// takes memory, and only `take` waits.
+///
+/// ```text
+/// let (row, mut seat) = LockRow::open(alloc, values, &about)?;
+/// let mut value = row.take(rt, &mut seat, 3);
+/// value.change();
+/// row.give(&mut seat, 3, value);
+/// ```
+#[derive(Drop)]
+pub struct LockRow<T, E, K, L: Lawful<T, E, K>> {
+    table: Table<Option<T>, View<E, K>, K, Guarding<L>, Global>,
+    pub ghost square: { table.shared.table_id.words ≡ table.shared.table_id.slots },
+}

@@ -1,0 +1,72 @@
+//! Taking a lock and giving it back.
+ghost use Rattle.std.specs.Prelude.{◌≡◌, ◌<◌, IfSome, IfNone, List};
+ghost use mathlib.Core.List.{IsPrefix};
+ghost use Rattle.inst_row.specs.Seated.{IsOn, IsFree, Has, GoesOn, Sees};
+ghost use Rattle.inst_row.specs.Row.{row_id, key_of, size};
+
+use super::LockRow;
+use crate::lawful::Lawful;
+use crate::seat::RowSeat;
+use crate::steps::{Giving, Taking};
+use std::sync::Wait;
+
+impl<T, E, K, L: Lawful<T, E, K>> LockRow<T, E, K, L> {
+    /// The value behind the lock, where no seat has it. It is tried once.
+    fn try_take(&self, seat: &mut RowSeat<T, E, K>, lock: usize) -> Option<T>
+        requires on { IsOn (row_id self.now) (key_of self.now) seat.old }
+        requires lock { lock < size self.now }
+        requires free { IsFree seat.old }
+        ensures law { IfSome result (λ value. L.law (key_of self.now) lock value) }
+        ensures goes_on { IfSome result (λ value. GoesOn lock (L.history value) seat.old) }
+        ensures has { IfSome result (λ value. Has lock (L.history value) seat.new) }
+        ensures on { IsOn (row_id self.now) (key_of self.now) seat.new }
+        ensures sees { IfSome result (λ value. Sees lock (L.history value) seat.old seat.new) }
+        ensures none { IfNone result (seat.new.seat.me ≡ seat.old.seat.me) }
+    {
+        let shared = &self.table.shared;
+        if shared.compare_exchange::<Taking<L>>(&mut seat.seat, lock, 0, 1) == 0 {
+            shared.exchange(&mut seat.seat, lock, None)
+        } else {
+            None
+        }
+    }
+
+    /// The value behind the lock. It waits while another seat has it; a seat that has a lock takes no second
+    /// one.
+    pub fn take<R: Wait>(&self, rt: &R, seat: &mut RowSeat<T, E, K>, lock: usize) -> T
+        requires on { IsOn (row_id self.now) (key_of self.now) seat.old }
+        requires lock { lock < size self.now }
+        requires free { IsFree seat.old }
+        ensures law { L.law (key_of self.now) lock result }
+        ensures goes_on { GoesOn lock (L.history result) seat.old }
+        ensures has { Has lock (L.history result) seat.new }
+        ensures on { IsOn (row_id self.now) (key_of self.now) seat.new }
+        ensures sees { Sees lock (L.history result) seat.old seat.new }
+    {
+        for _ in rt.forever() {
+            if let Some(value) = self.try_take(seat, lock) {
+                return value;
+            }
+            self.table.shared.park(rt, lock, 1);
+        }
+        unreachable!()
+    }
+
+    /// Gives the lock back, with a value that keeps its law and whose history goes on from the one that
+    /// was found.
+    pub fn give(&self, seat: &mut RowSeat<T, E, K>, lock: usize, value: T)
+        requires on { IsOn (row_id self.now) (key_of self.now) seat.old }
+        requires lock { lock < size self.now }
+        requires has { (found : List E) × Has lock found seat.old × IsPrefix found (L.history value) }
+        requires law { L.law (key_of self.now) lock value }
+        ensures free { IsFree seat.new }
+        ensures on { IsOn (row_id self.now) (key_of self.now) seat.new }
+        ensures sees { Sees lock (L.history value) seat.old seat.new }
+    {
+        let shared = &self.table.shared;
+        let old = shared.exchange(&mut seat.seat, lock, Some(value));
+        let None = old else { unreachable!() };
+        shared.store::<Giving<L>>(&mut seat.seat, lock, 0);
+        shared.wake_one(lock);
+    }
+}

@@ -1,0 +1,36 @@
+//! How a row of locks is made.
+ghost use Rattle.std.specs.Prelude.{◌≡◌, ℕ, ◌<◌, length, slice_get, Some, IfOk};
+ghost use Rattle.inst_row.specs.Seated.{IsOn, HasAll};
+ghost use Rattle.inst_row.specs.Row.{row_id, key_of, size};
+
+use super::LockRow;
+use crate::lawful::Lawful;
+use crate::seat::RowSeat;
+use atomic_table::Table;
+use std::alloc::{AllocError, Global};
+
+impl<T: Drop, E, K, L: Lawful<T, E, K>> LockRow<T, E, K, L> {
+    /// A row of these values, each of which is there and keeps its law, and a free seat with all parts.
+    pub fn open(
+        alloc: Global,
+        values: Vec<Option<T>>,
+        about: &K,
+    ) -> Result<(LockRow<T, E, K, L>, RowSeat<T, E, K>), AllocError>
+        requires values { (p : ℕ) → p < length values.items → (x : T) × (slice_get values.items p ≡ Some (Some x)) × L.law about.now p x }
+        ensures row { IfOk result (λ r. (size r.0 ≡ length values.items) × (key_of r.0 ≡ about.now)) }
+        ensures seat { IfOk result (λ r. IsOn (row_id r.0) about.now r.1 × HasAll r.1) }
+    {
+        let words = vec![in alloc; 0; values.len()]?;
+        match Table::new(alloc, words.as_slice(), values, about) {
+            Ok((table, seat)) => Ok((LockRow { table }, RowSeat { seat })),
+            Err(_) => Err(AllocError),
+        }
+    }
+
+    /// How many locks there are.
+    pub fn len(&self) -> usize
+        ensures { result ≡ size self.now }
+    {
+        self.table.word_count()
+    }
+}

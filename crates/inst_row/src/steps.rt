@@ -1,0 +1,49 @@
+//! The kinds of step on a row, and what each tells the seat that takes it.
+use crate::lawful::Lawful;
+use crate::view::View;
+use atomic_table::{Join, Play, Split};
+use std::marker::PhantomData;
+
+/// The exchange that takes a lock, or finds it taken.
+pub struct Taking<L> {
+    law: PhantomData<L>,
+}
+
+impl<T, E, K, L: Lawful<T, E, K>> Play<Option<T>, View<E, K>> for Taking<L> {
+    ghost use Rattle.inst_row.specs.Steps.{takes_lock};
+
+    ghost then = { takes_lock L.law L.history };
+}
+
+/// The store that gives it back.
+pub struct Giving<L> {
+    law: PhantomData<L>,
+}
+
+impl<T, E, K, L: Lawful<T, E, K>> Play<Option<T>, View<E, K>> for Giving<L> {
+    ghost use Rattle.inst_row.specs.Steps.{gives_lock};
+
+    ghost then = { gives_lock L.history };
+}
+
+/// A new seat has seen as much, and gets one part.
+pub struct Tell;
+
+impl<E, K> Split<View<E, K>> for Tell {
+    ghost use Rattle.inst_row.specs.View.{told, left_of};
+
+    ghost left = { left_of };
+
+    ghost right = { told };
+}
+
+/// One seat has seen what both had seen, with the parts of both.
+pub struct Unite;
+
+impl<E, K> Join<View<E, K>> for Unite {
+    ghost use Rattle.inst_row.specs.View.{united, nobody};
+
+    ghost both = { united };
+
+    ghost spent = { nobody };
+}
