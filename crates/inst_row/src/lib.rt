@@ -7,6 +7,8 @@ mod row;
 mod rule;
 mod seat;
 mod steps;
+#[cfg(test)]
+mod tests;
 mod view;
 
 pub use lawful::Lawful;

@@ -1,7 +1,8 @@
 //! How a row of locks is made.
-ghost use Rattle.std.specs.Prelude.{◌≡◌, ℕ, ◌<◌, length, slice_get, Some, IfOk};
-ghost use Rattle.inst_row.specs.Seated.{IsOn, HasAll};
+ghost use Rattle.std.specs.Prelude.{◌≡◌, ℕ, ◌<◌, [], length, slice_get, Some, IfOk};
+ghost use Rattle.inst_row.specs.Seated.{IsOn, HasAll, view_of};
 ghost use Rattle.inst_row.specs.Row.{row_id, key_of, size};
+ghost use Rattle.inst_row.specs.declared.row.TheConstants.{PARTS};
 
 use super::LockRow;
 use crate::lawful::Lawful;
@@ -19,6 +20,8 @@ impl<T: Drop, E, K, L: Lawful<T, E, K>> LockRow<T, E, K, L> {
         requires values { (p : ℕ) → p < length values.items → (x : T) × (slice_get values.items p ≡ Some (Some x)) × L.law about.now p x }
         ensures row { IfOk result (λ r. (size r.0 ≡ length values.items) × (key_of r.0 ≡ about.now)) }
         ensures seat { IfOk result (λ r. IsOn (row_id r.0) about.now r.1 × HasAll r.1) }
+        ensures parts { IfOk result (λ r. (view_of r.1).parts ≡ PARTS) }
+        ensures unseen { IfOk result (λ r. (view_of r.1).fronts ≡ []) }
     {
         let words = vec![in alloc; 0; values.len()]?;
         match Table::new(alloc, words.as_slice(), values, about) {
