@@ -11,11 +11,12 @@ use crate::view::View;
 use atomic_table::Table;
 use std::alloc::Global;
 
-/// How many parts a row has, and so the most seats that can take its locks.
+/// How many parts a row has, and so the most seats that can take its locks at the same time.
 pub const PARTS: u64 = 16;
 
-/// Values behind locks, by number. Threads share it by reference, each with a seat of its own. Only `open`
-/// takes memory, and only `take` waits.
+/// Values behind locks, by number from 0. Threads share it by reference, each with a seat of its own. Only
+/// `open` takes memory, and only `take` waits. `T` is a value, `E` an entry of its history, `K` what the row is
+/// told when it is made; `L` says what is kept of the values.
 ///
 /// ```text
 /// let (row, mut seat) = LockRow::open(alloc, values, &about)?;

@@ -1,5 +1,5 @@
-// What no clause says: that a free lock is taken at once and one that is taken once it was given back, that a
-// lock has the value that was left behind it, and that threads which take it in turn lose nothing.
+// What no clause says: that a take comes back, at once or when the lock is given back, with the value that was left
+// there, and that nothing is lost where two threads take one lock in turn.
 ghost use Rattle.std.specs.Prelude.{◌≡◌, ℕ, ◌<◌, IfOk, List};
 ghost use mathlib.Core.List.{IsPrefix};
 ghost use Rattle.inst_row.specs.Seated.{IsOn, IsFree, Has, HasAll, view_of};
@@ -30,8 +30,8 @@ impl Lawful<Book, u64, ()> for Kept {
     ghost history = { λ x. x.guests.items };
 }
 
-/// How often each guest comes.
-const VISITS: u64 = 200;
+/// How often each guest comes: with a few hundred times one thread was done before the other began.
+const VISITS: u64 = 20_000;
 
 type Row = LockRow<Book, u64, (), Kept>;
 
@@ -57,8 +57,8 @@ fn open_two(alloc: Global) -> Result<(Row, Caller), AllocError>
     LockRow::open(alloc, books, &())
 }
 
-/// The guest writes itself into the book behind the lock, and answers who stood there before, or `None`
-/// where memory is missing.
+/// The guest writes itself into the book behind the lock. How many entries stood there before; `None` where
+/// memory is missing.
 fn visit<R: Wait>(rt: &R, row: &Row, seat: &mut Caller, lock: usize, guest: u64) -> Option<usize>
     requires on { IsOn (row_id row.now) (key_of row.now) seat.old }
     requires lock { lock < size row.now }
@@ -74,7 +74,7 @@ fn visit<R: Wait>(rt: &R, row: &Row, seat: &mut Caller, lock: usize, guest: u64)
     written.is_ok().then_some(before)
 }
 
-/// The guest comes 200 times, and answers how often it stood in the book then. `None` where memory is missing.
+/// The guest comes again and again. Whether there was memory each time.
 fn visit_often<R: Wait>(
     rt: &R,
     row: &Row,

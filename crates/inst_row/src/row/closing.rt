@@ -14,7 +14,7 @@ use std::alloc::Global;
 
 impl<T, E, K, L: Lawful<T, E, K>> LockRow<T, E, K, L> {
     /// Ends the row. Who has all its parts knows that each value is there and keeps its law, with a history
-    /// that goes on from what was seen.
+    /// that goes on from what was seen. Take each one out, and then call `free`.
     pub fn take_apart(self, seat: RowSeat<T, E, K>) -> Closed<Option<T>, Global>
         requires on { IsOn (row_id self) (key_of self) seat }
         requires all { HasAll seat }

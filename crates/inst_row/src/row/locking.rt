@@ -53,7 +53,7 @@ impl<T, E, K, L: Lawful<T, E, K>> LockRow<T, E, K, L> {
     }
 
     /// Gives the lock back, with a value that keeps its law and whose history goes on from the one that
-    /// was found.
+    /// was found. One seat that waits for it is woken.
     pub fn give(&self, seat: &mut RowSeat<T, E, K>, lock: usize, value: T)
         requires on { IsOn (row_id self.now) (key_of self.now) seat.old }
         requires lock { lock < size self.now }

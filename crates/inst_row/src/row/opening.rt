@@ -11,7 +11,8 @@ use atomic_table::Table;
 use std::alloc::{AllocError, Global};
 
 impl<T: Drop, E, K, L: Lawful<T, E, K>> LockRow<T, E, K, L> {
-    /// A row of these values, each of which is there and keeps its law, and a free seat with all parts.
+    /// A row of these values, each of which is there and keeps its law, and a free seat with all parts. Where
+    /// memory is missing the values are dropped.
     pub fn open(
         alloc: Global,
         values: Vec<Option<T>>,

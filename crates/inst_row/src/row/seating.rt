@@ -9,7 +9,8 @@ use crate::seat::RowSeat;
 use crate::steps::{Tell, Unite};
 
 impl<T, E, K, L: Lawful<T, E, K>> LockRow<T, E, K, L> {
-    /// A new seat with one of the seat's parts, which has seen as much.
+    /// A new seat with one of the seat's parts, which has seen as much. A seat that gave its last part takes
+    /// no lock until it is joined with another.
     pub fn split(&self, seat: &mut RowSeat<T, E, K>) -> RowSeat<T, E, K>
         requires some { 0 < size self.now }
         requires on { IsOn (row_id self.now) (key_of self.now) seat.old }
