@@ -30,7 +30,7 @@ impl Lawful<Book, u64, ()> for Kept {
     ghost history = { λ x. x.guests.items };
 }
 
-/// How often each guest comes: with a few hundred times one thread was done before the other began.
+/// How often each guest comes: with a quarter of it one thread was done before the other began.
 const VISITS: u64 = 20_000;
 
 type Row = LockRow<Book, u64, (), Kept>;
