@@ -1,2 +1,1 @@
 mod Starting
-mod Boards

@@ -1,21 +1,22 @@
 //! A race for the outcomes of 200 transfers, between two threads over one table of atomic words, so many
-//! rounds as the first word of the command line says.
+//! rounds as the first word of the command line says. At the end it tells on standard error how many transfers
+//! were accepted and how many timed out; over some hundred rounds both occur.
 #![tactic(auto)]
 
 mod opening;
 mod participant;
 mod race;
+mod rounds;
 #[cfg(test)]
 mod tests;
 
-use race::{Finish, race};
+use rounds::rounds;
 use std::env;
+use std::io::Write;
 use std::process::ExitCode;
 
-/// How many milliseconds before its deadline a transfer can't be accepted any more, in every other round.
-const MARGIN: u32 = 2_000;
-
-fn rounds(words: &[String]) -> Option<u32> {
+/// The first word after the program's name.
+fn count(words: &[String]) -> Option<u32> {
     words.get(1)?.parse().ok()
 }
 
@@ -25,15 +26,19 @@ fn main(rt: HostRuntime) -> ExitCode {
         Ok(words) => words,
         Err(_) => return ExitCode::from(2),
     };
-    let Some(rounds) = rounds(&words) else {
+    let Some(count) = count(&words) else {
         return ExitCode::from(2);
     };
-    for round in 0..rounds {
-        let margin = if round % 2 == 0 { 0 } else { MARGIN };
-        match race(&rt, alloc, margin) {
-            Ok(finish) if finish == Finish::of_all() => {}
-            _ => return ExitCode::from(1),
+    match rounds(&rt, alloc, count) {
+        Some(ended) => {
+            let _ = writeln!(
+                rt.stderr(),
+                "accepted {}, timed out {}",
+                ended.accepted,
+                ended.timed_out
+            );
+            ExitCode::from(0)
         }
+        None => ExitCode::from(1),
     }
-    ExitCode::from(0)
 }

@@ -1,7 +1,8 @@
-//! A hub of three participants that opens.
-ghost use Rattle.std.specs.Prelude.{◌+◌};
-ghost use Rattle.atomic_table.specs.Seated.{TableId};
-ghost use Rattle.inst_race.specs.Boards.{AreBoards};
+//! A hub that opens: a participant for each board, by number.
+ghost use Rattle.std.specs.Prelude.{List, IfOk};
+ghost use Rattle.inst_settings.specs.Lawful.{IsSettings};
+ghost use Rattle.inst_cell.specs.declared.teller.Teller.{Teller};
+ghost use Rattle.inst_cell.specs.Opening.{AreOpened};
 
 use crate::participant::Participant;
 use inst_base::{Code, Fault};
@@ -12,15 +13,9 @@ use std::alloc::Global;
 /// From a transfer's time stamp to its deadline, in milliseconds.
 const LIMIT: u32 = 10_000;
 
-/// The participants of a hub.
-#[derive(Drop)]
-pub(crate) struct Hub {
-    pub(crate) first: Participant,
-    pub(crate) second: Participant,
-    pub(crate) third: Participant,
-}
-
-fn settings(alloc: Global, places: u16, margin: u32) -> Result<Settings, Fault> {
+fn settings(alloc: Global, places: u16, margin: u32) -> Result<Settings, Fault>
+    ensures { IfOk result (λ settings. IsSettings settings) }
+{
     let codes = [
         Code::new("AAAADEFF")?,
         Code::new("BBBBFRPP")?,
@@ -38,36 +33,26 @@ fn settings(alloc: Global, places: u16, margin: u32) -> Result<Settings, Fault> 
     )
 }
 
-/// The participant of the last board.
-fn next(
+/// Each participant with its board.
+fn seated(
     alloc: Global,
     settings: &Settings,
-    boards: &mut Vec<SharedBoard>,
-    who: u8,
-) -> Result<Participant, Fault>
-    requires { (table : TableId) × AreBoards settings.now table (who + 1) boards.old.items }
-    ensures { (table : TableId) → AreBoards settings.now table (who + 1) boards.old.items → AreBoards settings.now table who boards.new.items }
+    boards: Vec<SharedBoard>,
+) -> Result<Vec<Participant>, Fault>
+    requires lawful { IsSettings settings.now }
+    requires opened { (tellers : List Teller) × AreOpened settings.now 1 boards.items tellers }
 {
-    let Some(board) = boards.pop() else {
-        unreachable!()
-    };
-    Participant::open(alloc, settings, board, who)
+    let mut participants = Vec::new(alloc);
+    for (who, board) in boards.into_iter().enumerate() {
+        participants.push(Participant::open(alloc, settings, board, who as u8)?)?;
+    }
+    Ok(participants)
 }
 
-/// The hub, with so many places for each participant. A transfer can't be accepted any more from `margin`
-/// milliseconds before its deadline on.
-pub(crate) fn open(alloc: Global, places: u16, margin: u32) -> Result<Hub, Fault> {
+/// The participants, by number, with so many places for each. A transfer can't be accepted any more from
+/// `margin` milliseconds before its deadline on.
+pub(crate) fn open(alloc: Global, places: u16, margin: u32) -> Result<Vec<Participant>, Fault> {
     let settings = settings(alloc, places, margin)?;
-    let (mut boards, _tellers) = SharedBoard::open(alloc, &settings, 1)?;
-    if settings.participants() != 3 {
-        return Err(Fault::BadSettings);
-    }
-    let third = next(alloc, &settings, &mut boards, 2)?;
-    let second = next(alloc, &settings, &mut boards, 1)?;
-    let first = next(alloc, &settings, &mut boards, 0)?;
-    Ok(Hub {
-        first,
-        second,
-        third,
-    })
+    let (boards, _tellers) = SharedBoard::open(alloc, &settings, 1)?;
+    seated(alloc, &settings, boards)
 }

@@ -1,11 +1,11 @@
 //! Two participants race for the outcomes of the same transfers, each in a thread of its own.
-use crate::opening::{Hub, open};
+use crate::opening::open;
 use crate::participant::Participant;
 use inst_base::{Cents, Fault, Ident, Moment};
 use inst_board::Place;
-use inst_command::{Command, Submission};
+use inst_command::{Command, Outcome, Submission};
 use std::alloc::Global;
-use std::thread::{Threads, join};
+use std::thread::{Threads, join_mut};
 
 /// How many transfers are raced for.
 const TRANSFERS: u16 = 200;
@@ -23,27 +23,28 @@ const STAMP: u64 = 1_000;
 const DEADLINE: u64 = 11_000;
 
 /// How a race ended.
-#[derive(Clone, Copy, Debug, PartialEq, Eq)]
+#[derive(Clone, Copy, Debug)]
 pub(crate) struct Finish {
     /// Of how many transfers the originator's expiry booked an outcome.
-    pub(crate) expired: u16,
+    expired: u16,
     /// How many the beneficiary's confirmation was answered for.
-    pub(crate) confirmed: u16,
-    /// Of how many both books have the same outcome.
-    pub(crate) agreed: u16,
+    confirmed: u16,
+    /// Of how many both books say that they were accepted.
+    pub(crate) accepted: u16,
+    /// Of how many both books say that they timed out.
+    pub(crate) timed_out: u16,
     /// What the positions of both sum to, in cents.
-    pub(crate) sum: u128,
+    sum: u128,
 }
 
 impl Finish {
-    /// The finish of every race.
-    pub(crate) fn of_all() -> Finish {
-        Finish {
-            expired: TRANSFERS,
-            confirmed: TRANSFERS,
-            agreed: TRANSFERS,
-            sum: u128::from(FUNDS),
-        }
+    /// Whether it is a finish that a race may have: each side was answered for all transfers, both books
+    /// have the same outcome of each, and no cent came or went.
+    pub(crate) fn is_whole(&self) -> bool {
+        self.expired == TRANSFERS
+            && self.confirmed == TRANSFERS
+            && self.accepted.checked_add(self.timed_out) == Some(TRANSFERS)
+            && self.sum == u128::from(FUNDS)
     }
 }
 
@@ -98,64 +99,22 @@ fn expire_all(first: &mut Participant, at: Moment) -> Result<u16, Fault> {
     Ok(expired)
 }
 
-/// Of how many transfers both books have the same outcome.
-fn agreed(alloc: Global, first: &Participant, second: &Participant) -> Result<u16, Fault> {
-    let mut agreed = 0;
+/// Of how many transfers both books have this outcome.
+fn ended_so(
+    alloc: Global,
+    first: &Participant,
+    second: &Participant,
+    outcome: &Outcome,
+) -> Result<u16, Fault> {
+    let mut count = 0;
     for index in 0..TRANSFERS {
         let id = name(alloc, index)?;
-        let outcome = first.journal().booked(0, &id);
-        if outcome.is_some() && outcome == second.journal().booked(0, &id) {
-            agreed += 1;
+        let booked = first.journal().booked(0, &id);
+        if booked.as_ref() == Some(outcome) && booked == second.journal().booked(0, &id) {
+            count += 1;
         }
     }
-    Ok(agreed)
-}
-
-/// A participant after the race, and of how many transfers its calls were answered: none where one failed.
-#[derive(Drop)]
-struct Runner {
-    participant: Participant,
-    count: u16,
-}
-
-/// The originator's side.
-fn run_first(first: Participant, at: Moment) -> Runner {
-    let mut participant = first;
-    let count = expire_all(&mut participant, at).unwrap_or(0);
-    Runner { participant, count }
-}
-
-/// The beneficiary's side.
-fn run_second(alloc: Global, second: Participant, at: Moment) -> Runner {
-    let mut participant = second;
-    let count = confirm_all(alloc, &mut participant, at).unwrap_or(0);
-    Runner { participant, count }
-}
-
-/// Each side in a thread of its own.
-fn run<R: Threads + Sync>(
-    rt: &R,
-    alloc: Global,
-    hub: Hub,
-    deadline: Moment,
-    last: Moment,
-) -> (Runner, Runner) {
-    let Hub { first, second, .. } = hub;
-    join(
-        rt,
-        move || run_first(first, deadline),
-        move || run_second(alloc, second, last),
-    )
-}
-
-/// How the race of these two ended.
-fn end_of(alloc: Global, first: &Runner, second: &Runner) -> Result<Finish, Fault> {
-    Ok(Finish {
-        expired: first.count,
-        confirmed: second.count,
-        agreed: agreed(alloc, &first.participant, &second.participant)?,
-        sum: sum(&first.participant, &second.participant),
-    })
+    Ok(count)
 }
 
 /// What the positions of both sum to, in cents.
@@ -164,19 +123,37 @@ fn sum(first: &Participant, second: &Participant) -> u128 {
     first.saturating_add(second.journal().position())
 }
 
-/// A hub in which all transfers are pending.
-fn prepared(alloc: Global, margin: u32) -> Result<Hub, Fault> {
-    let mut hub = open(alloc, 256, margin)?;
-    submit_all(alloc, &mut hub.first, &mut hub.second)?;
-    Ok(hub)
+/// The race of these two for transfers that are pending.
+fn run<R: Threads + Sync>(
+    rt: &R,
+    alloc: Global,
+    first: &mut Participant,
+    second: &mut Participant,
+    margin: u32,
+) -> Result<Finish, Fault> {
+    let deadline = Moment::new(0, DEADLINE)?;
+    let last = Moment::new(0, DEADLINE.saturating_sub(u64::from(margin) + 1))?;
+    let (expired, confirmed) = join_mut(
+        rt,
+        &mut || expire_all(first, deadline),
+        &mut || confirm_all(alloc, second, last),
+    );
+    Ok(Finish {
+        expired: expired?,
+        confirmed: confirmed?,
+        accepted: ended_so(alloc, first, second, &Outcome::Accepted)?,
+        timed_out: ended_so(alloc, first, second, &Outcome::TimedOut)?,
+        sum: sum(first, second),
+    })
 }
 
 /// The beneficiary confirms all transfers at the last moment in time, while the originator lets them expire
 /// at the deadline. An acceptance must come before the deadline by more than `margin` milliseconds.
 pub(crate) fn race<R: Threads + Sync>(rt: &R, alloc: Global, margin: u32) -> Result<Finish, Fault> {
-    let deadline = Moment::new(0, DEADLINE)?;
-    let last = Moment::new(0, DEADLINE.saturating_sub(u64::from(margin) + 1))?;
-    let hub = prepared(alloc, margin)?;
-    let (first, second) = run(rt, alloc, hub, deadline, last);
-    end_of(alloc, &first, &second)
+    let mut hub = open(alloc, 256, margin)?;
+    let [first, second, ..] = hub.as_mut_slice() else {
+        return Err(Fault::BadSettings);
+    };
+    submit_all(alloc, first, second)?;
+    run(rt, alloc, first, second, margin)
 }
