@@ -1,0 +1,156 @@
+-- A call under a lock: what lies behind it stays lawful, and what the caller has then seen.
+use Rattle.std.proofs.Common.{◌≡◌, ℕ, List, [], ◌∷◌, sym, refl, ◌∙◌, subst, arith, Option, Some, None}
+use Rattle.std.specs.Prelude.{Contains, Result, Ok, Err, OnErr}
+use Rattle.std.proofs.lemmas.List.Elements.{Contains-append_left, Contains-append_right}
+use Rattle.inst_settings.specs.Settings.{HubSettings}
+use Rattle.inst_command.specs.declared.ask.Ask.{Ask}
+use Rattle.inst_command.specs.declared.command.Command.{Command}
+use Rattle.inst_command.specs.declared.command.Command.TheVariants.{Fund, Defund, Submit, Confirm, Reject, Investigate, Fetch, Position, Statement}
+use Rattle.inst_command.specs.declared.reply.Reply.{Reply}
+use Rattle.inst_command.specs.declared.reply.Reply.TheVariants.{Done, Taken as TakenReply, State, Inbox, Position as PositionReply, Statement as StatementReply, Refused}
+use Rattle.inst_board.specs.declared.place.Place.{Place}
+use Rattle.inst_board.specs.declared.about.Fact.{Fact}
+use Rattle.std.specs.declared.snapshot.Snapshot.{Snapshot}
+use Rattle.inst_cell.specs.declared.teller.Teller.{Teller as Sight}
+use Rattle.inst_cell.specs.declared.shared_board.SharedBoard.{SharedBoard}
+use Rattle.inst_cell.specs.Seen.{sees}
+use Rattle.inst_journal.specs.declared.event.Event.{Event}
+use Rattle.inst_journal.specs.Sound.{IsSound}
+use Rattle.inst_row.specs.declared.view.Front.{Front}
+use Rattle.inst_row.specs.declared.seat.RowSeat.{RowSeat}
+use Rattle.inst_row.specs.View.{front}
+use Rattle.inst_row.specs.Row.{key_of}
+use Rattle.inst_row.specs.Seated.{view_of, HasSeen, GoesOn, Sees}
+use Rattle.inst_hub.specs.declared.participant.Participant.{Participant}
+use Rattle.inst_hub.specs.declared.hub.Hub.{Hub}
+use Rattle.inst_hub.specs.declared.teller.Teller.{Teller}
+use Rattle.inst_hub.specs.Behind.{IsReady, IsBehind, IsLater}
+use Rattle.inst_hub.specs.Answers.{Answered, IsSubmitted, IsTicket}
+use Rattle.inst_hub.specs.Calls.{IsCall, IsLeft, KnowsMore, knows_of}
+
+abbrev Seat : Type 0
+Seat = RowSeat Participant Event (Snapshot SharedBoard)
+
+pub behind_later : (w : SharedBoard) (p : ℕ) (x y : Participant) → IsBehind w p x → IsLater x y → IsReady y → IsBehind w p y
+behind_later w p x y was later ready = record {
+  one = (later.stays.table ∙ was.one.0, later.stays.settings ∙ was.one.1);
+  who = later.who ∙ was.who;
+  ready = ready;
+}
+
+pub later_twice : (x y z : Participant) → IsLater x y → IsLater y z → IsLater x z
+later_twice x y z first second = record {
+  stays = record { settings = second.stays.settings ∙ first.stays.settings; table = second.stays.table ∙ first.stays.table; roles = second.stays.roles ∙ first.stays.roles };
+  who = second.who ∙ first.who;
+  settings = second.settings ∙ first.settings;
+}
+
+module _ {T E K : Type 0} where
+  pub seen_still : (p q : ℕ) (h l : List E) (s t : RowSeat T E K) → Sees p h s t → HasSeen q l s → HasSeen q l t
+  seen_still p q h l s t sees c = subst (λ (fs : List (Front E)). Contains fs (front q l)) (sym sees.seen)
+      (Contains-append_left (view_of s).fronts (front p h ∷ []) (front q l) c)
+
+  pub seen_last : (p : ℕ) (h : List E) (s t : RowSeat T E K) → Sees p h s t → HasSeen p h t
+  seen_last p h s t sees = subst (λ (fs : List (Front E)). Contains fs (front p h)) (sym sees.seen)
+      (Contains-append_right (view_of s).fronts (front p h ∷ []) (front p h) (0, omega arith, refl))
+
+-- who took a lock and gave it back knows what it knew
+pub still_knows : (t : Teller) (mid : Seat) (sight : Sight) (last : Seat) (p : ℕ) (h l : List Event) → ((f : Fact) → sees t.sight f → sees sight f)
+    → Sees p h t.seat mid → Sees p l mid last → KnowsMore t record { sight = sight; seat = last }
+still_knows t mid sight last p h l kept first second = record {
+  facts = kept;
+  fronts = λ q J seen. seen_still p q l J mid last second (seen_still p q h J t.seat mid first seen);
+  parts = second.parts ∙ first.parts;
+}
+
+-- what was answered under the lock of the asker
+pub call_of : (h : Hub) (t u : Teller) (ask : Ask) (answer : Reply × Option Place) (x y : Participant) → IsBehind (key_of h.row).value ask.who x
+    → GoesOn ask.who x.slot.events t.seat → HasSeen ask.who y.slot.events u.seat → IsSound x.slot.settings x.slot.who x.slot.events
+    → Answered x.slot.settings x.slot.who x.slot.events ask answer.0 y.slot.events
+    → IsTicket (sees u.sight) x.slot.settings x.slot.who ask.command y.slot.events answer.0 answer.1
+    → IsCall h t ask answer u
+call_of h t u ask answer x y behind goes_on seen sound answered ticket =
+    let settled : x.slot.settings ≡ h.settings = sym behind.ready.lawful.same_settings ∙ (behind.one.1 ∙ h.same) in record {
+      before = x.slot.events;
+      after = y.slot.events;
+      sound = subst (λ (s : HubSettings). IsSound s ask.who x.slot.events) settled (subst (λ (n : ℕ). IsSound x.slot.settings n x.slot.events) behind.who sound);
+      goes_on = goes_on;
+      seen = seen;
+      answered = subst (λ (s : HubSettings). Answered s ask.who x.slot.events ask answer.0 y.slot.events) settled
+          (subst (λ (n : ℕ). Answered x.slot.settings n x.slot.events ask answer.0 y.slot.events) behind.who answered);
+      ticket = subst (λ (s : HubSettings). IsTicket (sees u.sight) s ask.who ask.command y.slot.events answer.0 answer.1) settled
+          (subst (λ (n : ℕ). IsTicket (sees u.sight) x.slot.settings n ask.command y.slot.events answer.0 answer.1) behind.who ticket);
+    }
+
+-- the same at the lock p, which is the asker's
+pub call_at : (h : Hub) (t u : Teller) (ask : Ask) (answer : Reply × Option Place) (x y : Participant) (p : ℕ) → p ≡ ask.who → IsBehind (key_of h.row).value p x
+    → GoesOn p x.slot.events t.seat → HasSeen p y.slot.events u.seat → IsSound x.slot.settings x.slot.who x.slot.events
+    → Answered x.slot.settings x.slot.who x.slot.events ask answer.0 y.slot.events
+    → IsTicket (sees u.sight) x.slot.settings x.slot.who ask.command y.slot.events answer.0 answer.1
+    → IsCall h t ask answer u
+call_at h t u ask answer x y p is behind goes_on seen sound answered ticket =
+    call_of h t u ask answer x y (subst (λ (n : ℕ). IsBehind (key_of h.row).value n x) is behind) (subst (λ (n : ℕ). GoesOn n x.slot.events t.seat) is goes_on)
+    (subst (λ (n : ℕ). HasSeen n y.slot.events u.seat) is seen) sound answered ticket
+
+pub left_at : (t u : Teller) (ask : Ask) (J K : List Event) (p : ℕ) → p ≡ ask.who → GoesOn p J t.seat → HasSeen p K u.seat → K ≡ J → IsLeft t ask u
+left_at t u ask J K p is goes_on seen same = record {
+  before = J;
+  goes_on = subst (λ (n : ℕ). GoesOn n J t.seat) is goes_on;
+  seen = subst (λ (L : List Event). HasSeen ask.who L u.seat) same (subst (λ (n : ℕ). HasSeen n K u.seat) is seen);
+}
+
+pub on_err : {A B : Type 0} (r : Result A B) (X : Type 0) → X → OnErr r X
+on_err (Ok a) X x = tt
+on_err (Err b) X x = x
+
+-- what a teller knows stays known
+pub knows_twice : (t u v : Teller) → KnowsMore t u → KnowsMore u v → KnowsMore t v
+knows_twice t u v first second = record {
+  facts = λ f k. second.facts f (first.facts f k);
+  fronts = λ p J k. second.fronts p J (first.fronts p J k);
+  parts = second.parts ∙ first.parts;
+}
+
+submitted_more : (S S' : Fact → Type 0) → ((f : Fact) → S f → S' f) → (s : HubSettings) (command : Command) (k : Place) → IsSubmitted S s command k → IsSubmitted S' s command k
+submitted_more S S' more s (Submit x) k h = (more _ h.0, more _ h.1, more _ h.2)
+submitted_more S S' more s (Fund r n) k h = absurd h
+submitted_more S S' more s (Defund r n) k h = absurd h
+submitted_more S S' more s (Confirm p i) k h = absurd h
+submitted_more S S' more s (Reject p i r) k h = absurd h
+submitted_more S S' more s (Investigate i) k h = absurd h
+submitted_more S S' more s (Fetch n) k h = absurd h
+submitted_more S S' more s Position k h = absurd h
+submitted_more S S' more s (Statement n m) k h = absurd h
+
+ticket_more : (S S' : Fact → Type 0) → ((f : Fact) → S f → S' f) → (s : HubSettings) (who : ℕ) (command : Command) (K : List Event) (reply : Reply) (ticket : Option Place)
+    → IsTicket S s who command K reply ticket → IsTicket S' s who command K reply ticket
+ticket_more S S' more s who command K (TakenReply id d) (Some k) h = (h.0, submitted_more S S' more s command k h.1)
+ticket_more S S' more s who command K (TakenReply id d) None h = h
+ticket_more S S' more s who command K (State from id state) (Some k) h = (
+  h.0,
+  record {
+    terms = h.1.terms;
+    id_is = h.1.id_is;
+    opened = more _ h.1.opened;
+    has_terms = more _ h.1.has_terms;
+    outcome = λ o e. more _ (h.1.outcome o e);
+  },
+)
+ticket_more S S' more s who command K (State from id state) None h = h
+ticket_more S S' more s who command K (Done r) ticket h = h
+ticket_more S S' more s who command K (Inbox e) ticket h = h
+ticket_more S S' more s who command K (PositionReply p r a) ticket h = h
+ticket_more S S' more s who command K (StatementReply l) ticket h = h
+ticket_more S S' more s who command K (Refused f) ticket h = h
+
+-- a call after which the teller learnt more
+pub call_more : (h : Hub) (t u v : Teller) (ask : Ask) (answer : Reply × Option Place) → IsCall h t ask answer u → KnowsMore u v → IsCall h t ask answer v
+call_more h t u v ask answer c more = record {
+  before = c.before;
+  after = c.after;
+  sound = c.sound;
+  goes_on = c.goes_on;
+  seen = more.fronts ask.who c.after c.seen;
+  answered = c.answered;
+  ticket = ticket_more (knows_of u) (knows_of v) more.facts h.settings ask.who ask.command c.after answer.0 answer.1 c.ticket;
+}

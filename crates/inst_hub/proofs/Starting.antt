@@ -1,0 +1,151 @@
+-- A hub opens: the boards of its participants, one by one, and its tellers.
+use Rattle.std.proofs.Common.{◌≡◌, ℕ, ◌<◌, ◌+◌, List, [], ◌∷◌, ◌++◌, length, append-nil, append_assoc, length-append, sym, ap, ◌∙◌, subst, refl, arith, Some, ⊎_elim}
+use Rattle.std.specs.Prelude.{slice_get, Option, Contains, is_some, true}
+use Rattle.std.specs.declared.snapshot.Snapshot.{Snapshot}
+use Rattle.atomic_table.specs.Seated.{TableId}
+use Rattle.inst_settings.specs.Settings.{HubSettings, participants}
+use Rattle.inst_cell.specs.declared.shared_board.SharedBoard.{SharedBoard}
+use Rattle.inst_cell.specs.Held.{settings_of, knows, has_role, AtOneTable}
+use Rattle.inst_cell.specs.Opening.{IsOpened, AreOpened}
+use Rattle.inst_cell.specs.declared.teller.Teller.{Teller as Sight}
+use Rattle.inst_row.specs.Row.{row_id, key_of}
+use Rattle.inst_row.specs.Seated.{view_of}
+use Rattle.inst_slot.specs.declared.arrival.Arrival.{Arrival}
+use Rattle.inst_slot.specs.Book.{Book}
+use Rattle.inst_journal.proofs.Pushing.{sum_by_push}
+use Rattle.inst_slot.proofs.Adopting.{begins}
+use Rattle.inst_slot.proofs.Growing.{snoc_cases, slice_get_left, slice_get_at}
+use Rattle.inst_slot.proofs.Indexed.{last_at}
+use Rattle.inst_hub.specs.declared.participant.Participant.{Participant}
+use Rattle.inst_hub.specs.declared.hub.Hub.{Hub}
+use Rattle.inst_hub.specs.Behind.{IsBehind}
+use Rattle.inst_hub.specs.Calls.{AreOf}
+use Rattle.inst_hub.specs.declared.teller.Teller.{Teller}
+use Rattle.inst_hub.specs.Opening.{AreBoards, AreParticipants, IsBlank, AreBlank, IsNew, AreNew, parts_of}
+
+none_arrived : (x : Arrival) → Contains [] x → is_some x.index ≡ true
+none_arrived x (i, below, is) = absurd (omega arith)
+
+-- a participant begins with its board
+pub begins_behind : (s : HubSettings) (table : TableId) (who : ℕ) (b : SharedBoard) (book : Book) → IsOpened s table who b
+    → (book.settings ≡ s) × (book.who ≡ who) × (book.events ≡ []) × (book.arrivals ≡ []) → IsBehind b who record { slot = book; board = b }
+begins_behind s table who b book o new = record {
+  one = (refl, refl);
+  who = new.1;
+  ready = record {
+    lawful = begins settings_of knows has_role b book (o.settings ∙ sym new.0) ((o.role book.who).1 new.1) o.nothing new.2 new.3;
+    adopted = λ x h. none_arrived x (subst (λ (l : List Arrival). Contains l x) new.3 h);
+  };
+}
+
+at_seam : {A : Type 0} (xs : List A) (x : A) (ys : List A) → slice_get (xs ++ x ∷ ys) (length xs) ≡ Some x
+at_seam [] x ys = refl
+at_seam (y ∷ xs) x ys = at_seam xs x ys
+
+module _ (s : HubSettings) (id : TableId) (boards : List SharedBoard) (are : AreBoards s id boards) where
+  -- the next board is that of the next participant
+  pub next_board : (before rest : List SharedBoard) (b : SharedBoard) (n : ℕ) → n ≡ length before → before ++ b ∷ rest ≡ boards → IsOpened s id n b
+  next_board before rest b n is e =
+      are.each n b (ap (λ (i : ℕ). slice_get boards i) is ∙ (ap (λ (l : List SharedBoard). slice_get l (length before)) (sym e) ∙ at_seam before b rest))
+
+  pub few_boards : (before rest : List SharedBoard) (b : SharedBoard) (n : ℕ) → n ≡ length before → before ++ b ∷ rest ≡ boards → n < participants s
+  few_boards before rest b n is e =
+      let enough = are.enough in
+      let whole : length (before ++ b ∷ rest) ≡ length boards = ap length e in
+      let parts : length (before ++ b ∷ rest) ≡ length before + length (b ∷ rest) = length-append before (b ∷ rest) in
+      omega arith
+
+  pub byte_of : (before rest : List SharedBoard) (b : SharedBoard) (n : ℕ) → n ≡ length before → before ++ b ∷ rest ≡ boards → n < 256
+  byte_of before rest b n is e =
+      let few = few_boards before rest b n is e in
+      let most = b.most.0 in
+      let here : b.participants ≡ participants (settings_of b) = b.participants_is in
+      let same : participants (settings_of b) ≡ participants s = ap participants (next_board before rest b n is e).settings in
+      omega arith
+
+  pub next_left : (before rest after : List SharedBoard) (b : SharedBoard) → before ++ rest ≡ boards → rest ≡ b ∷ after → before ++ b ∷ after ≡ boards
+  next_left before rest after b e is = ap (λ (l : List SharedBoard). before ++ l) (sym is) ∙ e
+
+pub no_participants : AreParticipants [] []
+no_participants = record { enough = refl; each = λ p b e. absurd (none p b e) }
+  where
+    none : (p : ℕ) (b : SharedBoard) → slice_get {X = SharedBoard} [] p ≡ Some b → ⊥
+    none p b e = cc
+
+-- one more participant
+pub one_more : (boards : List SharedBoard) (all : List (Option Participant)) (b : SharedBoard) (n : ℕ) (x : Participant) → AreParticipants boards all
+    → n ≡ length boards → IsBehind b n x → x.slot.events ≡ [] → AreParticipants (boards ++ b ∷ []) (all ++ Some x ∷ [])
+one_more boards all b n x are is behind new = record {
+  enough = length-append all (Some x ∷ []) ∙ (ap (λ (i : ℕ). i + 1) are.enough ∙ sym (length-append boards (b ∷ [])));
+  each = λ p c e. ⊎_elim
+      (λ old. let o = are.each p c old in (o.0, slice_get_left all (Some x) (Some o.0) p o.1, o.2, o.3))
+      (λ last. (
+        x,
+        ap (λ (i : ℕ). slice_get (all ++ Some x ∷ []) i) (last.0 ∙ sym are.enough) ∙ last_at all (Some x),
+        subst (λ (d : SharedBoard). IsBehind d p x) last.1 (subst (λ (i : ℕ). IsBehind b i x) (is ∙ sym last.0) behind),
+        new,
+      ))
+      (snoc_cases boards b c p e);
+}
+
+pub all_participants : (boards yielded rest : List SharedBoard) (all : List (Option Participant)) → AreParticipants yielded all → yielded ++ rest ≡ boards → rest ≡ [] → AreParticipants boards all
+all_participants boards yielded rest all are e none =
+    subst (λ (l : List SharedBoard). AreParticipants l all) (sym (append-nil yielded) ∙ (ap (λ (l : List SharedBoard). yielded ++ l) (sym none) ∙ e)) are
+
+-- the sights are given to tellers in their order, the last one last
+pub next_sight : (before rest after all : List Sight) (t last : Sight) → before ++ (rest ++ last ∷ []) ≡ all → rest ≡ t ∷ after
+    → (before ++ t ∷ []) ++ (after ++ last ∷ []) ≡ all
+next_sight before rest after all t last e is =
+    append_assoc before (t ∷ []) (after ++ last ∷ []) ∙ (ap (λ (l : List Sight). before ++ (l ++ last ∷ [])) (sym is) ∙ e)
+
+pub blank_at : (words : SharedBoard) (before rest all : List Sight) (t : Sight) → AreBlank words all → before ++ t ∷ rest ≡ all → IsBlank words t
+blank_at words before rest all t blank e = blank (length before) t (ap (λ (l : List Sight). slice_get l (length before)) (sym e) ∙ at_seam before t rest)
+
+pub blank_next : (words : SharedBoard) (before rest after all : List Sight) (t last : Sight) → AreBlank words all → before ++ (rest ++ last ∷ []) ≡ all → rest ≡ t ∷ after → IsBlank words t
+blank_next words before rest after all t last blank e is =
+    blank_at words before (after ++ last ∷ []) all t blank (ap (λ (l : List Sight). before ++ (l ++ last ∷ [])) (sym is) ∙ e)
+
+pub blank_last : (words : SharedBoard) (before rest all : List Sight) (last : Sight) → AreBlank words all → before ++ (rest ++ last ∷ []) ≡ all → rest ≡ [] → IsBlank words last
+blank_last words before rest all last blank e none =
+    blank_at words before [] all last blank (ap (λ (l : List Sight). before ++ (l ++ last ∷ [])) (sym none) ∙ e)
+
+pub few_before : (before rest all : List Sight) (last : Sight) → before ++ (rest ++ last ∷ []) ≡ all → rest ≡ [] → length before + 1 ≡ length all
+few_before before rest all last e none =
+    sym (length-append before (last ∷ [])) ∙ ap length (ap (λ (l : List Sight). before ++ (l ++ last ∷ [])) (sym none) ∙ e)
+
+pub one_teller : (id : TableId) (key : Snapshot SharedBoard) (tellers : List Teller) (t : Teller) → AreNew id key tellers → IsNew id key t → AreNew id key (tellers ++ t ∷ [])
+one_teller id key tellers t are new i u e = ⊎_elim
+    (λ old. are i u old)
+    (λ last. subst (λ (x : Teller). IsNew id key x) last.1 new)
+    (snoc_cases tellers t u i e)
+
+pub parts_more : (tellers : List Teller) (t : Teller) → parts_of (tellers ++ t ∷ []) ≡ parts_of tellers + (view_of t.seat).parts
+parts_more tellers t = sum_by_push (λ (u : Teller). (view_of u.seat).parts) tellers t
+
+pub nothing_left : {A : Type 0} (l : List A) → length l ≡ 0 → l ≡ []
+nothing_left [] e = refl
+nothing_left (x ∷ l) e = absurd (omega arith)
+
+-- the boards of a hub that opens are over the words of the first of them
+pub one_table : (s : HubSettings) (id : TableId) (p q : ℕ) (a b : SharedBoard) → IsOpened s id p a → IsOpened s id q b → AtOneTable a b
+one_table s id p q a b first second = (second.table ∙ sym first.table, second.settings ∙ sym first.settings)
+
+pub opened_behind : (s : HubSettings) (n : ℕ) (boards : List SharedBoard) (sights : List Sight) (all : List (Option Participant)) (first w : SharedBoard) → AreOpened s n boards sights → AreParticipants boards all
+    → slice_get boards 0 ≡ Some first → w ≡ first → (p : ℕ) → p < length all → (x : Participant) × (slice_get all p ≡ Some (Some x)) × IsBehind w p x
+opened_behind s n boards sights all first w opened are at is p below =
+    let enough = are.enough in
+    let there = slice_get_at boards p (omega arith) in
+    let o = are.each p there.0 there.1 in
+    let one = one_table s opened.table 0 p first there.0 (opened.board 0 first at) (opened.board p there.0 there.1) in
+    let behind : IsBehind first p o.0 = record { one = (o.2.one.0 ∙ one.0, o.2.one.1 ∙ one.1); who = o.2.who; ready = o.2.ready } in
+    (o.0, o.1, subst (λ (b : SharedBoard). IsBehind b p o.0) (sym is) behind)
+
+pub blank_sights : (s : HubSettings) (n : ℕ) (boards : List SharedBoard) (sights : List Sight) (first w : SharedBoard) → AreOpened s n boards sights → slice_get boards 0 ≡ Some first → w ≡ first → AreBlank w sights
+blank_sights s n boards sights first w opened at is i t there =
+    let o = opened.teller i t there in
+    let f = opened.board 0 first at in
+    let blank : IsBlank first t = record { one = (o.table ∙ sym f.table, o.settings ∙ sym f.settings); nothing = o.nothing } in
+    subst (λ (b : SharedBoard). IsBlank b t) (sym is) blank
+
+pub new_are_of : (h : Hub) (tellers : List Teller) → AreNew (row_id h.row) (key_of h.row) tellers → AreOf h tellers
+new_are_of h tellers new i t at = let n = new i t at in record { on = n.on; free = n.free; one = n.blank.one }

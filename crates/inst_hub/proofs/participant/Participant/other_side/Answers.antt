@@ -1,0 +1,25 @@
+use Rattle.std.proofs.Common.{refl, sym, subst, None}
+use Rattle.inst_command.specs.declared.command.Command.{Command}
+use Rattle.inst_cell.specs.Held.{settings_of, knows, has_role, stood, roles_same}
+use Rattle.inst_slot.proofs.Looking.{looked_on}
+use Rattle.inst_hub.specs.Following.{IsOtherSide}
+use Rattle.inst_hub.proofs.participant.Participant.other_side.Goals as goal
+
+pub returns-in-Pending : goal.returns-in-Pending
+returns-in-Pending c = record {
+  ready = record {
+    lawful = looked_on settings_of knows has_role (settings_of c.args.self.now.board).margin stood c.args.self.now.board c.look.new.self c.args.place c.look.result c.look.ensures.look
+        c.args.self.now.slot c.look.ensures.stays.settings refl (roles_same c.args.self.now.board c.look.new.self c.args.self.now.slot.who c.look.ensures.stays).0 c.requires.ready.lawful;
+    adopted = c.requires.ready.adopted;
+  };
+  later = record { stays = c.look.ensures.stays; who = refl; settings = refl };
+  same = refl;
+  other = subst (λ (x : Command). IsOtherSide x c.args.place None) (sym c.in-Investigate.is) tt;
+}
+
+pub returns-in-Decided-clause-ready : goal.returns-in-Decided-clause-ready
+returns-in-Decided-clause-ready c = record {
+  lawful = looked_on settings_of knows has_role (settings_of c.args.self.now.board).margin stood c.args.self.now.board c.look.new.self c.args.place c.look.result c.look.ensures.look
+      c.args.self.now.slot c.look.ensures.stays.settings refl (roles_same c.args.self.now.board c.look.new.self c.args.self.now.slot.who c.look.ensures.stays).0 c.requires.ready.lawful;
+  adopted = c.requires.ready.adopted;
+}

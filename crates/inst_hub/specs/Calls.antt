@@ -1,0 +1,60 @@
+-- What a teller of a hub may rely on when it calls: a reply is the model's on a history that goes on from all that the
+-- teller has seen of it, and nothing that the teller knew is lost. This hub's own choice.
+use Rattle.std.specs.Prelude.{◌≡◌, ◌⊎◌, ◌↔◌, ℕ, List, slice_get, Option, Some}
+use Rattle.inst_command.specs.declared.ask.Ask.{Ask}
+use Rattle.inst_command.specs.declared.reply.Reply.{Reply}
+use Rattle.inst_board.specs.declared.about.Fact.{Fact}
+use Rattle.inst_board.specs.declared.place.Place.{Place}
+use Rattle.inst_cell.specs.Held.{AtOneTable}
+use Rattle.inst_cell.specs.Seen.{board_of, sees}
+use Rattle.inst_journal.specs.declared.event.Event.{Event}
+use Rattle.inst_journal.specs.Sound.{IsSound}
+use Rattle.inst_row.specs.Row.{row_id, key_of}
+use Rattle.inst_row.specs.Seated.{IsOn, IsFree, HasSeen, GoesOn, view_of}
+use Rattle.inst_hub.specs.declared.hub.Hub.{Hub}
+use Rattle.inst_hub.specs.declared.teller.Teller.{Teller}
+use Rattle.inst_hub.specs.Answers.{Answered, IsTicket}
+
+-- The teller is one of this hub's: it sits on its row and has no lock, and it sees its words
+pub record IsOf (h : Hub) (t : Teller) : Type 0 where
+  pub on : IsOn (row_id h.row) (key_of h.row) t.seat
+  pub free : IsFree t.seat
+  pub one : AtOneTable (key_of h.row).value (board_of t.sight)
+
+abbrev pub AreOf : Hub → List Teller → Type 0
+AreOf h tellers = (i : ℕ) (t : Teller) → slice_get tellers i ≡ Some t → IsOf h t
+
+-- what the teller knows of places
+abbrev pub knows_of : Teller → Fact → Type 0
+knows_of t f = sees t.sight f
+
+-- nothing that the teller knew is lost, of places and of histories, nor the parts of the row that it has
+pub record KnowsMore (t u : Teller) : Type 0 where
+  pub facts : (f : Fact) → knows_of t f → knows_of u f
+  pub fronts : (p : ℕ) (J : List Event) → HasSeen p J t.seat → HasSeen p J u.seat
+  pub parts : (view_of u.seat).parts ≡ (view_of t.seat).parts
+
+-- the teller knows exactly what either of these knew, and has the parts that it had
+pub record KnowBoth (t other u : Teller) : Type 0 where
+  pub facts : (f : Fact) → knows_of u f ↔ (knows_of t f ⊎ knows_of other f)
+  pub fronts : (p : ℕ) (J : List Event) → HasSeen p J u.seat ↔ (HasSeen p J t.seat ⊎ HasSeen p J other.seat)
+  pub parts : (view_of u.seat).parts ≡ (view_of t.seat).parts
+
+-- A call of the ask is answered
+-- before, goes_on: the history of the asker then goes on from all that the teller had seen of it
+-- after, seen: the history after the ask, which the teller has then seen
+-- answered, ticket: the reply is the model's, with its ticket
+pub record IsCall (h : Hub) (t : Teller) (ask : Ask) (answer : Reply × Option Place) (u : Teller) : Type 0 where
+  pub before : List Event
+  pub after : List Event
+  pub sound : IsSound h.settings ask.who before
+  pub goes_on : GoesOn ask.who before t.seat
+  pub seen : HasSeen ask.who after u.seat
+  pub answered : Answered h.settings ask.who before ask answer.0 after
+  pub ticket : IsTicket (knows_of u) h.settings ask.who ask.command after answer.0 answer.1
+
+-- A call that memory was refused for: the asker's history was seen as it was
+pub record IsLeft (t : Teller) (ask : Ask) (u : Teller) : Type 0 where
+  pub before : List Event
+  pub goes_on : GoesOn ask.who before t.seat
+  pub seen : HasSeen ask.who before u.seat

@@ -1,0 +1,6 @@
+pub mod Behind
+pub mod Answers
+pub mod Telling
+pub mod Opening
+pub mod Calls
+pub mod Following

@@ -1,0 +1,49 @@
+-- A hub that opens: behind each lock is its participant, with no history, and its tellers know nothing. This hub's own
+-- choice.
+use Rattle.std.specs.Prelude.{◌≡◌, ℕ, List, [], length, slice_get, sum_by, Option, Some}
+use Rattle.atomic_table.specs.Seated.{TableId}
+use Rattle.inst_settings.specs.Settings.{HubSettings, participants}
+use Rattle.inst_cell.specs.declared.shared_board.SharedBoard.{SharedBoard}
+use Rattle.std.specs.declared.snapshot.Snapshot.{Snapshot}
+use Rattle.inst_board.specs.declared.about.Fact.{Fact}
+use Rattle.inst_cell.specs.declared.teller.Teller.{Teller as Sight}
+use Rattle.inst_cell.specs.Held.{AtOneTable}
+use Rattle.inst_cell.specs.Opening.{IsOpened}
+use Rattle.inst_cell.specs.Seen.{board_of, sees}
+use Rattle.inst_row.specs.Seated.{IsOn, IsFree, view_of}
+use Rattle.inst_hub.specs.declared.teller.Teller.{Teller}
+use Rattle.inst_hub.specs.declared.participant.Participant.{Participant}
+use Rattle.inst_hub.specs.Behind.{IsBehind}
+
+-- the boards of all participants, by number
+pub record AreBoards (s : HubSettings) (id : TableId) (boards : List SharedBoard) : Type 0 where
+  pub enough : length boards ≡ participants s
+  pub each : (p : ℕ) (b : SharedBoard) → slice_get boards p ≡ Some b → IsOpened s id p b
+
+-- the participants of these boards, by number, with no history
+pub record AreParticipants (boards : List SharedBoard) (all : List (Option Participant)) : Type 0 where
+  pub enough : length all ≡ length boards
+  pub each : (p : ℕ) (b : SharedBoard) → slice_get boards p ≡ Some b →
+      (x : Participant) × (slice_get all p ≡ Some (Some x)) × IsBehind b p x × (x.slot.events ≡ [])
+
+-- what a teller sees with at first: over these words, and it knows of no place
+pub record IsBlank (words : SharedBoard) (t : Sight) : Type 0 where
+  pub one : AtOneTable words (board_of t)
+  pub nothing : (f : Fact) → ¬ sees t f
+
+abbrev pub AreBlank : SharedBoard → List Sight → Type 0
+AreBlank words sights = (i : ℕ) (t : Sight) → slice_get sights i ≡ Some t → IsBlank words t
+
+-- a teller of a hub that opens: it may take a lock, and has seen nothing
+pub record IsNew (id : TableId) (key : Snapshot SharedBoard) (t : Teller) : Type 0 where
+  pub on : IsOn id key t.seat
+  pub free : IsFree t.seat
+  pub unseen : (view_of t.seat).fronts ≡ []
+  pub blank : IsBlank key.value t.sight
+
+abbrev pub AreNew : TableId → Snapshot SharedBoard → List Teller → Type 0
+AreNew id key tellers = (i : ℕ) (t : Teller) → slice_get tellers i ≡ Some t → IsNew id key t
+
+-- the parts of the row that they have
+abbrev pub parts_of : List Teller → ℕ
+parts_of tellers = sum_by (λ t. (view_of t.seat).parts) tellers

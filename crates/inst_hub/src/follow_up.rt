@@ -1,0 +1,18 @@
+use inst_board::Place;
+
+/// What a side does once the other side's command was answered.
+#[derive(Clone, Copy, Debug, PartialEq, Eq)]
+pub enum Act {
+    /// The beneficiary gets the transfer that was taken.
+    Deliver,
+    /// The other side learns the outcome.
+    Learn,
+}
+
+/// What the participant `who` does about the transfer of this place.
+#[derive(Clone, Copy, Debug, PartialEq, Eq)]
+pub struct FollowUp {
+    pub who: u8,
+    pub act: Act,
+    pub place: Place,
+}

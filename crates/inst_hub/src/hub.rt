@@ -1,0 +1,41 @@
+ghost use Rattle.std.specs.Prelude.{◌≡◌};
+ghost use Rattle.inst_settings.specs.Settings.{participants};
+ghost use Rattle.inst_cell.specs.Held.{settings_of};
+ghost use Rattle.inst_row.specs.Row.{key_of, size};
+
+mod calling;
+mod meeting;
+mod opening;
+
+use crate::behind::Behind;
+use crate::participant::Participant;
+use inst_cell::SharedBoard;
+use inst_journal::Event;
+use inst_row::LockRow;
+use inst_settings::Settings;
+use std::snapshot::Snapshot;
+
+/// A hub that threads share by reference, each with a teller of its own. No call holds two locks, and a call of one
+/// participant waits for none of another's, but for the follow-up under the other side's lock.
+///
+/// ```text
+/// let (hub, mut tellers) = Hub::open(alloc, settings, 2)?;
+/// let (reply, ticket) = hub.call(rt, &mut teller, &ask)?;
+/// teller.peek(&ticket)      // in the teller's thread, whenever it likes
+/// ```
+#[derive(Drop)]
+pub struct Hub {
+    settings: Settings,
+    row: LockRow<Participant, Event, Snapshot<SharedBoard>, Behind>,
+    pub ghost sized: { size row ≡ participants settings },
+    pub ghost same: { settings_of (key_of row).value ≡ settings },
+}
+
+impl Hub {
+    /// The settings that it was opened with.
+    pub fn settings(&self) -> &Settings
+        ensures { result.now ≡ self.now.settings }
+    {
+        &self.settings
+    }
+}

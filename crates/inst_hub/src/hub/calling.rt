@@ -1,0 +1,100 @@
+//! Calls of a hub, under the locks of participants.
+ghost use Rattle.std.specs.Prelude.{◌≡◌, true, IfOk, OnErr, IsOkUnless};
+ghost use Rattle.inst_command.specs.Ask.{ask_fits};
+ghost use Rattle.inst_hub.specs.Calls.{IsOf, KnowsMore, IsCall, IsLeft};
+
+use super::Hub;
+use crate::follow_up::FollowUp;
+use crate::gate::{Gate, Open};
+use crate::teller::Teller;
+use inst_base::Fault;
+use inst_cell::Ticket;
+use inst_command::{Ask, Reply};
+use std::sync::Wait;
+
+impl Hub {
+    /// What a command is answered, a refusal too, with a ticket where the reply tells of a live transfer. It waits
+    /// while another thread has the asker's lock, and then for the other side's, under which what follows is done:
+    /// the beneficiary gets what was taken, the other side learns an outcome. What follows and finds no memory is
+    /// dropped, and the reply stands. The only error is `Memory`, and then nothing was changed.
+    pub fn call<R: Wait>(
+        &self,
+        rt: &R,
+        teller: &mut Teller,
+        ask: &Ask,
+    ) -> Result<(Reply, Option<Ticket>), Fault>
+        requires of { IsOf self.now teller.old }
+        requires fits { ask_fits self.now.settings ask.now ≡ true }
+        ensures of { IsOf self.now teller.new }
+        ensures knows { KnowsMore teller.old teller.new }
+        ensures call { IfOk result (λ answer. IsCall self.now teller.old ask.now answer teller.new) }
+        ensures left { OnErr result (IsLeft teller.old ask.now teller.new) }
+        ensures only { IsOkUnless result Fault.Memory }
+    {
+        self.call_with(rt, teller, ask, &Open)
+    }
+
+    /// The same with a gate, which is passed once, after the event of the asker and before its lock is given back.
+    pub fn call_with<R: Wait, G: Gate>(
+        &self,
+        rt: &R,
+        teller: &mut Teller,
+        ask: &Ask,
+        gate: &G,
+    ) -> Result<(Reply, Option<Ticket>), Fault>
+        requires of { IsOf self.now teller.old }
+        requires fits { ask_fits self.now.settings ask.now ≡ true }
+        ensures of { IsOf self.now teller.new }
+        ensures knows { KnowsMore teller.old teller.new }
+        ensures call { IfOk result (λ answer. IsCall self.now teller.old ask.now answer teller.new) }
+        ensures left { OnErr result (IsLeft teller.old ask.now teller.new) }
+        ensures only { IsOkUnless result Fault.Memory }
+    {
+        let (answer, follow_up) = self.ask(rt, teller, ask, gate)?;
+        self.follow(rt, teller, follow_up);
+        Ok(answer)
+    }
+
+    /// What a command is answered under the asker's lock, and what the other side has to do then.
+    fn ask<R: Wait, G: Gate>(
+        &self,
+        rt: &R,
+        teller: &mut Teller,
+        ask: &Ask,
+        gate: &G,
+    ) -> Result<((Reply, Option<Ticket>), Option<FollowUp>), Fault>
+        requires of { IsOf self.now teller.old }
+        requires fits { ask_fits self.now.settings ask.now ≡ true }
+        ensures of { IsOf self.now teller.new }
+        ensures knows { KnowsMore teller.old teller.new }
+        ensures call { IfOk result (λ r. IsCall self.now teller.old ask.now r.0 teller.new) }
+        ensures left { OnErr result (IsLeft teller.old ask.now teller.new) }
+        ensures only { IsOkUnless result Fault.Memory }
+    {
+        let lock = usize::from(ask.who);
+        let mut participant = self.row.take(rt, &mut teller.seat, lock);
+        let answer = participant.serve(&mut teller.sight, ask);
+        let follow_up = participant.follow_up(&ask.command, &answer);
+        gate.pass(ask.who);
+        self.row.give(&mut teller.seat, lock, participant);
+        Ok((answer?, follow_up))
+    }
+
+    /// Does what follows under the other side's lock; what finds no memory is dropped.
+    fn follow<R: Wait>(&self, rt: &R, teller: &mut Teller, follow_up: Option<FollowUp>)
+        requires of { IsOf self.now teller.old }
+        ensures of { IsOf self.now teller.new }
+        ensures knows { KnowsMore teller.old teller.new }
+    {
+        let Some(FollowUp { who, act, place }) = follow_up else {
+            return
+        };
+        let lock = usize::from(who);
+        if lock >= self.row.len() {
+            return;
+        }
+        let mut participant = self.row.take(rt, &mut teller.seat, lock);
+        let _ = participant.follow(act, place);
+        self.row.give(&mut teller.seat, lock, participant);
+    }
+}

@@ -1,0 +1,122 @@
+//! How a hub opens, with its tellers.
+ghost use Rattle.std.specs.Prelude.{◌≡◌, ◌⊎◌, ◌↔◌, [], Err, IfOk, IfErr, IsOkUnless, length, ◌<◌};
+ghost use Rattle.atomic_table.specs.Seated.{TableId};
+ghost use Rattle.inst_settings.specs.Settings.{participants};
+ghost use Rattle.inst_cell.specs.Held.{settings_of};
+ghost use Rattle.inst_cell.specs.Opening.{MayOpen, IsOpened, AreAdmitted};
+ghost use Rattle.inst_row.specs.Row.{row_id, key_of, size};
+ghost use Rattle.inst_row.specs.Seated.{IsOn, HasAll, view_of};
+ghost use Rattle.inst_hub.specs.Behind.{IsBehind};
+ghost use Rattle.inst_hub.specs.Calls.{AreOf};
+ghost use Rattle.inst_hub.specs.Opening.{AreBoards, AreParticipants, AreBlank, AreNew, parts_of};
+
+use super::Hub;
+use crate::behind::Behind;
+use crate::participant::Participant;
+use crate::teller::Teller;
+use inst_base::Fault;
+use inst_cell::SharedBoard;
+use inst_command::Outcome;
+use inst_journal::Event;
+use inst_row::{LockRow, RowSeat};
+use inst_settings::Settings;
+use inst_slot::Slot;
+use std::alloc::Global;
+use std::snapshot::Snapshot;
+
+/// A participant with no history, over its board of a hub that opens.
+fn participant(
+    alloc: Global,
+    settings: &Settings,
+    board: SharedBoard,
+    who: u8,
+) -> Result<Participant, Fault>
+    requires { (table : TableId) × IsOpened settings.now table who board }
+    ensures ok { IfOk result (λ x. IsBehind board who x) }
+    ensures new { IfOk result (λ x. x.slot.events ≡ []) }
+    ensures only { IsOkUnless result Fault.Memory }
+{
+    // The check is told of a type of another crate inside an event only where a function names it.
+    let _: Option<Outcome> = None;
+    Ok(Participant {
+        slot: Slot::open(alloc, settings, who)?,
+        board,
+    })
+}
+
+/// The participants of these boards, each with no history.
+fn participants(
+    alloc: Global,
+    settings: &Settings,
+    boards: Vec<SharedBoard>,
+) -> Result<Vec<Option<Participant>>, Fault>
+    requires { (table : TableId) × AreBoards settings.now table boards.items }
+    ensures ok { IfOk result (λ all. AreParticipants boards.items all.items) }
+    ensures only { IsOkUnless result Fault.Memory }
+{
+    let mut all = Vec::new(alloc);
+    let mut who = 0_u16;
+    for board in boards {
+        all.push(Some(participant(alloc, settings, board, who as u8)?))?;
+        who += 1;
+    }
+    Ok(all)
+}
+
+type Row = LockRow<Participant, Event, Snapshot<SharedBoard>, Behind>;
+
+type Seat = RowSeat<Participant, Event, Snapshot<SharedBoard>>;
+
+/// The tellers that see so, each with a seat on the row; together they have all its parts.
+fn admit(
+    alloc: Global,
+    row: &Row,
+    seat: Seat,
+    sights: Vec<inst_cell::Teller>,
+) -> Result<Vec<Teller>, Fault>
+    requires some { 0 < size row.now }
+    requires on { IsOn (row_id row.now) (key_of row.now) seat }
+    requires all { HasAll seat × ((view_of seat).fronts ≡ []) }
+    requires sights { MayOpen (length sights.items) × AreBlank (key_of row.now).value sights.items }
+    ensures enough { IfOk result (λ all. length all.items ≡ length sights.items) }
+    ensures new { IfOk result (λ all. AreNew (row_id row.now) (key_of row.now) all.items) }
+    ensures parts { IfOk result (λ all. parts_of all.items ≡ 16) }
+    ensures only { IsOkUnless result Fault.Memory }
+{
+    let mut seat = seat;
+    let mut sights = sights;
+    let Some(last) = sights.pop() else {
+        unreachable!()
+    };
+    let mut all = Vec::new(alloc);
+    for sight in sights {
+        let seat = row.split(&mut seat);
+        all.push(Teller { sight, seat })?;
+    }
+    all.push(Teller { sight: last, seat })?;
+    Ok(all)
+}
+
+impl Hub {
+    /// A hub that opens for the first time, with as many tellers as are wanted, which know nothing.
+    /// `BadSettings` where these are not 1 to 16, `Memory` where there is no room.
+    pub fn open(alloc: Global, settings: Settings, tellers: u8) -> Result<(Hub, Vec<Teller>), Fault>
+        ensures settings { IfOk result (λ r. r.0.settings ≡ settings) }
+        ensures enough { IfOk result (λ r. length r.1.items ≡ tellers) }
+        ensures of { IfOk result (λ r. AreOf r.0 r.1.items) }
+        ensures new { IfOk result (λ r. AreNew (row_id r.0.row) (key_of r.0.row) r.1.items) }
+        ensures parts { IfOk result (λ r. parts_of r.1.items ≡ 16) }
+        ensures bad { (result ≡ Err Fault.BadSettings) ↔ ¬ MayOpen tellers }
+        ensures only { IfErr result (λ e. (e ≡ Fault.Memory) ⊎ (e ≡ Fault.BadSettings)) }
+    {
+        let (boards, sights) = SharedBoard::open(alloc, &settings, tellers)?;
+        let Some(first) = boards.first() else {
+            unreachable!()
+        };
+        let about = Snapshot::of(first);
+        let all = participants(alloc, &settings, boards)?;
+        let (row, seat) = LockRow::open(alloc, all, &about)?;
+        let tellers = admit(alloc, &row, seat, sights)?;
+        Ok((Hub { settings, row }, tellers))
+    }
+}

@@ -1,0 +1,109 @@
+// A hub of three participants, and what its tellers ask it.
+ghost use Rattle.std.specs.Prelude.{IfOk};
+ghost use Rattle.inst_hub.specs.Calls.{IsOf, AreOf};
+
+use crate::{Hub, Teller, Ticket};
+use inst_base::{Cents, Code, Fault, Ident, Moment};
+use inst_command::{Ask, Command, Reply, State, Submission};
+use inst_settings::Settings;
+use std::alloc::Global;
+use std::sync::Wait;
+
+/// The settings of a hub with so many places for each of three participants.
+pub(crate) fn settings(alloc: Global, places: u16) -> Result<Settings, Fault> {
+    let codes = [
+        Code::new("AAAADEFF")?,
+        Code::new("BBBBFRPP")?,
+        Code::new("CCCCITMM")?,
+    ];
+    Settings::check(
+        codes.to_vec(alloc)?,
+        places,
+        4,
+        10_000,
+        0,
+        1_000,
+        99_999_999_999,
+        0,
+    )
+}
+
+pub(crate) fn fund(cents: u64) -> Result<Command, Fault> {
+    Ok(Command::Fund {
+        reference: Ident::new("F1")?,
+        cents: Cents::new(cents)?,
+    })
+}
+
+/// A transfer to participant 1 with the time stamp 1000.
+pub(crate) fn submit(id: &str, cents: u64) -> Result<Command, Fault> {
+    Ok(Command::Submit(Submission {
+        id: Ident::new(id)?,
+        to: 1,
+        cents: Cents::new(cents)?,
+        stamp: Moment::new(0, 1_000)?,
+    }))
+}
+
+/// A confirmation of a transfer of participant 0.
+pub(crate) fn confirm(id: &str) -> Result<Command, Fault> {
+    Ok(Command::Confirm {
+        from: 0,
+        id: Ident::new(id)?,
+    })
+}
+
+/// The last teller of these.
+pub(crate) fn last(hub: &Hub, tellers: &mut Vec<Teller>) -> Result<Teller, Fault>
+    requires { AreOf hub.now tellers.old.items }
+    ensures last { IfOk result (λ teller. IsOf hub.now teller) }
+    ensures rest { AreOf hub.now tellers.new.items }
+{
+    match tellers.pop() {
+        Some(teller) => Ok(teller),
+        None => Err(Fault::BadSettings),
+    }
+}
+
+/// The state that the reply tells, if any.
+pub(crate) fn state_of(reply: &Reply) -> Option<State> {
+    match reply {
+        Reply::State { state, .. } => Some(*state),
+        _ => None,
+    }
+}
+
+/// The position, reserved and available cents that the reply tells, if any.
+pub(crate) fn position_of(reply: &Reply) -> Option<(u64, u64, u64)> {
+    match reply {
+        Reply::Position {
+            position,
+            reserved,
+            available,
+        } => Some((*position, *reserved, *available)),
+        _ => None,
+    }
+}
+
+/// What a command is answered; `BadField` where it doesn't fit the hub.
+pub(crate) fn ask<R: Wait>(
+    rt: &R,
+    hub: &Hub,
+    teller: &mut Teller,
+    who: u8,
+    command: Command,
+    at: u64,
+) -> Result<(Reply, Option<Ticket>), Fault>
+    requires { IsOf hub.now teller.old }
+    ensures { IsOf hub.now teller.new }
+{
+    let ask = Ask {
+        who,
+        command,
+        at: Moment::new(0, at)?,
+    };
+    if !ask.fits(hub.settings()) {
+        return Err(Fault::BadField);
+    }
+    hub.call(rt, teller, &ask)
+}
