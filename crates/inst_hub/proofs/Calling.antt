@@ -1,5 +1,5 @@
 -- A call under a lock: what lies behind it stays lawful, and what the caller has then seen.
-use Rattle.std.proofs.Common.{◌≡◌, ℕ, List, [], ◌∷◌, sym, refl, ◌∙◌, subst, arith, Option, Some, None}
+use Rattle.std.proofs.Common.{◌≡◌, ℕ, List, [], ◌∷◌, sym, refl, ◌∙◌, subst, arith, Option, Some, None, ◌++◌, append-nil, append_assoc, ap}
 use Rattle.std.specs.Prelude.{Contains, Result, Ok, Err, OnErr}
 use Rattle.std.proofs.lemmas.List.Elements.{Contains-append_left, Contains-append_right}
 use Rattle.inst_settings.specs.Settings.{HubSettings}
@@ -26,7 +26,7 @@ use Rattle.inst_hub.specs.declared.hub.Hub.{Hub}
 use Rattle.inst_hub.specs.declared.teller.Teller.{Teller}
 use Rattle.inst_hub.specs.Behind.{IsReady, IsBehind, IsLater}
 use Rattle.inst_hub.specs.Answers.{Answered, IsSubmitted, IsTicket}
-use Rattle.inst_hub.specs.Calls.{IsCall, IsLeft, KnowsMore, knows_of}
+use Rattle.inst_hub.specs.Calls.{IsCall, Calls, IsLeft, KnowsMore, Follows, IsToldMore, knows_of, sights_of}
 
 abbrev Seat : Type 0
 Seat = RowSeat Participant Event (Snapshot SharedBoard)
@@ -65,10 +65,11 @@ still_knows t mid sight last p h l kept first second = record {
 
 -- what was answered under the lock of the asker
 pub call_of : (h : Hub) (t u : Teller) (ask : Ask) (answer : Reply × Option Place) (x y : Participant) → IsBehind (key_of h.row).value ask.who x
-    → GoesOn ask.who x.slot.events t.seat → HasSeen ask.who y.slot.events u.seat → IsSound x.slot.settings x.slot.who x.slot.events
+    → GoesOn ask.who x.slot.events t.seat → sights_of u ≡ sights_of t ++ front ask.who x.slot.events ∷ front ask.who y.slot.events ∷ []
+    → IsSound x.slot.settings x.slot.who x.slot.events
     → Answered x.slot.settings x.slot.who x.slot.events ask answer.0 y.slot.events
     → IsTicket (sees u.sight) x.slot.settings x.slot.who ask.command y.slot.events answer.0 answer.1
-    → IsCall h t ask answer u
+    → IsCall h t ask answer [] u
 call_of h t u ask answer x y behind goes_on seen sound answered ticket =
     let settled : x.slot.settings ≡ h.settings = sym behind.ready.lawful.same_settings ∙ (behind.one.1 ∙ h.same) in record {
       before = x.slot.events;
@@ -84,19 +85,36 @@ call_of h t u ask answer x y behind goes_on seen sound answered ticket =
 
 -- the same at the lock p, which is the asker's
 pub call_at : (h : Hub) (t u : Teller) (ask : Ask) (answer : Reply × Option Place) (x y : Participant) (p : ℕ) → p ≡ ask.who → IsBehind (key_of h.row).value p x
-    → GoesOn p x.slot.events t.seat → HasSeen p y.slot.events u.seat → IsSound x.slot.settings x.slot.who x.slot.events
+    → GoesOn p x.slot.events t.seat → sights_of u ≡ sights_of t ++ front p x.slot.events ∷ front p y.slot.events ∷ []
+    → IsSound x.slot.settings x.slot.who x.slot.events
     → Answered x.slot.settings x.slot.who x.slot.events ask answer.0 y.slot.events
     → IsTicket (sees u.sight) x.slot.settings x.slot.who ask.command y.slot.events answer.0 answer.1
-    → IsCall h t ask answer u
+    → IsCall h t ask answer [] u
 call_at h t u ask answer x y p is behind goes_on seen sound answered ticket =
     call_of h t u ask answer x y (subst (λ (n : ℕ). IsBehind (key_of h.row).value n x) is behind) (subst (λ (n : ℕ). GoesOn n x.slot.events t.seat) is goes_on)
-    (subst (λ (n : ℕ). HasSeen n y.slot.events u.seat) is seen) sound answered ticket
+    (subst (λ (n : ℕ). sights_of u ≡ sights_of t ++ front n x.slot.events ∷ front n y.slot.events ∷ []) is seen) sound answered ticket
 
-pub left_at : (t u : Teller) (ask : Ask) (J K : List Event) (p : ℕ) → p ≡ ask.who → GoesOn p J t.seat → HasSeen p K u.seat → K ≡ J → IsLeft t ask u
+pub left_at : (t u : Teller) (ask : Ask) (J K : List Event) (p : ℕ) → p ≡ ask.who → GoesOn p J t.seat → sights_of u ≡ sights_of t ++ front p J ∷ front p K ∷ [] → K ≡ J → IsLeft t ask u
 left_at t u ask J K p is goes_on seen same = record {
   before = J;
   goes_on = subst (λ (n : ℕ). GoesOn n J t.seat) is goes_on;
-  seen = subst (λ (L : List Event). HasSeen ask.who L u.seat) same (subst (λ (n : ℕ). HasSeen n K u.seat) is seen);
+  seen = subst (λ (L : List Event). sights_of u ≡ sights_of t ++ front ask.who J ∷ front ask.who L ∷ []) same
+      (subst (λ (n : ℕ). sights_of u ≡ sights_of t ++ front n J ∷ front n K ∷ []) is seen);
+}
+
+-- who took a lock and gave it back has seen what was found and what was left
+pub seen_both : (s mid last : Seat) (p : ℕ) (h l : List Event) → Sees p h s mid → Sees p l mid last → (view_of last).fronts ≡ (view_of s).fronts ++ front p h ∷ front p l ∷ []
+seen_both s mid last p h l first second =
+    second.seen ∙ (ap (λ (fs : List (Front Event)). fs ++ front p l ∷ []) first.seen ∙ append_assoc (view_of s).fronts (front p h ∷ []) (front p l ∷ []))
+
+pub follows_nothing : (t : Teller) → Follows t t
+follows_nothing t = record { sights = []; follows = tt; seen = sym (append-nil (sights_of t)) }
+
+pub follows_one : (t : Teller) (mid last : Seat) (p : ℕ) (h l : List Event) → Sees p h t.seat mid → Sees p l mid last → IsToldMore h l → Follows t record { sight = t.sight; seat = last }
+follows_one t mid last p h l first second told = record {
+  sights = front p h ∷ front p l ∷ [];
+  follows = (refl, told);
+  seen = seen_both t.seat mid last p h l first second;
 }
 
 pub on_err : {A B : Type 0} (r : Result A B) (X : Type 0) → X → OnErr r X
@@ -143,14 +161,19 @@ ticket_more S S' more s who command K (PositionReply p r a) ticket h = h
 ticket_more S S' more s who command K (StatementReply l) ticket h = h
 ticket_more S S' more s who command K (Refused f) ticket h = h
 
--- a call after which the teller learnt more
-pub call_more : (h : Hub) (t u v : Teller) (ask : Ask) (answer : Reply × Option Place) → IsCall h t ask answer u → KnowsMore u v → IsCall h t ask answer v
-call_more h t u v ask answer c more = record {
-  before = c.before;
-  after = c.after;
-  sound = c.sound;
-  goes_on = c.goes_on;
-  seen = more.fronts ask.who c.after c.seen;
-  answered = c.answered;
-  ticket = ticket_more (knows_of u) (knows_of v) more.facts h.settings ask.who ask.command c.after answer.0 answer.1 c.ticket;
-}
+-- a call, and what followed
+pub call_more : (h : Hub) (t u v : Teller) (ask : Ask) (answer : Reply × Option Place) → IsCall h t ask answer [] u → KnowsMore u v → Follows u v → Calls h t ask answer v
+call_more h t u v ask answer c more follows = (
+  follows.sights,
+  follows.follows,
+  record {
+    before = c.before;
+    after = c.after;
+    sound = c.sound;
+    goes_on = c.goes_on;
+    seen = follows.seen ∙ (ap (λ (fs : List (Front Event)). fs ++ follows.sights) c.seen
+        ∙ append_assoc (sights_of t) (front ask.who c.before ∷ front ask.who c.after ∷ []) follows.sights);
+    answered = c.answered;
+    ticket = ticket_more (knows_of u) (knows_of v) more.facts h.settings ask.who ask.command c.after answer.0 answer.1 c.ticket;
+  },
+)

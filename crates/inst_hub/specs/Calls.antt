@@ -1,6 +1,6 @@
 -- What a teller of a hub may rely on when it calls: a reply is the model's on a history that goes on from all that the
 -- teller has seen of it, and nothing that the teller knew is lost. This hub's own choice.
-use Rattle.std.specs.Prelude.{◌≡◌, ◌⊎◌, ◌↔◌, ℕ, List, slice_get, Option, Some}
+use Rattle.std.specs.Prelude.{◌≡◌, ◌⊎◌, ◌↔◌, ℕ, List, [], ◌∷◌, ◌++◌, slice_get, Option, Some}
 use Rattle.inst_command.specs.declared.ask.Ask.{Ask}
 use Rattle.inst_command.specs.declared.reply.Reply.{Reply}
 use Rattle.inst_board.specs.declared.about.Fact.{Fact}
@@ -8,7 +8,10 @@ use Rattle.inst_board.specs.declared.place.Place.{Place}
 use Rattle.inst_cell.specs.Held.{AtOneTable}
 use Rattle.inst_cell.specs.Seen.{board_of, sees}
 use Rattle.inst_journal.specs.declared.event.Event.{Event}
+use Rattle.inst_journal.specs.declared.event.Event.TheVariants.{Forwarded, Booked}
 use Rattle.inst_journal.specs.Sound.{IsSound}
+use Rattle.inst_row.specs.declared.view.Front.{Front}
+use Rattle.inst_row.specs.View.{front}
 use Rattle.inst_row.specs.Row.{row_id, key_of}
 use Rattle.inst_row.specs.Seated.{IsOn, IsFree, HasSeen, GoesOn, view_of}
 use Rattle.inst_hub.specs.declared.hub.Hub.{Hub}
@@ -40,21 +43,52 @@ pub record KnowBoth (t other u : Teller) : Type 0 where
   pub fronts : (p : ℕ) (J : List Event) → HasSeen p J u.seat ↔ (HasSeen p J t.seat ⊎ HasSeen p J other.seat)
   pub parts : (view_of u.seat).parts ≡ (view_of t.seat).parts
 
+-- what the teller has seen behind the locks, in order
+abbrev pub sights_of : Teller → List (Front Event)
+sights_of t = (view_of t.seat).fronts
+
+-- the event says that a transfer came, or how one ended
+abbrev pub IsTold : Event → Type 0
+IsTold (Forwarded from id cents deadline) = Unit {0}
+IsTold (Booked from id outcome) = Unit {0}
+IsTold _ = ⊥
+
+-- the history is as it was, or has one such event more
+abbrev pub IsToldMore : List Event → List Event → Type 0
+IsToldMore J K = (K ≡ J) ⊎ ((e : Event) × IsTold e × (K ≡ J ++ e ∷ []))
+
+-- what is seen of what follows from a call: nothing, or, behind one lock, the history that was found and the one left
+abbrev pub MayFollow : List (Front Event) → Type 0
+MayFollow [] = Unit {0}
+MayFollow (found ∷ left ∷ []) = (left.lock ≡ found.lock) × IsToldMore found.history left.history
+MayFollow _ = ⊥
+
+-- nothing else was seen, and nothing forgotten
+pub record Follows (t u : Teller) : Type 0 where
+  pub sights : List (Front Event)
+  pub follows : MayFollow sights
+  pub seen : sights_of u ≡ sights_of t ++ sights
+
 -- A call of the ask is answered
--- before, goes_on: the history of the asker then goes on from all that the teller had seen of it
--- after, seen: the history after the ask, which the teller has then seen
+-- before, goes_on: the history of the asker that was found goes on from all that the teller had seen of it
+-- after: the history that was left
+-- seen: the teller has seen these two, then what followed, and nothing else
 -- answered, ticket: the reply is the model's, with its ticket
-pub record IsCall (h : Hub) (t : Teller) (ask : Ask) (answer : Reply × Option Place) (u : Teller) : Type 0 where
+pub record IsCall (h : Hub) (t : Teller) (ask : Ask) (answer : Reply × Option Place) (sights : List (Front Event)) (u : Teller) : Type 0 where
   pub before : List Event
   pub after : List Event
   pub sound : IsSound h.settings ask.who before
   pub goes_on : GoesOn ask.who before t.seat
-  pub seen : HasSeen ask.who after u.seat
+  pub seen : sights_of u ≡ sights_of t ++ front ask.who before ∷ front ask.who after ∷ sights
   pub answered : Answered h.settings ask.who before ask answer.0 after
   pub ticket : IsTicket (knows_of u) h.settings ask.who ask.command after answer.0 answer.1
 
--- A call that memory was refused for: the asker's history was seen as it was
+-- a call with what followed from it
+abbrev pub Calls : Hub → Teller → Ask → Reply × Option Place → Teller → Type 0
+Calls h t ask answer u = (sights : List (Front Event)) × MayFollow sights × IsCall h t ask answer sights u
+
+-- A call that memory was refused for: the asker's history was found, and left as it was
 pub record IsLeft (t : Teller) (ask : Ask) (u : Teller) : Type 0 where
   pub before : List Event
   pub goes_on : GoesOn ask.who before t.seat
-  pub seen : HasSeen ask.who before u.seat
+  pub seen : sights_of u ≡ sights_of t ++ front ask.who before ∷ front ask.who before ∷ []

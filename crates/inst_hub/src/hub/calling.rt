@@ -1,7 +1,7 @@
 //! Calls of a hub, under the locks of participants.
-ghost use Rattle.std.specs.Prelude.{◌≡◌, true, IfOk, OnErr, IsOkUnless};
+ghost use Rattle.std.specs.Prelude.{◌≡◌, [], true, IfOk, OnErr, IsOkUnless};
 ghost use Rattle.inst_command.specs.Ask.{ask_fits};
-ghost use Rattle.inst_hub.specs.Calls.{IsOf, KnowsMore, IsCall, IsLeft};
+ghost use Rattle.inst_hub.specs.Calls.{IsOf, KnowsMore, Follows, IsCall, Calls, IsLeft};
 
 use super::Hub;
 use crate::follow_up::FollowUp;
@@ -27,7 +27,7 @@ impl Hub {
         requires fits { ask_fits self.now.settings ask.now ≡ true }
         ensures of { IsOf self.now teller.new }
         ensures knows { KnowsMore teller.old teller.new }
-        ensures call { IfOk result (λ answer. IsCall self.now teller.old ask.now answer teller.new) }
+        ensures call { IfOk result (λ answer. Calls self.now teller.old ask.now answer teller.new) }
         ensures left { OnErr result (IsLeft teller.old ask.now teller.new) }
         ensures only { IsOkUnless result Fault.Memory }
     {
@@ -46,7 +46,7 @@ impl Hub {
         requires fits { ask_fits self.now.settings ask.now ≡ true }
         ensures of { IsOf self.now teller.new }
         ensures knows { KnowsMore teller.old teller.new }
-        ensures call { IfOk result (λ answer. IsCall self.now teller.old ask.now answer teller.new) }
+        ensures call { IfOk result (λ answer. Calls self.now teller.old ask.now answer teller.new) }
         ensures left { OnErr result (IsLeft teller.old ask.now teller.new) }
         ensures only { IsOkUnless result Fault.Memory }
     {
@@ -67,7 +67,7 @@ impl Hub {
         requires fits { ask_fits self.now.settings ask.now ≡ true }
         ensures of { IsOf self.now teller.new }
         ensures knows { KnowsMore teller.old teller.new }
-        ensures call { IfOk result (λ r. IsCall self.now teller.old ask.now r.0 teller.new) }
+        ensures call { IfOk result (λ r. IsCall self.now teller.old ask.now r.0 [] teller.new) }
         ensures left { OnErr result (IsLeft teller.old ask.now teller.new) }
         ensures only { IsOkUnless result Fault.Memory }
     {
@@ -85,6 +85,7 @@ impl Hub {
         requires of { IsOf self.now teller.old }
         ensures of { IsOf self.now teller.new }
         ensures knows { KnowsMore teller.old teller.new }
+        ensures follows { Follows teller.old teller.new }
     {
         let Some(FollowUp { who, act, place }) = follow_up else {
             return

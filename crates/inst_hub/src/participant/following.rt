@@ -1,7 +1,8 @@
 //! What follows from a command under the other side's lock.
 ghost use Rattle.std.specs.Prelude.{◌≡◌, IsOkUnless};
-ghost use Rattle.inst_hub.specs.Behind.{IsReady, IsLater, HistoryGrows};
-ghost use Rattle.inst_hub.specs.Following.{IsOtherSide, IsFollowUp};
+ghost use Rattle.inst_hub.specs.Behind.{IsReady, IsLater};
+ghost use Rattle.inst_hub.specs.Following.{IsOtherSide, IsFollowUp, Does};
+ghost use Rattle.inst_hub.specs.Calls.{IsToldMore};
 
 use super::Participant;
 use crate::follow_up::{Act, FollowUp};
@@ -21,7 +22,7 @@ impl Participant {
         ensures ready { IsReady self.new }
         ensures later { IsLater self.old self.new }
         ensures same { self.new.slot ≡ self.old.slot }
-        ensures follows { IsFollowUp command.now answer.now result }
+        ensures follows { IsFollowUp self.old command.now answer.now result self.new }
     {
         match answer {
             Ok((_, Some(ticket))) => self.other_side(command, ticket.place()),
@@ -36,7 +37,7 @@ impl Participant {
         ensures ready { IsReady self.new }
         ensures later { IsLater self.old self.new }
         ensures same { self.new.slot ≡ self.old.slot }
-        ensures other { IsOtherSide command.now place result }
+        ensures other { IsOtherSide self.old command.now place result self.new }
     {
         let (who, act) = match command {
             Command::Submit(submission) => (submission.to, Act::Deliver),
@@ -55,7 +56,8 @@ impl Participant {
         requires ready { IsReady self.old }
         ensures ready { IsReady self.new }
         ensures later { IsLater self.old self.new }
-        ensures grows { HistoryGrows self.old self.new }
+        ensures does { Does act self.old place result self.new }
+        ensures told { IsToldMore self.old.slot.events self.new.slot.events }
         ensures only { IsOkUnless result Fault.Memory }
     {
         match act {

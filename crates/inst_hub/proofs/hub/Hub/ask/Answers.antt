@@ -1,4 +1,4 @@
-use Rattle.std.proofs.Common.{◌≡◌, ◌∙◌, ap, subst, sym}
+use Rattle.std.proofs.Common.{◌≡◌, ◌∙◌, ap, subst, sym, ◌++◌, ◌∷◌, []}
 use mathlib.Core.List.{IsPrefix}
 use Rattle.inst_row.specs.Row.{key_of}
 use Rattle.inst_slot.specs.Book.{Book}
@@ -7,10 +7,10 @@ use Rattle.inst_base.specs.declared.fault.Fault.{Fault}
 use Rattle.inst_command.specs.declared.reply.Reply.{Reply}
 use Rattle.inst_board.specs.declared.place.Place.{Place}
 use Rattle.inst_cell.specs.Seen.{sees}
-use Rattle.inst_row.specs.Seated.{HasSeen}
+use Rattle.inst_row.specs.View.{front}
 use Rattle.inst_hub.specs.Answers.{Answered, IsTicket}
-use Rattle.inst_hub.specs.Calls.{IsLeft}
-use Rattle.inst_hub.proofs.Calling.{behind_later, later_twice, still_knows, seen_last, call_at, left_at, on_err}
+use Rattle.inst_hub.specs.Calls.{IsLeft, sights_of}
+use Rattle.inst_hub.proofs.Calling.{behind_later, later_twice, still_knows, seen_both, call_at, left_at, on_err}
 use Rattle.inst_hub.proofs.hub.Hub.ask.Goals as goal
 
 pub give-requires-clause-has : goal.give-requires-clause-has
@@ -34,7 +34,7 @@ returns-in_err-answer-clause-left g c =
     let same = subst (λ (r : Result (Reply × Option Place) Fault). OnErr r (c.serve-answer.new.self.slot.events ≡ c.take-participant.result.slot.events)) c.in_err-answer.was c.serve-answer.ensures.err in
     on_err c.from_residual.result (IsLeft c.args.teller.now c.args.ask.now record { sight = c.serve-answer.new.teller; seat = c.give.new.seat })
     (left_at c.args.teller.now record { sight = c.serve-answer.new.teller; seat = c.give.new.seat } c.args.ask.now c.take-participant.result.slot.events c.follow_up-follow_up.new.self.slot.events c.from-lock.result c.from-lock.ensures
-    c.take-participant.ensures.goes_on (seen_last c.from-lock.result c.follow_up-follow_up.new.self.slot.events c.take-participant.new.seat c.give.new.seat c.give.ensures.sees)
+    c.take-participant.ensures.goes_on (seen_both c.args.teller.now.seat c.take-participant.new.seat c.give.new.seat c.from-lock.result c.take-participant.result.slot.events c.follow_up-follow_up.new.self.slot.events c.take-participant.ensures.sees c.give.ensures.sees)
     (ap (λ (b : Book). b.events) c.follow_up-follow_up.ensures.same ∙ same))
 
 pub returns-clause-knows : goal.returns-clause-knows
@@ -47,6 +47,6 @@ returns-clause-call g c =
     let ticket = subst (λ (r : Result (Reply × Option Place) Fault). IfOk r (λ answer. IsTicket (sees c.serve-answer.new.teller) c.take-participant.result.slot.settings c.take-participant.result.slot.who c.args.ask.now.command c.serve-answer.new.self.slot.events answer.0 answer.1)) c.in_ok-answer.was c.serve-answer.ensures.ticket in
     call_at c.args.self.now c.args.teller.now record { sight = c.serve-answer.new.teller; seat = c.give.new.seat } c.args.ask.now c.in_ok-answer.field-0 c.take-participant.result c.serve-answer.new.self c.from-lock.result c.from-lock.ensures
     c.take-participant.ensures.law c.take-participant.ensures.goes_on
-    (subst (λ (b : Book). HasSeen c.from-lock.result b.events c.give.new.seat) c.follow_up-follow_up.ensures.same
-    (seen_last c.from-lock.result c.follow_up-follow_up.new.self.slot.events c.take-participant.new.seat c.give.new.seat c.give.ensures.sees))
+    (subst (λ (b : Book). sights_of record { sight = c.serve-answer.new.teller; seat = c.give.new.seat } ≡ sights_of c.args.teller.now ++ front c.from-lock.result c.take-participant.result.slot.events ∷ front c.from-lock.result b.events ∷ []) c.follow_up-follow_up.ensures.same
+    (seen_both c.args.teller.now.seat c.take-participant.new.seat c.give.new.seat c.from-lock.result c.take-participant.result.slot.events c.follow_up-follow_up.new.self.slot.events c.take-participant.ensures.sees c.give.ensures.sees))
     c.serve-answer.ensures.sound answered ticket
