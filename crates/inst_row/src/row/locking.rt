@@ -9,6 +9,10 @@ use crate::lawful::Lawful;
 use crate::seat::RowSeat;
 use crate::steps::{Giving, Taking};
 use std::sync::Wait;
+use std::thread::yield_now;
+
+/// How often a lock is tried before its taker sleeps until it is given back.
+const TRIES: u32 = 64;
 
 impl<T, E, K, L: Lawful<T, E, K>> LockRow<T, E, K, L> {
     /// The value behind the lock, where no seat has it. It is tried once.
@@ -31,6 +35,28 @@ impl<T, E, K, L: Lawful<T, E, K>> LockRow<T, E, K, L> {
         }
     }
 
+    /// The value behind the lock, where no seat has it at one of some tries. Between them the thread lets
+    /// others run: who has a lock keeps it for one event, which is sooner over than a sleep.
+    fn try_often(&self, seat: &mut RowSeat<T, E, K>, lock: usize) -> Option<T>
+        requires on { IsOn (row_id self.now) (key_of self.now) seat.old }
+        requires lock { lock < size self.now }
+        requires free { IsFree seat.old }
+        ensures law { IfSome result (λ value. L.law (key_of self.now) lock value) }
+        ensures goes_on { IfSome result (λ value. GoesOn lock (L.history value) seat.old) }
+        ensures has { IfSome result (λ value. Has lock (L.history value) seat.new) }
+        ensures on { IsOn (row_id self.now) (key_of self.now) seat.new }
+        ensures sees { IfSome result (λ value. Sees lock (L.history value) seat.old seat.new) }
+        ensures none { IfNone result (seat.new.seat.me ≡ seat.old.seat.me) }
+    {
+        for _ in 0..TRIES {
+            if let Some(value) = self.try_take(seat, lock) {
+                return Some(value);
+            }
+            yield_now();
+        }
+        None
+    }
+
     /// The value behind the lock. It waits while another seat has it; a seat that has a lock takes no second
     /// one.
     pub fn take<R: Wait>(&self, rt: &R, seat: &mut RowSeat<T, E, K>, lock: usize) -> T
@@ -44,7 +70,7 @@ impl<T, E, K, L: Lawful<T, E, K>> LockRow<T, E, K, L> {
         ensures sees { Sees lock (L.history result) seat.old seat.new }
     {
         for _ in rt.forever() {
-            if let Some(value) = self.try_take(seat, lock) {
+            if let Some(value) = self.try_often(seat, lock) {
                 return value;
             }
             self.table.shared.park(rt, lock, 1);
