@@ -6,3 +6,4 @@ pub mod Replying
 pub mod Ticketing
 pub mod Serving
 pub mod Calling
+pub mod Sweeping

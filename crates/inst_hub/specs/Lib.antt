@@ -4,3 +4,4 @@ pub mod Telling
 pub mod Opening
 pub mod Calls
 pub mod Following
+pub mod Sweeping

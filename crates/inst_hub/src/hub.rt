@@ -6,6 +6,7 @@ ghost use Rattle.inst_row.specs.Row.{key_of, size};
 mod calling;
 mod meeting;
 mod opening;
+mod sweeping;
 
 use crate::behind::Behind;
 use crate::participant::Participant;

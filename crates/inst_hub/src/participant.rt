@@ -1,5 +1,6 @@
 mod asking;
 mod following;
+mod sweeping;
 
 use inst_cell::SharedBoard;
 use inst_slot::Slot;

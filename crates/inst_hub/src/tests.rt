@@ -3,4 +3,5 @@
 mod asking;
 mod gate;
 mod race;
+mod sweeping;
 mod two_tellers;

@@ -6,3 +6,4 @@ pub mod Opening
 pub mod Indexed
 pub mod Waiting
 pub mod Laws
+pub mod Arrived

@@ -5,6 +5,7 @@ ghost use Rattle.inst_journal.specs.Opened.{live_taken};
 ghost use Rattle.inst_journal.specs.Sound.{IsSound};
 ghost use Rattle.inst_slot.specs.Book.{place_of};
 
+mod arrived;
 mod asking;
 mod expiring;
 mod opening;
@@ -78,8 +79,16 @@ impl Slot {
         self.ledger.journal()
     }
 
+    /// The settings of its hub.
+    pub fn settings(&self) -> &Settings
+        ensures settings { result.now ≡ self.now.settings }
+        ensures lawful { IsSettings self.now.settings }
+    {
+        self.ledger.settings()
+    }
+
     /// The participant's number.
-    fn who(&self) -> u8
+    pub fn who(&self) -> u8
         ensures { result ≡ self.now.who }
     {
         self.ledger.who()

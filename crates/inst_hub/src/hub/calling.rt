@@ -56,7 +56,7 @@ impl Hub {
     }
 
     /// What a command is answered under the asker's lock, and what the other side has to do then.
-    fn ask<R: Wait, G: Gate>(
+    pub(crate) fn ask<R: Wait, G: Gate>(
         &self,
         rt: &R,
         teller: &mut Teller,

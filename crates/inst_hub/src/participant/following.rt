@@ -1,7 +1,7 @@
 //! What follows from a command under the other side's lock.
 ghost use Rattle.std.specs.Prelude.{◌≡◌, IsOkUnless};
 ghost use Rattle.inst_hub.specs.Behind.{IsReady, IsLater};
-ghost use Rattle.inst_hub.specs.Following.{IsOtherSide, IsFollowUp, Does};
+ghost use Rattle.inst_hub.specs.Following.{IsOtherSide, IsFollowUp, Does, Shows};
 ghost use Rattle.inst_hub.specs.Calls.{IsToldMore};
 
 use super::Participant;
@@ -42,13 +42,24 @@ impl Participant {
         let (who, act) = match command {
             Command::Submit(submission) => (submission.to, Act::Deliver),
             Command::Confirm { from, .. } | Command::Reject { from, .. } => (*from, Act::Learn),
-            Command::Investigate { .. } => match self.board.look(place) {
+            Command::Investigate { .. } => match self.look(place) {
                 Look::Decided(terms, _) => (terms.to, Act::Learn),
                 Look::Pending(..) | Look::Unused => return None,
             },
             _ => return None,
         };
         Some(FollowUp { who, act, place })
+    }
+
+    /// What the place shows.
+    pub(super) fn look(&mut self, place: Place) -> Look
+        requires ready { IsReady self.old }
+        ensures ready { IsReady self.new }
+        ensures later { IsLater self.old self.new }
+        ensures same { self.new.slot ≡ self.old.slot }
+        ensures shows { Shows self.old.board place result self.new.board }
+    {
+        self.board.look(place)
     }
 
     /// Does this with the place: `true` where it brought something new. After `Memory` the history is as it was.

@@ -107,3 +107,13 @@ pub(crate) fn ask<R: Wait>(
     }
     hub.call(rt, teller, &ask)
 }
+
+/// The teller funds participant 0, and submits a transfer of it.
+pub(crate) fn submitted<R: Wait>(rt: &R, hub: &Hub, teller: &mut Teller) -> Result<Ticket, Fault>
+    requires { IsOf hub.now teller.old }
+    ensures { IsOf hub.now teller.new }
+{
+    ask(rt, hub, teller, 0, fund(50_000)?, 0)?;
+    let (_, ticket) = ask(rt, hub, teller, 0, submit("T1", 20_000)?, 1_000)?;
+    ticket.ok_or(Fault::UnknownTransfer)
+}

@@ -1,8 +1,8 @@
 // One teller submits a transfer, and another confirms it.
 ghost use Rattle.inst_hub.specs.Calls.{IsOf};
 
-use super::asking::{ask, confirm, fund, last, position_of, settings, state_of, submit};
-use crate::{Hub, Teller, Ticket};
+use super::asking::{ask, confirm, last, position_of, settings, state_of, submitted};
+use crate::{Hub, Teller};
 use inst_base::Fault;
 use inst_command::{Command, Outcome, State};
 use std::sync::Wait;
@@ -16,16 +16,6 @@ struct Sights {
     first_before_meeting: State,
     first: State,
     position: Option<(u64, u64, u64)>,
-}
-
-/// The teller funds participant 0, and submits a transfer of it.
-fn submitted<R: Wait>(rt: &R, hub: &Hub, teller: &mut Teller) -> Result<Ticket, Fault>
-    requires { IsOf hub.now teller.old }
-    ensures { IsOf hub.now teller.new }
-{
-    ask(rt, hub, teller, 0, fund(50_000)?, 0)?;
-    let (_, ticket) = ask(rt, hub, teller, 0, submit("T1", 20_000)?, 1_000)?;
-    ticket.ok_or(Fault::UnknownTransfer)
 }
 
 fn see<R: Wait>(rt: &R, hub: &Hub, first: &mut Teller, second: &mut Teller) -> Result<Sights, Fault>

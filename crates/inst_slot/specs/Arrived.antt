@@ -1,0 +1,32 @@
+-- Which of the live transfers that were forwarded to a participant have nothing booked, in order of arrival. This hub's
+-- own choice.
+use Rattle.std.specs.Prelude.{◌≡◌, ℕ, ◌≤◌, ◌<◌, is_none, if◌then◌else◌, slice_get, Option, Some, None}
+use Rattle.inst_board.specs.declared.place.Place.{Place}
+use Rattle.inst_journal.specs.Booked.{booked}
+use Rattle.inst_slot.specs.declared.arrival.Arrival.{Arrival}
+use Rattle.inst_slot.specs.Book.{Book, placed}
+
+-- the place of the arrival, where nothing is booked of it and its place was found
+abbrev pub unbooked_place : Book → Arrival → Option Place
+unbooked_place book arrival =
+    if is_none (booked arrival.entry.from arrival.entry.id book.events)
+    then placed arrival.entry.from arrival.index else None
+
+-- no arrival from one position on and before another has such a place
+abbrev pub NoneUnbooked : Book → ℕ → ℕ → Type 0
+NoneUnbooked book from before = (i : ℕ) (arrival : Arrival) → from ≤ i → i < before →
+    slice_get book.arrivals i ≡ Some arrival → unbooked_place book arrival ≡ None
+
+-- the first arrival from the position on with such a place, by its position, and the place
+pub record IsNextUnbooked (book : Book) (from : ℕ) (next : ℕ × Place) : Type 0 where
+  pub arrival : Arrival
+  pub there : slice_get book.arrivals next.0 ≡ Some arrival
+  pub place : unbooked_place book arrival ≡ Some next.1
+  pub within : from ≤ next.0
+  pub first : NoneUnbooked book from next.0
+
+-- this first arrival, or that there is none
+abbrev pub GivesUnbooked : Book → ℕ → Option (ℕ × Place) → Type 0
+GivesUnbooked book from None = (i : ℕ) (arrival : Arrival) → from ≤ i → slice_get book.arrivals i ≡ Some arrival →
+    unbooked_place book arrival ≡ None
+GivesUnbooked book from (Some next) = IsNextUnbooked book from next
