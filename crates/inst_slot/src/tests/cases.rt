@@ -30,6 +30,9 @@ pub(super) enum Does {
     TellPlace(&'static str),
     /// Whether the first pair is followed by the second among what waits.
     DueAfter(Option<(u64, u16)>, Option<(u64, u16)>),
+    /// Whether the first arrival from this position on with nothing booked is the second, by its position and the index of
+    /// its place, which is one of the first participant's.
+    UnbookedFrom(usize, Option<(usize, u16)>),
     /// Whether so many places of carried transfers aren't found yet.
     Misses(usize),
 }
@@ -111,14 +114,24 @@ fn pair(pair: Option<(u64, u16)>) -> Result<Option<(Moment, u16)>, Fault> {
     }
 }
 
+/// The position of an arrival, and its place, which is one of the first participant's.
+fn arrival(arrival: Option<(usize, u16)>) -> Option<(usize, Place)> {
+    let (position, index) = arrival?;
+    Some((position, Place { owner: 0, index }))
+}
+
 /// What the slot answers to a question.
 fn question(hub: &Hub, who: u8, does: &Does) -> Result<bool, Fault> {
     let Some(slot) = hub.slot(who) else {
         return Err(Fault::BadField);
     };
+    if slot.who() != who || slot.settings().participants() != 3 {
+        return Err(Fault::BadSettings);
+    }
     match *does {
         Does::TellPlace(id) => Ok(slot.place_of(who, &Ident::new(id)?).is_some()),
         Does::DueAfter(before, next) => Ok(slot.due_after(pair(before)?) == pair(next)?),
+        Does::UnbookedFrom(position, next) => { Ok(slot.unbooked_from(position) == arrival(next)) }
         Does::Misses(count) => Ok(slot.unfound() == count),
         _ => Err(Fault::BadField),
     }
