@@ -137,7 +137,7 @@ module _ {B : Type 0} (settings : B → HubSettings) (knows : B → Fact → Typ
   asked_until b book (Statement skip count) k lawful sound e = let no : ⊥ = cc in absurd no
 
 -- where nothing is answered of a place, nothing is wanted of it by its deadline
-nothing_wanted : (margin : ℕ) (stood : Outcome → Type 0) (wish : Wish) (at : ℕ) (p : Standing) (found : Option Outcome) (deadline : ℕ) → Answers margin stood wish at p found → Says p (Due deadline) → found ≡ None
+pub nothing_wanted : (margin : ℕ) (stood : Outcome → Type 0) (wish : Wish) (at : ℕ) (p : Standing) (found : Option Outcome) (deadline : ℕ) → Answers margin stood wish at p found → Says p (Due deadline) → found ≡ None
     → wanted margin wish deadline at ≡ None
 nothing_wanted margin stood wish at unused found deadline answers says none = absurd says
 nothing_wanted margin stood wish at (pending t d) found deadline answers says none = ap (λ (e : ℕ). wanted margin wish e at) says ∙ answers.1

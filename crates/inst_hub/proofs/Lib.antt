@@ -7,3 +7,4 @@ pub mod Ticketing
 pub mod Serving
 pub mod Calling
 pub mod Sweeping
+pub mod Due

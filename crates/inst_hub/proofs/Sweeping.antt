@@ -24,7 +24,7 @@ use Rattle.inst_hub.specs.Calls.{IsTold, IsToldMore, sights_of}
 use Rattle.inst_hub.specs.Following.{Does}
 use Rattle.inst_slot.specs.Book.{place_at}
 use Rattle.inst_slot.specs.Waiting.{IsNextDue}
-use Rattle.inst_hub.specs.Sweeping.{IsToldAll, Sweeps, IsSweep, new_events, MayExpire, LetsExpire, LearnsAll, LooksAt, DeliversFrom, DeliversAll}
+use Rattle.inst_hub.specs.Sweeping.{IsToldAll, Sweeps, IsSweep, NothingDue, new_events, MayExpire, LetsExpire, LearnsAll, LooksAt, DeliversFrom, DeliversAll}
 use Rattle.inst_hub.specs.Sweeping.LetsExpire.{then_next as then_next_pair}
 use Rattle.inst_hub.specs.Sweeping.LearnsAll.{then_next as then_next_arrival}
 use Rattle.inst_hub.specs.Sweeping.DeliversFrom.{no_more, unused, then_next}
@@ -183,8 +183,8 @@ all_grows J K told = (told.0, sym told.1)
 pub sweep_at : (h : Hub) (t u : Teller) (who at : ℕ) (result : Result ℕ Fault) (x y : Participant) (p : ℕ) → p ≡ who → IsBehind (key_of h.row).value p x
     → GoesOn p x.slot.events t.seat → sights_of u ≡ sights_of t ++ front p x.slot.events ∷ front p y.slot.events ∷ []
     → IsToldAll x.slot.events y.slot.events → IfOk result (λ count. Sweeps at x y) → IfOk result (λ count. count ≡ new_events x.slot.events y.slot.events)
-    → IsSweep h t who at result u
-sweep_at h t u who at result x y p is behind goes_on seen told sweeps count = record {
+    → IfOk result (λ count. NothingDue at y) → IsSweep h t who at result u
+sweep_at h t u who at result x y p is behind goes_on seen told sweeps count due = record {
   found = x;
   left = y;
   behind = subst (λ (n : ℕ). IsBehind (key_of h.row).value n x) is behind;
@@ -193,4 +193,5 @@ sweep_at h t u who at result x y p is behind goes_on seen told sweeps count = re
   told = told;
   sweeps = sweeps;
   count = count;
+  due = due;
 }

@@ -2,6 +2,7 @@
 -- place; then each forwarded one with nothing booked is learnt, in order of arrival; then each other originator's places
 -- are looked at, by number from the first to the first unused one, and what is new there comes. This hub's own choice.
 use Rattle.std.specs.Prelude.{◌≡◌, ◌≢◌, ℕ, zero, suc, ◌+◌, ◌-◌, ◌^◌, min, Bool, true, false, List, [], ◌∷◌, ◌++◌, length, Contains, Option, Some, None, Result, Ok, IfOk}
+use Rattle.inst_base.specs.TimeLimit.{is_due}
 use Rattle.inst_base.specs.declared.fault.Fault.{Fault}
 use Rattle.inst_settings.specs.Settings.{participants}
 use Rattle.inst_board.specs.declared.place.Place.{Place}
@@ -15,7 +16,7 @@ use Rattle.inst_row.specs.Seated.{GoesOn}
 use Rattle.inst_slot.specs.Arrived.{GivesUnbooked, IsNextUnbooked}
 use Rattle.inst_slot.specs.Book.{place_at}
 use Rattle.inst_slot.specs.Telling.{Expires}
-use Rattle.inst_slot.specs.Waiting.{GivesNextDue, IsNextDue}
+use Rattle.inst_slot.specs.Waiting.{GivesNextDue, IsNextDue, waits}
 use Rattle.inst_hub.specs.declared.hub.Hub.{Hub}
 use Rattle.inst_hub.specs.declared.participant.Participant.{Participant}
 use Rattle.inst_hub.specs.declared.teller.Teller.{Teller}
@@ -80,6 +81,10 @@ pub record Sweeps (t : ℕ) (x y : Participant) : Type 0 where
   pub learns : LearnsAll 0 expired learnt
   pub delivers : DeliversAll 0 (participants x.slot.settings) learnt y
 
+-- no own transfer that is due at the reading waits any more
+abbrev pub NothingDue : ℕ → Participant → Type 0
+NothingDue t y = (d k : ℕ) → waits y.slot.settings y.slot.who y.slot.events d k ≡ true → is_due d t ≡ false
+
 -- the history has more events, each of which says that a transfer came, or how one ended
 abbrev pub IsToldAll : List Event → List Event → Type 0
 IsToldAll J K = (more : List Event) × (K ≡ J ++ more) × ((e : Event) → Contains more e → IsTold e)
@@ -93,6 +98,7 @@ new_events J K = min (length K - length J) (2 ^ 32 - 1)
 -- goes_on: the history that was found goes on from all that the teller had seen of it
 -- seen: the teller has seen these two histories, and nothing else
 -- told, sweeps, count: what was left is what was found, swept as far as there was memory, and this is how much was new
+-- due: after a whole sweep no own transfer that is due at the reading waits any more
 pub record IsSweep (h : Hub) (t : Teller) (who at : ℕ) (result : Result ℕ Fault) (u : Teller) : Type 0 where
   pub found : Participant
   pub left : Participant
@@ -102,3 +108,4 @@ pub record IsSweep (h : Hub) (t : Teller) (who at : ℕ) (result : Result ℕ Fa
   pub told : IsToldAll found.slot.events left.slot.events
   pub sweeps : IfOk result (λ count. Sweeps at found left)
   pub count : IfOk result (λ count. count ≡ new_events found.slot.events left.slot.events)
+  pub due : IfOk result (λ count. NothingDue at left)

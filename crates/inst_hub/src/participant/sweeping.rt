@@ -3,7 +3,7 @@ ghost use Rattle.std.specs.Prelude.{◌≡◌, IfOk, None, IsOkUnless};
 ghost use Rattle.inst_settings.specs.Settings.{participants};
 ghost use Rattle.inst_hub.specs.Behind.{IsReady, IsLater};
 ghost use Rattle.inst_hub.specs.Calls.{IsToldMore};
-ghost use Rattle.inst_hub.specs.Sweeping.{MayExpire, LetsExpire, LearnsAll, LooksAt, DeliversFrom, DeliversAll, Sweeps, IsToldAll, new_events};
+ghost use Rattle.inst_hub.specs.Sweeping.{MayExpire, LetsExpire, LearnsAll, LooksAt, DeliversFrom, DeliversAll, Sweeps, NothingDue, IsToldAll, new_events};
 
 use super::Participant;
 use crate::follow_up::Act;
@@ -21,6 +21,7 @@ impl Participant {
         ensures told { IsToldAll self.old.slot.events self.new.slot.events }
         ensures sweeps { IfOk result (λ count. Sweeps at self.old self.new) }
         ensures count { IfOk result (λ count. count ≡ new_events self.old.slot.events self.new.slot.events) }
+        ensures due { IfOk result (λ count. NothingDue at self.new) }
         ensures only { IsOkUnless result Fault.Memory }
     {
         let before = self.slot.journal().events().len();

@@ -22,4 +22,4 @@ returns-clause-sweep g c =
     sweep_at c.args.self.now c.args.teller.now u c.args.who c.args.at c.sweep-answer.result c.take-participant.result c.sweep-answer.new.self c.from-lock.result c.from-lock.ensures
     c.take-participant.ensures.law c.take-participant.ensures.goes_on
     (seen_both c.args.teller.now.seat c.take-participant.new.seat c.give.new.seat c.from-lock.result c.take-participant.result.slot.events c.sweep-answer.new.self.slot.events c.take-participant.ensures.sees c.give.ensures.sees)
-    c.sweep-answer.ensures.told c.sweep-answer.ensures.sweeps c.sweep-answer.ensures.count
+    c.sweep-answer.ensures.told c.sweep-answer.ensures.sweeps c.sweep-answer.ensures.count c.sweep-answer.ensures.due

@@ -1,6 +1,8 @@
 use Rattle.std.proofs.Common.{subst, ◌∙◌}
 use Rattle.inst_settings.specs.Settings.{HubSettings, participants}
 use Rattle.inst_hub.specs.Sweeping.{DeliversAll}
+use Rattle.inst_hub.proofs.Calling.{later_twice}
+use Rattle.inst_hub.proofs.Due.{due_after}
 use Rattle.inst_hub.proofs.Sweeping.{told_twice}
 use Rattle.inst_hub.proofs.participant.Participant.sweep.Goals as goal
 
@@ -22,3 +24,8 @@ returns-clause-sweeps c = record {
   delivers = subst (λ (n : HubSettings). DeliversAll 0 (participants n) c.learn_all.new.self c.deliver_all.new.self)
       (c.learn_all.ensures.later.settings ∙ c.let_expire.ensures.later.settings) c.in_ok-deliver_all.ensures.delivers;
 }
+
+pub returns-clause-due : goal.returns-clause-due
+returns-clause-due c =
+    due_after c.args.at c.args.self.now c.let_expire.new.self c.deliver_all.new.self c.requires.ready c.in_ok-let_expire.ensures.expires
+    (later_twice _ _ _ c.learn_all.ensures.later c.deliver_all.ensures.later) (told_twice _ _ _ c.learn_all.ensures.told c.deliver_all.ensures.told)
