@@ -2,7 +2,11 @@
 use Rattle.std.proofs.Common.{◌≡◌, ℕ, zero, suc, ◌*◌, ◌+◌, ◌-◌, ◌<◌, ◌≤◌, List, [], ◌∷◌, ◌++◌, length, get_or, take, drop, replicate, inl, inr, ⊎_elim, ◌⊎◌, sym, refl, ap, ◌∙◌, subst, arith, Some, None, length-append}
 use Rattle.std.specs.Prelude.{Contains, slice_get, ◌↔◌}
 use Rattle.std.proofs.Math.Nat.{suc-mul}
+use mathlib.Core.Logic.{dite}
+use native.Mathlib.Decide.{ℕ_discrete}
 use Rattle.inst_settings.specs.Settings.{HubSettings, participants}
+use Rattle.inst_board.specs.declared.about.Fact.{Fact}
+use Rattle.inst_board.specs.Standing.{IsPlace}
 use Rattle.inst_board.specs.Plain.{number_of}
 use Rattle.inst_cell.specs.declared.view.Known.{Known}
 use Rattle.inst_cell.specs.declared.view.View.{View}
@@ -10,11 +14,11 @@ use Rattle.inst_cell.specs.declared.shared_board.SharedBoard.{SharedBoard}
 use Rattle.inst_cell.specs.declared.teller.Teller.{Teller}
 use Rattle.inst_cell.specs.View.{known, all_of, count, roles_from, first_view, with_role, without_role, told}
 use Rattle.inst_cell.specs.Rule.{total}
-use Rattle.inst_cell.specs.Held.{settings_of, table_of, view_of, roles_of, has_role, AtOneTable}
+use Rattle.inst_cell.specs.Held.{settings_of, table_of, view_of, roles_of, has_role, knows, AtOneTable}
 use Rattle.inst_cell.specs.Seen.{board_of}
-use Rattle.inst_cell.specs.Opening.{IsOpened, IsAdmitted, IsNobody, AreDealt}
+use Rattle.inst_cell.specs.Opening.{HasAllRoles, IsWhole, IsDealt, IsAdmitted, AreDealt, AreAdmitted, AreOpened}
 use Rattle.inst_cell.proofs.Stepping.{no_fact}
-use Rattle.inst_cell.proofs.Tally.{count_one, only_role}
+use Rattle.inst_cell.proofs.Tally.{count_one, count_left, count_right, only_role}
 
 pub some_words : (a b x : ℕ) → 1 ≤ a → 1 ≤ b → x ≡ b * a * 6 → 0 < x
 some_words a zero x ha hb e = absurd (omega arith)
@@ -59,20 +63,46 @@ no_some b e = cc
 roles_cut : (i n : ℕ) → i < n → roles_from i (n - i) ≡ i ∷ roles_from (suc i) (n - suc i)
 roles_cut i n h = let e : n - i ≡ suc (n - suc i) = omega arith in ap (λ (m : ℕ). roles_from i m) e
 
+-- each participant's role is among those of all
+pub role_among : (p a n : ℕ) → a ≤ p → p < a + n → 0 < count p (roles_from a n)
+role_among p a zero low high = absurd (omega arith)
+role_among p a (suc n) low high = dite (ℕ_discrete a p)
+    (λ e. count_left p (a ∷ []) (roles_from (suc a) n) (subst (λ (x : ℕ). 0 < count p (x ∷ [])) (sym e) (count_one p)))
+    (λ ne. count_right p (a ∷ []) (roles_from (suc a) n) (role_among p (suc a) n (omega arith) (omega arith)))
+
+-- who has all roles has that of each participant
+pub whole_role : (b : SharedBoard) (p : ℕ) → HasAllRoles b → p < participants (settings_of b) → has_role b p
+whole_role b p all below = subst (λ (r : List ℕ). 0 < count p r) (sym all) (role_among p 0 (participants (settings_of b)) (omega arith) (omega arith))
+
+-- over the same settings with all roles they are the same
+pub whole_still : (a b : SharedBoard) → settings_of b ≡ settings_of a → roles_of b ≡ roles_of a → HasAllRoles a → HasAllRoles b
+whole_still a b same roles all = roles ∙ (all ∙ ap (λ (s : HubSettings). roles_from 0 (participants s)) (sym same))
+
+knows_across : (a b : SharedBoard) (f : Fact) → settings_of b ≡ settings_of a → all_of (view_of b) ≡ all_of (view_of a) → knows b f → knows a f
+knows_across a b f same facts h = (
+  subst (λ (s : HubSettings). IsPlace s f.place) same h.0,
+  subst (λ (l : List Known). Contains l (known (number_of (settings_of a) f.place) f.about)) facts
+      (subst (λ (s : HubSettings). Contains (all_of (view_of b)) (known (number_of s f.place) f.about)) same h.1),
+)
+
+-- boards of one hub with the same facts know the same
+pub same_facts : (a b : SharedBoard) (f : Fact) → settings_of b ≡ settings_of a → all_of (view_of b) ≡ all_of (view_of a) → knows b f ↔ knows a f
+same_facts a b f same facts = (knows_across a b f same facts, knows_across b a f (sym same) (sym facts))
+
 -- the boards of the participants below `next`, and the board that has the other roles
 pub record Dealt (all0 : SharedBoard) (n next : ℕ) (all : SharedBoard) (boards : List SharedBoard) : Type 0 where
   pub enough : length boards ≡ next
   pub one : AtOneTable all0 all
   pub roles : roles_of all ≡ roles_from next (n - next)
-  pub facts : all_of (view_of all) ≡ []
-  pub each : (p : ℕ) (b : SharedBoard) → slice_get boards p ≡ Some b → IsOpened (settings_of all0) (table_of all0) p b
+  pub facts : all_of (view_of all) ≡ all_of (view_of all0)
+  pub each : (p : ℕ) (b : SharedBoard) → slice_get boards p ≡ Some b → IsDealt (settings_of all0) (table_of all0) (knows all0) p b
 
-pub dealt_none : (all : SharedBoard) (n : ℕ) → n ≡ participants (settings_of all) → view_of all ≡ first_view (settings_of all) → Dealt all n 0 all []
-dealt_none all n m v = record {
+pub dealt_none : (all : SharedBoard) (n : ℕ) → n ≡ participants (settings_of all) → HasAllRoles all → Dealt all n 0 all []
+dealt_none all n m roles = record {
   enough = refl;
   one = (refl, refl);
-  roles = ap (λ (u : View). u.roles) v ∙ (ap (λ (x : ℕ). roles_from 0 x) (let z : participants (settings_of all) ≡ n - 0 = omega arith in z));
-  facts = ap all_of v;
+  roles = roles ∙ (ap (λ (x : ℕ). roles_from 0 x) (let z : participants (settings_of all) ≡ n - 0 = omega arith in z));
+  facts = refl;
   each = λ p b f. absurd (no_some b f);
 }
 
@@ -92,12 +122,11 @@ dealt_more all0 n i all later new boards d below t1 v1 t2 v2 =
     let next : suc i ≡ i + 1 = omega arith in
     let mine : roles_of new ≡ i ∷ [] = ap (λ (u : View). u.roles) v1 ∙ ap (λ (r : List ℕ). take 1 r) cut in
     let rest : roles_of later ≡ roles_from (suc i) (n - suc i) = ap (λ (u : View). u.roles) v2 ∙ ap (λ (r : List ℕ). drop 1 r) cut in
-    let empty : all_of (view_of new) ≡ [] = ap all_of v1 ∙ d.facts in
-    let opened : IsOpened (settings_of all0) (table_of all0) i new = record {
+    let dealt : IsDealt (settings_of all0) (table_of all0) (knows all0) i new = record {
       settings = t1.1 ∙ d.one.1;
       table = t1.0 ∙ d.one.0;
       role = λ q. alone_role new i q mine;
-      nothing = λ f h. no_fact (known (number_of (settings_of new) f.place) f.about) (subst (λ (l : List Known). Contains l (known (number_of (settings_of new) f.place) f.about)) empty h.1);
+      known = λ f. same_facts all0 new f (t1.1 ∙ d.one.1) (ap all_of v1 ∙ d.facts);
     } in
     let many = d.enough in
     record {
@@ -106,7 +135,8 @@ dealt_more all0 n i all later new boards d below t1 v1 t2 v2 =
       roles = rest ∙ ap (λ (x : ℕ). roles_from x (n - x)) next;
       facts = ap all_of v2 ∙ d.facts;
       each = λ p b f. ⊎_elim (λ old. d.each p b old)
-          (λ last. subst (λ (x : SharedBoard). IsOpened (settings_of all0) (table_of all0) p x) last.1 (subst (λ (x : ℕ). IsOpened (settings_of all0) (table_of all0) x new) (sym (last.0 ∙ d.enough)) opened))
+          (λ last. subst (λ (x : SharedBoard). IsDealt (settings_of all0) (table_of all0) (knows all0) p x) last.1
+          (subst (λ (x : ℕ). IsDealt (settings_of all0) (table_of all0) (knows all0) x new) (sym (last.0 ∙ d.enough)) dealt))
           (snoc_cases boards new b p f);
     }
 
@@ -114,38 +144,67 @@ dealt_more all0 n i all later new boards d below t1 v1 t2 v2 =
 pub all_dealt : (all0 : SharedBoard) (n : ℕ) (all : SharedBoard) (boards : List SharedBoard) → n ≡ participants (settings_of all0) → Dealt all0 n n all boards → AreDealt all0 boards
 all_dealt all0 n all boards m d = record { enough = d.enough ∙ m; each = d.each }
 
-pub rest_dealt : (all0 : SharedBoard) (n : ℕ) (all : SharedBoard) (boards : List SharedBoard) → Dealt all0 n n all boards → AtOneTable all0 all × IsNobody all
-rest_dealt all0 n all boards d = (d.one, record { roles = d.roles ∙ ap (λ (x : ℕ). roles_from n x) (let z : n - n ≡ 0 = omega arith in z); nothing = d.facts })
-
 -- the tellers that were admitted by a board that knows nothing
 pub record Seated (all0 : SharedBoard) (next : ℕ) (all : SharedBoard) (tellers : List Teller) : Type 0 where
   pub enough : length tellers ≡ next
   pub one : AtOneTable all0 all
-  pub nobody : IsNobody all
+  pub same : view_of all ≡ view_of all0
   pub each : (i : ℕ) (t : Teller) → slice_get tellers i ≡ Some t → IsAdmitted (settings_of all0) (table_of all0) t
 
-pub seated_none : (all : SharedBoard) → IsNobody all → Seated all 0 all []
-seated_none all nobody = record { enough = refl; one = (refl, refl); nobody = nobody; each = λ i t f. absurd (no_some t f) }
+pub seated_none : (all : SharedBoard) → Seated all 0 all []
+seated_none all = record { enough = refl; one = (refl, refl); same = refl; each = λ i t f. absurd (no_some t f) }
 
-pub seated_more : (all0 : SharedBoard) (i : ℕ) (all later : SharedBoard) (new : Teller) (tellers : List Teller) → Seated all0 i all tellers
+pub seated_more : (all0 : SharedBoard) (i : ℕ) (all later : SharedBoard) (new : Teller) (tellers : List Teller) → ((f : Fact) → ¬ knows all0 f) → Seated all0 i all tellers
     → AtOneTable all (board_of new) → view_of (board_of new) ≡ told (view_of all)
     → AtOneTable all later → view_of later ≡ view_of all
     → Seated all0 (i + 1) later (tellers ++ new ∷ [])
-seated_more all0 i all later new tellers d t1 v1 t2 v2 =
+seated_more all0 i all later new tellers nothing d t1 v1 t2 v2 =
     let b = board_of new in
-    let empty : all_of (view_of b) ≡ [] = ap all_of v1 ∙ d.nobody.nothing in
+    let facts : all_of (view_of b) ≡ all_of (view_of all0) = ap all_of v1 ∙ ap all_of d.same in
     let admitted : IsAdmitted (settings_of all0) (table_of all0) new = record {
       settings = t1.1 ∙ d.one.1;
       table = t1.0 ∙ d.one.0;
       roles = ap (λ (u : View). u.roles) v1;
-      nothing = λ f h. no_fact (known (number_of (settings_of b) f.place) f.about) (subst (λ (l : List Known). Contains l (known (number_of (settings_of b) f.place) f.about)) empty h.1);
+      nothing = λ f h. nothing f ((same_facts all0 b f (t1.1 ∙ d.one.1) facts).0 h);
     } in
     let many = d.enough in
     record {
       enough = length-append tellers (new ∷ []) ∙ (let z : length tellers + length (new ∷ []) ≡ i + 1 = omega arith in z);
       one = (t2.0 ∙ d.one.0, t2.1 ∙ d.one.1);
-      nobody = record { roles = ap (λ (u : View). u.roles) v2 ∙ d.nobody.roles; nothing = ap all_of v2 ∙ d.nobody.nothing };
+      same = v2 ∙ d.same;
       each = λ p t f. ⊎_elim (λ old. d.each p t old)
           (λ last. subst (λ (x : Teller). IsAdmitted (settings_of all0) (table_of all0) x) last.1 admitted)
           (snoc_cases tellers new t p f);
     }
+
+-- a board of a hub that begins has all roles, and knows nothing
+pub begins_whole : (s : HubSettings) (b : SharedBoard) → settings_of b ≡ s → view_of b ≡ first_view s → IsWhole s b
+begins_whole s b same first = record {
+  settings = same;
+  roles = ap (λ (v : View). v.roles) first ∙ ap (λ (t : HubSettings). roles_from 0 (participants t)) (sym same);
+  nothing = λ f h. no_fact (known (number_of (settings_of b) f.place) f.about) (subst (λ (l : List Known). Contains l (known (number_of (settings_of b) f.place) f.about)) (ap all_of first) h.1);
+}
+
+-- after its tellers were admitted it is as it was
+pub whole_after : (s : HubSettings) (a b : SharedBoard) → AtOneTable a b → view_of b ≡ view_of a → IsWhole s a → IsWhole s b
+whole_after s a b one view w = record {
+  settings = one.1 ∙ w.settings;
+  roles = whole_still a b one.1 (ap (λ (v : View). v.roles) view) w.roles;
+  nothing = λ f h. w.nothing f ((same_facts a b f one.1 (ap all_of view)).0 h);
+}
+
+pub admitted_after : (a b : SharedBoard) (n : ℕ) (tellers : List Teller) → AtOneTable a b → AreAdmitted a n tellers → AreAdmitted b n tellers
+admitted_after a b n tellers one are = record {
+  enough = are.enough;
+  each = λ i t at. let x = are.each i t at in record { settings = x.settings ∙ sym one.1; table = x.table ∙ sym one.0; roles = x.roles; nothing = x.nothing };
+}
+
+-- a whole board that knows nothing, dealt
+pub opened_dealt : (s : HubSettings) (n : ℕ) (all : SharedBoard) (boards : List SharedBoard) (tellers : List Teller) → IsWhole s all → AreAdmitted all n tellers → AreDealt all boards → AreOpened s n boards tellers
+opened_dealt s n all boards tellers w are d = record {
+  table = table_of all;
+  participants = d.enough ∙ ap participants w.settings;
+  board = λ p b at. let x = d.each p b at in record { settings = x.settings ∙ w.settings; table = x.table; role = x.role; known = λ f. (λ h. w.nothing f ((x.known f).0 h), λ h. absurd h) };
+  tellers = are.enough;
+  teller = λ i t at. let x = are.each i t at in record { settings = x.settings ∙ w.settings; table = x.table; roles = x.roles; nothing = x.nothing };
+}

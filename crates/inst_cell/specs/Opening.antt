@@ -1,25 +1,40 @@
--- The boards and tellers of a hub that opens: each participant's board has that one's role alone, the tellers have none,
--- and nobody knows of any place. This hub's own choice.
+-- The boards and tellers of a hub that opens. At first one board has the roles of all participants, and nobody knows of
+-- any place; then each participant's board gets that one's role alone, and knows what the one board knew. The tellers
+-- have no role. This hub's own choice.
 use Rattle.std.specs.Prelude.{◌≡◌, ◌↔◌, ℕ, ◌≤◌, List, [], length, slice_get, Some}
 use Rattle.atomic_table.specs.Seated.{TableId}
 use Rattle.inst_settings.specs.Settings.{HubSettings, participants}
 use Rattle.inst_board.specs.declared.about.Fact.{Fact}
 use Rattle.inst_cell.specs.declared.shared_board.SharedBoard.{SharedBoard}
 use Rattle.inst_cell.specs.declared.teller.Teller.{Teller}
-use Rattle.inst_cell.specs.View.{all_of}
-use Rattle.inst_cell.specs.Held.{settings_of, table_of, view_of, roles_of, has_role, knows}
+use Rattle.inst_cell.specs.View.{roles_from}
+use Rattle.inst_cell.specs.Held.{settings_of, table_of, roles_of, has_role, knows}
 use Rattle.inst_cell.specs.Seen.{board_of, sees}
 
 -- how many tellers a hub may open with
 abbrev pub MayOpen : ℕ → Type 0
 MayOpen tellers = (1 ≤ tellers) × (tellers ≤ 16)
 
--- the board of p as the hub opens
-pub record IsOpened (s : HubSettings) (id : TableId) (p : ℕ) (b : SharedBoard) : Type 0 where
+-- it has the roles of all participants, in their order
+abbrev pub HasAllRoles : SharedBoard → Type 0
+HasAllRoles b = roles_of b ≡ roles_from 0 (participants (settings_of b))
+
+-- the board with all roles as the hub opens
+pub record IsWhole (s : HubSettings) (b : SharedBoard) : Type 0 where
+  pub settings : settings_of b ≡ s
+  pub roles : HasAllRoles b
+  pub nothing : (f : Fact) → ¬ knows b f
+
+-- the board of p, over these words: it has that role alone, and knows exactly these facts
+pub record IsDealt (s : HubSettings) (id : TableId) (facts : Fact → Type 0) (p : ℕ) (b : SharedBoard) : Type 0 where
   pub settings : settings_of b ≡ s
   pub table : table_of b ≡ id
   pub role : (q : ℕ) → has_role b q ↔ (q ≡ p)
-  pub nothing : (f : Fact) → ¬ knows b f
+  pub known : (f : Fact) → knows b f ↔ facts f
+
+-- the board of p as the hub opens: it knows nothing
+abbrev pub IsOpened : HubSettings → TableId → ℕ → SharedBoard → Type 0
+IsOpened s id p b = IsDealt s id (λ f. ⊥) p b
 
 -- a teller as the hub opens
 pub record IsAdmitted (s : HubSettings) (id : TableId) (t : Teller) : Type 0 where
@@ -28,6 +43,17 @@ pub record IsAdmitted (s : HubSettings) (id : TableId) (t : Teller) : Type 0 whe
   pub roles : roles_of (board_of t) ≡ []
   pub nothing : (f : Fact) → ¬ sees t f
 
+-- the boards of the participants, by number, each of which knows what `all` knew
+pub record AreDealt (all : SharedBoard) (boards : List SharedBoard) : Type 0 where
+  pub enough : length boards ≡ participants (settings_of all)
+  pub each : (p : ℕ) (b : SharedBoard) → slice_get boards p ≡ Some b →
+      IsDealt (settings_of all) (table_of all) (knows all) p b
+
+-- so many tellers, over the words of `all`
+pub record AreAdmitted (all : SharedBoard) (n : ℕ) (tellers : List Teller) : Type 0 where
+  pub enough : length tellers ≡ n
+  pub each : (i : ℕ) (t : Teller) → slice_get tellers i ≡ Some t → IsAdmitted (settings_of all) (table_of all) t
+
 -- over one table, a board for each participant, by number, and as many tellers as were wanted
 pub record AreOpened (s : HubSettings) (n : ℕ) (boards : List SharedBoard) (seats : List Teller) : Type 0 where
   pub table : TableId
@@ -35,18 +61,3 @@ pub record AreOpened (s : HubSettings) (n : ℕ) (boards : List SharedBoard) (se
   pub board : (p : ℕ) (b : SharedBoard) → slice_get boards p ≡ Some b → IsOpened s table p b
   pub tellers : length seats ≡ n
   pub teller : (i : ℕ) (t : Teller) → slice_get seats i ≡ Some t → IsAdmitted s table t
-
--- a board without roles that knows nothing
-pub record IsNobody (b : SharedBoard) : Type 0 where
-  pub roles : roles_of b ≡ []
-  pub nothing : all_of (view_of b) ≡ []
-
--- the boards of the participants, by number
-pub record AreDealt (all : SharedBoard) (boards : List SharedBoard) : Type 0 where
-  pub enough : length boards ≡ participants (settings_of all)
-  pub each : (p : ℕ) (b : SharedBoard) → slice_get boards p ≡ Some b → IsOpened (settings_of all) (table_of all) p b
-
--- so many tellers
-pub record AreAdmitted (all : SharedBoard) (n : ℕ) (tellers : List Teller) : Type 0 where
-  pub enough : length tellers ≡ n
-  pub each : (i : ℕ) (t : Teller) → slice_get tellers i ≡ Some t → IsAdmitted (settings_of all) (table_of all) t

@@ -70,6 +70,34 @@ fn submit(board: &mut SharedBoard, place: Place, terms: &Terms, deadline: Moment
     board.open(place, deadline);
 }
 
+/// The boards of a hub of two, where the first participant's place was opened before they were dealt.
+fn deal_two(
+    alloc: Global,
+    place: Place,
+    terms: &Terms,
+    deadline: Moment,
+) -> Result<(SharedBoard, SharedBoard), Fault>
+    requires place { place.owner ≡ 0 }
+    requires beneficiary { terms.now.to ≡ 1 }
+    requires deadline { 1 ≤ deadline }
+    ensures { IfOk result (λ r. has_role r.1 1) }
+{
+    let settings = settings(alloc, 0)?;
+    let (mut all, _) = SharedBoard::open_whole(alloc, &settings, 1)?;
+    if settings.participants() != 2 || place.index >= settings.places() {
+        return Err(Fault::BadSettings);
+    }
+    submit(&mut all, place, terms, deadline);
+    let mut boards = all.deal(alloc)?;
+    let Some(second) = boards.pop() else {
+        return Err(Fault::BadSettings)
+    };
+    let Some(first) = boards.pop() else {
+        return Err(Fault::BadSettings)
+    };
+    Ok((first, second))
+}
+
 /// What becomes of a transfer to `who` that is pending.
 fn answer(board: &mut SharedBoard, who: u8, place: Place, wish: Wish, at: Moment) -> Option<Outcome>
     requires { has_role board.old who }
@@ -130,6 +158,24 @@ fn nothing_is_accepted_in_the_margin(rt: HostRuntime) -> Result<(), Fault> {
     assert_eq!(rt; before, State::Pending);
     assert_eq!(rt; outcome, None);
     assert_eq!(rt; after, State::Pending);
+    Ok(())
+}
+
+#[test]
+fn what_was_opened_is_dealt(rt: HostRuntime) -> Result<(), Fault> {
+    let place = Place { owner: 0, index: 1 };
+    let terms = Terms {
+        to: 1,
+        cents: Cents::new(100)?,
+        id: Ident::new("T1")?,
+    };
+    let deadline = Moment::new(0, 11_000)?;
+    let (mut first, mut second) = deal_two(rt.alloc(), place, &terms, deadline)?;
+    assert_eq!(rt; first.look(place), Look::Pending(terms, deadline));
+    let at = Moment::new(0, 10_999)?;
+    let accepted = answer(&mut second, 1, place, Wish::Accept, at);
+    assert_eq!(rt; accepted, Some(Outcome::Accepted));
+    assert_eq!(rt; first.look(place), Look::Decided(terms, Outcome::Accepted));
     Ok(())
 }
 

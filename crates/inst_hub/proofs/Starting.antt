@@ -33,7 +33,7 @@ begins_behind s table who b book o new = record {
   one = (refl, refl);
   who = new.1;
   ready = record {
-    lawful = begins settings_of knows has_role b book (o.settings ∙ sym new.0) ((o.role book.who).1 new.1) o.nothing new.2 new.3;
+    lawful = begins settings_of knows has_role b book (o.settings ∙ sym new.0) ((o.role book.who).1 new.1) (λ f. (o.known f).0) new.2 new.3;
     adopted = λ x h. none_arrived x (subst (λ (l : List Arrival). Contains l x) new.3 h);
   };
 }

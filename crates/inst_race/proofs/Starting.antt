@@ -18,7 +18,7 @@ pub starts : (s : HubSettings) (table : TableId) (who : ℕ) (b : SharedBoard) (
     → (book.settings ≡ s) × (book.who ≡ who) × (book.events ≡ []) × (book.arrivals ≡ [])
     → IsLawfulBoard settings_of knows has_role b book × AllAreAdopted book × (book.who ≡ who) × (book.settings ≡ kept)
 starts s table who b book kept o e new = (
-  begins settings_of knows has_role b book (o.settings ∙ sym new.0) ((o.role book.who).1 new.1) o.nothing new.2 new.3,
+  begins settings_of knows has_role b book (o.settings ∙ sym new.0) ((o.role book.who).1 new.1) (λ f. (o.known f).0) new.2 new.3,
   (λ x h. none_arrived x (subst (λ (l : List Arrival). Contains l x) new.3 h)),
   new.1,
   new.0 ∙ sym e,

@@ -1,8 +1,9 @@
 //! How the words of a hub are made, with a seat for each of its slots and tellers.
 ghost use Rattle.std.specs.Prelude.{◌≡◌, ◌⊎◌, ◌↔◌, Err, length, IfOk, IfErr, IsOkUnless};
 ghost use Rattle.inst_cell.specs.View.{first_view, with_role, without_role, told};
-ghost use Rattle.inst_cell.specs.Held.{settings_of, view_of, AtOneTable};
-ghost use Rattle.inst_cell.specs.Opening.{IsNobody, AreDealt, AreAdmitted, AreOpened, MayOpen};
+ghost use Rattle.inst_board.specs.declared.about.Fact.{Fact};
+ghost use Rattle.inst_cell.specs.Held.{settings_of, view_of, knows, AtOneTable};
+ghost use Rattle.inst_cell.specs.Opening.{HasAllRoles, IsWhole, AreDealt, AreAdmitted, AreOpened, MayOpen};
 
 use super::SharedBoard;
 use crate::Teller;
@@ -73,26 +74,11 @@ impl SharedBoard {
 }
 
 impl SharedBoard {
-    /// The boards of the participants, by number, where this one has all roles.
-    fn deal(&mut self, alloc: Global, participants: u16) -> Result<Vec<SharedBoard>, Fault>
-        requires whole { view_of self.old ≡ first_view (settings_of self.old) }
-        requires all { participants ≡ length (settings_of self.old).codes }
-        ensures boards { IfOk result (λ boards. AreDealt self.old boards.items) }
-        ensures rest { IfOk result (λ _. AtOneTable self.old self.new × IsNobody self.new) }
-        ensures only { IsOkUnless result Fault.Memory }
-    {
-        let mut boards = Vec::new(alloc);
-        for _next in 0..participants {
-            let board = self.hand_over()?;
-            boards.push(board)?;
-        }
-        Ok(boards)
-    }
-
     /// Tellers that know as much as this one, which is nothing.
     fn admit(&mut self, alloc: Global, tellers: u8) -> Result<Vec<Teller>, Fault>
-        requires { IsNobody self.old }
+        requires { (f : Fact) → ¬ knows self.old f }
         ensures tellers { IfOk result (λ all. AreAdmitted self.old tellers all.items) }
+        ensures same { IfOk result (λ _. AtOneTable self.old self.new × (view_of self.new ≡ view_of self.old)) }
         ensures only { IsOkUnless result Fault.Memory }
     {
         let mut all = Vec::new(alloc);
@@ -101,6 +87,43 @@ impl SharedBoard {
             all.push(Teller::of(board))?;
         }
         Ok(all)
+    }
+
+    /// A hub that begins to open: one board with the roles of all participants, which knows nothing, and
+    /// as many tellers as are wanted, which know nothing. `BadSettings` where these are not 1 to 16,
+    /// `Memory` where there is no room.
+    pub fn open_whole(
+        alloc: Global,
+        settings: &Settings,
+        tellers: u8,
+    ) -> Result<(SharedBoard, Vec<Teller>), Fault>
+        ensures whole { IfOk result (λ r. IsWhole settings.now r.0) }
+        ensures tellers { IfOk result (λ r. AreAdmitted r.0 tellers r.1.items) }
+        ensures bad { (result ≡ Err Fault.BadSettings) ↔ ¬ MayOpen tellers }
+        ensures only { IfErr result (λ e. (e ≡ Fault.Memory) ⊎ (e ≡ Fault.BadSettings)) }
+    {
+        if tellers == 0 || tellers > MOST_TELLERS {
+            return Err(Fault::BadSettings);
+        }
+        let mut all = SharedBoard::whole(alloc, settings)?;
+        let tellers = all.admit(alloc, tellers)?;
+        Ok((all, tellers))
+    }
+
+    /// The boards of the participants, by number, each with its role alone: they know what this one, which
+    /// has all roles, knew. `Memory` where there is no room.
+    pub fn deal(self, alloc: Global) -> Result<Vec<SharedBoard>, Fault>
+        requires { HasAllRoles self }
+        ensures boards { IfOk result (λ boards. AreDealt self boards.items) }
+        ensures only { IsOkUnless result Fault.Memory }
+    {
+        let mut all = self;
+        let mut boards = Vec::new(alloc);
+        for _next in 0..all.participants {
+            let board = all.hand_over()?;
+            boards.push(board)?;
+        }
+        Ok(boards)
     }
 
     /// A hub that opens: a board for each participant, by number, with its role and a seat of its own,
@@ -115,12 +138,7 @@ impl SharedBoard {
         ensures bad { (result ≡ Err Fault.BadSettings) ↔ ¬ MayOpen tellers }
         ensures only { IfErr result (λ e. (e ≡ Fault.Memory) ⊎ (e ≡ Fault.BadSettings)) }
     {
-        if tellers == 0 || tellers > MOST_TELLERS {
-            return Err(Fault::BadSettings);
-        }
-        let mut all = SharedBoard::whole(alloc, settings)?;
-        let boards = all.deal(alloc, settings.participants())?;
-        let tellers = all.admit(alloc, tellers)?;
-        Ok((boards, tellers))
+        let (all, tellers) = SharedBoard::open_whole(alloc, settings, tellers)?;
+        Ok((all.deal(alloc)?, tellers))
     }
 }

@@ -25,7 +25,8 @@ pub returns-clause-nothing : goal.returns-clause-nothing
 returns-clause-nothing c =
     let o = c.in_ok-boards.ensures.ok in
     let two = sym c.participants.ensures.value ∙ c.if-participants-ne2.false in
-    (o.board 0 c.in-Some-pop.first (one_first c.in_ok-boards.boards.items c.pop.new.self.items c.pop-2.new.self.items c.in-Some.second c.in-Some-pop.first c.in-Some.ensures.items c.in-Some-pop.ensures.items (o.participants ∙ two))).nothing
+    let first = o.board 0 c.in-Some-pop.first (one_first c.in_ok-boards.boards.items c.pop.new.self.items c.pop-2.new.self.items c.in-Some.second c.in-Some-pop.first c.in-Some.ensures.items c.in-Some-pop.ensures.items (o.participants ∙ two)) in
+    λ f h. (first.known f).0 h
 
 pub returns-clause-one : goal.returns-clause-one
 returns-clause-one c =

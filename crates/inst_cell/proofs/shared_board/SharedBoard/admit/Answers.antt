@@ -13,5 +13,5 @@ loop-next-preserved c =
     let o = c.in_ok-board.ensures.old in
     let t1 : AtOneTable all c.of.result.board = subst (λ (b : SharedBoard). AtOneTable all b) (sym c.of.ensures) n.0 in
     let v1 : view_of c.of.result.board ≡ told (view_of all) = ap view_of c.of.ensures ∙ n.1 in
-    let more = seated_more c.args.self.now c.loop-next._next all c.copy.new.self c.of.result c.loop-next.all.items c.loop-next.invariant t1 v1 o.0 o.1 in
+    let more = seated_more c.args.self.now c.loop-next._next all c.copy.new.self c.of.result c.loop-next.all.items c.requires c.loop-next.invariant t1 v1 o.0 o.1 in
     subst (λ (l : List Teller). Seated c.args.self.now (c.loop-next._next + 1) c.copy.new.self l) (sym c.in_ok-push.ensures.items) more

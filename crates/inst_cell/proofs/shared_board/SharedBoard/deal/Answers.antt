@@ -7,5 +7,6 @@ pub loop-next-preserved : goal.loop-next-preserved
 loop-next-preserved c =
     let n = c.in_ok-board.ensures.new in
     let o = c.in_ok-board.ensures.old in
-    let more = dealt_more c.args.self.now c.args.participants c.loop-next._next c.loop-next.self c.hand_over.new.self c.in_ok-board.board c.loop-next.boards.items c.loop-next.invariant (omega arith) n.0 n.1 o.0 o.1 in
-    subst (λ (l : List SharedBoard). Dealt c.args.self.now c.args.participants (c.loop-next._next + 1) c.hand_over.new.self l) (sym c.in_ok-push.ensures.items) more
+    let all = c.args.self in
+    let more = dealt_more all all.participants c.loop-next._next c.loop-next.all c.hand_over.new.self c.in_ok-board.board c.loop-next.boards.items c.loop-next.invariant (omega arith) n.0 n.1 o.0 o.1 in
+    subst (λ (l : List SharedBoard). Dealt all all.participants (c.loop-next._next + 1) c.hand_over.new.self l) (sym c.in_ok-push.ensures.items) more
