@@ -172,6 +172,22 @@ fn carried_over_an_opening(rt: HostRuntime) -> Result<(), Fail> {
 }
 
 #[test]
+fn slots_by_number(rt: HostRuntime) -> Result<(), Fail> {
+    let settings = settings(rt.alloc())?;
+    let books = books(rt.alloc(), &settings, &delivered()?)?;
+    let slots = World::open_from(rt.alloc(), &settings, &books)?.into_slots();
+    assert_eq!(rt; slots.len(), books.len());
+    for (slot, book) in slots.iter().zip(&books) {
+        let _: Option<Outcome> = None;
+        let events = slot.journal().events();
+        assert_eq!(rt; events.len(), book.events().len() + 1);
+        assert_eq!(rt; &events[..book.events().len()], book.events());
+        assert_eq!(rt; slot.unfound(), 0);
+    }
+    Ok(())
+}
+
+#[test]
 fn run_from_books(rt: HostRuntime) -> Result<(), Fail> {
     let settings = settings(rt.alloc())?;
     let books = books(rt.alloc(), &settings, &delivered()?)?;

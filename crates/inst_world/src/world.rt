@@ -11,7 +11,7 @@ ghost use Rattle.inst_model.specs.Transfer.{Transfer, at_place, deadline};
 ghost use Rattle.inst_command.specs.declared.step.Step.{Step};
 ghost use Rattle.inst_model.specs.Hub.{history, outcome};
 ghost use Rattle.inst_slot.specs.Book.{place_at};
-ghost use Rattle.inst_world.specs.HasRun.{HasRun, Runs, IsAsBefore, journal_of};
+ghost use Rattle.inst_world.specs.HasRun.{IsHub, HasRun, Runs, IsAsBefore, journal_of};
 ghost use Rattle.inst_world.specs.Headline.{run_of, IsRun, IsIsolated, HasOneOutcome, SettlesOnce, AddsUp, BooksOfFit, IsLocal};
 
 mod next_opening;
@@ -88,6 +88,15 @@ impl World {
         ensures sound { IsSound self.now.board.settings who result.now.events }
     {
         self.slots[usize::from(who)].journal()
+    }
+
+    /// The slots of the participants, by number. The board is dropped.
+    pub fn into_slots(self) -> Vec<Slot>
+        ensures slots { result.items ≡ self.books }
+        ensures hub { IsHub self }
+    {
+        let World { slots, .. } = self;
+        slots
     }
 
     /// Runs one step. A refused ask is answered by its refusal. The only error is `Memory`, and then the
