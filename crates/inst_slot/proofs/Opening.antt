@@ -33,8 +33,8 @@ use Rattle.inst_journal.proofs.Counting.{submissions_within}
 use Rattle.inst_journal.proofs.Soundness.{sound_push}
 use Rattle.inst_journal.proofs.Walking.{rest_fits}
 use Rattle.inst_slot.specs.declared.arrival.Arrival.{Arrival}
-use Rattle.inst_slot.specs.Book.{place_at, terms_to, live_inbox}
-use Rattle.inst_slot.specs.LawfulBoard.{IsLawfulBoard, KeepsOthers}
+use Rattle.inst_slot.specs.Book.{Book, place_at, terms_to, live_inbox}
+use Rattle.inst_slot.specs.LawfulBoard.{KnowsEnd, IsLawfulBoard, KeepsOthers}
 use Rattle.inst_slot.specs.Opening.{unplaced, opened_again, MayOpenAgain, IsOfOpening, OpensPlaces}
 use Rattle.inst_slot.proofs.Growing.{snoc_cases, slice_get_left, filtered}
 use Rattle.inst_slot.proofs.Others.{others_opening}
@@ -366,3 +366,23 @@ module _ {B : Type 0} (settings : B → HubSettings) (knows : B → Fact → Typ
         (λ x. x.says)
         ((opens.known (about k (Decided o))).0 kd);
   }
+
+-- lawful books move to another board where the same is known
+pub lawful_moved : {B C : Type 0} (settings : B → HubSettings) (knows : B → Fact → Type 0) (has_role : B → ℕ → Type 0) (settings_c : C → HubSettings) (knows_c : C → Fact → Type 0) (role_c : C → ℕ → Type 0)
+    (b : B) (c : C) (book : Book) → settings_c c ≡ settings b → role_c c book.who → ((f : Fact) → knows_c c f ↔ knows b f) → IsLawfulBoard settings knows has_role b book → IsLawfulBoard settings_c knows_c role_c c book
+lawful_moved {B} {C} settings knows has_role settings_c knows_c role_c b c book same role known lawful = record {
+  same_settings = same ∙ lawful.same_settings;
+  role = role;
+  truly = λ k. let t = lawful.truly k in (t.0, t.1, λ a h. t.2 a ((known (about k a)).0 h));
+  taken_known = λ index id to cents stamp there. opening (place_at book.who index) (terms_to to cents id) (deadline_of book.settings.limit stamp) (lawful.taken_known index id to cents stamp there);
+  only_taken = λ index h. lawful.only_taken index ((known (about (place_at book.who index) IsOpened)).0 h);
+  arrived = lawful.arrived;
+  forwarded_known = λ x index there is. opening (place_at x.entry.from index) (terms_to book.who x.entry.cents x.entry.id) x.entry.deadline (lawful.forwarded_known x index there is);
+  booked_known = λ from id o is live.
+      let e = lawful.booked_known from id o is live in
+      let r : KnowsEnd knows_c c book from id o = record { index = e.index; lies = e.lies; known = (known (about (place_at from e.index) (Decided o))).1 e.known } in r;
+  answered = λ k t o mine answer terms decided. lawful.answered k t o mine answer ((known (about k (HasTerms t))).0 terms) ((known (about k (Decided o))).0 decided);
+}
+  where
+    opening : (k : Place) (t : Terms) (d : ℕ) → KnowsOpening knows b k t d → KnowsOpening knows_c c k t d
+    opening k t d o = record { opened = (known (about k IsOpened)).1 o.opened; terms = (known (about k (HasTerms t))).1 o.terms; due = (known (about k (Due d))).1 o.due }

@@ -1,7 +1,8 @@
 -- The laws of slots over boards: that new books over a board of which nothing is known are lawful; that the place which a
 -- slot tells of a transfer is known opened, with that transfer's identifier; that the books of one participant after
--- another may be opened again over one board. They are this hub's own promises.
-use Rattle.std.specs.Prelude.{◌≡◌, ◌≢◌, ℕ, List, [], Some}
+-- another may be opened again over one board; that lawful books may move to another board where the same is known. They
+-- are this hub's own promises.
+use Rattle.std.specs.Prelude.{◌≡◌, ◌≢◌, ◌↔◌, ℕ, List, [], Some}
 use Rattle.inst_settings.specs.Settings.{HubSettings}
 use Rattle.inst_terms.specs.declared.terms.Terms.{Terms}
 use Rattle.inst_board.specs.declared.place.Place.{Place}
@@ -38,3 +39,11 @@ OthersMayOpen {B} settings knows has_role stays = (b c : B) (book : Book) (other
     OpensPlaces knows book.settings book.who (live_taken book.who book.events) b c →
     IsLawfulBoard settings knows has_role c book → MayOpenAgain settings knows has_role b book.settings other →
     MayOpenAgain settings knows has_role c book.settings other
+
+-- books that are lawful over the board b are lawful over c, which may be a board of another kind: it is of the same hub, its
+-- holder has the participant's role, and knows what the holder of b knows
+abbrev pub LawfulWhereTheSameIsKnown : {B C : Type 0} → (B → HubSettings) → (B → Fact → Type 0) → (B → ℕ → Type 0) →
+    (C → HubSettings) → (C → Fact → Type 0) → (C → ℕ → Type 0) → Type 0
+LawfulWhereTheSameIsKnown {B} {C} settings knows has_role settings_c knows_c role_c = (b : B) (c : C) (book : Book) →
+    settings_c c ≡ settings b → role_c c book.who → ((f : Fact) → knows_c c f ↔ knows b f) →
+    IsLawfulBoard settings knows has_role b book → IsLawfulBoard settings_c knows_c role_c c book

@@ -1,6 +1,6 @@
 //! The laws of slots over boards. A function without a body has the law for its contract, so that the
 //! check proves it.
-ghost use Rattle.inst_slot.specs.Laws.{NewBooksAreLawful, AToldPlaceIsKnown, AnyMayOpenFirst, OthersMayOpen};
+ghost use Rattle.inst_slot.specs.Laws.{NewBooksAreLawful, AToldPlaceIsKnown, AnyMayOpenFirst, OthersMayOpen, LawfulWhereTheSameIsKnown};
 
 use inst_board::Board;
 
@@ -22,4 +22,9 @@ pub fn any_may_open_first<B: Board>()
 /// Where the books of one participant were opened again, those of another may still be.
 pub fn others_may_open<B: Board>()
     ensures { OthersMayOpen B.settings B.knows B.has_role B.stays }
+{}
+
+/// Books that are lawful over one board are lawful over another one, of any kind, where the same is known.
+pub fn books_are_lawful_where_the_same_is_known<B: Board, C: Board>()
+    ensures { LawfulWhereTheSameIsKnown B.settings B.knows B.has_role C.settings C.knows C.has_role }
 {}

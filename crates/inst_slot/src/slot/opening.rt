@@ -102,8 +102,10 @@ impl Slot {
         board.open(place, deadline);
     }
 
-    /// Opens the places of the live transfers, where the history ends with an opening.
-    fn open_places<B: Board>(&self, board: &mut B)
+    /// Opens the places of the live transfers on a board, where the history ends with an opening: they get
+    /// the first places of the participant, in order of taking, and are pending there. `open_from` does so,
+    /// and a slot that moves to another board of a hub which opens.
+    pub fn open_places<B: Board>(&self, board: &mut B)
         requires participant { is_participant self.now.settings self.now.who ≡ true }
         requires opened { carried self.now.events ≡ self.now.events }
         requires board { MayOpenAgain B.settings B.knows B.has_role board.old self.now.settings self.now.who }
