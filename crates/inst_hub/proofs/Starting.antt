@@ -1,5 +1,5 @@
 -- A hub opens: the boards of its participants, one by one, and its tellers.
-use Rattle.std.proofs.Common.{◌≡◌, ℕ, ◌<◌, ◌+◌, List, [], ◌∷◌, ◌++◌, length, append-nil, append_assoc, length-append, sym, ap, ◌∙◌, subst, refl, arith, Some, ⊎_elim}
+use Rattle.std.proofs.Common.{◌≡◌, ℕ, suc, ◌<◌, ◌+◌, List, [], ◌∷◌, ◌++◌, length, append-nil, append_assoc, length-append, sym, ap, ◌∙◌, subst, refl, arith, Some, None, ⊎_elim}
 use Rattle.std.specs.Prelude.{slice_get, Option, Contains, is_some, true}
 use Rattle.std.specs.declared.snapshot.Snapshot.{Snapshot}
 use Rattle.atomic_table.specs.Seated.{TableId}
@@ -9,6 +9,9 @@ use Rattle.inst_cell.specs.Held.{settings_of, knows, has_role, AtOneTable}
 use Rattle.inst_cell.specs.Opening.{IsOpened, AreOpened}
 use Rattle.inst_cell.specs.declared.teller.Teller.{Teller as Sight}
 use Rattle.inst_row.specs.Row.{row_id, key_of}
+use Rattle.inst_journal.specs.declared.event.Event.{Event}
+use Rattle.inst_row.specs.declared.view.Front.{Front}
+use Rattle.inst_row.specs.View.{front, fronts_of}
 use Rattle.inst_row.specs.Seated.{view_of}
 use Rattle.inst_slot.specs.declared.arrival.Arrival.{Arrival}
 use Rattle.inst_slot.specs.Book.{Book}
@@ -21,7 +24,7 @@ use Rattle.inst_hub.specs.declared.hub.Hub.{Hub}
 use Rattle.inst_hub.specs.Behind.{IsBehind}
 use Rattle.inst_hub.specs.Calls.{AreOf}
 use Rattle.inst_hub.specs.declared.teller.Teller.{Teller}
-use Rattle.inst_hub.specs.Opening.{AreBoards, AreParticipants, IsBlank, AreBlank, IsNew, AreNew, parts_of}
+use Rattle.inst_hub.specs.Opening.{AreBoards, AreBehind, AreParticipants, IsBlank, AreBlank, sights_from, first_sights, IsNew, AreNew, parts_of}
 
 none_arrived : (x : Arrival) → Contains [] x → is_some x.index ≡ true
 none_arrived x (i, below, is) = absurd (omega arith)
@@ -113,10 +116,10 @@ pub few_before : (before rest all : List Sight) (last : Sight) → before ++ (re
 few_before before rest all last e none =
     sym (length-append before (last ∷ [])) ∙ ap length (ap (λ (l : List Sight). before ++ (l ++ last ∷ [])) (sym none) ∙ e)
 
-pub one_teller : (id : TableId) (key : Snapshot SharedBoard) (tellers : List Teller) (t : Teller) → AreNew id key tellers → IsNew id key t → AreNew id key (tellers ++ t ∷ [])
-one_teller id key tellers t are new i u e = ⊎_elim
+pub one_teller : (id : TableId) (key : Snapshot SharedBoard) (sights : List (Front Event)) (tellers : List Teller) (t : Teller) → AreNew id key sights tellers → IsNew id key sights t → AreNew id key sights (tellers ++ t ∷ [])
+one_teller id key sights tellers t are new i u e = ⊎_elim
     (λ old. are i u old)
-    (λ last. subst (λ (x : Teller). IsNew id key x) last.1 new)
+    (λ last. subst (λ (x : Teller). IsNew id key sights x) last.1 new)
     (snoc_cases tellers t u i e)
 
 pub parts_more : (tellers : List Teller) (t : Teller) → parts_of (tellers ++ t ∷ []) ≡ parts_of tellers + (view_of t.seat).parts
@@ -131,14 +134,58 @@ pub one_table : (s : HubSettings) (id : TableId) (p q : ℕ) (a b : SharedBoard)
 one_table s id p q a b first second = (second.table ∙ sym first.table, second.settings ∙ sym first.settings)
 
 pub opened_behind : (s : HubSettings) (n : ℕ) (boards : List SharedBoard) (sights : List Sight) (all : List (Option Participant)) (first w : SharedBoard) → AreOpened s n boards sights → AreParticipants boards all
-    → slice_get boards 0 ≡ Some first → w ≡ first → (p : ℕ) → p < length all → (x : Participant) × (slice_get all p ≡ Some (Some x)) × IsBehind w p x
-opened_behind s n boards sights all first w opened are at is p below =
+    → slice_get boards 0 ≡ Some first → w ≡ first → AreBehind w (participants s) (λ p. []) all
+opened_behind s n boards sights all first w opened are at is = record { enough = are.enough ∙ opened.participants; each = each }
+  where
+    each : (p : ℕ) → p < participants s → (x : Participant) × (slice_get all p ≡ Some (Some x)) × IsBehind w p x × (x.slot.events ≡ [])
+    each p below =
+        let enough = opened.participants in
+        let there = slice_get_at boards p (omega arith) in
+        let o = are.each p there.0 there.1 in
+        let one = one_table s opened.table 0 p first there.0 (opened.board 0 first at) (opened.board p there.0 there.1) in
+        let behind : IsBehind first p o.0 = record { one = (o.2.one.0 ∙ one.0, o.2.one.1 ∙ one.1); who = o.2.who; ready = o.2.ready } in
+        (o.0, o.1, subst (λ (b : SharedBoard). IsBehind b p o.0) (sym is) behind, o.3)
+
+-- the values behind the locks are those of the participants
+pub behind_values : (w : SharedBoard) (n : ℕ) (histories : ℕ → List Event) (all : List (Option Participant)) → AreBehind w n histories all
+    → (p : ℕ) → p < length all → (x : Participant) × (slice_get all p ≡ Some (Some x)) × IsBehind w p x
+behind_values w n histories all are p below = let enough = are.enough in let x = are.each p (omega arith) in (x.0, x.1, x.2)
+
+shifted : (a p : ℕ) → a + suc p ≡ suc a + p
+shifted a p = omega arith
+
+not_shifted : (a : ℕ) → a + 0 ≡ a
+not_shifted a = omega arith
+
+next_below : {A : Type 0} (y : A) (xs : List A) (p : ℕ) → p < length xs → suc p < length (y ∷ xs)
+next_below y xs p below = omega arith
+
+first_is : {A : Type 0} (y x : A) (xs : List (Option A)) → slice_get (Some y ∷ xs) 0 ≡ Some (Some x) → y ≡ x
+first_is y x xs e = cc
+
+first_not : {A : Type 0} (x : A) (xs : List (Option A)) → slice_get (None ∷ xs) 0 ≡ Some (Some x) → ⊥
+first_not x xs e = cc
+
+-- what is seen of values with these histories
+sights_match : {A : Type 0} (history : A → List Event) (histories : ℕ → List Event) (a : ℕ) (xs : List (Option A))
+    → ((p : ℕ) → p < length xs → (x : A) × (slice_get xs p ≡ Some (Some x)) × (history x ≡ histories (a + p))) → fronts_of history a xs ≡ sights_from histories a (length xs)
+sights_match history histories a [] has = refl
+sights_match history histories a (None ∷ xs) has = let h = has 0 (omega arith) in absurd (first_not h.0 xs h.1)
+sights_match history histories a (Some y ∷ xs) has =
+    let h = has 0 (omega arith) in
+    let here : history y ≡ histories a = ap history (first_is y h.0 xs h.1) ∙ (h.2 ∙ ap histories (not_shifted a)) in
+    let rest = sights_match history histories (suc a) xs (λ p below. let g = has (suc p) (next_below (Some y) xs p below) in (g.0, g.1, g.2 ∙ ap histories (shifted a p))) in
+    λ i. front a (here i) ∷ rest i
+
+pub behind_sights : (w : SharedBoard) (n : ℕ) (histories : ℕ → List Event) (all : List (Option Participant)) → AreBehind w n histories all
+    → fronts_of (λ (x : Participant). x.slot.events) 0 all ≡ first_sights n histories
+behind_sights w n histories all are =
     let enough = are.enough in
-    let there = slice_get_at boards p (omega arith) in
-    let o = are.each p there.0 there.1 in
-    let one = one_table s opened.table 0 p first there.0 (opened.board 0 first at) (opened.board p there.0 there.1) in
-    let behind : IsBehind first p o.0 = record { one = (o.2.one.0 ∙ one.0, o.2.one.1 ∙ one.1); who = o.2.who; ready = o.2.ready } in
-    (o.0, o.1, subst (λ (b : SharedBoard). IsBehind b p o.0) (sym is) behind)
+    sights_match (λ (x : Participant). x.slot.events) histories 0 all (λ p below. let x = are.each p (omega arith) in (x.0, x.1, x.3 ∙ ap histories (sym (zero_first p))))
+    ∙ ap (λ (k : ℕ). first_sights k histories) enough
+  where
+    zero_first : (p : ℕ) → 0 + p ≡ p
+    zero_first p = omega arith
 
 pub blank_sights : (s : HubSettings) (n : ℕ) (boards : List SharedBoard) (sights : List Sight) (first w : SharedBoard) → AreOpened s n boards sights → slice_get boards 0 ≡ Some first → w ≡ first → AreBlank w sights
 blank_sights s n boards sights first w opened at is i t there =
@@ -147,5 +194,5 @@ blank_sights s n boards sights first w opened at is i t there =
     let blank : IsBlank first t = record { one = (o.table ∙ sym f.table, o.settings ∙ sym f.settings); nothing = o.nothing } in
     subst (λ (b : SharedBoard). IsBlank b t) (sym is) blank
 
-pub new_are_of : (h : Hub) (tellers : List Teller) → AreNew (row_id h.row) (key_of h.row) tellers → AreOf h tellers
-new_are_of h tellers new i t at = let n = new i t at in record { on = n.on; free = n.free; one = n.blank.one }
+pub new_are_of : (h : Hub) (sights : List (Front Event)) (tellers : List Teller) → AreNew (row_id h.row) (key_of h.row) sights tellers → AreOf h tellers
+new_are_of h sights tellers new i t at = let n = new i t at in record { on = n.on; free = n.free; one = n.blank.one }

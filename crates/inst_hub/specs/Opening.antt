@@ -1,6 +1,6 @@
--- A hub that opens: behind each lock is its participant, with no history, and its tellers know nothing. This hub's own
--- choice.
-use Rattle.std.specs.Prelude.{◌≡◌, ℕ, List, [], length, slice_get, sum_by, Option, Some}
+-- A hub that opens: behind each lock is its participant, the first time with no history; its tellers have seen how the
+-- histories begin, and know of no place. This hub's own choice.
+use Rattle.std.specs.Prelude.{◌≡◌, ℕ, zero, suc, ◌<◌, List, [], ◌∷◌, length, slice_get, sum_by, Option, Some}
 use Rattle.atomic_table.specs.Seated.{TableId}
 use Rattle.inst_settings.specs.Settings.{HubSettings, participants}
 use Rattle.inst_cell.specs.declared.shared_board.SharedBoard.{SharedBoard}
@@ -10,6 +10,9 @@ use Rattle.inst_cell.specs.declared.teller.Teller.{Teller as Sight}
 use Rattle.inst_cell.specs.Held.{AtOneTable}
 use Rattle.inst_cell.specs.Opening.{IsOpened}
 use Rattle.inst_cell.specs.Seen.{board_of, sees}
+use Rattle.inst_journal.specs.declared.event.Event.{Event}
+use Rattle.inst_row.specs.declared.view.Front.{Front}
+use Rattle.inst_row.specs.View.{front}
 use Rattle.inst_row.specs.Seated.{IsOn, IsFree, view_of}
 use Rattle.inst_hub.specs.declared.teller.Teller.{Teller}
 use Rattle.inst_hub.specs.declared.participant.Participant.{Participant}
@@ -19,6 +22,12 @@ use Rattle.inst_hub.specs.Behind.{IsBehind}
 pub record AreBoards (s : HubSettings) (id : TableId) (boards : List SharedBoard) : Type 0 where
   pub enough : length boards ≡ participants s
   pub each : (p : ℕ) (b : SharedBoard) → slice_get boards p ≡ Some b → IsOpened s id p b
+
+-- the participants, by number, over these words, with these histories
+pub record AreBehind (words : SharedBoard) (n : ℕ) (J : ℕ → List Event) (all : List (Option Participant)) : Type 0 where
+  pub enough : length all ≡ n
+  pub each : (p : ℕ) → p < n →
+      (x : Participant) × (slice_get all p ≡ Some (Some x)) × IsBehind words p x × (x.slot.events ≡ J p)
 
 -- the participants of these boards, by number, with no history
 pub record AreParticipants (boards : List SharedBoard) (all : List (Option Participant)) : Type 0 where
@@ -34,15 +43,24 @@ pub record IsBlank (words : SharedBoard) (t : Sight) : Type 0 where
 abbrev pub AreBlank : SharedBoard → List Sight → Type 0
 AreBlank words sights = (i : ℕ) (t : Sight) → slice_get sights i ≡ Some t → IsBlank words t
 
--- a teller of a hub that opens: it may take a lock, and has seen nothing
-pub record IsNew (id : TableId) (key : Snapshot SharedBoard) (t : Teller) : Type 0 where
+-- a history for each of n participants, from p on
+abbrev pub sights_from : (ℕ → List Event) → ℕ → ℕ → List (Front Event)
+sights_from J p zero = []
+sights_from J p (suc n) = front p (J p) ∷ sights_from J (suc p) n
+
+-- what is seen of n participants with these histories
+abbrev pub first_sights : ℕ → (ℕ → List Event) → List (Front Event)
+first_sights n J = sights_from J 0 n
+
+-- a teller of a hub that opens: it may take a lock, and has seen these histories
+pub record IsNew (id : TableId) (key : Snapshot SharedBoard) (sights : List (Front Event)) (t : Teller) : Type 0 where
   pub on : IsOn id key t.seat
   pub free : IsFree t.seat
-  pub unseen : (view_of t.seat).fronts ≡ []
+  pub seen : (view_of t.seat).fronts ≡ sights
   pub blank : IsBlank key.value t.sight
 
-abbrev pub AreNew : TableId → Snapshot SharedBoard → List Teller → Type 0
-AreNew id key tellers = (i : ℕ) (t : Teller) → slice_get tellers i ≡ Some t → IsNew id key t
+abbrev pub AreNew : TableId → Snapshot SharedBoard → List (Front Event) → List Teller → Type 0
+AreNew id key sights tellers = (i : ℕ) (t : Teller) → slice_get tellers i ≡ Some t → IsNew id key sights t
 
 -- the parts of the row that they have
 abbrev pub parts_of : List Teller → ℕ

@@ -13,7 +13,7 @@ use Rattle.atomic_table.specs.Table.{State, Me, step, keeps, takes, gives, stepp
 use Rattle.atomic_table.proofs.Lists.{at_set, at_snoc, set_here, set_else, set_again}
 use Rattle.inst_row.specs.declared.view.Front.{Front}
 use Rattle.inst_row.specs.declared.view.View.{View}
-use Rattle.inst_row.specs.View.{front, count, held, first_view, took, behind, gave, told, left_of, parts, united, nobody}
+use Rattle.inst_row.specs.View.{front, count, held, fronts_of, first_view, took, behind, gave, told, left_of, parts, united, nobody}
 use Rattle.inst_row.specs.Rule.{Guarded}
 use Rattle.inst_row.specs.Steps.{takes_lock, gives_lock}
 use Rattle.inst_row.proofs.Tally.{count-append, held-set, held-snoc, held_one, parts-set, parts-snoc, parts_two, none_held}
@@ -278,23 +278,47 @@ module _ {T E K : Type 0} (law : K → ℕ → T → Type 0) (history : T → Li
   slice_some (x ∷ xs) zero y e = let f : x ≡ y = cc in ap (λ (z : Option T). some (some z)) f
   slice_some (x ∷ xs) (suc k) y e = slice_some xs k y e
 
-  pub starts : (words : List ℕ) (xs : List (Option T)) → length words ≡ length xs → ((k : ℕ) → get_or words k 0 ≡ 0) → ((k : ℕ) → k < length xs → (x : T) × (slice_get xs k ≡ Some (Some x)) × law key k x)
-      → G (opening words xs (first_view key))
+  record FrontAt (p : ℕ) (xs : List (Option T)) (m : Front E) : Type 0 where
+    index : ℕ
+    value : T
+    lock_is : m.lock ≡ p + index
+    there : slice_get xs index ≡ Some (Some value)
+    history_is : m.history ≡ history value
+
+  next : (p : ℕ) (y : Option T) (xs : List (Option T)) (m : Front E) → FrontAt (suc p) xs m → FrontAt p (y ∷ xs) m
+  next p y xs m f = record { index = suc f.index; value = f.value; lock_is = f.lock_is ∙ omega arith; there = f.there; history_is = f.history_is }
+
+  -- what the first seat has seen is the history of a value
+  front_at : (p : ℕ) (xs : List (Option T)) (m : Front E) → Contains (fronts_of history p xs) m → FrontAt p xs m
+  front_at p [] m c = absurd (let z = c.1 in omega arith)
+  front_at p (None ∷ xs) m c = next p None xs m (front_at (suc p) xs m c)
+  front_at p (Some x ∷ xs) m c = ⊎_elim
+      (λ here. record { index = 0; value = x; lock_is = ap (λ (f : Front E). f.lock) (sym here) ∙ omega arith; there = refl; history_is = ap (λ (f : Front E). f.history) (sym here) })
+      (λ there. next p (Some x) xs m (front_at (suc p) xs m there))
+      (in_cons (front p (history x)) m (fronts_of history (suc p) xs) c)
+
+  starts : (words : List ℕ) (xs : List (Option T)) → length words ≡ length xs → ((k : ℕ) → get_or words k 0 ≡ 0) → ((k : ℕ) → k < length xs → (x : T) × (slice_get xs k ≡ Some (Some x)) × law key k x)
+      → G (opening words xs (first_view history key xs))
   unfolding start_of
   starts words xs same zeros all =
-      let only : (P : View E K → Type 0) → P (first_view key) → (i : ℕ) (u : View E K) → get_elem? (first_view key ∷ []) i ≡ some u → P u = λ P h i u e. subst P (only_one (first_view key) u i e) h in
+      let first : View E K = first_view history key xs in
+      let only : (P : View E K → Type 0) → P first → (i : ℕ) (u : View E K) → get_elem? (first ∷ []) i ≡ some u → P u = λ P h i u e. subst P (only_one first u i e) h in
       record {
         latest = λ q. start_of (slice_get xs q);
         sized = length-map xs some ∙ sym same;
         counted = λ q. zeros q;
         bit = λ q. let z = zeros q in omega arith;
         home = λ q below z. let a = all q (omega arith) in (a.0, slice_some xs q (Some a.0) a.1, a.2, sym (ap start_of a.1));
-        known = only (λ u. (m : Front E) → Contains u.fronts m → IsPrefix m.history (start_of (slice_get xs m.lock))) (λ m c. absurd (let z = c.1 in omega arith));
+        known = only (λ u. (m : Front E) → Contains u.fronts m → IsPrefix m.history (start_of (slice_get xs m.lock))) (λ m c. let f = front_at 0 xs m c in let at : m.lock ≡ f.index = f.lock_is ∙ omega arith in whole_prefix _ _ (f.history_is ∙ sym (ap start_of (ap (slice_get xs) at ∙ f.there))));
         mine = only (λ u. (m : Front E) → Contains u.held m → m.history ≡ start_of (slice_get xs m.lock)) (λ m c. absurd (let z = c.1 in omega arith));
         dealt = refl;
         holder = only (λ u. u.parts ≡ 0 → u.held ≡ []) (λ z. refl);
         named = only (λ u. (k : K) → u.about ≡ Some k → k ≡ key) (λ k e. cc);
       }
+
+  pub starts_with : (words : List ℕ) (xs ys : List (Option T)) → ys ≡ xs → length words ≡ length xs → ((k : ℕ) → get_or words k 0 ≡ 0) → ((k : ℕ) → k < length xs → (x : T) × (slice_get xs k ≡ Some (Some x)) × law key k x)
+      → G (opening words xs (first_view history key ys))
+  starts_with words xs ys e same zeros all = subst (λ (zs : List (Option T)). G (opening words xs (first_view history key zs))) (sym e) (starts words xs same zeros all)
 
   -- who has all parts, and no lock, knows that each value is at home
   pub all_home : (s : St) (r : G s) (id : ℕ) (v : View E K) → get_elem? s.views id ≡ some v → v.parts ≡ 16 → v.held ≡ []

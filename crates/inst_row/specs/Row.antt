@@ -9,7 +9,7 @@ module _ {T E K L : Type 0} where
   row_id r = r.table.shared.table_id
 
   abbrev pub key_of : LockRow T E K L → K
-  key_of r = r.table.shared.key
+  key_of r = r.table.shared.key.about.value
 
   abbrev pub size : LockRow T E K L → ℕ
   size r = (row_id r).words

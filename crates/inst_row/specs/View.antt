@@ -1,6 +1,6 @@
 -- What a seat on a row of locks has and has seen. That a caller sees what it saw before, or more, is this hub's own
 -- choice.
-use Rattle.std.specs.Prelude.{ℕ, ◌+◌, ◌-◌, min, cond, ◌==◌, List, [], ◌∷◌, ◌++◌, Some, None}
+use Rattle.std.specs.Prelude.{ℕ, suc, ◌+◌, ◌-◌, min, cond, ◌==◌, List, [], ◌∷◌, ◌++◌, Option, Some, None}
 use Rattle.inst_row.specs.declared.view.Front.{Front}
 use Rattle.inst_row.specs.declared.view.View.{View}
 
@@ -26,11 +26,17 @@ abbrev pub behind : {E : Type 0} → List (Front E) → List (Front E)
 behind [] = []
 behind (f ∷ fs) = fs
 
-module _ {E K : Type 0} where
-  -- the first seat has all parts
-  abbrev pub first_view : K → View E K
-  first_view key = record { about = Some key; parts = 16; held = []; fronts = [] }
+-- the histories of these values, each with the number of its lock, from p on
+abbrev pub fronts_of : {T E : Type 0} → (T → List E) → ℕ → List (Option T) → List (Front E)
+fronts_of history p [] = []
+fronts_of history p (None ∷ xs) = fronts_of history (suc p) xs
+fronts_of history p (Some x ∷ xs) = front p (history x) ∷ fronts_of history (suc p) xs
 
+-- the first seat has all parts, and has seen the history of each value
+abbrev pub first_view : {T E K : Type 0} → (T → List E) → K → List (Option T) → View E K
+first_view history key values = record { about = Some key; parts = 16; held = []; fronts = fronts_of history 0 values }
+
+module _ {E K : Type 0} where
   -- after the lock p was taken, with the history h
   abbrev pub took : View E K → ℕ → List E → View E K
   took v p h = record { about = v.about; parts = v.parts; held = front p h ∷ v.held; fronts = v.fronts ++ front p h ∷ [] }

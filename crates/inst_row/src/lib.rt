@@ -2,6 +2,7 @@
 //! finds a history that goes on from all that it has seen.
 #![tactic(auto)]
 
+mod beginning;
 mod lawful;
 mod row;
 mod rule;
@@ -11,6 +12,7 @@ mod steps;
 mod tests;
 mod view;
 
+pub use beginning::Beginning;
 pub use lawful::Lawful;
 pub use row::{LockRow, PARTS};
 pub use rule::Guarding;

@@ -5,6 +5,7 @@ mod locking;
 mod opening;
 mod seating;
 
+use crate::beginning::Beginning;
 use crate::lawful::Lawful;
 use crate::rule::Guarding;
 use crate::view::View;
@@ -26,6 +27,6 @@ pub const PARTS: u64 = 16;
 /// ```
 #[derive(Drop)]
 pub struct LockRow<T, E, K, L: Lawful<T, E, K>> {
-    table: Table<Option<T>, View<E, K>, K, Guarding<L>, Global>,
+    table: Table<Option<T>, View<E, K>, Beginning<T, K>, Guarding<L>, Global>,
     pub ghost square: { table.shared.table_id.words ≡ table.shared.table_id.slots },
 }

@@ -1,3 +1,4 @@
+use crate::beginning::Beginning;
 use crate::lawful::Lawful;
 use crate::view::View;
 use atomic_table::TableRule;
@@ -9,11 +10,12 @@ pub struct Guarding<L> {
     law: PhantomData<L>,
 }
 
-impl<T, E, K, L: Lawful<T, E, K>> TableRule<Option<T>, View<E, K>, K> for Guarding<L> {
+impl<T, E, K, L: Lawful<T, E, K>> TableRule<Option<T>, View<E, K>, Beginning<T, K>>
+    for Guarding<L> {
     ghost use Rattle.inst_row.specs.Rule.{Guarded};
     ghost use Rattle.inst_row.specs.View.{first_view};
 
-    ghost holds = { λ key s. Guarded L.law L.history key s };
+    ghost holds = { λ key s. Guarded L.law L.history key.about.value s };
 
-    ghost first = { first_view };
+    ghost first = { λ key. first_view L.history key.about.value key.values.value.items };
 }

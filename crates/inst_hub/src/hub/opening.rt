@@ -8,7 +8,7 @@ ghost use Rattle.inst_row.specs.Row.{row_id, key_of, size};
 ghost use Rattle.inst_row.specs.Seated.{IsOn, HasAll, view_of};
 ghost use Rattle.inst_hub.specs.Behind.{IsBehind};
 ghost use Rattle.inst_hub.specs.Calls.{AreOf};
-ghost use Rattle.inst_hub.specs.Opening.{AreBoards, AreParticipants, AreBlank, AreNew, parts_of};
+ghost use Rattle.inst_hub.specs.Opening.{AreBoards, AreParticipants, AreBlank, AreNew, first_sights, parts_of};
 
 use super::Hub;
 use crate::behind::Behind;
@@ -76,10 +76,10 @@ fn admit(
 ) -> Result<Vec<Teller>, Fault>
     requires some { 0 < size row.now }
     requires on { IsOn (row_id row.now) (key_of row.now) seat }
-    requires all { HasAll seat × ((view_of seat).fronts ≡ []) }
+    requires all { HasAll seat }
     requires sights { MayOpen (length sights.items) × AreBlank (key_of row.now).value sights.items }
     ensures enough { IfOk result (λ all. length all.items ≡ length sights.items) }
-    ensures new { IfOk result (λ all. AreNew (row_id row.now) (key_of row.now) all.items) }
+    ensures new { IfOk result (λ all. AreNew (row_id row.now) (key_of row.now) (view_of seat).fronts all.items) }
     ensures parts { IfOk result (λ all. parts_of all.items ≡ 16) }
     ensures only { IsOkUnless result Fault.Memory }
 {
@@ -98,13 +98,13 @@ fn admit(
 }
 
 impl Hub {
-    /// A hub that opens for the first time, with as many tellers as are wanted, which know nothing.
-    /// `BadSettings` where these are not 1 to 16, `Memory` where there is no room.
+    /// A hub that opens for the first time, with as many tellers as are wanted, which know of no place, and that
+    /// all histories begin empty. `BadSettings` where these are not 1 to 16, `Memory` where there is no room.
     pub fn open(alloc: Global, settings: Settings, tellers: u8) -> Result<(Hub, Vec<Teller>), Fault>
         ensures settings { IfOk result (λ r. r.0.settings ≡ settings) }
         ensures enough { IfOk result (λ r. length r.1.items ≡ tellers) }
         ensures of { IfOk result (λ r. AreOf r.0 r.1.items) }
-        ensures new { IfOk result (λ r. AreNew (row_id r.0.row) (key_of r.0.row) r.1.items) }
+        ensures new { IfOk result (λ r. AreNew (row_id r.0.row) (key_of r.0.row) (first_sights (participants settings) (λ p. [])) r.1.items) }
         ensures parts { IfOk result (λ r. parts_of r.1.items ≡ 16) }
         ensures bad { (result ≡ Err Fault.BadSettings) ↔ ¬ MayOpen tellers }
         ensures only { IfErr result (λ e. (e ≡ Fault.Memory) ⊎ (e ≡ Fault.BadSettings)) }

@@ -1,18 +1,21 @@
 //! How a row of locks is made.
-ghost use Rattle.std.specs.Prelude.{◌≡◌, ℕ, ◌<◌, [], length, slice_get, Some, IfOk};
+ghost use Rattle.std.specs.Prelude.{◌≡◌, ℕ, ◌<◌, length, slice_get, Some, IfOk};
 ghost use Rattle.inst_row.specs.Seated.{IsOn, HasAll, view_of};
 ghost use Rattle.inst_row.specs.Row.{row_id, key_of, size};
+ghost use Rattle.inst_row.specs.View.{fronts_of};
 ghost use Rattle.inst_row.specs.declared.row.TheConstants.{PARTS};
 
 use super::LockRow;
+use crate::beginning::Beginning;
 use crate::lawful::Lawful;
 use crate::seat::RowSeat;
 use atomic_table::Table;
 use std::alloc::{AllocError, Global};
+use std::snapshot::Snapshot;
 
 impl<T: Drop, E, K, L: Lawful<T, E, K>> LockRow<T, E, K, L> {
-    /// A row of these values, each of which is there and keeps its law, and a free seat with all parts. Where
-    /// memory is missing the values are dropped.
+    /// A row of these values, each of which is there and keeps its law, and a free seat with all parts, which has
+    /// seen the history of each value. Where memory is missing the values are dropped.
     pub fn open(
         alloc: Global,
         values: Vec<Option<T>>,
@@ -22,10 +25,14 @@ impl<T: Drop, E, K, L: Lawful<T, E, K>> LockRow<T, E, K, L> {
         ensures row { IfOk result (λ r. (size r.0 ≡ length values.items) × (key_of r.0 ≡ about.now)) }
         ensures seat { IfOk result (λ r. IsOn (row_id r.0) about.now r.1 × HasAll r.1) }
         ensures parts { IfOk result (λ r. (view_of r.1).parts ≡ PARTS) }
-        ensures unseen { IfOk result (λ r. (view_of r.1).fronts ≡ []) }
+        ensures seen { IfOk result (λ r. (view_of r.1).fronts ≡ fronts_of L.history 0 values.items) }
     {
         let words = vec![in alloc; 0; values.len()]?;
-        match Table::new(alloc, words.as_slice(), values, about) {
+        let key = Beginning {
+            about: Snapshot::of(about),
+            values: Snapshot::of(&values),
+        };
+        match Table::new(alloc, words.as_slice(), values, &key) {
             Ok((table, seat)) => Ok((LockRow { table }, RowSeat { seat })),
             Err(_) => Err(AllocError),
         }

@@ -16,10 +16,10 @@ loop-sight-preserved c =
     let sight = c.in-Some-sight.sight in
     let is = c.in-Some-sight.ensures.steps.0 in
     let teller : Teller = record { sight = sight; seat = c.split-seat.result } in
-    let new : IsNew (row_id c.args.row.now) (key_of c.args.row.now) teller = record {
+    let new : IsNew (row_id c.args.row.now) (key_of c.args.row.now) (view_of c.args.seat).fronts teller = record {
       on = c.split-seat.ensures.on.1;
       free = halves.free;
-      unseen = halves.told ∙ i.4;
+      seen = halves.told ∙ i.4;
       blank = blank_next (key_of c.args.row.now).value c.loop-sight.yielded rest after c.args.sights.items sight c.in-Some.last c.requires.sights.1 i.5 is;
     } in
     let pushed = c.in_ok-push.ensures.items in
@@ -40,8 +40,8 @@ loop-sight-preserved c =
       halves.seen ∙ i.4,
       next_sight c.loop-sight.yielded rest after c.args.sights.items sight c.in-Some.last i.5 is,
       omega arith,
-      subst (λ (l : List Teller). AreNew (row_id c.args.row.now) (key_of c.args.row.now) l) (sym pushed)
-          (one_teller (row_id c.args.row.now) (key_of c.args.row.now) c.loop-sight.all.items teller i.7 new),
+      subst (λ (l : List Teller). AreNew (row_id c.args.row.now) (key_of c.args.row.now) (view_of c.args.seat).fronts l) (sym pushed)
+          (one_teller (row_id c.args.row.now) (key_of c.args.row.now) (view_of c.args.seat).fronts c.loop-sight.all.items teller i.7 new),
       omega arith,
       omega arith,
     )
@@ -56,11 +56,11 @@ returns-clause-new c =
     let left = i.8 in
     let part : 0 < (view_of c.loop-sight.seat).parts = omega arith in
     let teller : Teller = record { sight = c.in-Some.last; seat = c.loop-sight.seat } in
-    let new : IsNew (row_id c.args.row.now) (key_of c.args.row.now) teller = record {
+    let new : IsNew (row_id c.args.row.now) (key_of c.args.row.now) (view_of c.args.seat).fronts teller = record {
       on = i.2;
       free = record { idle = i.3; part = part };
-      unseen = i.4;
+      seen = i.4;
       blank = blank_last (key_of c.args.row.now).value c.loop-sight.yielded rest c.args.sights.items c.in-Some.last c.requires.sights.1 i.5 none;
     } in
-    subst (λ (l : List Teller). AreNew (row_id c.args.row.now) (key_of c.args.row.now) l) (sym c.in_ok-push-2.ensures.items)
-    (one_teller (row_id c.args.row.now) (key_of c.args.row.now) c.loop-sight.all.items teller i.7 new)
+    subst (λ (l : List Teller). AreNew (row_id c.args.row.now) (key_of c.args.row.now) (view_of c.args.seat).fronts l) (sym c.in_ok-push-2.ensures.items)
+    (one_teller (row_id c.args.row.now) (key_of c.args.row.now) (view_of c.args.seat).fronts c.loop-sight.all.items teller i.7 new)

@@ -11,9 +11,9 @@ invariant-loop-sight l =
     (goal.iterator-loop-sight).is_finite l.sight-iterator ×
     IsOn (row_id l.row) (key_of l.row) l.seat ×
     IsIdle l.seat ×
-    ((view_of l.seat).fronts ≡ []) ×
+    ((view_of l.seat).fronts ≡ (view_of l.fn.seat).fronts) ×
     (l.yielded ++ (into_iter_items l.sight-iterator ++ l.last ∷ []) ≡ l.fn.sights.items) ×
     (length l.all.items ≡ length l.yielded) ×
-    AreNew (row_id l.row) (key_of l.row) l.all.items ×
+    AreNew (row_id l.row) (key_of l.row) (view_of l.fn.seat).fronts l.all.items ×
     ((view_of l.seat).parts + length l.yielded ≡ 16) ×
     (parts_of l.all.items ≡ length l.yielded)

@@ -1,8 +1,8 @@
 use Rattle.std.proofs.Common.{rules, ◌∙◌, ap, ℕ, List, get_or}
-use Rattle.inst_row.proofs.Locks.{starts, zeros}
+use Rattle.inst_row.proofs.Locks.{starts_with, zeros}
 use Rattle.inst_row.proofs.row.LockRow.open.Goals as goal
 
 pub new-requires : goal.new-requires
-new-requires g c = starts g.L.Lawful.law g.L.Lawful.history _ _ _ (search rules)
+new-requires g c = starts_with g.L.Lawful.law g.L.Lawful.history _ _ _ _ (ap (λ v. v.items) c.of-2.ensures) (search rules)
     (λ x. ap (λ (l : List ℕ). get_or l x 0) (c.as_slice.ensures.value ∙ c.in_ok-words.ensures.items_if_clones_equal (λ y e. e)) ∙ zeros c.len.result x)
-    c.requires.values
+    (λ p below. let v = c.requires.values p below in (v.0, v.1, rw c.of.ensures v.2))
