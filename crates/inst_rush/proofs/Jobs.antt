@@ -5,7 +5,7 @@ use Rattle.inst_slot.proofs.Growing.{snoc_cases}
 use Rattle.inst_hub.specs.declared.hub.Hub.{Hub}
 use Rattle.inst_hub.specs.declared.teller.Teller.{Teller}
 use Rattle.inst_hub.specs.Calls.{IsOf, AreOf}
-use Rattle.inst_rush.specs.declared.rounds.Job.{Job}
+use Rattle.inst_rush.specs.declared.job.Job.{Job}
 use Rattle.inst_rush.specs.Jobs.{AreJobsOf}
 
 at_seam : (xs : List Teller) (x : Teller) (ys : List Teller) → slice_get (xs ++ x ∷ ys) (length xs) ≡ Some x

@@ -2,7 +2,7 @@
 use Rattle.std.specs.Prelude.{◌≡◌, ℕ, List, slice_get, Some}
 use Rattle.inst_hub.specs.declared.hub.Hub.{Hub}
 use Rattle.inst_hub.specs.Calls.{IsOf}
-use Rattle.inst_rush.specs.declared.rounds.Job.{Job}
+use Rattle.inst_rush.specs.declared.job.Job.{Job}
 
 abbrev pub AreJobsOf : Hub → List Job → Type 0
 AreJobsOf h jobs = (i : ℕ) (job : Job) → slice_get jobs i ≡ Some job → IsOf h job.teller

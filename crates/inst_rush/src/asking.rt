@@ -3,28 +3,25 @@ ghost use Rattle.inst_hub.specs.Calls.{IsOf};
 
 use inst_base::{Cents, Fault, Ident, Moment};
 use inst_command::{Ask, Command, Outcome, Reply, State, Submission};
-use inst_hub::{Hub, Teller};
+use inst_hub::{Hub, Teller, Ticket};
 use std::alloc::Global;
 use std::sync::Wait;
 
 /// What each transfer is over, in cents.
 const CENTS: u64 = 100;
 
-/// What each participant is funded with, in cents.
-pub(crate) const FUNDS: u64 = 200_000;
-
 /// The time stamp of all transfers, and the reading at which they are submitted.
 const STAMP: u64 = 1_000;
 
 /// What a command is answered; `BadField` where it doesn't fit the hub.
-fn ask<R: Wait>(
+pub(crate) fn ask<R: Wait>(
     rt: &R,
     hub: &Hub,
     teller: &mut Teller,
     who: u8,
     command: Command,
     at: u64,
-) -> Result<Reply, Fault>
+) -> Result<(Reply, Option<Ticket>), Fault>
     requires { IsOf hub.now teller.old }
     ensures { IsOf hub.now teller.new }
 {
@@ -36,36 +33,74 @@ fn ask<R: Wait>(
     if !ask.fits(hub.settings()) {
         return Err(Fault::BadField);
     }
-    let (reply, _) = hub.call(rt, teller, &ask)?;
-    Ok(reply)
+    hub.call(rt, teller, &ask)
 }
 
-pub(crate) fn fund<R: Wait>(rt: &R, hub: &Hub, teller: &mut Teller, who: u8) -> Result<(), Fault>
+fn fund<R: Wait>(rt: &R, hub: &Hub, teller: &mut Teller, who: u8, cents: u64) -> Result<(), Fault>
     requires { IsOf hub.now teller.old }
     ensures { IsOf hub.now teller.new }
 {
     let command = Command::Fund {
         reference: Ident::new("F1")?,
-        cents: Cents::new(FUNDS)?,
+        cents: Cents::new(cents)?,
     };
     ask(rt, hub, teller, who, command, 0)?;
     Ok(())
 }
 
-/// The position of a participant, in cents.
-pub(crate) fn position<R: Wait>(
+/// Funds the first so many participants, at most 256, with so many cents each.
+pub(crate) fn fund_all<R: Wait>(
+    rt: &R,
+    hub: &Hub,
+    teller: &mut Teller,
+    participants: u16,
+    cents: u64,
+) -> Result<(), Fault>
+    requires { IsOf hub.now teller.old }
+    ensures { IsOf hub.now teller.new }
+{
+    for who in 0..participants.min(256) {
+        fund(rt, hub, teller, who as u8, cents)?;
+    }
+    Ok(())
+}
+
+/// What a participant has, in cents.
+#[derive(Clone, Copy, Debug)]
+pub(crate) struct Money {
+    pub(crate) position: u64,
+    pub(crate) reserved: u64,
+    pub(crate) available: u64,
+}
+
+/// What a reply tells of the position.
+pub(crate) fn money_of(reply: &Reply) -> Option<Money> {
+    match reply {
+        Reply::Position {
+            position,
+            reserved,
+            available,
+        } => Some(Money {
+            position: *position,
+            reserved: *reserved,
+            available: *available,
+        }),
+        _ => None,
+    }
+}
+
+/// What a participant has now.
+pub(crate) fn ask_money<R: Wait>(
     rt: &R,
     hub: &Hub,
     teller: &mut Teller,
     who: u8,
-) -> Result<u64, Fault>
+) -> Result<Money, Fault>
     requires { IsOf hub.now teller.old }
     ensures { IsOf hub.now teller.new }
 {
-    match ask(rt, hub, teller, who, Command::Position, STAMP)? {
-        Reply::Position { position, .. } => Ok(position),
-        _ => Err(Fault::BadField),
-    }
+    let (reply, _) = ask(rt, hub, teller, who, Command::Position, STAMP)?;
+    money_of(&reply).ok_or(Fault::BadField)
 }
 
 /// Submits a transfer and confirms it: whether it was accepted.
@@ -90,7 +125,7 @@ pub(crate) fn settle<R: Wait>(
         stamp: Moment::new(0, STAMP)?,
     };
     ask(rt, hub, teller, from, Command::Submit(submission), STAMP)?;
-    let reply = ask(
+    let (reply, _) = ask(
         rt,
         hub,
         teller,

@@ -4,8 +4,11 @@ pub(crate) const PARTICIPANTS: u16 = 64;
 /// How many places each has.
 pub(crate) const PLACES: u16 = 1_024;
 
+/// What each participant is funded with, in cents.
+pub(crate) const FUNDS: u64 = 200_000;
+
 /// The most threads of a load.
-const MOST_THREADS: u16 = 8;
+pub(crate) const MOST_THREADS: u16 = 8;
 
 /// Between whom the threads' transfers are.
 #[derive(Clone, Copy, Debug, PartialEq, Eq)]

@@ -5,6 +5,7 @@
 #![tactic(auto)]
 
 mod asking;
+mod job;
 mod load;
 mod opening;
 mod rounds;

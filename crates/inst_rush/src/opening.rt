@@ -2,25 +2,49 @@
 ghost use Rattle.std.specs.Prelude.{IfOk};
 ghost use Rattle.inst_hub.specs.Calls.{AreOf};
 
-use crate::load::{PARTICIPANTS, PLACES};
 use inst_base::{Code, Fault};
 use inst_hub::{Hub, Teller};
 use inst_settings::Settings;
 use std::alloc::Global;
 
-/// The settings of a hub of 64.
-fn settings(alloc: Global) -> Result<Settings, Fault> {
+/// From a transfer's time stamp to its deadline, in milliseconds.
+pub(crate) const LIMIT: u32 = 10_000;
+
+/// How far a time stamp may lie ahead of the reading, in milliseconds.
+pub(crate) const AHEAD: u32 = 1_000;
+
+/// How large a hub is, and how long before the deadline nothing is accepted any more.
+#[derive(Clone, Copy, Debug)]
+pub(crate) struct Size {
+    /// 1 to 100.
+    pub(crate) participants: u16,
+    /// Of each participant.
+    pub(crate) places: u16,
+    /// In milliseconds.
+    pub(crate) margin: u32,
+}
+
+fn settings(alloc: Global, size: Size) -> Result<Settings, Fault> {
     let mut codes = Vec::new(alloc);
-    for number in 0..PARTICIPANTS {
+    for number in 0..size.participants {
         let text = format!(in alloc; "BANKDE{}{}", number / 10, number % 10)?;
         codes.push(Code::new(text.as_str())?)?;
     }
-    Settings::check(codes, PLACES, 4, 10_000, 0, 1_000, 99_999_999_999, 0)
+    Settings::check(
+        codes,
+        size.places,
+        4,
+        LIMIT,
+        size.margin,
+        AHEAD,
+        99_999_999_999,
+        0,
+    )
 }
 
 /// The hub with so many tellers.
-pub(crate) fn open(alloc: Global, tellers: u8) -> Result<(Hub, Vec<Teller>), Fault>
+pub(crate) fn open(alloc: Global, size: Size, tellers: u8) -> Result<(Hub, Vec<Teller>), Fault>
     ensures { IfOk result (λ r. AreOf r.0 r.1.items) }
 {
-    Hub::open(alloc, settings(alloc)?, tellers)
+    Hub::open(alloc, settings(alloc, size)?, tellers)
 }

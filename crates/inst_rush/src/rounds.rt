@@ -1,23 +1,22 @@
 //! Rounds of a load, each at a hub of its own.
-ghost use Rattle.std.specs.Prelude.{IfOk};
-ghost use Rattle.inst_hub.specs.Calls.{IsOf, AreOf};
+ghost use Rattle.inst_hub.specs.Calls.{IsOf};
 ghost use Rattle.inst_rush.specs.Jobs.{AreJobsOf};
 
-use crate::asking::{FUNDS, fund, position, settle};
-use crate::load::{Load, PARTICIPANTS};
-use crate::opening::open;
+use crate::asking::{ask_money, fund_all, settle};
+use crate::job::{Job, jobs, last};
+use crate::load::{FUNDS, Load, PARTICIPANTS, PLACES};
+use crate::opening::{Size, open};
 use inst_base::Fault;
 use inst_hub::{Hub, Teller};
 use std::alloc::Global;
 use std::sync::Wait;
 use std::thread::{self, Threads};
 
-/// A thread's teller and number.
-#[derive(Drop)]
-struct Job {
-    teller: Teller,
-    thread: u16,
-}
+const SIZE: Size = Size {
+    participants: PARTICIPANTS,
+    places: PLACES,
+    margin: 0,
+};
 
 /// Submits and confirms the thread's share: how many transfers were accepted.
 fn share<R: Wait>(rt: &R, alloc: Global, hub: &Hub, load: Load, job: Job) -> Result<u32, Fault>
@@ -34,52 +33,15 @@ fn share<R: Wait>(rt: &R, alloc: Global, hub: &Hub, load: Load, job: Job) -> Res
     Ok(settled)
 }
 
-/// The last teller of these.
-fn last(hub: &Hub, tellers: &mut Vec<Teller>) -> Result<Teller, Fault>
-    requires { AreOf hub.now tellers.old.items }
-    ensures last { IfOk result (λ teller. IsOf hub.now teller) }
-    ensures rest { AreOf hub.now tellers.new.items }
-{
-    match tellers.pop() {
-        Some(teller) => Ok(teller),
-        None => Err(Fault::BadSettings),
-    }
-}
-
-/// Funds all participants.
-fn fund_all<R: Wait>(rt: &R, hub: &Hub, teller: &mut Teller) -> Result<(), Fault>
-    requires { IsOf hub.now teller.old }
-    ensures { IsOf hub.now teller.new }
-{
-    for who in 0..PARTICIPANTS {
-        fund(rt, hub, teller, who as u8)?;
-    }
-    Ok(())
-}
-
 /// What all positions sum to, in cents.
 fn sum<R: Wait>(rt: &R, hub: &Hub, teller: &mut Teller) -> Result<u64, Fault>
     requires { IsOf hub.now teller.old }
 {
     let mut sum = 0u64;
     for who in 0..PARTICIPANTS {
-        sum = sum.saturating_add(position(rt, hub, teller, who as u8)?);
+        sum = sum.saturating_add(ask_money(rt, hub, teller, who as u8)?.position);
     }
     Ok(sum)
-}
-
-/// The jobs of the threads, and a teller that is left.
-fn jobs(alloc: Global, hub: &Hub, tellers: Vec<Teller>) -> Result<Vec<Job>, Fault>
-    requires { AreOf hub.now tellers.items }
-    ensures { IfOk result (λ jobs. AreJobsOf hub.now jobs.items) }
-{
-    let mut jobs = Vec::new(alloc);
-    let mut thread = 0u16;
-    for teller in tellers {
-        jobs.push(Job { teller, thread })?;
-        thread = thread.saturating_add(1);
-    }
-    Ok(jobs)
 }
 
 /// Runs the jobs, each in a thread of its own: how many transfers were accepted.
@@ -108,9 +70,9 @@ fn run<R: Threads + Wait + Sync>(
 
 /// A round: how many transfers were accepted, where the positions still sum to the funding.
 fn round<R: Threads + Wait + Sync>(rt: &R, alloc: Global, load: Load) -> Result<u32, Fault> {
-    let (hub, mut tellers) = open(alloc, (load.threads % 9) as u8 + 1)?;
+    let (hub, mut tellers) = open(alloc, SIZE, (load.threads % 9) as u8 + 1)?;
     let mut teller = last(&hub, &mut tellers)?;
-    fund_all(rt, &hub, &mut teller)?;
+    fund_all(rt, &hub, &mut teller, PARTICIPANTS, FUNDS)?;
     let jobs = jobs(alloc, &hub, tellers)?;
     let settled = run(rt, alloc, &hub, load, jobs)?;
     if sum(rt, &hub, &mut teller)? != FUNDS * u64::from(PARTICIPANTS) {

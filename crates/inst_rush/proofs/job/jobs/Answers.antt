@@ -1,9 +1,9 @@
 use Rattle.std.proofs.Common.{sym, subst, List}
 use Rattle.std.specs.Vec.Iter.{into_iter_items}
-use Rattle.inst_rush.specs.declared.rounds.Job.{Job}
+use Rattle.inst_rush.specs.declared.job.Job.{Job}
 use Rattle.inst_rush.specs.Jobs.{AreJobsOf}
 use Rattle.inst_rush.proofs.Jobs.{next_left, next_is_of, one_job}
-use Rattle.inst_rush.proofs.rounds.jobs.Goals as goal
+use Rattle.inst_rush.proofs.job.jobs.Goals as goal
 
 pub loop-teller-preserved : goal.loop-teller-preserved
 loop-teller-preserved c =

@@ -1,7 +1,7 @@
 use Rattle.std.proofs.Common.{◌≡◌, ◌++◌}
 use Rattle.std.specs.Vec.Iter.{into_iter_items}
 use Rattle.inst_rush.specs.Jobs.{AreJobsOf}
-use Rattle.inst_rush.proofs.rounds.jobs.Given as goal
+use Rattle.inst_rush.proofs.job.jobs.Given as goal
 
 abbrev pub invariant-loop-teller : goal.invariant-loop-teller
 invariant-loop-teller l =

@@ -2,7 +2,7 @@ use Rattle.std.proofs.Common.{◌≡◌, sym, subst, List, Some}
 use Rattle.std.specs.Prelude.{slice_get}
 use Rattle.inst_slot.proofs.Growing.{slice_get_left}
 use Rattle.inst_hub.specs.declared.teller.Teller.{Teller}
-use Rattle.inst_rush.proofs.rounds.last.Goals as goal
+use Rattle.inst_rush.proofs.job.last.Goals as goal
 
 pub returns-in-Some-clause-rest : goal.returns-in-Some-clause-rest
 returns-in-Some-clause-rest c = λ i t at. c.requires i t
