@@ -8,7 +8,7 @@ pub(crate) const PLACES: u16 = 1_024;
 pub(crate) const FUNDS: u64 = 200_000;
 
 /// The most threads of a load.
-pub(crate) const MOST_THREADS: u16 = 8;
+const MOST_THREADS: u16 = 8;
 
 /// Between whom the threads' transfers are.
 #[derive(Clone, Copy, Debug, PartialEq, Eq)]
@@ -19,6 +19,16 @@ pub(crate) enum Pattern {
     Split,
     /// All threads use the same two.
     Hot,
+}
+
+/// The numbers of threads and of rounds that these words choose.
+pub(crate) fn threads_of(words: &[String]) -> Option<(u16, u32)> {
+    let threads = words.get(2)?.parse().ok()?;
+    if threads == 0 || threads > MOST_THREADS {
+        return None;
+    }
+    let rounds = words.get(3)?.parse().ok()?;
+    Some((threads, rounds))
 }
 
 /// What the threads do.
@@ -38,11 +48,7 @@ impl Load {
             "hot" => Pattern::Hot,
             _ => return None,
         };
-        let threads = words.get(2)?.parse().ok()?;
-        if threads == 0 || threads > MOST_THREADS {
-            return None;
-        }
-        let count = words.get(3)?.parse().ok()?;
+        let (threads, count) = threads_of(words)?;
         Some((Load { pattern, threads }, count))
     }
 

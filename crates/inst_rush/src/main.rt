@@ -2,21 +2,41 @@
 //! rounds, each at a hub of 64 participants that opens anew. Words: `uniform`, `split` or `hot`, the number of
 //! threads, the number of rounds. At the end it tells on standard error how many transfers were settled; who wants
 //! to know how many a second takes the time of the program.
+//!
+//! With the word `stress` in their place the threads race for the outcomes of a few transfers between 4 participants,
+//! and after each round all that they were told is compared with the books. It tells how many calls were made and how
+//! the transfers ended, or which check failed, in which round and thread; then it ends with status 1.
 #![tactic(auto)]
 
+mod accounts;
+mod acting;
 mod asking;
+mod chooser;
+mod flaw;
+mod generator;
+mod inbox;
 mod job;
 mod load;
+mod meeting;
 mod opening;
 mod rounds;
+mod running;
+mod settling;
+mod sights;
+mod stress;
+mod tally;
 #[cfg(test)]
 mod tests;
+mod transfer;
 
-use load::Load;
+use flaw::Failure;
+use load::{Load, threads_of};
 use rounds::rounds;
 use std::env;
 use std::io::Write;
 use std::process::ExitCode;
+use stress::stress;
+use tally::Tally;
 
 fn main(rt: HostRuntime) -> ExitCode {
     let alloc = rt.alloc();
@@ -24,14 +44,39 @@ fn main(rt: HostRuntime) -> ExitCode {
         Ok(words) => words,
         Err(_) => return ExitCode::from(2),
     };
+    if words.get(1).map(|word| word.as_str()) == Some("stress") {
+        let Some((threads, count)) = threads_of(&words) else {
+            return ExitCode::from(2);
+        };
+        return tell_stress(&rt, &stress(&rt, alloc, threads, count));
+    }
     let Some((load, count)) = Load::of(&words) else {
         return ExitCode::from(2);
     };
-    match rounds(&rt, alloc, load, count) {
+    tell_load(&rt, rounds(&rt, alloc, load, count))
+}
+
+/// Tells how many transfers a load settled.
+fn tell_load(rt: &HostRuntime, settled: Option<u64>) -> ExitCode {
+    match settled {
         Some(settled) => {
             let _ = writeln!(rt.stderr(), "settled {settled}");
             ExitCode::from(0)
         }
         None => ExitCode::from(1),
+    }
+}
+
+/// Tells how the transfers of a stress ended, or what failed.
+fn tell_stress(rt: &HostRuntime, ended: &Result<Tally, Failure>) -> ExitCode {
+    match ended {
+        Ok(tally) => {
+            let _ = writeln!(rt.stderr(), "{tally}");
+            ExitCode::from(0)
+        }
+        Err(failure) => {
+            let _ = writeln!(rt.stderr(), "{failure}");
+            ExitCode::from(1)
+        }
     }
 }

@@ -1,0 +1,169 @@
+//! What a thread of a stress does, step by step.
+use crate::generator::Generator;
+use crate::opening::AHEAD;
+use crate::sights::PLACES;
+use crate::transfer::{NAMES, PARTICIPANTS, Transfer};
+use inst_base::{Cents, Fault, Moment, Reason};
+use inst_board::Place;
+use inst_command::{Ask, Command, Submission};
+use std::alloc::Global;
+
+/// How many steps a thread takes in a round.
+pub(crate) const STEPS: u32 = 1_280;
+
+/// After how many steps all threads go on to the next number, so that they meet at the same transfers.
+const PACE: u32 = 16;
+
+/// How many numbers are at hand at a time.
+const WINDOW: u32 = 8;
+
+/// What a thread does in one step.
+#[derive(Clone, Copy, Debug)]
+pub(crate) enum Act {
+    /// It asks, and peeks where it gets a ticket.
+    Ask(Ask),
+    /// It peeks at this place, where it has a ticket for it.
+    Peek(Place),
+}
+
+/// What a round is about.
+#[derive(Clone, Copy, Debug)]
+pub(crate) struct Setting {
+    pub(crate) round: u32,
+    /// How many threads there are.
+    pub(crate) threads: u16,
+    /// From when on nothing is accepted, in milliseconds before the deadline.
+    pub(crate) margin: u32,
+}
+
+/// Chooses what a thread does. The same setting and thread always give the same acts.
+#[derive(Clone, Copy, Debug)]
+pub(crate) struct Chooser {
+    generator: Generator,
+    setting: Setting,
+    thread: u16,
+    step: u32,
+}
+
+impl Chooser {
+    pub(crate) fn new(setting: Setting, thread: u16) -> Chooser {
+        Chooser {
+            generator: Generator::new(setting.round, thread),
+            setting,
+            thread,
+            step: 0,
+        }
+    }
+
+    /// What the thread does next.
+    pub(crate) fn choose(&mut self, alloc: Global) -> Result<Act, Fault> {
+        self.step = self.step.saturating_add(1);
+        let from = self.participant();
+        let number = self.number();
+        if self.generator.below(8) == 0 {
+            return Ok(Act::Peek(Place {
+                owner: from,
+                index: (number % u32::from(PLACES)) as u16,
+            }));
+        }
+        if self.generator.below(3) == 0 {
+            let transfer = Transfer::of(alloc, from, self.submitted(number))?;
+            return self.submission(&transfer);
+        }
+        let transfer = Transfer::of(alloc, from, number)?;
+        self.question(&transfer)
+    }
+
+    fn participant(&mut self) -> u8 {
+        self.generator.below(u32::from(PARTICIPANTS)) as u8
+    }
+
+    /// One of the numbers at hand, and at times any.
+    fn number(&mut self) -> u32 {
+        if self.generator.below(8) == 0 {
+            return self.generator.below(NAMES);
+        }
+        (self.step / PACE + self.generator.below(WINDOW)) % NAMES
+    }
+
+    /// The number that the thread submits for this one: even ones are all threads', each odd one is one thread's.
+    fn submitted(&self, number: u32) -> u32 {
+        let threads = u32::from(self.setting.threads.max(1));
+        if number % 2 == 1 && number / 2 % threads != u32::from(self.thread) {
+            return number - 1;
+        }
+        number
+    }
+
+    /// A submission, mostly in time; now and then with other contents, which is no repeat.
+    fn submission(&mut self, transfer: &Transfer) -> Result<Act, Fault> {
+        let is_other = self.generator.below(32) == 0;
+        let to = if is_other {
+            self.participant()
+        } else {
+            transfer.to
+        };
+        let at = match self.generator.below(16) {
+            0 => transfer.stamp.saturating_sub(u64::from(AHEAD) + 1),
+            1 => transfer.deadline(),
+            2 => transfer.deadline().saturating_sub(1),
+            early => transfer.stamp.saturating_add(u64::from(early)),
+        };
+        let submission = Submission {
+            id: transfer.id,
+            to,
+            cents: Cents::new(transfer.cents)?,
+            stamp: Moment::new(0, transfer.stamp)?,
+        };
+        command_at(transfer.from, Command::Submit(submission), at)
+    }
+
+    /// What the parties ask of a transfer, or of themselves.
+    fn question(&mut self, transfer: &Transfer) -> Result<Act, Fault> {
+        let Transfer { from, to, id, .. } = *transfer;
+        let at = self.reading(transfer.deadline());
+        match self.generator.below(16) {
+            0..=5 => command_at(to, Command::Confirm { from, id }, at),
+            6..=8 => {
+                let reason = self.reason()?;
+                command_at(to, Command::Reject { from, id, reason }, at)
+            }
+            9..=12 => command_at(from, Command::Investigate { id }, at),
+            13 => command_at(to, Command::Fetch { max: 3 }, at),
+            14 => command_at(self.participant(), Command::Confirm { from, id }, at),
+            _ => command_at(from, Command::Position, at),
+        }
+    }
+
+    /// A reading for the decision of a transfer: well before its deadline, about the margin, about the deadline.
+    fn reading(&mut self, deadline: u64) -> u64 {
+        let margin = u64::from(self.setting.margin);
+        match self.generator.below(16) {
+            0..=6 => deadline.saturating_sub(5_000),
+            7 | 8 => deadline.saturating_sub(margin).saturating_sub(1),
+            9 | 10 => deadline.saturating_sub(margin),
+            11 => deadline.saturating_sub(margin / 2),
+            12 | 13 => deadline.saturating_sub(1),
+            14 => deadline,
+            _ => deadline.saturating_add(1),
+        }
+    }
+
+    /// One that tells the thread.
+    fn reason(&self) -> Result<Reason, Fault> {
+        Reason::new(match self.thread % 4 {
+            0 => "AC01",
+            1 => "AC04",
+            2 => "AM09",
+            _ => "MS03",
+        })
+    }
+}
+
+fn command_at(who: u8, command: Command, at: u64) -> Result<Act, Fault> {
+    Ok(Act::Ask(Ask {
+        who,
+        command,
+        at: Moment::new(0, at)?,
+    }))
+}

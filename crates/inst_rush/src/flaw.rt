@@ -1,0 +1,133 @@
+use inst_base::Fault;
+use std::alloc::{AllocError, AllocFailed};
+use std::fmt::{self, Display, Formatter};
+
+/// What doesn't agree in a stress, or why a round couldn't go on.
+#[derive(Clone, Copy, Debug, PartialEq, Eq)]
+pub(crate) enum Flaw {
+    /// What a round needs was refused, as memory.
+    Refused(Fault),
+    /// A reply tells of a transfer that was taken, and there is no ticket.
+    NoTicket,
+    /// Tickets of one place go with different identifiers, or a repeat was taken with other contents.
+    OtherTransfer,
+    /// A reply tells less of a transfer than its teller had seen, or another outcome.
+    ReplyWentBack,
+    /// A peek shows less of a transfer than its teller was told or had seen, or another outcome.
+    PeekWentBack,
+    /// Two tellers were told or see different outcomes of one transfer.
+    TellersDiffer,
+    /// A transfer is pending after its originator asked for it long past the deadline.
+    StillPending,
+    /// A transfer was handed out twice, or one that nobody submitted.
+    StrangeEntry,
+    /// A transfer that was accepted or rejected was never handed out.
+    NotHandedOut,
+    /// A position isn't the sum of what is reserved and what is available.
+    Unbalanced,
+    /// Something is reserved where no transfer is pending.
+    StillReserved,
+    /// A position isn't what the outcomes of the transfers make it.
+    OtherPosition,
+    /// The positions don't sum to the funding.
+    OtherSum,
+    /// The lines of a statement don't lead to the position, one by one.
+    OtherStatement,
+}
+
+impl Flaw {
+    /// For whoever reads the log of a stress.
+    pub(crate) fn meaning(self) -> &'static str {
+        match self {
+            Flaw::Refused(fault) => fault.name(),
+            Flaw::NoTicket => "NoTicket: a reply tells of a transfer and there is no ticket",
+            Flaw::OtherTransfer => "OtherTransfer: one place has two identifiers or two contents",
+            Flaw::ReplyWentBack => "ReplyWentBack: a reply tells less than the teller had seen",
+            Flaw::PeekWentBack => "PeekWentBack: a peek shows less than the teller knew",
+            Flaw::TellersDiffer => "TellersDiffer: two tellers have different outcomes",
+            Flaw::StillPending => "StillPending: a transfer is pending at the end",
+            Flaw::StrangeEntry => "StrangeEntry: a transfer was handed out twice or unsubmitted",
+            Flaw::NotHandedOut => "NotHandedOut: a decided transfer was never handed out",
+            Flaw::Unbalanced => "Unbalanced: reserved and available don't sum to the position",
+            Flaw::StillReserved => "StillReserved: cents are reserved at the end",
+            Flaw::OtherPosition => "OtherPosition: a position isn't that of the outcomes",
+            Flaw::OtherSum => "OtherSum: the positions don't sum to the funding",
+            Flaw::OtherStatement => "OtherStatement: the lines don't lead to the position",
+        }
+    }
+}
+
+impl From<Fault> for Flaw {
+    fn from(fault: Fault) -> Flaw {
+        Flaw::Refused(fault)
+    }
+}
+
+impl From<AllocError> for Flaw {
+    fn from(_error: AllocError) -> Flaw {
+        Flaw::Refused(Fault::Memory)
+    }
+}
+
+impl<T: Drop> From<AllocFailed<T>> for Flaw {
+    fn from(_error: AllocFailed<T>) -> Flaw {
+        Flaw::Refused(Fault::Memory)
+    }
+}
+
+/// A flaw, with the round, from 0, and the thread whose teller met it: `None` for the teller that is in no thread.
+#[derive(Clone, Copy, Debug, PartialEq, Eq)]
+pub(crate) struct Failure {
+    pub(crate) flaw: Flaw,
+    pub(crate) thread: Option<u16>,
+    pub(crate) round: u32,
+}
+
+impl Flaw {
+    /// This flaw, met by the teller of this thread.
+    pub(crate) fn of(self, thread: u16) -> Failure {
+        Failure {
+            flaw: self,
+            thread: Some(thread),
+            round: 0,
+        }
+    }
+}
+
+impl From<Flaw> for Failure {
+    fn from(flaw: Flaw) -> Failure {
+        Failure {
+            flaw,
+            thread: None,
+            round: 0,
+        }
+    }
+}
+
+impl From<Fault> for Failure {
+    fn from(fault: Fault) -> Failure {
+        Failure::from(Flaw::Refused(fault))
+    }
+}
+
+impl From<AllocError> for Failure {
+    fn from(_error: AllocError) -> Failure {
+        Failure::from(Flaw::Refused(Fault::Memory))
+    }
+}
+
+impl<T: Drop> From<AllocFailed<T>> for Failure {
+    fn from(_error: AllocFailed<T>) -> Failure {
+        Failure::from(Flaw::Refused(Fault::Memory))
+    }
+}
+
+impl Display for Failure {
+    fn fmt<W: fmt::Write>(&self, f: &mut Formatter<W>) -> fmt::Result {
+        let meaning = self.flaw.meaning();
+        match self.thread {
+            Some(thread) => write!(f, "round {}, thread {thread}: {meaning}", self.round),
+            None => write!(f, "round {}: {meaning}", self.round),
+        }
+    }
+}

@@ -1,0 +1,105 @@
+//! The threads of a stress, each with a teller of its own.
+ghost use Rattle.std.specs.Prelude.{IfOk};
+ghost use Rattle.inst_hub.specs.Calls.{IsOf};
+ghost use Rattle.inst_rush.specs.Jobs.{AreJobsOf};
+ghost use Rattle.inst_rush.specs.Done.{AreDoneOf};
+
+use crate::acting::act_so;
+use crate::chooser::{Chooser, STEPS, Setting};
+use crate::flaw::{Failure, Flaw};
+use crate::job::Job;
+use crate::sights::Sights;
+use inst_hub::{Hub, Teller};
+use std::alloc::Global;
+use std::sync::Wait;
+use std::thread::{self, Threads};
+
+/// A job that is done, with what its teller was told.
+#[derive(Drop)]
+pub(crate) struct Done {
+    job: Job,
+    sights: Sights,
+}
+
+/// Takes the steps that are chosen.
+fn take_steps<R: Wait>(
+    rt: &R,
+    alloc: Global,
+    hub: &Hub,
+    teller: &mut Teller,
+    chooser: Chooser,
+) -> Result<Sights, Flaw>
+    requires { IsOf hub.now teller.old }
+    ensures { IsOf hub.now teller.new }
+{
+    let mut chooser = chooser;
+    let mut sights = Sights::new(alloc)?;
+    for _step in 0..STEPS {
+        let act = chooser.choose(alloc)?;
+        act_so(rt, hub, teller, &mut sights, &act)?;
+    }
+    Ok(sights)
+}
+
+/// Does the job of a thread.
+fn work<R: Wait>(
+    rt: &R,
+    alloc: Global,
+    hub: &Hub,
+    setting: Setting,
+    job: Job,
+) -> Result<Done, Failure>
+    requires { IsOf hub.now job.teller }
+    ensures { IfOk result (λ done. IsOf hub.now done.job.teller) }
+{
+    let Job { mut teller, thread } = job;
+    let chooser = Chooser::new(setting, thread);
+    match take_steps(rt, alloc, hub, &mut teller, chooser) {
+        Ok(sights) => Ok(Done {
+            job: Job { teller, thread },
+            sights,
+        }),
+        Err(flaw) => Err(flaw.of(thread)),
+    }
+}
+
+/// The jobs with all that their tellers were told.
+fn gather(
+    alloc: Global,
+    hub: &Hub,
+    results: Vec<Result<Done, Failure>>,
+) -> Result<(Vec<Job>, Sights), Failure>
+    requires { AreDoneOf hub.now results.items }
+    ensures { IfOk result (λ r. AreJobsOf hub.now r.0.items) }
+{
+    let mut jobs = Vec::new(alloc);
+    let mut all = Sights::new(alloc)?;
+    for result in results {
+        let Done { job, sights } = result?;
+        all.add(&sights)?;
+        jobs.push(job)?;
+    }
+    Ok((jobs, all))
+}
+
+/// Does the jobs, each in a thread of its own.
+pub(crate) fn run<R: Threads + Wait + Sync>(
+    rt: &R,
+    alloc: Global,
+    hub: &Hub,
+    setting: Setting,
+    jobs: Vec<Job>,
+) -> Result<(Vec<Job>, Sights), Failure>
+    requires { AreJobsOf hub.now jobs.items }
+    ensures { IfOk result (λ r. AreJobsOf hub.now r.0.items) }
+{
+    let results = thread::map_vec(
+        rt,
+        jobs,
+        &|job: Job| -> Result<Done, Failure>
+            requires { IsOf hub.now job.teller }
+            ensures { IfOk result (λ done. IsOf hub.entry.now done.job.teller) }
+        { work(rt, alloc, hub, setting, job) },
+    )?;
+    gather(alloc, hub, results)
+}

@@ -1,0 +1,72 @@
+//! What is asked once all threads are joined, so that no transfer is pending and nothing is unread.
+ghost use Rattle.inst_hub.specs.Calls.{IsOf};
+
+use crate::acting::ask_so;
+use crate::flaw::Flaw;
+use crate::sights::{ALL_PLACES, Sights, place_of};
+use crate::transfer::PARTICIPANTS;
+use inst_base::{Fault, Moment};
+use inst_board::Place;
+use inst_command::{Ask, Command, State};
+use inst_hub::{Hub, Teller};
+use std::sync::Wait;
+
+/// A reading past all deadlines, in milliseconds.
+const LATE: u64 = 1_000_000;
+
+/// How many fetches hand out all that may have come to a participant.
+const FETCHES: u16 = 2;
+
+fn late(who: u8, command: Command) -> Result<Ask, Fault> {
+    Ok(Ask {
+        who,
+        command,
+        at: Moment::new(0, LATE)?,
+    })
+}
+
+/// What the originator asks of the transfer of this place, if it is pending.
+fn question(sights: &Sights, place: Place) -> Result<Option<Ask>, Fault> {
+    match sights.at(place) {
+        Some(sight) if sight.state == State::Pending => {
+            Ok(Some(late(place.owner, Command::Investigate { id: sight.id })?))
+        }
+        _ => Ok(None),
+    }
+}
+
+/// The originator of each pending transfer asks for it, so that it times out and both sides learn of it.
+pub(crate) fn settle<R: Wait>(
+    rt: &R,
+    hub: &Hub,
+    teller: &mut Teller,
+    sights: &mut Sights,
+) -> Result<(), Flaw>
+    requires { IsOf hub.now teller.old }
+    ensures { IsOf hub.now teller.new }
+{
+    for number in 0..ALL_PLACES {
+        if let Some(ask) = question(sights, place_of(number))? {
+            ask_so(rt, hub, teller, sights, &ask)?;
+        }
+    }
+    Ok(())
+}
+
+/// Each participant fetches what is unread.
+pub(crate) fn fetch_all<R: Wait>(
+    rt: &R,
+    hub: &Hub,
+    teller: &mut Teller,
+    sights: &mut Sights,
+) -> Result<(), Flaw>
+    requires { IsOf hub.now teller.old }
+    ensures { IsOf hub.now teller.new }
+{
+    for number in 0..PARTICIPANTS * FETCHES {
+        let who = (number / FETCHES) as u8;
+        let ask = late(who, Command::Fetch { max: 100 })?;
+        ask_so(rt, hub, teller, sights, &ask)?;
+    }
+    Ok(())
+}

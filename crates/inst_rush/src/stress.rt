@@ -1,0 +1,112 @@
+//! A stress of a small hub: threads race for the outcomes of transfers, and afterwards what they were told, the
+//! positions and the statements are compared.
+ghost use Rattle.inst_hub.specs.Calls.{IsOf};
+ghost use Rattle.inst_rush.specs.Jobs.{AreJobsOf};
+
+use crate::accounts::check_accounts;
+use crate::asking::fund_all;
+use crate::chooser::Setting;
+use crate::flaw::Failure;
+use crate::inbox::check_inbox;
+use crate::job::{Job, jobs, last};
+use crate::meeting::{agree, meet_all, peek_all};
+use crate::opening::{Size, open};
+use crate::running::run;
+use crate::settling::{fetch_all, settle};
+use crate::sights::{PLACES, Sights};
+use crate::tally::Tally;
+use crate::transfer::{FUNDS, PARTICIPANTS};
+use inst_hub::{Hub, Teller};
+use std::alloc::Global;
+use std::sync::Wait;
+use std::thread::Threads;
+
+/// The margin of every other round, in milliseconds; the others have none.
+const MARGIN: u32 = 500;
+
+/// What a round is about.
+fn setting(threads: u16, round: u32) -> Setting {
+    Setting {
+        round,
+        threads,
+        margin: round % 2 * MARGIN,
+    }
+}
+
+/// All tellers see the same, and each transfer comes to its end.
+fn end<R: Wait>(
+    rt: &R,
+    alloc: Global,
+    hub: &Hub,
+    teller: &mut Teller,
+    jobs: Vec<Job>,
+    sights: &mut Sights,
+) -> Result<(), Failure>
+    requires { IsOf hub.now teller.old × AreJobsOf hub.now jobs.items }
+    ensures { IsOf hub.now teller.new }
+{
+    let jobs = meet_all(alloc, hub, teller, jobs)?;
+    let jobs = meet_all(alloc, hub, teller, jobs)?;
+    peek_all(teller, sights)?;
+    let jobs = agree(alloc, hub, jobs, sights)?;
+    settle(rt, hub, teller, sights)?;
+    agree(alloc, hub, jobs, sights)?;
+    Ok(())
+}
+
+/// How the transfers ended, where all that was told agrees with the books.
+fn check<R: Wait>(
+    rt: &R,
+    alloc: Global,
+    hub: &Hub,
+    teller: &mut Teller,
+    sights: &mut Sights,
+) -> Result<Tally, Failure>
+    requires { IsOf hub.now teller.old }
+{
+    let tally = Tally::of(sights)?;
+    fetch_all(rt, hub, teller, sights)?;
+    check_inbox(alloc, sights)?;
+    check_accounts(rt, hub, teller, sights)?;
+    Ok(tally)
+}
+
+/// A round at a hub that opens anew.
+fn round<R: Threads + Wait + Sync>(
+    rt: &R,
+    alloc: Global,
+    setting: Setting,
+) -> Result<Tally, Failure> {
+    let size = Size {
+        participants: PARTICIPANTS,
+        places: PLACES,
+        margin: setting.margin,
+    };
+    let (hub, mut tellers) = open(alloc, size, (setting.threads % 9) as u8 + 1)?;
+    let mut teller = last(&hub, &mut tellers)?;
+    fund_all(rt, &hub, &mut teller, PARTICIPANTS, FUNDS)?;
+    let jobs = jobs(alloc, &hub, tellers)?;
+    let (jobs, mut sights) = run(rt, alloc, &hub, setting, jobs)?;
+    end(rt, alloc, &hub, &mut teller, jobs, &mut sights)?;
+    check(rt, alloc, &hub, &mut teller, &mut sights)
+}
+
+/// So many rounds with 1 to 8 threads: how the transfers ended, or the first failure.
+pub(crate) fn stress<R: Threads + Wait + Sync>(
+    rt: &R,
+    alloc: Global,
+    threads: u16,
+    rounds: u32,
+) -> Result<Tally, Failure> {
+    let mut tally = Tally::new();
+    for number in 0..rounds {
+        match round(rt, alloc, setting(threads, number)) {
+            Ok(ended) => tally = tally.plus(ended),
+            Err(failure) => return Err(Failure {
+                round: number,
+                ..failure
+            }),
+        }
+    }
+    Ok(tally)
+}
