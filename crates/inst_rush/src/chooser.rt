@@ -9,13 +9,16 @@ use inst_command::{Ask, Command, Submission};
 use std::alloc::Global;
 
 /// How many steps a thread takes in a round.
-pub(crate) const STEPS: u32 = 1_280;
+pub(crate) const STEPS: u32 = 1_408;
 
 /// After how many steps all threads go on to the next number, so that they meet at the same transfers.
 const PACE: u32 = 16;
 
 /// How many numbers are at hand at a time.
-const WINDOW: u32 = 8;
+const WINDOW: u32 = 4;
+
+/// By how many numbers questions lie behind submissions.
+const BEHIND: u32 = 2;
 
 /// What a thread does in one step.
 #[derive(Clone, Copy, Debug)]
@@ -70,7 +73,7 @@ impl Chooser {
             let transfer = Transfer::of(alloc, from, self.submitted(number))?;
             return self.submission(&transfer);
         }
-        let transfer = Transfer::of(alloc, from, number)?;
+        let transfer = Transfer::of(alloc, from, number.saturating_sub(BEHIND))?;
         self.question(&transfer)
     }
 

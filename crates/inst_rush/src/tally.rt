@@ -3,7 +3,7 @@ use crate::sights::Sights;
 use inst_command::{Outcome, State};
 use std::fmt::{self, Display, Formatter};
 
-/// How many calls were made, and how the transfers ended.
+/// How many calls were made until all transfers had ended, and how these ended.
 #[derive(Clone, Copy, Debug, PartialEq, Eq)]
 pub(crate) struct Tally {
     pub(crate) calls: u64,

@@ -5,11 +5,11 @@ use std::alloc::Global;
 /// How many participants the hub of a stress has.
 pub(crate) const PARTICIPANTS: u16 = 4;
 
-/// What each of them is funded with, in cents: for some 25 transfers at a time.
-pub(crate) const FUNDS: u64 = 2_500;
+/// What each of them is funded with, in cents: for some 15 transfers at a time.
+pub(crate) const FUNDS: u64 = 1_500;
 
 /// How many transfers of each originator the threads have names for, more than there are places.
-pub(crate) const NAMES: u32 = 72;
+pub(crate) const NAMES: u32 = 80;
 
 /// The time stamp of the first transfers, in milliseconds.
 const FIRST_STAMP: u64 = 5_000;

@@ -15,6 +15,6 @@ loop-teller-preserved c =
       tt,
       tt,
       next_left c.loop-teller.yielded rest after c.args.tellers.items c.in-Some.teller i.2 is,
-      subst (λ (l : List Job). AreJobsOf c.args.hub.now l) (sym c.in_ok-push.ensures.items)
+      subst (λ (l : List Job). AreJobsOf c.args.hub.now l) (sym {A = List Job} c.in_ok-push.ensures.items)
           (one_job c.args.hub.now c.loop-teller.jobs.items record { teller = c.in-Some.teller; thread = c.loop-teller.thread } i.3 one),
     )

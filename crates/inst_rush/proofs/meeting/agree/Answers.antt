@@ -15,7 +15,7 @@ loop-job-preserved c =
       tt,
       tt,
       next_left c.loop-job.yielded rest after c.args.jobs.items c.in-Some.job i.2 is,
-      subst (λ (l : List Job). AreJobsOf c.args.hub.now l) (sym c.in_ok-push.ensures.items)
+      subst (λ (l : List Job). AreJobsOf c.args.hub.now l) (sym {A = List Job} c.in_ok-push.ensures.items)
           (one_job c.args.hub.now c.loop-job.agreed.items record { teller = c.sees_all_so.new.teller; thread = c.in-Some.job.thread } i.3
           (c.sees_all_so.ensures c.args.hub.now was)),
     )

@@ -23,7 +23,7 @@ loop-job-preserved c =
       tt,
       next_left c.loop-job.yielded (into_iter_items c.loop-job.job-iterator) (into_iter_items c.next.new.self) c.args.jobs.items c.in-Some.job i.2
           c.in-Some.ensures.steps.0,
-      subst (λ (l : List Job). AreJobsOf c.args.hub.now l) (sym c.in_ok-push.ensures.items)
+      subst (λ (l : List Job). AreJobsOf c.args.hub.now l) (sym {A = List Job} c.in_ok-push.ensures.items)
           (one_job c.args.hub.now c.loop-job.met.items record { teller = c.meet.new.two; thread = c.in-Some.job.thread } i.3 c.meet.ensures.of.1),
       c.meet.ensures.of.0,
     )

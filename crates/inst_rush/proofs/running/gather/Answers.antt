@@ -16,6 +16,6 @@ loop-result-preserved c =
       tt,
       tt,
       next_left c.loop-result.yielded rest after c.args.results.items c.in-Some.result i.2 is,
-      subst (λ (l : List Job). AreJobsOf c.args.hub.now l) (sym c.in_ok-push.ensures.items)
+      subst (λ (l : List Job). AreJobsOf c.args.hub.now l) (sym {A = List Job} c.in_ok-push.ensures.items)
           (one_job c.args.hub.now c.loop-result.jobs.items c.in_ok-job.field-0.job i.3 one),
     )
