@@ -21,7 +21,7 @@ pub(crate) enum Flaw {
     StillPending,
     /// A transfer was handed out twice, or one that nobody submitted.
     StrangeEntry,
-    /// A transfer that was accepted or rejected was never handed out.
+    /// A transfer that was accepted or rejected, or is pending, was never handed out.
     NotHandedOut,
     /// A position isn't the sum of what is reserved and what is available.
     Unbalanced,
@@ -47,7 +47,7 @@ impl Flaw {
             Flaw::TellersDiffer => "TellersDiffer: two tellers have different outcomes",
             Flaw::StillPending => "StillPending: a transfer is pending at the end",
             Flaw::StrangeEntry => "StrangeEntry: a transfer was handed out twice or unsubmitted",
-            Flaw::NotHandedOut => "NotHandedOut: a decided transfer was never handed out",
+            Flaw::NotHandedOut => "NotHandedOut: a transfer didn't come to its beneficiary",
             Flaw::Unbalanced => "Unbalanced: reserved and available don't sum to the position",
             Flaw::StillReserved => "StillReserved: cents are reserved at the end",
             Flaw::OtherPosition => "OtherPosition: a position isn't that of the outcomes",

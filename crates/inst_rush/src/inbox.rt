@@ -1,4 +1,4 @@
-//! Whether what was handed out is what was submitted: no transfer twice, and each that was accepted or rejected.
+//! Whether what was handed out is what was submitted: no transfer twice, and each that didn't time out.
 use crate::flaw::Flaw;
 use crate::sights::{Sight, Sights};
 use inst_command::{Entry, Outcome, State};
@@ -38,13 +38,11 @@ fn marks(alloc: Global, sights: &Sights) -> Result<Vec<bool>, Flaw> {
     Ok(marks)
 }
 
-/// Whether the transfer must have been handed out: only a beneficiary that knows of it accepts or rejects it.
+/// Whether the transfer must have been handed out: it comes to its beneficiary after its submission, but where it timed
+/// out before.
 fn must_be_known(slot: &Option<Sight>) -> bool {
     match slot {
-        Some(sight) => matches!(
-            sight.state,
-            State::Decided(Outcome::Accepted) | State::Decided(Outcome::Rejected(_))
-        ),
+        Some(sight) => sight.state != State::Decided(Outcome::TimedOut),
         None => false,
     }
 }

@@ -1,4 +1,4 @@
-//! What is asked once all threads are joined, so that no transfer is pending and nothing is unread.
+//! What is asked once all threads are joined, so that nothing is unread and no transfer is pending.
 ghost use Rattle.inst_hub.specs.Calls.{IsOf};
 
 use crate::acting::ask_so;

@@ -33,7 +33,7 @@ fn setting(threads: u16, round: u32) -> Setting {
     }
 }
 
-/// All tellers see the same, and each transfer comes to its end.
+/// All tellers see the same, what was submitted came to its beneficiary, and each transfer comes to its end.
 fn end<R: Wait>(
     rt: &R,
     alloc: Global,
@@ -49,24 +49,18 @@ fn end<R: Wait>(
     let jobs = meet_all(alloc, hub, teller, jobs)?;
     peek_all(teller, sights)?;
     let jobs = agree(alloc, hub, jobs, sights)?;
+    fetch_all(rt, hub, teller, sights)?;
+    check_inbox(alloc, sights)?;
     settle(rt, hub, teller, sights)?;
     agree(alloc, hub, jobs, sights)?;
     Ok(())
 }
 
 /// How the transfers ended, where all that was told agrees with the books.
-fn check<R: Wait>(
-    rt: &R,
-    alloc: Global,
-    hub: &Hub,
-    teller: &mut Teller,
-    sights: &mut Sights,
-) -> Result<Tally, Failure>
+fn check<R: Wait>(rt: &R, hub: &Hub, teller: &mut Teller, sights: &Sights) -> Result<Tally, Failure>
     requires { IsOf hub.now teller.old }
 {
     let tally = Tally::of(sights)?;
-    fetch_all(rt, hub, teller, sights)?;
-    check_inbox(alloc, sights)?;
     check_accounts(rt, hub, teller, sights)?;
     Ok(tally)
 }
@@ -88,7 +82,7 @@ fn round<R: Threads + Wait + Sync>(
     let jobs = jobs(alloc, &hub, tellers)?;
     let (jobs, mut sights) = run(rt, alloc, &hub, setting, jobs)?;
     end(rt, alloc, &hub, &mut teller, jobs, &mut sights)?;
-    check(rt, alloc, &hub, &mut teller, &mut sights)
+    check(rt, &hub, &mut teller, &sights)
 }
 
 /// So many rounds with 1 to 8 threads: how the transfers ended, or the first failure.
