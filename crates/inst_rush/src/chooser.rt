@@ -9,10 +9,11 @@ use inst_command::{Ask, Command, Submission};
 use std::alloc::Global;
 
 /// How many steps a thread takes in a round.
-pub(crate) const STEPS: u32 = 1_408;
+pub(crate) const STEPS: u32 = 2_048;
 
-/// After how many steps all threads go on to the next number, so that they meet at the same transfers.
-const PACE: u32 = 16;
+/// After how many steps all threads wait for one another and go on to the next number, so that they meet at the same
+/// transfers.
+const PACE: u32 = 32;
 
 /// How many numbers are at hand at a time.
 const WINDOW: u32 = 4;
@@ -61,6 +62,49 @@ impl Chooser {
     /// What the thread does next.
     pub(crate) fn choose(&mut self, alloc: Global) -> Result<Act, Fault> {
         self.step = self.step.saturating_add(1);
+        match self.step % PACE {
+            0 => submit(&self.duel(alloc)?),
+            1 => self.strike(&self.duel(alloc)?),
+            _ => self.any(alloc),
+        }
+    }
+
+    /// How often the threads have arrived, where they now wait for one another.
+    pub(crate) fn arrivals(&self) -> Option<u32> {
+        if self.step % PACE != 0 {
+            return None;
+        }
+        Some((self.step / PACE).saturating_mul(u32::from(self.setting.threads)))
+    }
+
+    /// The transfer that all threads submit before they wait for one another, and then decide at the same time.
+    fn duel(&self, alloc: Global) -> Result<Transfer, Fault> {
+        let number = self.step / PACE;
+        let participants = u32::from(PARTICIPANTS);
+        Transfer::of(
+            alloc,
+            (number % participants) as u8,
+            NAMES.saturating_add(number / participants),
+        )
+    }
+
+    /// The one half of the threads confirm or reject the transfer in time, the others let it expire.
+    fn strike(&self, transfer: &Transfer) -> Result<Act, Fault> {
+        let Transfer { from, to, id, .. } = *transfer;
+        let deadline = transfer.deadline();
+        let in_time = deadline.saturating_sub(u64::from(self.setting.margin) + 1);
+        match (self.step / PACE + u32::from(self.thread)) % 4 {
+            0 => command_at(to, Command::Confirm { from, id }, in_time),
+            2 => {
+                let reason = self.reason()?;
+                command_at(to, Command::Reject { from, id, reason }, in_time)
+            }
+            _ => command_at(from, Command::Investigate { id }, deadline),
+        }
+    }
+
+    /// Any act, by chance.
+    fn any(&mut self, alloc: Global) -> Result<Act, Fault> {
         let from = self.participant();
         let number = self.number();
         if self.generator.below(8) == 0 {
@@ -112,13 +156,7 @@ impl Chooser {
             2 => transfer.deadline().saturating_sub(1),
             early => transfer.stamp.saturating_add(u64::from(early)),
         };
-        let submission = Submission {
-            id: transfer.id,
-            to,
-            cents: Cents::new(transfer.cents)?,
-            stamp: Moment::new(0, transfer.stamp)?,
-        };
-        command_at(transfer.from, Command::Submit(submission), at)
+        submit_so(transfer, to, at)
     }
 
     /// What the parties ask of a transfer, or of themselves.
@@ -161,6 +199,21 @@ impl Chooser {
             _ => "MS03",
         })
     }
+}
+
+/// A submission of the transfer, in time.
+fn submit(transfer: &Transfer) -> Result<Act, Fault> {
+    submit_so(transfer, transfer.to, transfer.stamp)
+}
+
+fn submit_so(transfer: &Transfer, to: u8, at: u64) -> Result<Act, Fault> {
+    let submission = Submission {
+        id: transfer.id,
+        to,
+        cents: Cents::new(transfer.cents)?,
+        stamp: Moment::new(0, transfer.stamp)?,
+    };
+    command_at(transfer.from, Command::Submit(submission), at)
 }
 
 fn command_at(who: u8, command: Command, at: u64) -> Result<Act, Fault> {

@@ -19,6 +19,7 @@ mod job;
 mod load;
 mod meeting;
 mod opening;
+mod pace;
 mod rounds;
 mod running;
 mod settling;

@@ -8,6 +8,7 @@ use crate::acting::act_so;
 use crate::chooser::{Chooser, STEPS, Setting};
 use crate::flaw::{Failure, Flaw};
 use crate::job::Job;
+use crate::pace::Pace;
 use crate::sights::Sights;
 use inst_hub::{Hub, Teller};
 use std::alloc::Global;
@@ -21,6 +22,13 @@ pub(crate) struct Done {
     sights: Sights,
 }
 
+/// Waits for the other threads where all do.
+fn keep_pace(chooser: &Chooser, pace: &Pace) {
+    if let Some(arrivals) = chooser.arrivals() {
+        pace.wait(arrivals);
+    }
+}
+
 /// Takes the steps that are chosen.
 fn take_steps<R: Wait>(
     rt: &R,
@@ -28,6 +36,7 @@ fn take_steps<R: Wait>(
     hub: &Hub,
     teller: &mut Teller,
     chooser: Chooser,
+    pace: &Pace,
 ) -> Result<Sights, Flaw>
     requires { IsOf hub.now teller.old }
     ensures { IsOf hub.now teller.new }
@@ -37,6 +46,7 @@ fn take_steps<R: Wait>(
     for _step in 0..STEPS {
         let act = chooser.choose(alloc)?;
         act_so(rt, hub, teller, &mut sights, &act)?;
+        keep_pace(&chooser, pace);
     }
     Ok(sights)
 }
@@ -47,6 +57,7 @@ fn work<R: Wait>(
     alloc: Global,
     hub: &Hub,
     setting: Setting,
+    pace: &Pace,
     job: Job,
 ) -> Result<Done, Failure>
     requires { IsOf hub.now job.teller }
@@ -54,7 +65,7 @@ fn work<R: Wait>(
 {
     let Job { mut teller, thread } = job;
     let chooser = Chooser::new(setting, thread);
-    match take_steps(rt, alloc, hub, &mut teller, chooser) {
+    match take_steps(rt, alloc, hub, &mut teller, chooser, pace) {
         Ok(sights) => Ok(Done {
             job: Job { teller, thread },
             sights,
@@ -93,13 +104,14 @@ pub(crate) fn run<R: Threads + Wait + Sync>(
     requires { AreJobsOf hub.now jobs.items }
     ensures { IfOk result (λ r. AreJobsOf hub.now r.0.items) }
 {
+    let pace = Pace::new();
     let results = thread::map_vec(
         rt,
         jobs,
         &|job: Job| -> Result<Done, Failure>
             requires { IsOf hub.now job.teller }
             ensures { IfOk result (λ done. IsOf hub.entry.now done.job.teller) }
-        { work(rt, alloc, hub, setting, job) },
+        { work(rt, alloc, hub, setting, &pace, job) },
     )?;
     gather(alloc, hub, results)
 }

@@ -8,8 +8,9 @@ pub(crate) const PARTICIPANTS: u16 = 4;
 /// What each of them is funded with, in cents: for some 15 transfers at a time.
 pub(crate) const FUNDS: u64 = 1_500;
 
-/// How many transfers of each originator the threads have names for, more than there are places.
-pub(crate) const NAMES: u32 = 80;
+/// How many transfers of each originator the threads take at chance. With those that all decide at the same time there
+/// are more than there are places.
+pub(crate) const NAMES: u32 = 56;
 
 /// The time stamp of the first transfers, in milliseconds.
 const FIRST_STAMP: u64 = 5_000;
