@@ -6,7 +6,7 @@ use crate::asking::money_of;
 use crate::chooser::Act;
 use crate::flaw::Flaw;
 use crate::sights::{Sight, Sights};
-use inst_base::Fault;
+use inst_base::{Fault, Moment};
 use inst_board::Place;
 use inst_command::{Ask, Outcome, Reply};
 use inst_hub::{Hub, Teller, Ticket};
@@ -26,7 +26,29 @@ pub(crate) fn act_so<R: Wait>(
     match act {
         Act::Ask(ask) => ask_so(rt, hub, teller, sights, ask),
         Act::Peek(place) => peek_at(teller, sights, *place),
+        Act::Sweep { who, at } => {
+            sights.calls = sights.calls.saturating_add(1);
+            sweep(rt, hub, teller, *who, *at)?;
+            Ok(())
+        }
     }
+}
+
+/// How many were new in a sweep.
+pub(crate) fn sweep<R: Wait>(
+    rt: &R,
+    hub: &Hub,
+    teller: &mut Teller,
+    who: u8,
+    at: Moment,
+) -> Result<u32, Flaw>
+    requires { IsOf hub.now teller.old }
+    ensures { IsOf hub.now teller.new }
+{
+    if u16::from(who) >= hub.settings().participants() {
+        return Err(Flaw::Refused(Fault::BadField));
+    }
+    Ok(hub.sweep(rt, teller, who, at)?)
 }
 
 /// Asks, and peeks where there is a ticket.

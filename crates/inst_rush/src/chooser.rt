@@ -28,6 +28,8 @@ pub(crate) enum Act {
     Ask(Ask),
     /// It peeks at this place, where it has a ticket for it.
     Peek(Place),
+    /// It sweeps the participant at this reading.
+    Sweep { who: u8, at: Moment },
 }
 
 /// What a round is about.
@@ -163,7 +165,7 @@ impl Chooser {
     fn question(&mut self, transfer: &Transfer) -> Result<Act, Fault> {
         let Transfer { from, to, id, .. } = *transfer;
         let at = self.reading(transfer.deadline());
-        match self.generator.below(16) {
+        match self.generator.below(17) {
             0..=5 => command_at(to, Command::Confirm { from, id }, at),
             6..=8 => {
                 let reason = self.reason()?;
@@ -172,6 +174,10 @@ impl Chooser {
             9..=12 => command_at(from, Command::Investigate { id }, at),
             13 => command_at(to, Command::Fetch { max: 3 }, at),
             14 => command_at(self.participant(), Command::Confirm { from, id }, at),
+            15 => Ok(Act::Sweep {
+                who: self.participant(),
+                at: Moment::new(0, at)?,
+            }),
             _ => command_at(from, Command::Position, at),
         }
     }

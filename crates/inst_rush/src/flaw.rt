@@ -19,6 +19,8 @@ pub(crate) enum Flaw {
     TellersDiffer,
     /// A transfer is pending after its originator asked for it long past the deadline.
     StillPending,
+    /// A sweep finds something new where both sides were told of all.
+    StillNew,
     /// A transfer was handed out twice, or one that nobody submitted.
     StrangeEntry,
     /// A transfer that was accepted or rejected, or is pending, was never handed out.
@@ -46,6 +48,7 @@ impl Flaw {
             Flaw::PeekWentBack => "PeekWentBack: a peek shows less than the teller knew",
             Flaw::TellersDiffer => "TellersDiffer: two tellers have different outcomes",
             Flaw::StillPending => "StillPending: a transfer is pending at the end",
+            Flaw::StillNew => "StillNew: a sweep finds something new at the end",
             Flaw::StrangeEntry => "StrangeEntry: a transfer was handed out twice or unsubmitted",
             Flaw::NotHandedOut => "NotHandedOut: a transfer didn't come to its beneficiary",
             Flaw::Unbalanced => "Unbalanced: reserved and available don't sum to the position",

@@ -1,7 +1,7 @@
 //! What is asked once all threads are joined, so that nothing is unread and no transfer is pending.
 ghost use Rattle.inst_hub.specs.Calls.{IsOf};
 
-use crate::acting::ask_so;
+use crate::acting::{ask_so, sweep};
 use crate::flaw::Flaw;
 use crate::sights::{ALL_PLACES, Sights, place_of};
 use crate::transfer::PARTICIPANTS;
@@ -48,6 +48,19 @@ pub(crate) fn settle<R: Wait>(
     for number in 0..ALL_PLACES {
         if let Some(ask) = question(sights, place_of(number))? {
             ask_so(rt, hub, teller, sights, &ask)?;
+        }
+    }
+    Ok(())
+}
+
+/// A sweep of each participant finds nothing new.
+pub(crate) fn sweep_all<R: Wait>(rt: &R, hub: &Hub, teller: &mut Teller) -> Result<(), Flaw>
+    requires { IsOf hub.now teller.old }
+    ensures { IsOf hub.now teller.new }
+{
+    for who in 0..PARTICIPANTS {
+        if sweep(rt, hub, teller, who as u8, Moment::new(0, LATE)?)? != 0 {
+            return Err(Flaw::StillNew);
         }
     }
     Ok(())

@@ -12,7 +12,7 @@ use crate::job::{Job, jobs, last};
 use crate::meeting::{agree, meet_all, peek_all};
 use crate::opening::{Size, open};
 use crate::running::run;
-use crate::settling::{fetch_all, settle};
+use crate::settling::{fetch_all, settle, sweep_all};
 use crate::sights::{PLACES, Sights};
 use crate::tally::Tally;
 use crate::transfer::{FUNDS, PARTICIPANTS};
@@ -52,6 +52,7 @@ fn end<R: Wait>(
     fetch_all(rt, hub, teller, sights)?;
     check_inbox(alloc, sights)?;
     settle(rt, hub, teller, sights)?;
+    sweep_all(rt, hub, teller)?;
     agree(alloc, hub, jobs, sights)?;
     Ok(())
 }

@@ -93,7 +93,10 @@ fn sweep_goes_by_number_and_place(rt: HostRuntime) -> Result<(), Fault> {
     submit_unheard(&rt, &hub, &mut teller, 0, "T1")?;
     submit_unheard(&rt, &hub, &mut teller, 0, "T2")?;
     assert_eq!(rt; sweep(&rt, &hub, &mut teller, 1, 1_000)?, 3);
-    assert_eq!(rt; fetched(&rt, rt.alloc(), &hub, &mut teller)?.as_slice(), [0, 0, 2].as_slice());
+    assert_eq!(rt;
+        fetched(&rt, rt.alloc(), &hub, &mut teller)?.as_slice(),
+        [0, 0, 2].as_slice()
+    );
     Ok(())
 }
 

@@ -19,7 +19,7 @@ pub loop-index-preserved : goal.loop-index-preserved
 loop-index-preserved c = (
   on_then c.args.self.now c.loop-index.self c.look_at.new.self c.loop-index.invariant.0 c.look_at.ensures.ready c.look_at.ensures.later c.look_at.ensures.told,
   used_now c.args.owner c.loop-index.index c.places-index-end.result c.args.self.now c.loop-index.self c.look_at.new.self c.loop-index-test.true c.loop-index.invariant.1
-    (subst (λ (b : Bool). LooksAt c.loop-index.self (place_at c.args.owner c.loop-index.index) b c.look_at.new.self) c.if-not-branch.false c.in_ok-look_at.ensures.looks),
+      (subst (λ (b : Bool). LooksAt c.loop-index.self (place_at c.args.owner c.loop-index.index) b c.look_at.new.self) c.if-not-branch.false c.in_ok-look_at.ensures.looks),
 )
 
 pub returns-clause-delivers : goal.returns-clause-delivers
