@@ -6,6 +6,6 @@ mod Numbers
 mod Boards
 mod Learnt
 mod Meeting
-mod Opening
+pub mod Opening
 mod Seeing
 mod Trying

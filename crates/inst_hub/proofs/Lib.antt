@@ -8,3 +8,4 @@ pub mod Serving
 pub mod Calling
 pub mod Sweeping
 pub mod Due
+pub mod Reopening

@@ -5,3 +5,4 @@ pub mod Opening
 pub mod Calls
 pub mod Following
 pub mod Sweeping
+pub mod NextOpening

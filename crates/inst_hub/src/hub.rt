@@ -5,6 +5,7 @@ ghost use Rattle.inst_row.specs.Row.{key_of, size};
 
 mod calling;
 mod meeting;
+mod next_opening;
 mod opening;
 mod sweeping;
 

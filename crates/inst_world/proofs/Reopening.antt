@@ -1,6 +1,6 @@
 -- A hub whose slots opened again from the books: its board has the live transfers, pending, and nothing else.
 use Rattle.std.proofs.Common.{◌≡◌, ◌≢◌, ℕ, zero, suc, ◌+◌, ◌<◌, ◌≤◌, List, [], ◌∷◌, ◌++◌, length, get_or, Option, Some, None, is_none, true, refl, sym, ap, subst, ◌∙◌, inl, inr, ⊎_elim, arith, length-append, ltb-true}
-use Rattle.std.specs.Prelude.{slice_get}
+use Rattle.std.specs.Prelude.{slice_get, ◌↔◌}
 use Rattle.std.proofs.lemmas.Bool.{cases_eq, lt-ltb}
 use Rattle.std.proofs.lemmas.Option.{same_Some, slice_get-get_or}
 use Rattle.inst_settings.specs.Settings.{HubSettings, participants, is_participant}
@@ -167,6 +167,26 @@ module _ (s : HubSettings) (J : ℕ → List Event) where
     begins_undecided p place x there =
         none_booked (booked p x.id (J p ++ Opened ∷ []))
         (sym (ap (λ (C : List Event). is_none (booked p x.id C)) (begins_carried (FromBooks J) p)) ∙ place_live p (J p ++ Opened ∷ []) place x there)
+
+    begun_at : (board : Contents) (p place : ℕ) (a : About) (X : Option Transfer) → at_place p (J p ++ Opened ∷ []) place ≡ X → StandsFor s (outcome s (FromBooks J) [] p) X (standing_at board (place_at p place))
+        → Says (standing_at board (place_at p place)) a ↔ IsOpenedBelow s J (participants s) (about (place_at p place) a)
+    begun_at board p place a None none stands = (
+      λ says. absurd (subst (λ (q : Standing). Says q a) stands says),
+      λ x. let o = opened_is (participants s) p place a x in let e : None ≡ Some o.transfer = sym none ∙ o.there in let no : ⊥ = cc in absurd no,
+    )
+    begun_at board p place a (Some x) some stands =
+        let number : is_participant s p ≡ true = of_a_participant s (FromBooks J) can [] tt p place x some in
+        let is : standing_at board (place_at p place) ≡ pending (terms_of x) (deadline s x) =
+        subst (λ (o : Option Outcome). StandsWith (terms_of x) (deadline s x) o (standing_at board (place_at p place))) (begins_undecided p place x some) stands in (
+          λ says. is_opened (participants s) p place x a (ltb-true p (participants s) number) some (subst (λ (q : Standing). Says q a) is says),
+          λ y.
+              let o = opened_is (participants s) p place a y in
+              subst (λ (q : Standing). Says q a) (sym is) (subst (λ (z : Transfer). Says (pending (terms_of z) (deadline s z)) a) (same_Some o.transfer x (sym o.there ∙ some)) o.says),
+        )
+
+    -- a board that stands for the hub as it begins has the live transfers, pending, and nothing else
+    pub begun_known : (board : Contents) → IsBoardOf s (FromBooks J) [] board → (f : Fact) → plain_knows board f ↔ IsOpenedBelow s J (participants s) f
+    begun_known board is f = begun_at board f.place.owner f.place.index f.about (at_place f.place.owner (J f.place.owner ++ Opened ∷ []) f.place.index) refl (is f.place.owner f.place.index)
 
     module _ (hub : Hub) (opened : AreOpenedAgain s J (participants s) hub) where
       stands_at : (p place : ℕ) (X : Option Transfer) → at_place p (J p ++ Opened ∷ []) place ≡ X → StandsFor s (outcome s (FromBooks J) [] p) X (standing_at hub.board (place_at p place))

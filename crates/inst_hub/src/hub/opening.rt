@@ -68,7 +68,7 @@ type Row = LockRow<Participant, Event, Snapshot<SharedBoard>, Behind>;
 type Seat = RowSeat<Participant, Event, Snapshot<SharedBoard>>;
 
 /// The tellers that see so, each with a seat on the row; together they have all its parts.
-fn admit(
+pub(super) fn admit(
     alloc: Global,
     row: &Row,
     seat: Seat,

@@ -1,0 +1,111 @@
+//! A hub that opens again from the journals of its participants.
+ghost use Rattle.std.specs.Prelude.{◌≡◌, ◌⊎◌, ◌↔◌, ℕ, List, Err, IfOk, IfErr, IsOkUnless, length};
+ghost use Rattle.inst_settings.specs.Settings.{participants};
+ghost use Rattle.inst_board.specs.declared.about.Fact.{Fact};
+ghost use Rattle.inst_journal.specs.declared.event.Event.{Event};
+ghost use Rattle.inst_cell.specs.Held.{settings_of, knows, Stays};
+ghost use Rattle.inst_cell.specs.Opening.{MayOpen, IsWhole};
+ghost use Rattle.inst_world.specs.NextOpening.{CanOpenFrom, IsOpenedBelow};
+ghost use Rattle.inst_row.specs.Row.{row_id, key_of};
+ghost use Rattle.inst_hub.specs.Calls.{AreOf};
+ghost use Rattle.inst_hub.specs.Opening.{AreBehind, AreNew, first_sights, parts_of};
+ghost use Rattle.inst_hub.specs.NextOpening.{histories_from, AreCarried, pairs, seated};
+
+use super::Hub;
+use super::opening::admit;
+use crate::participant::Participant;
+use crate::teller::Teller;
+use inst_base::Fault;
+use inst_cell::SharedBoard;
+use inst_command::Outcome;
+use inst_journal::Journal;
+use inst_row::LockRow;
+use inst_settings::Settings;
+use inst_slot::Slot;
+use inst_world::World;
+use std::alloc::Global;
+use std::snapshot::Snapshot;
+
+/// Opens the places of all live transfers on the board that has all roles.
+fn open_places(slots: &[Slot], whole: &mut SharedBoard)
+    requires whole { IsWhole (settings_of whole.old) whole.old }
+    requires carried { (books : ℕ → List Event) × AreCarried (settings_of whole.old) books slots.now }
+    ensures stays { Stays whole.old whole.new }
+    ensures known { (books : ℕ → List Event) → AreCarried (settings_of whole.old) books slots.now →
+        (f : Fact) → knows whole.new f ↔ IsOpenedBelow (settings_of whole.old) books (participants (settings_of whole.old)) f }
+{
+    for slot in slots {
+        slot.open_places(whole);
+    }
+}
+
+/// Each slot with its board, by number.
+fn seat(
+    alloc: Global,
+    slots: Vec<Slot>,
+    boards: Vec<SharedBoard>,
+) -> Result<Vec<Option<Participant>>, Fault>
+    requires { length boards.items ≡ length slots.items }
+    ensures ok { IfOk result (λ all. all.items ≡ pairs seated slots.items boards.items) }
+    ensures only { IsOkUnless result Fault.Memory }
+{
+    // The check is told of a type of another crate inside an event only where a function names it.
+    let _: Option<Outcome> = None;
+    let mut all = Vec::new(alloc);
+    let mut boards = boards.into_iter();
+    for slot in slots {
+        let Some(board) = boards.next() else {
+            unreachable!()
+        };
+        all.push(Some(Participant { slot, board }))?;
+    }
+    Ok(all)
+}
+
+/// The participants with these journals, each carried over an opening, over the words of the board that has all roles.
+fn carry_over(
+    alloc: Global,
+    settings: &Settings,
+    journals: &[Journal],
+    whole: SharedBoard,
+) -> Result<Vec<Option<Participant>>, Fault>
+    requires journals { CanOpenFrom settings.now journals.now }
+    requires whole { IsWhole settings.now whole }
+    ensures ok { IfOk result (λ all. AreBehind whole (participants settings.now) (histories_from journals.now) all.items) }
+    ensures only { IsOkUnless result Fault.Memory }
+{
+    let slots = World::open_from(alloc, settings, journals)?.into_slots();
+    let mut whole = whole;
+    open_places(&slots, &mut whole);
+    let boards = whole.deal(alloc)?;
+    seat(alloc, slots, boards)
+}
+
+impl Hub {
+    /// A hub that opens again from these journals, one for each participant by number, with as many tellers as are
+    /// wanted, which know of no place, and that each history begins with its journal and an opening. What was pending
+    /// goes on, what was decided gives its place back. The journals stay as they are. `BadSettings` where the tellers
+    /// are not 1 to 16, `Memory` where there is no room for copies of the journals and for the places.
+    pub fn open_from(
+        alloc: Global,
+        settings: Settings,
+        journals: &[Journal],
+        tellers: u8,
+    ) -> Result<(Hub, Vec<Teller>), Fault>
+        requires journals { CanOpenFrom settings journals.now }
+        ensures settings { IfOk result (λ r. r.0.settings ≡ settings) }
+        ensures enough { IfOk result (λ r. length r.1.items ≡ tellers) }
+        ensures of { IfOk result (λ r. AreOf r.0 r.1.items) }
+        ensures new { IfOk result (λ r. AreNew (row_id r.0.row) (key_of r.0.row) (first_sights (participants settings) (histories_from journals.now)) r.1.items) }
+        ensures parts { IfOk result (λ r. parts_of r.1.items ≡ 16) }
+        ensures bad { (result ≡ Err Fault.BadSettings) ↔ ¬ MayOpen tellers }
+        ensures only { IfErr result (λ e. (e ≡ Fault.Memory) ⊎ (e ≡ Fault.BadSettings)) }
+    {
+        let (whole, sights) = SharedBoard::open_whole(alloc, &settings, tellers)?;
+        let about = Snapshot::of(&whole);
+        let all = carry_over(alloc, &settings, journals, whole)?;
+        let (row, seat) = LockRow::open(alloc, all, &about)?;
+        let tellers = admit(alloc, &row, seat, sights)?;
+        Ok((Hub { settings, row }, tellers))
+    }
+}
