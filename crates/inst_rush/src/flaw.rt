@@ -19,7 +19,7 @@ pub(crate) enum Flaw {
     TellersDiffer,
     /// A transfer is pending after its originator asked for it long past the deadline.
     StillPending,
-    /// A sweep finds something new where both sides were told of all.
+    /// A sweep finds something new after a sweep of each participant.
     StillNew,
     /// A transfer was handed out twice, or one that nobody submitted.
     StrangeEntry,

@@ -53,15 +53,27 @@ pub(crate) fn settle<R: Wait>(
     Ok(())
 }
 
-/// A sweep of each participant finds nothing new.
+/// How many were new in a sweep of each participant.
+fn sweep_each<R: Wait>(rt: &R, hub: &Hub, teller: &mut Teller) -> Result<u32, Flaw>
+    requires { IsOf hub.now teller.old }
+    ensures { IsOf hub.now teller.new }
+{
+    let mut count = 0u32;
+    for who in 0..PARTICIPANTS {
+        let new = sweep(rt, hub, teller, who as u8, Moment::new(0, LATE)?)?;
+        count = count.saturating_add(new);
+    }
+    Ok(count)
+}
+
+/// Each participant is swept, since a sweep of one tells the other side nothing; then sweeps find nothing new.
 pub(crate) fn sweep_all<R: Wait>(rt: &R, hub: &Hub, teller: &mut Teller) -> Result<(), Flaw>
     requires { IsOf hub.now teller.old }
     ensures { IsOf hub.now teller.new }
 {
-    for who in 0..PARTICIPANTS {
-        if sweep(rt, hub, teller, who as u8, Moment::new(0, LATE)?)? != 0 {
-            return Err(Flaw::StillNew);
-        }
+    sweep_each(rt, hub, teller)?;
+    if sweep_each(rt, hub, teller)? != 0 {
+        return Err(Flaw::StillNew);
     }
     Ok(())
 }
