@@ -3,5 +3,6 @@
 mod asking;
 mod gate;
 mod race;
+mod reopening;
 mod sweeping;
 mod two_tellers;
