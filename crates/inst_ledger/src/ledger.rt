@@ -22,7 +22,7 @@ use std::marker::Model;
 /// statement, so that nothing walks the history.
 #[derive(Debug, Drop)]
 pub struct Ledger {
-    settings: Settings,
+    settings: Box<Settings>,
     who: u8,
     journal: Journal,
     totals: Totals,
@@ -46,12 +46,21 @@ impl Model for Ledger {
     ghost Value = { BookAndRoom };
 
     ghost view = { λ l. record {
-      book = record { settings = l.settings; who = l.who; events = l.journal.events };
+      book = record { settings = l.settings.value; who = l.who; events = l.journal.events };
       room = min l.journal.room l.statement.room;
     } };
 
-    ghost invariant = { λ l. IsLedger l.settings l.who l.journal.events l.totals (transfer_at l.transfers)
+    ghost invariant = { λ l. IsLedger l.settings.value l.who l.journal.events l.totals (transfer_at l.transfers)
         (funding_at l.references) l.live l.waiting l.fundings l.inbox.items l.read l.statement };
+}
+
+/// A copy of the settings, in memory of its own: they have a table, and who moves a ledger doesn't move that.
+fn boxed(alloc: Global, settings: &Settings) -> Result<Box<Settings>, Fault>
+    ensures ok { IfOk result (λ b. b.value ≡ settings.now) }
+    ensures lawful { IsSettings settings.now }
+    ensures only { IsOkUnless result Fault.Memory }
+{
+    Ok(Box::new(alloc, settings.copy()?)?)
 }
 
 impl Ledger {
@@ -61,7 +70,7 @@ impl Ledger {
         ensures only { IsOkUnless result Fault.Memory }
     {
         Ok(Ledger {
-            settings: settings.copy()?,
+            settings: boxed(alloc, settings)?,
             who,
             journal: Journal::new(alloc),
             totals: Totals::new(),

@@ -12,6 +12,6 @@ invariant_of-self-2 c =
     let fits = fits_at c.self.view_is event c.requires in
     record {
       beside = beside_at c.in_ok-push.ensures.ok refl
-          (fetched_beside i.settings i.who i.journal.events i.totals _ _ i.live i.waiting i.fundings i.inbox.items i.read c.self.invariant.beside c.args.count fits);
-      lines = stated_at c.in_ok-push.ensures.ok (line_less i.settings i.who i.journal.events event c.self.invariant.beside.kept.sound fits i.statement i.statement refl refl refl refl c.self.invariant.lines);
+          (fetched_beside i.settings.value i.who i.journal.events i.totals _ _ i.live i.waiting i.fundings i.inbox.items i.read c.self.invariant.beside c.args.count fits);
+      lines = stated_at c.in_ok-push.ensures.ok (line_less i.settings.value i.who i.journal.events event c.self.invariant.beside.kept.sound fits i.statement i.statement refl refl refl refl c.self.invariant.lines);
     }

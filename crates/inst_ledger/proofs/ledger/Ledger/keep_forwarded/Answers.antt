@@ -17,7 +17,7 @@ invariant_of-self-2 c =
     let events = pushed event c.reserve.ensures.events c.in_ok-push.ensures.ok in
     record {
       beside = beside_at events (c.push_reserved.ensures.items ∙ ap (λ xs. xs ++ e ∷ []) c.try_reserve.ensures.items)
-          (forwarded_beside i.settings i.who i.journal.events i.totals _ _ i.live i.waiting i.fundings i.inbox.items i.read c.self.invariant.beside e.from e.id e.cents e.deadline _
+          (forwarded_beside i.settings.value i.who i.journal.events i.totals _ _ i.live i.waiting i.fundings i.inbox.items i.read c.self.invariant.beside e.from e.id e.cents e.deadline _
           fits (omega (arith, c.get.ensures.value, c.get.ensures.within)) c.in_ok-put.ensures.ok);
-      lines = stated_at events (line_less i.settings i.who i.journal.events event c.self.invariant.beside.kept.sound fits i.statement i.statement refl refl refl refl c.self.invariant.lines);
+      lines = stated_at events (line_less i.settings.value i.who i.journal.events event c.self.invariant.beside.kept.sound fits i.statement i.statement refl refl refl refl c.self.invariant.lines);
     }

@@ -11,7 +11,7 @@ invariant_of-self-2 c =
     let fits = fits_at c.self.view_is Event.Opened c.requires in
     record {
       beside = beside_at c.in_ok-push.ensures.ok refl
-          (opened_beside i.settings i.who i.journal.events i.totals _ _ i.live i.waiting i.fundings i.inbox.items i.read c.self.invariant.beside fits);
+          (opened_beside i.settings.value i.who i.journal.events i.totals _ _ i.live i.waiting i.fundings i.inbox.items i.read c.self.invariant.beside fits);
       lines = stated_at c.in_ok-push.ensures.ok
-          (line_anew i.settings i.who i.journal.events i.statement c.begin.new.self c.self.invariant.beside.kept.sound fits c.begin.ensures.lines c.begin.ensures.position c.self.invariant.lines);
+          (line_anew i.settings.value i.who i.journal.events i.statement c.begin.new.self c.self.invariant.beside.kept.sound fits c.begin.ensures.lines c.begin.ensures.position c.self.invariant.lines);
     }

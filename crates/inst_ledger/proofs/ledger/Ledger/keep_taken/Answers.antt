@@ -12,7 +12,7 @@ invariant_of-self-in_err-put c = ledger_same c.reserve.ensures.events c.in_err-p
 pub overflow_add-self : goal.overflow_add-self
 overflow_add-self c =
     let i = c.self.inside in
-    omega (arith, within i.settings i.who i.journal.events i.totals _ _ _ c.self.invariant.beside.kept, c.self.invariant.beside.kept.totals.within, c.from.ensures, c.get.ensures.within, c.events.type_inv, ap length c.events.ensures)
+    omega (arith, within i.settings.value i.who i.journal.events i.totals _ _ _ c.self.invariant.beside.kept, c.self.invariant.beside.kept.totals.within, c.from.ensures, c.get.ensures.within, c.events.type_inv, ap length c.events.ensures)
 
 pub invariant_of-self-2 : goal.invariant_of-self-2
 invariant_of-self-2 c =
@@ -23,7 +23,7 @@ invariant_of-self-2 c =
     let events = pushed event c.reserve.ensures.events c.in_ok-push.ensures.ok in
     record {
       beside = beside_at events refl
-          (taken_beside i.settings i.who i.journal.events i.totals _ _ i.live i.waiting i.fundings i.inbox.items i.read c.self.invariant.beside c.args.id t.to t.cents t.stamp c.from.result _
+          (taken_beside i.settings.value i.who i.journal.events i.totals _ _ i.live i.waiting i.fundings i.inbox.items i.read c.self.invariant.beside c.args.id t.to t.cents t.stamp c.from.result _
           (c.from.ensures ∙ c.get.ensures.value) fits c.in_ok-put.ensures.ok);
-      lines = stated_at events (line_less i.settings i.who i.journal.events event c.self.invariant.beside.kept.sound fits i.statement i.statement refl refl refl refl c.self.invariant.lines);
+      lines = stated_at events (line_less i.settings.value i.who i.journal.events event c.self.invariant.beside.kept.sound fits i.statement i.statement refl refl refl refl c.self.invariant.lines);
     }
