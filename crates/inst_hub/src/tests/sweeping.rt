@@ -3,9 +3,10 @@ ghost use Rattle.inst_hub.specs.Calls.{IsOf};
 
 use super::asking::{ask, confirm, fund, last, settings, state_of, submit, submitted};
 use crate::gate::Open;
-use crate::{Hub, Teller, Ticket};
-use inst_base::{Fault, Moment};
-use inst_command::{Ask, Command, Outcome, Reply, State};
+use crate::{Hub, Participant, Teller, Ticket};
+use inst_base::{Cents, Fault, Ident, Moment};
+use inst_command::{Ask, Command, Outcome, Reply, State, Submission};
+use inst_journal::Event;
 use std::alloc::Global;
 use std::sync::Wait;
 
@@ -125,5 +126,76 @@ fn sweeps_time_out_and_learn(rt: HostRuntime) -> Result<(), Fault> {
         timed_out(&rt, &hub, &mut teller)?,
         (0, 1, 1, 0, State::Decided(Outcome::TimedOut))
     );
+    Ok(())
+}
+
+/// Participant 0 submits a transfer to participant 1 with this time stamp.
+fn submit_stamped<R: Wait>(
+    rt: &R,
+    hub: &Hub,
+    teller: &mut Teller,
+    id: &str,
+    stamp: u64,
+) -> Result<(), Fault>
+    requires { IsOf hub.now teller.old }
+    ensures { IsOf hub.now teller.new }
+{
+    let command = Command::Submit(Submission {
+        id: Ident::new(id)?,
+        to: 1,
+        cents: Cents::new(100)?,
+        stamp: Moment::new(0, stamp)?,
+    });
+    ask(rt, hub, teller, 0, command, 1_000)?;
+    Ok(())
+}
+
+/// The identifiers of what the participant has booked, in order.
+fn booked(alloc: Global, participant: &Participant) -> Result<Vec<Ident>, Fault> {
+    let mut ids = Vec::new(alloc);
+    for event in participant.slot.journal().events() {
+        if let Event::Booked { id, .. } = event {
+            ids.push(*id)?;
+        }
+    }
+    Ok(ids)
+}
+
+/// What the participant behind the first lock has booked.
+fn booked_behind<R: Wait>(
+    rt: &R,
+    alloc: Global,
+    hub: &Hub,
+    teller: &mut Teller,
+) -> Result<Vec<Ident>, Fault>
+    requires { IsOf hub.now teller.old }
+{
+    let participant = hub.row.take(rt, &mut teller.seat, 0);
+    let ids = booked(alloc, &participant);
+    hub.row.give(&mut teller.seat, 0, participant);
+    ids
+}
+
+/// Three transfers of participant 0, the first of which is due last, and a sweep when all are due.
+fn swept<R: Wait>(rt: &R, hub: &Hub, teller: &mut Teller) -> Result<u32, Fault>
+    requires { IsOf hub.now teller.old }
+    ensures { IsOf hub.now teller.new }
+{
+    ask(rt, hub, teller, 0, fund(50_000)?, 0)?;
+    submit_stamped(rt, hub, teller, "T1", 1_500)?;
+    submit_stamped(rt, hub, teller, "T2", 1_000)?;
+    submit_stamped(rt, hub, teller, "T3", 1_000)?;
+    sweep(rt, hub, teller, 0, 12_000)
+}
+
+#[test]
+fn sweep_goes_by_deadline_and_place(rt: HostRuntime) -> Result<(), Fault> {
+    let alloc = rt.alloc();
+    let (hub, mut tellers) = Hub::open(alloc, settings(alloc, 3)?, 1)?;
+    let mut teller = last(&hub, &mut tellers)?;
+    assert_eq!(rt; swept(&rt, &hub, &mut teller)?, 3);
+    let booked = booked_behind(&rt, alloc, &hub, &mut teller)?;
+    let expected = [Ident::new("T2")?, Ident::new("T3")?, Ident::new("T1")?];
+    assert_eq!(rt; booked.as_slice(), expected.as_slice());
     Ok(())
 }
