@@ -43,7 +43,7 @@ pub(crate) struct Setting {
 }
 
 /// Chooses what a thread does. The same setting and thread always give the same acts.
-#[derive(Clone, Copy, Debug)]
+#[derive(Debug, Drop)]
 pub(crate) struct Chooser {
     generator: Generator,
     setting: Setting,
@@ -95,7 +95,7 @@ impl Chooser {
         let Transfer { from, to, id, .. } = *transfer;
         let deadline = transfer.deadline();
         let in_time = deadline.saturating_sub(u64::from(self.setting.margin) + 1);
-        match (self.step / PACE + u32::from(self.thread)) % 4 {
+        match (self.step / PACE).saturating_add(u32::from(self.thread)) % 4 {
             0 => command_at(to, Command::Confirm { from, id }, in_time),
             2 => {
                 let reason = self.reason()?;
