@@ -8,3 +8,4 @@ pub mod Beside
 pub mod Begun
 pub mod Opening
 pub mod Stating
+pub mod Beneficiary

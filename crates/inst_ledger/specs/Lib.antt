@@ -3,3 +3,4 @@ pub mod Transfers
 pub mod Kept
 pub mod Beside
 pub mod Book
+pub mod Beneficiary

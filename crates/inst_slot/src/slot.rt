@@ -1,8 +1,10 @@
-ghost use Rattle.std.specs.Prelude.{◌≡◌, [], IfOk, IsOkUnless, position};
+ghost use Rattle.std.specs.Prelude.{◌≡◌, [], IfOk, IfSome, IsOkUnless, IsTrue, position};
 ghost use Rattle.inst_settings.specs.Lawful.{IsSettings};
+ghost use Rattle.inst_settings.specs.Settings.{is_participant};
 ghost use Rattle.inst_journal.specs.Booked.{takes};
 ghost use Rattle.inst_journal.specs.Opened.{live_taken};
 ghost use Rattle.inst_journal.specs.Sound.{IsSound};
+ghost use Rattle.inst_ledger.specs.Beneficiary.{beneficiary_of};
 ghost use Rattle.inst_slot.specs.Book.{place_of};
 
 mod arrived;
@@ -92,6 +94,14 @@ impl Slot {
         ensures { result ≡ self.now.who }
     {
         self.ledger.who()
+    }
+
+    /// The beneficiary of the participant's own transfer with this identifier.
+    pub fn beneficiary_of(&self, id: &Ident) -> Option<u8>
+        ensures value { result ≡ beneficiary_of id.now self.now.events }
+        ensures participant { IfSome result (λ to. IsTrue (is_participant self.now.settings to)) }
+    {
+        self.ledger.beneficiary_of(id)
     }
 
     /// The index of the participant's live transfer with this identifier.

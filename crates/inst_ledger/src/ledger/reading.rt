@@ -6,6 +6,7 @@ ghost use Rattle.inst_journal.specs.Keys.{fundings, is_submission_repeat, is_fun
 ghost use Rattle.inst_journal.specs.Money.{reserved, position, available};
 ghost use Rattle.inst_journal.specs.Opened.{live_submissions};
 ghost use Rattle.inst_journal.specs.Sound.{IsSound};
+ghost use Rattle.inst_ledger.specs.Beneficiary.{beneficiary_of};
 ghost use Rattle.inst_ledger.specs.Beside.{terms_in, outcome_in, forwarding_in, funding_of, is_funding_of};
 ghost use Rattle.inst_ledger.specs.Kept.{terms_of, are_terms, forwarding_of};
 
@@ -60,6 +61,14 @@ impl Ledger {
         ensures { result ≡ is_taken id.now self.now.book.events }
     {
         self.terms(id).is_some()
+    }
+
+    /// The beneficiary of the taken submission with this identifier.
+    pub fn beneficiary_of(&self, id: &Ident) -> Option<u8>
+        ensures { result ≡ beneficiary_of id.now self.now.book.events }
+    {
+        let terms = self.terms(id)?;
+        Some(terms.to)
     }
 
     /// Whether this very submission is taken.

@@ -1,0 +1,109 @@
+-- The beneficiary of a participant's own transfer: what the terms of its submission tell of it, and what a sound history
+-- does.
+use Rattle.std.proofs.Common.{◌≡◌, ℕ, Bool, true, false, cond, List, [], ◌∷◌, ◌++◌, Option, Some, None, is_some, IfSome, option_map, inl, inr, refl, sym, ap, subst, ◌∙◌, Contains}
+use Rattle.std.proofs.lemmas.List.Elements.{Contains-push_cases}
+use Rattle.inst_settings.specs.Settings.{HubSettings, same_text, is_participant}
+use Rattle.inst_settings.proofs.Numbering.{same_text_refl}
+use Rattle.inst_journal.specs.declared.event.Event.{Event}
+use Rattle.inst_journal.specs.declared.event.Event.TheVariants.{Funded, Defunded, Taken, Forwarded, Booked, Fetched, Opened}
+use Rattle.inst_journal.specs.Booked.{or_else, first_some, takes, is_taken}
+use Rattle.inst_journal.specs.Sound.{Fits, IsSound}
+use Rattle.inst_journal.proofs.Finding.{nothing_there}
+use Rattle.inst_journal.proofs.Pushing.{first_some_push}
+use Rattle.inst_journal.proofs.Soundness.{sound_induction}
+use Rattle.inst_ledger.specs.declared.transfers.Terms.{Terms}
+use Rattle.inst_ledger.specs.Kept.{terms_of}
+use Rattle.inst_ledger.specs.Beneficiary.{takes_to, beneficiary_of}
+use Rattle.inst_ledger.proofs.Tables.{none_of, any_first, some_cond}
+
+-- what is made of the first thing is the first of what is made of each
+made_or : {A B : Type 0} (make : A → B) (o p : Option A) → option_map make (or_else o p) ≡ or_else (option_map make o) (option_map make p)
+made_or make None p = refl
+made_or make (Some x) p = refl
+
+made_first : {A B C : Type 0} (make : B → C) (f : A → Option B) (g : A → Option C) → ((x : A) → option_map make (f x) ≡ g x) → (xs : List A) → option_map make (first_some f xs) ≡ first_some g xs
+made_first make f g same [] = refl
+made_first make f g same (x ∷ xs) =
+    made_or make (f x) (first_some f xs) ∙ ap (λ o. or_else o (option_map make (first_some f xs))) (same x) ∙ ap (or_else (g x)) (made_first make f g same xs)
+
+abbrev pub to_of : Terms → ℕ
+to_of terms = terms.to
+
+made_cond : {A B : Type 0} (make : A → B) (b : Bool) (x : A) → option_map make (cond b (Some x) None) ≡ cond b (Some (make x)) None
+made_cond make true x = refl
+made_cond make false x = refl
+
+terms_to : (id : List ℕ) (event : Event) → option_map to_of (terms_of id event) ≡ takes_to id event
+terms_to id (Taken other to cents stamp) = made_cond to_of (same_text other id) (record { to = to; cents = cents; stamp = stamp })
+terms_to id (Funded reference cents) = refl
+terms_to id (Defunded reference cents) = refl
+terms_to id (Forwarded from other cents deadline) = refl
+terms_to id (Booked from other outcome) = refl
+terms_to id (Fetched count) = refl
+terms_to id Opened = refl
+
+-- the terms that are found tell the beneficiary, and none are found where there is none
+pub beneficiary_found : (id : List ℕ) (J : List Event) (o : Option Terms) → first_some (terms_of id) J ≡ o → option_map to_of o ≡ beneficiary_of id J
+beneficiary_found id J o found =
+    ap (option_map to_of) (sym found) ∙ made_first to_of (terms_of id) (takes_to id) (terms_to id) J
+
+takes_one : (id : List ℕ) (event : Event) → takes id event ≡ is_some (takes_to id event)
+takes_one id (Taken other to cents stamp) = some_cond (same_text other id) to
+takes_one id (Funded reference cents) = refl
+takes_one id (Defunded reference cents) = refl
+takes_one id (Forwarded from other cents deadline) = refl
+takes_one id (Booked from other outcome) = refl
+takes_one id (Fetched count) = refl
+takes_one id Opened = refl
+
+-- a submission is taken where it has a beneficiary
+pub taken_to_one : (id : List ℕ) (J : List Event) → is_taken id J ≡ is_some (beneficiary_of id J)
+taken_to_one id J = any_first (takes id) (takes_to id) (takes_one id) J
+
+-- one event more
+after : (id : List ℕ) (J : List Event) (event : Event) → beneficiary_of id (J ++ event ∷ []) ≡ or_else (beneficiary_of id J) (takes_to id event)
+after id J event = first_some_push (takes_to id) J event
+
+either : {A : Type 0} (P : A → Type 0) (o p : Option A) → IfSome o P → IfSome p P → IfSome (or_else o p) P
+either P None p first second = second
+either P (Some x) p first second = first
+
+where_true : {A : Type 0} (P : A → Type 0) (b : Bool) (x : A) → P x → IfSome (cond b (Some x) None) P
+where_true P true x here = here
+where_true P false x here = tt
+
+abbrev pub Participates : HubSettings → ℕ → Type 0
+Participates s to = is_participant s to ≡ true
+
+takes_to_participant : (s : HubSettings) (who : ℕ) (id : List ℕ) (J : List Event) (event : Event) → Fits s who J event → IfSome (takes_to id event) (Participates s)
+takes_to_participant s who id J (Taken other to cents stamp) fits = where_true (Participates s) (same_text other id) to fits.beneficiary
+takes_to_participant s who id J (Funded reference cents) fits = tt
+takes_to_participant s who id J (Defunded reference cents) fits = tt
+takes_to_participant s who id J (Forwarded from other cents deadline) fits = tt
+takes_to_participant s who id J (Booked from other outcome) fits = tt
+takes_to_participant s who id J (Fetched count) fits = tt
+takes_to_participant s who id J Opened fits = tt
+
+-- the beneficiary of a taken submission is a participant of the hub
+pub beneficiary_participates : (s : HubSettings) (who : ℕ) (id : List ℕ) (J : List Event) → IsSound s who J → IfSome (beneficiary_of id J) (Participates s)
+beneficiary_participates s who id = sound_induction s who (λ J. IfSome (beneficiary_of id J) (Participates s)) tt
+    (λ J event sound fits before. subst (λ (o : Option ℕ). IfSome o (Participates s)) (sym (after id J event))
+    (either (Participates s) (beneficiary_of id J) (takes_to id event) before (takes_to_participant s who id J event fits)))
+
+taken_now : (s : HubSettings) (who : ℕ) (J : List Event) (id : List ℕ) (to cents stamp : ℕ) → Fits s who J (Taken id to cents stamp) → beneficiary_of id (J ++ Taken id to cents stamp ∷ []) ≡ Some to
+taken_now s who J id to cents stamp fits =
+    after id J (Taken id to cents stamp) ∙ ap (λ (o : Option ℕ). or_else o (takes_to id (Taken id to cents stamp))) (none_of (beneficiary_of id J) (sym (taken_to_one id J) ∙ fits.new))
+    ∙ ap (λ (b : Bool). cond b (Some to) None) (same_text_refl id)
+
+-- the beneficiary of a taken submission is that of its event
+pub beneficiary_of_taken : (s : HubSettings) (who : ℕ) (id : List ℕ) (to cents stamp : ℕ) (J : List Event) → IsSound s who J → Contains J (Taken id to cents stamp) → beneficiary_of id J ≡ Some to
+beneficiary_of_taken s who id to cents stamp = sound_induction s who (λ J. Contains J taken → beneficiary_of id J ≡ Some to) (λ there. absurd (nothing_there taken there))
+    (λ J event sound fits before there. elim (Contains-push_cases J event taken there) [
+      | inl earlier ↦ after id J event ∙ ap (λ (o : Option ℕ). or_else o (takes_to id event)) (before earlier)
+      | inr now ↦
+          ap (λ (e : Event). beneficiary_of id (J ++ e ∷ [])) now
+          ∙ taken_now s who J id to cents stamp (subst (λ (e : Event). Fits s who J e) now fits)
+    ])
+  where
+    taken : Event
+    taken = Taken id to cents stamp
