@@ -221,6 +221,8 @@ fn funds_submits_and_investigates(rt: HostRuntime) -> Result<(), Fail> {
     assert_eq!(rt; ledger.reserved(), 0);
     assert_eq!(rt; ledger.available(), 10_000);
     assert!(rt; ledger.is_taken(&t1) && !ledger.is_taken(&t3));
+    assert_eq!(rt; ledger.beneficiary_of(&t1), Some(1));
+    assert_eq!(rt; ledger.beneficiary_of(&t3), None);
     assert_eq!(rt; ledger.booked(0, &t2), Some(Outcome::TimedOut));
     Ok(())
 }

@@ -28,6 +28,8 @@ pub(super) enum Does {
     Expire(u16),
     /// Whether the slot tells a place of its own transfer.
     TellPlace(&'static str),
+    /// Whether the slot tells this beneficiary of its own transfer.
+    Pays(&'static str, Option<u8>),
     /// Whether the first pair is followed by the second among what waits.
     DueAfter(Option<(u64, u16)>, Option<(u64, u16)>),
     /// Whether the first arrival from this position on with nothing booked is the second, by its position and the index of
@@ -130,6 +132,7 @@ fn question(hub: &Hub, who: u8, does: &Does) -> Result<bool, Fault> {
     }
     match *does {
         Does::TellPlace(id) => Ok(slot.place_of(who, &Ident::new(id)?).is_some()),
+        Does::Pays(id, to) => Ok(slot.beneficiary_of(&Ident::new(id)?) == to),
         Does::DueAfter(before, next) => Ok(slot.due_after(pair(before)?) == pair(next)?),
         Does::UnbookedFrom(position, next) => { Ok(slot.unbooked_from(position) == arrival(next)) }
         Does::Misses(count) => Ok(slot.unfound() == count),

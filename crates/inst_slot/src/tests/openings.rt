@@ -124,6 +124,7 @@ const PLACES_GIVEN_BACK: Case = Case {
     margin: 0,
     rows: &[
         (0, Does::TellPlace("T1"), 0, Told::New(false)),
+        (0, Does::Pays("T1", Some(1)), 0, Told::New(true)),
         (0, Does::TellPlace("T2"), 0, Told::New(true)),
         (
             0,
