@@ -14,8 +14,8 @@ use Rattle.atomic_table.proofs.Lists.{at_set, at_snoc, set_here, set_else, set_a
 use Rattle.inst_row.specs.declared.view.Front.{Front}
 use Rattle.inst_row.specs.declared.view.View.{View}
 use Rattle.inst_row.specs.View.{front, count, held, fronts_of, first_view, took, behind, gave, told, left_of, parts, united, nobody}
-use Rattle.inst_row.specs.Rule.{Guarded}
-use Rattle.inst_row.specs.Steps.{takes_lock, gives_lock}
+use Rattle.inst_row.specs.Rule.{Guarded, takers}
+use Rattle.inst_row.specs.Steps.{takes_lock, gives_lock, tells_nothing}
 use Rattle.inst_row.proofs.Tally.{count-append, held-set, held-snoc, held_one, parts-set, parts-snoc, parts_two, none_held}
 
 get_or-set_else : (l : List ℕ) (i j n : ℕ) → j ≢ i → get_or (set l i n) j 0 ≡ get_or l j 0
@@ -88,6 +88,33 @@ zeros zero i = refl
 zeros (suc n) zero = refl
 zeros (suc n) (suc i) = zeros n i
 
+one_taker : (n : ℕ) → 0 < n → takers n ≡ 1
+one_taker zero h = absurd (omega arith)
+one_taker (suc n) h = refl
+
+most_takers : (n : ℕ) → takers n ≤ 1
+most_takers zero = omega arith
+most_takers (suc n) = omega arith
+
+positive : (n : ℕ) → n ≢ 0 → 0 < n
+positive zero ne = absurd (ne refl)
+positive (suc n) ne = omega arith
+
+-- a lock's word isn't 0 after an exchange that takes it, or finds it taken
+never_free : (m : ℕ) → 0 < m → (n : ℕ) → 0 < either (eqb n 0) m n
+never_free m more n = dite (ℕ_discrete n 0)
+    (λ e. subst (λ b. 0 < either b m n) (sym (eq-eqb n 0 e)) more)
+    (λ ne. subst (λ b. 0 < either b m n) (sym (ne_eqb n 0 ne)) (positive n ne))
+
+as_taken : (n : ℕ) → takers (either (eqb n 1) 2 n) ≡ takers n
+as_taken n = dite (ℕ_discrete n 1)
+    (λ e. subst (λ b. takers (either b 2 n) ≡ takers n) (sym (eq-eqb n 1 e)) (sym (ap takers e)))
+    (λ ne. subst (λ b. takers (either b 2 n) ≡ takers n) (sym (ne_eqb n 1 ne)) refl)
+
+pub is_free : (n : ℕ) → takers n ≡ 0 → n ≡ 0
+is_free zero e = refl
+is_free (suc n) e = absurd (omega arith)
+
 module _ {T E K : Type 0} (law : K → ℕ → T → Type 0) (history : T → List E) (key : K) where
   abbrev St : Type 0
   St = State (Option T) (View E K)
@@ -103,24 +130,23 @@ module _ {T E K : Type 0} (law : K → ℕ → T → Type 0) (history : T → Li
 
   module _ (slots id p : ℕ) (within : p < slots) where
     -- the lock is free, and the seat takes it
-    takes_it : (me : Sat) (s : St) (r : G s) → 0 < me.0.parts → length s.homes ≡ slots → get_elem? s.views id ≡ some me.0 → get_or s.words p 0 ≡ 0 → (x : T) → history x ≡ r.latest p
-        → G (stepped s p 1 id me.1 (took me.0 p (history x)) (takes p (Some x)))
-    takes_it me s r part wide at free x is =
+    takes_it : (m : ℕ) → 0 < m → (me : Sat) (s : St) (r : G s) → 0 < me.0.parts → length s.homes ≡ slots → get_elem? s.views id ≡ some me.0 → get_or s.words p 0 ≡ 0 → (x : T) → history x ≡ r.latest p
+        → G (stepped s p m id me.1 (took me.0 p (history x)) (takes p (Some x)))
+    takes_it m set_to me s r part wide at free x is =
         let w : View E K = took me.0 p (history x) in
         let sized = r.sized in let long : p < length s.words = omega arith in
         let adds : (q : ℕ) → held q (set s.views id w) + count q me.0.held ≡ held q s.views + (is_at p q + count q me.0.held) = λ q. held-set q s.views id me.0 w at in
         record {
           latest = r.latest;
-          sized = length-set s.homes p none ∙ (r.sized ∙ sym (length-set s.words p 1));
-          counted = λ q. word_by s.words p 1 long (λ n. n ≡ held q (set s.views id w)) q
-              (λ e. let a = adds q in let old : get_or s.words q 0 ≡ held q s.views = r.counted q in let zero_is : get_or s.words q 0 ≡ 0 = ap (λ i. get_or s.words i 0) e ∙ free in
-              let one : is_at p q ≡ 1 = at_one p q (sym e) in omega arith)
-              (λ ne. let a = adds q in let old : get_or s.words q 0 ≡ held q s.views = r.counted q in
+          sized = length-set s.homes p none ∙ (r.sized ∙ sym (length-set s.words p m));
+          counted = λ q. word_by s.words p m long (λ n. held q (set s.views id w) ≡ takers n) q
+              (λ e. let a = adds q in let old : held q s.views ≡ 0 = r.counted q ∙ ap takers (ap (λ i. get_or s.words i 0) e ∙ free) in
+              let one : is_at p q ≡ 1 = at_one p q (sym e) in let now : takers m ≡ 1 = one_taker m set_to in omega arith)
+              (λ ne. let a = adds q in let old : held q s.views ≡ takers (get_or s.words q 0) = r.counted q in
               let none_more : is_at p q ≡ 0 = at_zero p q ne in omega arith);
-          bit = λ q. word_by s.words p 1 long (λ n. n ≤ 1) q (λ e. omega arith) (λ ne. r.bit q);
-          home = λ q below. word_by s.words p 1 long (λ n. n ≡ 0 → (y : T) × (get_elem? (set s.homes p none) q ≡ some (some (Some y))) × law key q y × (history y ≡ r.latest q)) q
+          home = λ q below. word_by s.words p m long (λ n. n ≡ 0 → (y : T) × (get_elem? (set s.homes p none) q ≡ some (some (Some y))) × law key q y × (history y ≡ r.latest q)) q
               (λ e z. absurd (omega arith))
-              (λ ne z. let longer : q < length s.words = subst (λ n. q < n) (length-set s.words p 1) below in let h = r.home q longer z in (h.0, set_else s.homes p q none ne ∙ h.1, h.2, h.3));
+              (λ ne z. let longer : q < length s.words = subst (λ n. q < n) (length-set s.words p m) below in let h = r.home q longer z in (h.0, set_else s.homes p q none ne ∙ h.1, h.2, h.3));
           known = each_set s.views id w (λ v. (m : Front E) → Contains v.fronts m → IsPrefix m.history (r.latest m.lock))
               (λ m c. ⊎_elim (λ old. r.known id me.0 at m old)
               (λ new. of_front (λ q h. IsPrefix h (r.latest q)) p (history x) m (one_of_one _ m new) (whole_prefix _ _ is))
@@ -150,7 +176,7 @@ module _ {T E K : Type 0} (law : K → ℕ → T → Type 0) (history : T → Li
         let adds : (q : ℕ) → held q views + count q v.held ≡ held q s.views + count q w.held = λ q. held-set q s.views id v w at in
         let found : h ≡ r.latest p = r.mine id v at (front p h) (subst (λ (l : List (Front E)). Contains l (front p h)) (sym mine) (0, omega arith, refl)) in
         let mine_one : is_at p p ≡ 1 = at_one p p refl in
-        let free : held p views ≡ 0 = (let a = adds p in let b = before p in let c = after p in let d : get_or s.words p 0 ≡ held p s.views = r.counted p in let f : get_or s.words p 0 ≤ 1 = r.bit p in omega arith) in
+        let free : held p views ≡ 0 = (let a = adds p in let b = before p in let c = after p in let d : held p s.views ≡ takers (get_or s.words p 0) = r.counted p in let f = most_takers (get_or s.words p 0) in omega arith) in
         let not_p : (i : ℕ) (u : View E K) → get_elem? views i ≡ some u → (m : Front E) → Contains u.held m → m.lock ≢ p =
         λ i u e m c is. (let one = held_one p views i u e in let more = counts_in p u.held m c is in absurd (omega arith)) in
         let seen : (m : Front E) → IsPrefix m.history (r.latest m.lock) → IsPrefix m.history (latest m.lock) = λ m pre. dite (ℕ_discrete m.lock p)
@@ -161,11 +187,10 @@ module _ {T E K : Type 0} (law : K → ℕ → T → Type 0) (history : T → Li
         record {
           latest = latest;
           sized = length-set s.homes p (some (Some y)) ∙ (r.sized ∙ sym (length-set s.words p 0));
-          counted = λ q. word_by s.words p 0 long (λ n. n ≡ held q views) q
-              (λ e. sym (ap (λ i. held i views) e ∙ free))
-              (λ ne. let a = adds q in let b = before q in let c = after q in let old : get_or s.words q 0 ≡ held q s.views = r.counted q in
+          counted = λ q. word_by s.words p 0 long (λ n. held q views ≡ takers n) q
+              (λ e. ap (λ i. held i views) e ∙ free)
+              (λ ne. let a = adds q in let b = before q in let c = after q in let old : held q s.views ≡ takers (get_or s.words q 0) = r.counted q in
               let none_more : is_at p q ≡ 0 = at_zero p q ne in omega arith);
-          bit = λ q. word_by s.words p 0 long (λ n. n ≤ 1) q (λ e. omega arith) (λ ne. r.bit q);
           home = λ q below. word_by s.words p 0 long (λ n. n ≡ 0 → (x : T) × (get_elem? (set s.homes p (some (Some y))) q ≡ some (some (Some x))) × law key q x × (history x ≡ latest q)) q
               (λ e z. (y, ap (λ i. get_elem? (set s.homes p (some (Some y))) i) e ∙ set_here s.homes p (some (Some y)) (omega arith), subst (λ i. law key i y) (sym e) lawful, sym (latest_here q e)))
               (λ ne z. let longer : q < length s.words = subst (λ n. q < n) (length-set s.words p 0) below in let f = r.home q longer z in (f.0, set_else s.homes p q (some (Some y)) ne ∙ f.1, f.2, f.3 ∙ sym (latest_else q ne)));
@@ -181,15 +206,32 @@ module _ {T E K : Type 0} (law : K → ℕ → T → Type 0) (history : T → Li
         }
 
   module _ (slots id p : ℕ) (within : p < slots) where
-    same_as : (s : St) → G s → length s.homes ≡ slots → (v : View E K) → get_elem? s.views id ≡ some v → G record { words = set s.words p (get_or s.words p 0); homes = s.homes; views = set s.views id v }
-    same_as s r wide v at =
-        let sized = r.sized in
-        let e : set s.words p (get_or s.words p 0) ≡ s.words = set_again s.words p (get_or s.words p 0) (found_at s.words p (omega arith)) in
-        let f : set s.views id v ≡ s.views = set_again s.views id v at in
-        subst (λ (z : List ℕ × List (View E K)). G record { words = z.0; homes = s.homes; views = z.1 }) (λ i. (sym e i, sym f i)) r
+    -- the word says something else, of a lock that as many seats have
+    says_it : (m : ℕ) → (s : St) → takers m ≡ takers (get_or s.words p 0) → G s → length s.homes ≡ slots → (v : View E K) → get_elem? s.views id ≡ some v
+        → G record { words = set s.words p m; homes = s.homes; views = set s.views id v }
+    says_it m s alike r wide v at =
+        let sized = r.sized in let long : p < length s.words = omega arith in
+        let here : (q : ℕ) → q ≡ p → takers (get_or s.words q 0) ≡ takers m = λ q e. ap takers (ap (λ i. get_or s.words i 0) e) ∙ sym alike in
+        subst (λ (l : List (View E K)). G record { words = set s.words p m; homes = s.homes; views = l }) (sym (set_again s.views id v at)) record {
+          latest = r.latest;
+          sized = r.sized ∙ sym (length-set s.words p m);
+          counted = λ q. word_by s.words p m long (λ n. held q s.views ≡ takers n) q (λ e. r.counted q ∙ here q e) (λ ne. r.counted q);
+          home = λ q below. word_by s.words p m long (λ n. n ≡ 0 → (y : T) × (get_elem? s.homes q ≡ some (some (Some y))) × law key q y × (history y ≡ r.latest q)) q
+              (λ e z. r.home q (subst (λ n. q < n) (length-set s.words p m) below) (is_free _ (here q e ∙ ap takers z)))
+              (λ ne z. r.home q (subst (λ n. q < n) (length-set s.words p m) below) z);
+          known = r.known;
+          mine = r.mine;
+          dealt = r.dealt;
+          holder = r.holder;
+          named = r.named;
+        }
 
-    pub takes_rule : (me : Sat) → 0 < me.0.parts → Allows (G) slots id me p (λ n. either (eqb n 0) 1 n) (takes_lock law history (step slots p 0 1 none) me)
-    takes_rule me part s r wide at _ = let n : ℕ = get_or s.words p 0 in dite (ℕ_discrete n 0)
+    pub waits_rule : (me : Sat) → Allows (G) slots id me p (λ n. either (eqb n 1) 2 n) (tells_nothing (step slots p 0 0 none) me)
+    waits_rule me s r wide at _ = let n : ℕ = get_or s.words p 0 in
+        (me.0, keeps, tt, says_it (either (eqb n 1) 2 n) s (as_taken n) r wide me.0 at, (refl, refl))
+
+    pub takes_rule : (m : ℕ) → 0 < m → (me : Sat) → 0 < me.0.parts → Allows (G) slots id me p (λ n. either (eqb n 0) m n) (takes_lock law history (step slots p 0 0 none) me)
+    takes_rule m more me part s r wide at _ = let n : ℕ = get_or s.words p 0 in let next : ℕ = either (eqb n 0) m n in let taken : 0 < next = never_free m more n in dite (ℕ_discrete n 0)
         (λ hit.
         let sized = r.sized in
         let h = r.home p (omega arith) hit in
@@ -197,7 +239,7 @@ module _ {T E K : Type 0} (law : K → ℕ → T → Type 0) (history : T → Li
           w,
           takes p (Some h.0),
           h.1,
-          subst (λ b. G (stepped s p (either b 1 n) id me.1 w (takes p (Some h.0)))) (sym (eq-eqb n 0 hit)) (takes_it slots id p within me s r part wide at hit h.0 h.3),
+          takes_it slots id p within next taken me s r part wide at hit h.0 h.3,
           (
             (λ z. (
               h.0,
@@ -213,7 +255,7 @@ module _ {T E K : Type 0} (law : K → ℕ → T → Type 0) (history : T → Li
           me.0,
           keeps,
           tt,
-          subst (λ b. G (stepped s p (either b 1 n) id me.1 me.0 keeps)) (sym (ne_eqb n 0 miss)) (same_as s r wide me.0 at),
+          says_it next s (one_taker next taken ∙ sym (one_taker n (positive n miss))) r wide me.0 at,
           ((λ z. absurd (miss z)), λ nz. (refl, refl)),
         ))
 
@@ -236,8 +278,7 @@ module _ {T E K : Type 0} (law : K → ℕ → T → Type 0) (history : T → Li
       record {
         latest = r.latest;
         sized = r.sized;
-        counted = λ q. let a = held-snoc q (set s.views id (left_of v)) (told v) in let b = held-set q s.views id v (left_of v) at in let c : get_or s.words q 0 ≡ held q s.views = r.counted q in omega arith;
-        bit = r.bit;
+        counted = λ q. let a = held-snoc q (set s.views id (left_of v)) (told v) in let b = held-set q s.views id v (left_of v) at in let c : held q s.views ≡ takers (get_or s.words q 0) = r.counted q in omega arith;
         home = r.home;
         known = each (λ u. (m : Front E) → Contains u.fronts m → IsPrefix m.history (r.latest m.lock)) (r.known id v at) (r.known id v at) r.known;
         mine = each (λ u. (m : Front E) → Contains u.held m → m.history ≡ r.latest m.lock) (r.mine id v at) (λ m c. absurd (let z = c.1 in omega arith)) r.mine;
@@ -256,8 +297,7 @@ module _ {T E K : Type 0} (law : K → ℕ → T → Type 0) (history : T → Li
         latest = r.latest;
         sized = r.sized;
         counted = λ q. let a = held-set q s.views id v both at in let b = held-set q (set s.views id both) other w nobody at' in let e = count-append q v.held w.held in
-            let c : get_or s.words q 0 ≡ held q s.views = r.counted q in omega arith;
-        bit = r.bit;
+            let c : held q s.views ≡ takers (get_or s.words q 0) = r.counted q in omega arith;
         home = r.home;
         known = each (λ u. (m : Front E) → Contains u.fronts m → IsPrefix m.history (r.latest m.lock))
             (λ m c. ⊎_elim (λ l. r.known id v at m l) (λ rt. r.known other w there m rt) (Contains-append_cases v.fronts w.fronts m c)) (λ m c. absurd (let z = c.1 in omega arith)) r.known;
@@ -306,8 +346,7 @@ module _ {T E K : Type 0} (law : K → ℕ → T → Type 0) (history : T → Li
       record {
         latest = λ q. start_of (slice_get xs q);
         sized = length-map xs some ∙ sym same;
-        counted = λ q. zeros q;
-        bit = λ q. let z = zeros q in omega arith;
+        counted = λ q. sym (ap takers (zeros q));
         home = λ q below z. let a = all q (omega arith) in (a.0, slice_some xs q (Some a.0) a.1, a.2, sym (ap start_of a.1));
         known = only (λ u. (m : Front E) → Contains u.fronts m → IsPrefix m.history (start_of (slice_get xs m.lock))) (λ m c. let f = front_at 0 xs m c in let at : m.lock ≡ f.index = f.lock_is ∙ omega arith in whole_prefix _ _ (f.history_is ∙ sym (ap start_of (ap (slice_get xs) at ∙ f.there))));
         mine = only (λ u. (m : Front E) → Contains u.held m → m.history ≡ start_of (slice_get xs m.lock)) (λ m c. absurd (let z = c.1 in omega arith));
@@ -328,7 +367,7 @@ module _ {T E K : Type 0} (law : K → ℕ → T → Type 0) (history : T → Li
       let none : held p s.views ≡ 0 = none_held p s.views (λ i u e. dite (ℕ_discrete i id)
       (λ same. (let is : v ≡ u = some-injective v u (sym at ∙ (ap (get_elem? s.views) (sym same) ∙ e)) in subst (λ (z : View E K). z.held ≡ []) is idle))
       (λ other. r.holder i u e (let two = parts_two s.views id i v u at e other in omega arith))) in
-      let h = r.home p below (r.counted p ∙ none) in
+      let h = r.home p below (is_free _ (sym (r.counted p) ∙ none)) in
       (h.0, h.1, h.2, λ l c. subst (λ m. IsPrefix l m) (sym h.3) (r.known id v at (front p l) c))
 
 pub refront : {T : Type 0} (p : ℕ) (y : T) (cs ds : List (ℕ × T)) → ds ≡ (p, y) ∷ cs → ds ≡ (p, y) ∷ rest ds

@@ -1,6 +1,6 @@
 -- What holds of a row of locks and of all its seats between any two steps. That a participant's books lie behind a lock
 -- is this hub's own choice.
-use Rattle.std.specs.Prelude.{◌≡◌, ℕ, ◌<◌, ◌≤◌, List, [], length, slice_index, Contains, Option, Some}
+use Rattle.std.specs.Prelude.{◌≡◌, ℕ, zero, suc, ◌<◌, List, [], length, slice_index, Contains, Option, Some}
 use mathlib.Core.Option.{some}
 use mathlib.Core.List.{IsPrefix}
 use lib.ListN.{get_elem?}
@@ -9,9 +9,15 @@ use Rattle.inst_row.specs.declared.view.Front.{Front}
 use Rattle.inst_row.specs.declared.view.View.{View}
 use Rattle.inst_row.specs.View.{held, parts}
 
+-- how many seats have a lock whose word is this: it is free at 0, and else one has it, at 2 while others may sleep until
+-- it is given back
+abbrev pub takers : ℕ → ℕ
+takers zero = 0
+takers (suc n) = 1
+
 -- Each lock has a latest history.
 -- sized: there is a slot for each word
--- counted, bit: a word is the number of seats that have its lock, at most 1
+-- counted: one seat has a lock, where its word isn't 0, and else none
 -- home: where no seat has it, the value lies in its slot, keeps its law, and has the latest history
 -- known: what a seat has seen is a beginning of the latest history
 -- mine: who has a lock found its latest history
@@ -22,8 +28,7 @@ pub record Guarded {T E K : Type 0} (law : K → ℕ → T → Type 0) (history 
     (s : State (Option T) (View E K)) : Type 0 where
   pub latest : ℕ → List E
   pub sized : length s.homes ≡ length s.words
-  pub counted : (p : ℕ) → slice_index s.words p ≡ held p s.views
-  pub bit : (p : ℕ) → slice_index s.words p ≤ 1
+  pub counted : (p : ℕ) → held p s.views ≡ takers (slice_index s.words p)
   pub home : (p : ℕ) → p < length s.words → slice_index s.words p ≡ 0 →
       (x : T) × (get_elem? s.homes p ≡ some (some (Some x))) × law key p x × (history x ≡ latest p)
   pub known : (id : ℕ) (v : View E K) → get_elem? s.views id ≡ some v → (f : Front E) → Contains v.fronts f →

@@ -7,6 +7,9 @@ use Rattle.inst_row.specs.declared.view.View.{View}
 use Rattle.inst_row.specs.View.{took, gave}
 
 module _ {T E K : Type 0} where
+  abbrev pub tells_nothing : Step (Option T) → Me (Option T) (View E K) → ℕ → Me (Option T) (View E K) → Type 0
+  tells_nothing step m n new = (new.0 ≡ m.0) × (new.1 ≡ m.1)
+
   -- nothing, where a seat has the lock; else its value keeps its law, and its history goes on from what was seen
   abbrev pub takes_lock : (K → ℕ → T → Type 0) → (T → List E) → Step (Option T) → Me (Option T) (View E K) → ℕ →
       Me (Option T) (View E K) → Type 0
@@ -14,7 +17,7 @@ module _ {T E K : Type 0} where
       (n ≡ 0 → (x : T) × ((k : K) → m.0.about ≡ Some k → law k step.word x)
       × ((f : Front E) → Contains m.0.fronts f → f.lock ≡ step.word → IsPrefix f.history (history x))
       × (new.0 ≡ took m.0 step.word (history x)) × (new.1 ≡ (step.word, Some x) ∷ m.1))
-      × (n ≢ 0 → (new.0 ≡ m.0) × (new.1 ≡ m.1))
+      × (n ≢ 0 → tells_nothing step m n new)
 
   -- the value that the hand holds has its history seen
   abbrev pub gives_lock : (T → List E) → Step (Option T) → Me (Option T) (View E K) → ℕ → Me (Option T) (View E K) →

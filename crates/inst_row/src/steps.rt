@@ -15,7 +15,16 @@ impl<T, E, K, L: Lawful<T, E, K>> Play<Option<T>, View<E, K>> for Taking<L> {
     ghost then = { takes_lock L.law L.history };
 }
 
-/// The store that gives it back.
+/// The exchange that says that a seat waits for it.
+pub struct Waiting;
+
+impl<T, E, K> Play<Option<T>, View<E, K>> for Waiting {
+    ghost use Rattle.inst_row.specs.Steps.{tells_nothing};
+
+    ghost then = { tells_nothing };
+}
+
+/// The exchange that gives it back.
 pub struct Giving<L> {
     law: PhantomData<L>,
 }

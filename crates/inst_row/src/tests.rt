@@ -129,25 +129,47 @@ fn give_late<R: Clock>(rt: &R, row: &Row, mut seat: Caller, lock: usize, book: B
     seat
 }
 
-/// The first guest is at the second book while the second one waits for it. What the second one finds.
+/// Two guests wait for the second book. How many entries each finds.
+fn wait_together<R: Threads + Wait + Sync>(
+    rt: &R,
+    row: &Row,
+    mut two: Caller,
+    mut three: Caller,
+) -> (Option<usize>, Option<usize>)
+    requires on { IsOn (row_id row.now) (key_of row.now) two × IsOn (row_id row.now) (key_of row.now) three }
+    requires two { 1 < size row.now }
+    requires free { IsFree two × IsFree three }
+{
+    join(
+        rt,
+        move || visit(rt, row, &mut two, 1, 2),
+        move || visit(rt, row, &mut three, 1, 3),
+    )
+}
+
+/// The first guest is at the second book while two others wait for it. What these find.
 fn visit_in_turn<R: Threads + Wait + Clock + Sync>(
     rt: &R,
     row: &Row,
     mut one: Caller,
-    mut two: Caller,
-) -> Option<usize>
-    requires on { IsOn (row_id row.now) (key_of row.now) one × IsOn (row_id row.now) (key_of row.now) two }
+    two: Caller,
+    three: Caller,
+) -> (Option<usize>, Option<usize>)
+    requires on { IsOn (row_id row.now) (key_of row.now) one × IsOn (row_id row.now) (key_of row.now) two × IsOn (row_id row.now) (key_of row.now) three }
     requires two { 1 < size row.now }
-    requires free { IsFree one × IsFree two }
+    requires free { IsFree one × IsFree two × IsFree three }
 {
-    let mut book = row.take(rt, &mut one, 1);
-    let written = book.guests.push(1);
+    let book = row.take(rt, &mut one, 1);
     let (_one, found) = join(
         rt,
         move || give_late(rt, row, one, 1, book),
-        move || visit(rt, row, &mut two, 1, 2),
+        move || -> (Option<usize>, Option<usize>)
+            requires on { IsOn (row_id row.now) (key_of row.now) two × IsOn (row_id row.now) (key_of row.now) three }
+            requires two { 1 < size row.now }
+            requires free { IsFree two × IsFree three }
+        { wait_together(rt, row, two, three) },
     );
-    written.ok().and(found)
+    found
 }
 
 /// The books of a row that ends.
@@ -198,6 +220,8 @@ fn two_threads_lose_nothing(rt: HostRuntime) -> Result<(), Fail> {
 fn who_waits_gets_on(rt: HostRuntime) -> Result<(), Fail> {
     let (row, mut one) = open_two(rt.alloc())?;
     let two = row.split(&mut one);
-    assert_eq!(rt; visit_in_turn(&rt, &row, one, two), Some(1));
+    let three = row.split(&mut one);
+    let found = visit_in_turn(&rt, &row, one, two, three);
+    assert!(rt; matches!(found, (Some(0), Some(1)) | (Some(1), Some(0))));
     Ok(())
 }

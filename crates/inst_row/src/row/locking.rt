@@ -7,18 +7,25 @@ ghost use Rattle.inst_row.specs.Row.{row_id, key_of, size};
 use super::LockRow;
 use crate::lawful::Lawful;
 use crate::seat::RowSeat;
-use crate::steps::{Giving, Taking};
+use crate::steps::{Giving, Taking, Waiting};
 use std::sync::Wait;
 use std::thread::yield_now;
 
 /// How often a lock is tried before its taker sleeps until it is given back.
 const TRIES: u32 = 64;
 
+/// The word of a lock that a seat has.
+const TAKEN: u64 = 1;
+
+/// The word of a lock that a seat has while others may sleep until it is given back.
+const AWAITED: u64 = 2;
+
 impl<T, E, K, L: Lawful<T, E, K>> LockRow<T, E, K, L> {
-    /// The value behind the lock, where no seat has it. It is tried once.
-    fn try_take(&self, seat: &mut RowSeat<T, E, K>, lock: usize) -> Option<T>
+    /// The value behind the lock, whose word is `word` from then on, where no seat has it. It is tried once.
+    fn try_take(&self, seat: &mut RowSeat<T, E, K>, lock: usize, word: u64) -> Option<T>
         requires on { IsOn (row_id self.now) (key_of self.now) seat.old }
         requires lock { lock < size self.now }
+        requires word { 0 < word }
         requires free { IsFree seat.old }
         ensures law { IfSome result (λ value. L.law (key_of self.now) lock value) }
         ensures goes_on { IfSome result (λ value. GoesOn lock (L.history value) seat.old) }
@@ -28,18 +35,19 @@ impl<T, E, K, L: Lawful<T, E, K>> LockRow<T, E, K, L> {
         ensures none { IfNone result (seat.new.seat.me ≡ seat.old.seat.me) }
     {
         let shared = &self.table.shared;
-        if shared.compare_exchange::<Taking<L>>(&mut seat.seat, lock, 0, 1) == 0 {
+        if shared.compare_exchange::<Taking<L>>(&mut seat.seat, lock, 0, word) == 0 {
             shared.exchange(&mut seat.seat, lock, None)
         } else {
             None
         }
     }
 
-    /// The value behind the lock, where no seat has it at one of some tries. Between them the thread lets
-    /// others run: who has a lock keeps it for one event, which is sooner over than a sleep.
-    fn try_often(&self, seat: &mut RowSeat<T, E, K>, lock: usize) -> Option<T>
+    /// The same at one of some tries. Between them the thread lets others run: who has a lock keeps it for one
+    /// event, which is sooner over than a sleep.
+    fn try_often(&self, seat: &mut RowSeat<T, E, K>, lock: usize, word: u64) -> Option<T>
         requires on { IsOn (row_id self.now) (key_of self.now) seat.old }
         requires lock { lock < size self.now }
+        requires word { 0 < word }
         requires free { IsFree seat.old }
         ensures law { IfSome result (λ value. L.law (key_of self.now) lock value) }
         ensures goes_on { IfSome result (λ value. GoesOn lock (L.history value) seat.old) }
@@ -49,12 +57,24 @@ impl<T, E, K, L: Lawful<T, E, K>> LockRow<T, E, K, L> {
         ensures none { IfNone result (seat.new.seat.me ≡ seat.old.seat.me) }
     {
         for _ in 0..TRIES {
-            if let Some(value) = self.try_take(seat, lock) {
+            if let Some(value) = self.try_take(seat, lock, word) {
                 return Some(value);
             }
             yield_now();
         }
         None
+    }
+
+    /// Says that a seat waits for the lock, and sleeps until it is given back.
+    fn wait<R: Wait>(&self, rt: &R, seat: &mut RowSeat<T, E, K>, lock: usize)
+        requires on { IsOn (row_id self.now) (key_of self.now) seat.old }
+        requires lock { lock < size self.now }
+        ensures on { IsOn (row_id self.now) (key_of self.now) seat.new }
+        ensures same { seat.new.seat.me ≡ seat.old.seat.me }
+    {
+        let shared = &self.table.shared;
+        shared.compare_exchange::<Waiting>(&mut seat.seat, lock, TAKEN, AWAITED);
+        shared.park(rt, lock, AWAITED as u32);
     }
 
     /// The value behind the lock. It waits while another seat has it; a seat that has a lock takes no second
@@ -69,17 +89,21 @@ impl<T, E, K, L: Lawful<T, E, K>> LockRow<T, E, K, L> {
         ensures on { IsOn (row_id self.now) (key_of self.now) seat.new }
         ensures sees { Sees lock (L.history result) seat.old seat.new }
     {
+        if let Some(value) = self.try_often(seat, lock, TAKEN) {
+            return value;
+        }
         for _ in rt.forever() {
-            if let Some(value) = self.try_often(seat, lock) {
+            self.wait(rt, seat, lock);
+            // others may still sleep
+            if let Some(value) = self.try_often(seat, lock, AWAITED) {
                 return value;
             }
-            self.table.shared.park(rt, lock, 1);
         }
         unreachable!()
     }
 
     /// Gives the lock back, with a value that keeps its law and whose history goes on from the one that
-    /// was found. One seat that waits for it is woken.
+    /// was found. Where seats may sleep until then, one of them is woken.
     pub fn give(&self, seat: &mut RowSeat<T, E, K>, lock: usize, value: T)
         requires on { IsOn (row_id self.now) (key_of self.now) seat.old }
         requires lock { lock < size self.now }
@@ -92,7 +116,8 @@ impl<T, E, K, L: Lawful<T, E, K>> LockRow<T, E, K, L> {
         let shared = &self.table.shared;
         let old = shared.exchange(&mut seat.seat, lock, Some(value));
         let None = old else { unreachable!() };
-        shared.store::<Giving<L>>(&mut seat.seat, lock, 0);
-        shared.wake_one(lock);
+        if shared.swap::<Giving<L>>(&mut seat.seat, lock, 0) == AWAITED {
+            shared.wake_one(lock);
+        }
     }
 }

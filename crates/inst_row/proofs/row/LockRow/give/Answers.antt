@@ -4,8 +4,8 @@ use Rattle.inst_row.specs.declared.view.View.{View}
 use Rattle.inst_row.proofs.Locks.{gives_rule, refront}
 use Rattle.inst_row.proofs.row.LockRow.give.Goals as goal
 
-pub store-requires : goal.store-requires
-store-requires g c =
+pub swap-requires : goal.swap-requires
+swap-requires g c =
     let e = c.exchange-old.ensures.3 in
     let has = c.requires.has in
     let view = ap (λ (m : Me (Option g.row.T.Denot) (View g.row.E.Denot g.row.K.Denot)). m.0) e in

@@ -5,7 +5,7 @@ use Rattle.inst_row.proofs.Locks.{takes_rule, refront}
 use Rattle.inst_row.proofs.row.LockRow.try_take.Goals as goal
 
 pub compare_exchange-requires : goal.compare_exchange-requires
-compare_exchange-requires g c = (search rules, search rules, takes_rule g.L.Lawful.law g.L.Lawful.history _ _ _ _ (search rules) _ c.requires.free.part)
+compare_exchange-requires g c = (search rules, search rules, takes_rule g.L.Lawful.law g.L.Lawful.history _ _ _ _ (search rules) _ c.requires.word _ c.requires.free.part)
 
 pub exchange-requires : goal.exchange-requires
 exchange-requires g c = let t = c.compare_exchange.ensures.2.0 c.if-compare_exchange-eq0.true in
