@@ -68,7 +68,8 @@ fn sweep_each<R: Wait>(rt: &R, hub: &Hub, teller: &mut Teller) -> Result<u32, Fl
 }
 
 /// Each participant is swept, and then sweeps find nothing new. The first sweeps find only what earlier sweeps decided,
-/// since a sweep of one side tells the other nothing, while each call does: where no thread swept they find nothing.
+/// since a sweep of one side tells the other nothing, while each call does, but where memory is refused: so they find
+/// nothing in a round in which no thread swept.
 pub(crate) fn sweep_all<R: Wait>(
     rt: &R,
     hub: &Hub,
