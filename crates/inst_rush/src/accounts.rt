@@ -2,7 +2,7 @@
 ghost use Rattle.inst_hub.specs.Calls.{IsOf};
 
 use crate::asking::{ask, ask_money};
-use crate::flaw::Flaw;
+use crate::flaw::{Flaw, check_sum};
 use crate::sights::{Sight, Sights};
 use crate::transfer::{FUNDS, PARTICIPANTS};
 use inst_command::{Command, Line, LineKind, Outcome, Reply, State};
@@ -55,42 +55,43 @@ fn expected(who: u8, sights: &Sights) -> Result<u64, Flaw> {
     Ok(credit.saturating_sub(turnover.paid))
 }
 
-/// How far a statement was read.
+/// The balance after the lines of a statement that were read.
 #[derive(Clone, Copy, Debug)]
-struct Read {
-    number: u32,
+struct RunningBalance {
+    /// How many lines these were.
+    lines: u32,
     position: u64,
 }
 
-impl Read {
-    /// With one line more, which has the next number and the position that it leads to.
-    fn line(self, line: &Line) -> Result<Read, Flaw> {
+impl RunningBalance {
+    /// After one line more, which has the next number and the position that it leads to.
+    fn after_line(self, line: &Line) -> Result<RunningBalance, Flaw> {
         let cents = line.cents.get();
         let position = match line.kind {
             LineKind::Funded | LineKind::Received => self.position.checked_add(cents),
             LineKind::Defunded | LineKind::Paid => self.position.checked_sub(cents),
         };
-        let number = self.number.saturating_add(1);
-        if position != Some(line.position) || line.number != number {
+        let lines = self.lines.saturating_add(1);
+        if position != Some(line.position) || line.number != lines {
             return Err(Flaw::OtherStatement);
         }
-        Ok(Read {
-            number,
+        Ok(RunningBalance {
+            lines,
             position: line.position,
         })
     }
 
-    fn lines(self, lines: &[Line]) -> Result<Read, Flaw> {
-        let mut read = self;
+    fn after_lines(self, lines: &[Line]) -> Result<RunningBalance, Flaw> {
+        let mut balance = self;
         for line in lines {
-            read = read.line(line)?;
+            balance = balance.after_line(line)?;
         }
-        Ok(read)
+        Ok(balance)
     }
 
-    fn reply(self, reply: &Reply) -> Result<Read, Flaw> {
+    fn after_reply(self, reply: &Reply) -> Result<RunningBalance, Flaw> {
         match reply {
-            Reply::Statement { lines } => self.lines(lines.as_slice()),
+            Reply::Statement { lines } => self.after_lines(lines.as_slice()),
             _ => Err(Flaw::OtherStatement),
         }
     }
@@ -101,19 +102,19 @@ fn statement<R: Wait>(rt: &R, hub: &Hub, teller: &mut Teller, who: u8) -> Result
     requires { IsOf hub.now teller.old }
     ensures { IsOf hub.now teller.new }
 {
-    let mut read = Read {
-        number: 0,
+    let mut balance = RunningBalance {
+        lines: 0,
         position: 0,
     };
     for _page in 0..PAGES {
         let command = Command::Statement {
-            skip: u64::from(read.number),
+            skip: u64::from(balance.lines),
             count: PAGE,
         };
-        let (reply, _) = ask(rt, hub, teller, who, command, 0)?;
-        read = read.reply(&reply)?;
+        let reply = ask(rt, hub, teller, who, command, 0)?;
+        balance = balance.after_reply(&reply)?;
     }
-    Ok(read.position)
+    Ok(balance.position)
 }
 
 /// The position of a participant, where nothing is reserved, and it is what the outcomes and the statement say.
@@ -152,12 +153,9 @@ pub(crate) fn check_accounts<R: Wait>(
 ) -> Result<(), Flaw>
     requires { IsOf hub.now teller.old }
 {
-    let mut sum = 0u64;
+    let mut positions = 0u64;
     for who in 0..PARTICIPANTS {
-        sum = sum.saturating_add(check_account(rt, hub, teller, sights, who as u8)?);
+        positions = positions.saturating_add(check_account(rt, hub, teller, sights, who as u8)?);
     }
-    if sum != FUNDS * u64::from(PARTICIPANTS) {
-        return Err(Flaw::OtherSum);
-    }
-    Ok(())
+    check_sum(positions, FUNDS * u64::from(PARTICIPANTS))
 }

@@ -2,7 +2,7 @@
 ghost use Rattle.inst_hub.specs.declared.hub.Hub.{Hub};
 ghost use Rattle.inst_hub.specs.Calls.{IsOf};
 
-use crate::asking::money_of;
+use crate::asking::{call, money_of};
 use crate::chooser::Act;
 use crate::flaw::Flaw;
 use crate::sights::{Sight, Sights};
@@ -62,10 +62,7 @@ pub(crate) fn ask_so<R: Wait>(
     requires { IsOf hub.now teller.old }
     ensures { IsOf hub.now teller.new }
 {
-    if !ask.fits(hub.settings()) {
-        return Err(Flaw::Refused(Fault::BadField));
-    }
-    let (reply, ticket) = hub.call(rt, teller, ask)?;
+    let (reply, ticket) = call(rt, hub, teller, ask)?;
     sights.calls = sights.calls.saturating_add(1);
     is_balanced(&reply)?;
     match ticket {

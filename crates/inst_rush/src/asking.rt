@@ -13,7 +13,23 @@ const CENTS: u64 = 100;
 /// The time stamp of all transfers, and the reading at which they are submitted.
 const STAMP: u64 = 1_000;
 
-/// What a command is answered; `BadField` where it doesn't fit the hub.
+/// What an ask is answered, a refusal too; `BadField` where it doesn't fit the hub.
+pub(crate) fn call<R: Wait>(
+    rt: &R,
+    hub: &Hub,
+    teller: &mut Teller,
+    ask: &Ask,
+) -> Result<(Reply, Option<Ticket>), Fault>
+    requires { IsOf hub.now teller.old }
+    ensures { IsOf hub.now teller.new }
+{
+    if !ask.fits(hub.settings()) {
+        return Err(Fault::BadField);
+    }
+    hub.call(rt, teller, ask)
+}
+
+/// What a command is answered. A refusal is an error.
 pub(crate) fn ask<R: Wait>(
     rt: &R,
     hub: &Hub,
@@ -21,7 +37,7 @@ pub(crate) fn ask<R: Wait>(
     who: u8,
     command: Command,
     at: u64,
-) -> Result<(Reply, Option<Ticket>), Fault>
+) -> Result<Reply, Fault>
     requires { IsOf hub.now teller.old }
     ensures { IsOf hub.now teller.new }
 {
@@ -30,10 +46,10 @@ pub(crate) fn ask<R: Wait>(
         command,
         at: Moment::new(0, at)?,
     };
-    if !ask.fits(hub.settings()) {
-        return Err(Fault::BadField);
+    match call(rt, hub, teller, &ask)? {
+        (Reply::Refused(fault), _) => Err(fault),
+        (reply, _) => Ok(reply),
     }
-    hub.call(rt, teller, &ask)
 }
 
 fn fund<R: Wait>(rt: &R, hub: &Hub, teller: &mut Teller, who: u8, cents: u64) -> Result<(), Fault>
@@ -48,7 +64,7 @@ fn fund<R: Wait>(rt: &R, hub: &Hub, teller: &mut Teller, who: u8, cents: u64) ->
     Ok(())
 }
 
-/// Funds the first so many participants, at most 256, with so many cents each.
+/// Funds the first so many participants, at most 256, with so many cents each. A refusal is an error.
 pub(crate) fn fund_all<R: Wait>(
     rt: &R,
     hub: &Hub,
@@ -99,18 +115,18 @@ pub(crate) fn ask_money<R: Wait>(
     requires { IsOf hub.now teller.old }
     ensures { IsOf hub.now teller.new }
 {
-    let (reply, _) = ask(rt, hub, teller, who, Command::Position, STAMP)?;
+    let reply = ask(rt, hub, teller, who, Command::Position, STAMP)?;
     money_of(&reply).ok_or(Fault::BadField)
 }
 
-/// Submits a transfer and confirms it: whether it was accepted.
+/// Submits a transfer and confirms it: whether it was accepted. A refusal of either is an error.
 pub(crate) fn settle<R: Wait>(
     rt: &R,
     alloc: Global,
     hub: &Hub,
     teller: &mut Teller,
     pair: (u8, u8),
-    name: (u16, u32),
+    name: (u8, u32),
 ) -> Result<bool, Fault>
     requires { IsOf hub.now teller.old }
     ensures { IsOf hub.now teller.new }
@@ -125,7 +141,7 @@ pub(crate) fn settle<R: Wait>(
         stamp: Moment::new(0, STAMP)?,
     };
     ask(rt, hub, teller, from, Command::Submit(submission), STAMP)?;
-    let (reply, _) = ask(
+    let reply = ask(
         rt,
         hub,
         teller,

@@ -2,6 +2,7 @@
 use crate::generator::Generator;
 use crate::opening::AHEAD;
 use crate::sights::PLACES;
+use crate::stress_round::StressRound;
 use crate::transfer::{NAMES, PARTICIPANTS, Transfer};
 use inst_base::{Cents, Fault, Moment, Reason};
 use inst_board::Place;
@@ -32,30 +33,20 @@ pub(crate) enum Act {
     Sweep { who: u8, at: Moment },
 }
 
-/// What a round is about.
-#[derive(Clone, Copy, Debug)]
-pub(crate) struct Setting {
-    pub(crate) round: u32,
-    /// How many threads there are.
-    pub(crate) threads: u16,
-    /// From when on nothing is accepted, in milliseconds before the deadline.
-    pub(crate) margin: u32,
-}
-
-/// Chooses what a thread does. The same setting and thread always give the same acts.
+/// Chooses what a thread does. The same round and thread always give the same acts.
 #[derive(Debug, Drop)]
 pub(crate) struct Chooser {
     generator: Generator,
-    setting: Setting,
-    thread: u16,
+    round: StressRound,
+    thread: u8,
     step: u32,
 }
 
 impl Chooser {
-    pub(crate) fn new(setting: Setting, thread: u16) -> Chooser {
+    pub(crate) fn new(round: StressRound, thread: u8) -> Chooser {
         Chooser {
-            generator: Generator::new(setting.round, thread),
-            setting,
+            generator: Generator::new(round.number, thread),
+            round,
             thread,
             step: 0,
         }
@@ -65,8 +56,8 @@ impl Chooser {
     pub(crate) fn choose(&mut self, alloc: Global) -> Result<Act, Fault> {
         self.step = self.step.saturating_add(1);
         match self.step % PACE {
-            0 => submit(&self.duel(alloc)?),
-            1 => self.strike(&self.duel(alloc)?),
+            0 => submit(&self.contested(alloc)?),
+            1 => self.decide_contested(&self.contested(alloc)?),
             _ => self.any(alloc),
         }
     }
@@ -76,11 +67,12 @@ impl Chooser {
         if self.step % PACE != 0 {
             return None;
         }
-        Some((self.step / PACE).saturating_mul(u32::from(self.setting.threads)))
+        Some((self.step / PACE).saturating_mul(u32::from(self.round.threads)))
     }
 
-    /// The transfer that all threads submit before they wait for one another, and then decide at the same time.
-    fn duel(&self, alloc: Global) -> Result<Transfer, Fault> {
+    /// The contested transfer: all threads submit it before they wait for one another, and then decide it at the same
+    /// time.
+    fn contested(&self, alloc: Global) -> Result<Transfer, Fault> {
         let number = self.step / PACE;
         let participants = u32::from(PARTICIPANTS);
         Transfer::of(
@@ -90,11 +82,11 @@ impl Chooser {
         )
     }
 
-    /// The one half of the threads confirm or reject the transfer in time, the others let it expire.
-    fn strike(&self, transfer: &Transfer) -> Result<Act, Fault> {
+    /// The one half of the threads confirm or reject the contested transfer in time, the others let it expire.
+    fn decide_contested(&self, transfer: &Transfer) -> Result<Act, Fault> {
         let Transfer { from, to, id, .. } = *transfer;
         let deadline = transfer.deadline();
-        let in_time = deadline.saturating_sub(u64::from(self.setting.margin) + 1);
+        let in_time = deadline.saturating_sub(u64::from(self.round.margin) + 1);
         match (self.step / PACE).saturating_add(u32::from(self.thread)) % 4 {
             0 => command_at(to, Command::Confirm { from, id }, in_time),
             2 => {
@@ -137,7 +129,7 @@ impl Chooser {
 
     /// The number that the thread submits for this one: even ones are all threads', each odd one is one thread's.
     fn submitted(&self, number: u32) -> u32 {
-        let threads = u32::from(self.setting.threads.max(1));
+        let threads = u32::from(self.round.threads.max(1));
         if number % 2 == 1 && number / 2 % threads != u32::from(self.thread) {
             return number - 1;
         }
@@ -174,7 +166,7 @@ impl Chooser {
             9..=12 => command_at(from, Command::Investigate { id }, at),
             13 => command_at(to, Command::Fetch { max: 3 }, at),
             14 => command_at(self.participant(), Command::Confirm { from, id }, at),
-            15 => Ok(Act::Sweep {
+            15 if self.round.sweeps => Ok(Act::Sweep {
                 who: self.participant(),
                 at: Moment::new(0, at)?,
             }),
@@ -184,7 +176,7 @@ impl Chooser {
 
     /// A reading for the decision of a transfer: well before its deadline, about the margin, about the deadline.
     fn reading(&mut self, deadline: u64) -> u64 {
-        let margin = u64::from(self.setting.margin);
+        let margin = u64::from(self.round.margin);
         match self.generator.below(16) {
             0..=6 => deadline.saturating_sub(5_000),
             7 | 8 => deadline.saturating_sub(margin).saturating_sub(1),

@@ -2,11 +2,13 @@ use inst_base::Fault;
 use std::alloc::{AllocError, AllocFailed};
 use std::fmt::{self, Display, Formatter};
 
-/// What doesn't agree in a stress, or why a round couldn't go on.
+/// What is wrong in a round of a load or of a stress.
 #[derive(Clone, Copy, Debug, PartialEq, Eq)]
 pub(crate) enum Flaw {
-    /// What a round needs was refused, as memory.
+    /// What a round needs was refused, as memory, or a command that must be granted.
     Refused(Fault),
+    /// Not all transfers of a load were accepted.
+    NotAllSettled { settled: u32, transfers: u32 },
     /// A reply tells of a transfer that was taken, and there is no ticket.
     NoTicket,
     /// Tickets of one place go with different identifiers, or a repeat was taken with other contents.
@@ -19,6 +21,8 @@ pub(crate) enum Flaw {
     TellersDiffer,
     /// A transfer is pending after its originator asked for it long past the deadline.
     StillPending,
+    /// A sweep finds something new where each call told the other side what it had done.
+    NotTold,
     /// A sweep finds something new after a sweep of each participant.
     StillNew,
     /// A transfer was handed out twice, or one that nobody submitted.
@@ -31,33 +35,53 @@ pub(crate) enum Flaw {
     StillReserved,
     /// A position isn't what the outcomes of the transfers make it.
     OtherPosition,
-    /// The positions don't sum to the funding.
-    OtherSum,
+    /// The positions don't sum to the funding, in cents.
+    OtherSum { positions: u64, funding: u64 },
     /// The lines of a statement don't lead to the position, one by one.
     OtherStatement,
 }
 
-impl Flaw {
-    /// For whoever reads the log of a stress.
-    pub(crate) fn meaning(self) -> &'static str {
-        match self {
-            Flaw::Refused(fault) => fault.name(),
+/// For whoever reads the log of a load or of a stress.
+impl Display for Flaw {
+    fn fmt<W: fmt::Write>(&self, f: &mut Formatter<W>) -> fmt::Result {
+        f.write_str(match self {
+            Flaw::Refused(fault) => return write!(f, "Refused: {}", fault.name()),
+            Flaw::NotAllSettled { settled, transfers } => {
+                return write!(
+                    f,
+                    "NotAllSettled: {settled} of {transfers} transfers were settled"
+                );
+            }
+            Flaw::OtherSum { positions, funding } => {
+                return write!(
+                    f,
+                    "OtherSum: the positions sum to {positions} cents, the funding to {funding}"
+                );
+            }
             Flaw::NoTicket => "NoTicket: a reply tells of a transfer and there is no ticket",
             Flaw::OtherTransfer => "OtherTransfer: one place has two identifiers or two contents",
             Flaw::ReplyWentBack => "ReplyWentBack: a reply tells less than the teller had seen",
             Flaw::PeekWentBack => "PeekWentBack: a peek shows less than the teller knew",
             Flaw::TellersDiffer => "TellersDiffer: two tellers have different outcomes",
             Flaw::StillPending => "StillPending: a transfer is pending at the end",
+            Flaw::NotTold => "NotTold: a call didn't tell the other side what it had done",
             Flaw::StillNew => "StillNew: a sweep finds something new at the end",
             Flaw::StrangeEntry => "StrangeEntry: a transfer was handed out twice or unsubmitted",
             Flaw::NotHandedOut => "NotHandedOut: a transfer didn't come to its beneficiary",
             Flaw::Unbalanced => "Unbalanced: reserved and available don't sum to the position",
             Flaw::StillReserved => "StillReserved: cents are reserved at the end",
             Flaw::OtherPosition => "OtherPosition: a position isn't that of the outcomes",
-            Flaw::OtherSum => "OtherSum: the positions don't sum to the funding",
             Flaw::OtherStatement => "OtherStatement: the lines don't lead to the position",
-        }
+        })
     }
+}
+
+/// `OtherSum` where the positions don't sum to the funding.
+pub(crate) fn check_sum(positions: u64, funding: u64) -> Result<(), Flaw> {
+    if positions != funding {
+        return Err(Flaw::OtherSum { positions, funding });
+    }
+    Ok(())
 }
 
 impl From<Fault> for Flaw {
@@ -82,18 +106,25 @@ impl<T: Drop> From<AllocFailed<T>> for Flaw {
 #[derive(Clone, Copy, Debug, PartialEq, Eq)]
 pub(crate) struct Failure {
     pub(crate) flaw: Flaw,
-    pub(crate) thread: Option<u16>,
+    pub(crate) thread: Option<u8>,
     pub(crate) round: u32,
 }
 
 impl Flaw {
     /// This flaw, met by the teller of this thread.
-    pub(crate) fn of(self, thread: u16) -> Failure {
+    pub(crate) fn of(self, thread: u8) -> Failure {
         Failure {
             flaw: self,
             thread: Some(thread),
             round: 0,
         }
+    }
+}
+
+impl Failure {
+    /// The same in this round.
+    pub(crate) fn in_round(self, round: u32) -> Failure {
+        Failure { round, ..self }
     }
 }
 
@@ -127,10 +158,14 @@ impl<T: Drop> From<AllocFailed<T>> for Failure {
 
 impl Display for Failure {
     fn fmt<W: fmt::Write>(&self, f: &mut Formatter<W>) -> fmt::Result {
-        let meaning = self.flaw.meaning();
-        match self.thread {
-            Some(thread) => write!(f, "round {}, thread {thread}: {meaning}", self.round),
-            None => write!(f, "round {}: {meaning}", self.round),
+        let Failure {
+            flaw,
+            thread,
+            round,
+        } = self;
+        match thread {
+            Some(thread) => write!(f, "round {round}, thread {thread}: {flaw}"),
+            None => write!(f, "round {round}: {flaw}"),
         }
     }
 }

@@ -11,7 +11,7 @@ impl Generator {
     ghost use Rattle.std.specs.Prelude.{◌<◌};
 
     /// The numbers of this thread in this round.
-    pub(crate) fn new(round: u32, thread: u16) -> Generator {
+    pub(crate) fn new(round: u32, thread: u8) -> Generator {
         Generator {
             words: Pcg32::new(u64::from(round), u64::from(thread)),
         }

@@ -11,7 +11,7 @@ use std::alloc::Global;
 #[derive(Drop)]
 pub(crate) struct Job {
     pub(crate) teller: Teller,
-    pub(crate) thread: u16,
+    pub(crate) thread: u8,
 }
 
 /// The last teller of these.
@@ -32,7 +32,7 @@ pub(crate) fn jobs(alloc: Global, hub: &Hub, tellers: Vec<Teller>) -> Result<Vec
     ensures { IfOk result (λ jobs. AreJobsOf hub.now jobs.items) }
 {
     let mut jobs = Vec::new(alloc);
-    let mut thread = 0u16;
+    let mut thread = 0u8;
     for teller in tellers {
         jobs.push(Job { teller, thread })?;
         thread = thread.saturating_add(1);

@@ -8,7 +8,7 @@ pub(crate) const PLACES: u16 = 1_024;
 pub(crate) const FUNDS: u64 = 200_000;
 
 /// The most threads of a load.
-const MOST_THREADS: u16 = 8;
+const MOST_THREADS: u8 = 8;
 
 /// Between whom the threads' transfers are.
 #[derive(Clone, Copy, Debug, PartialEq, Eq)]
@@ -21,8 +21,25 @@ pub(crate) enum Pattern {
     Hot,
 }
 
-/// The numbers of threads and of rounds that these words choose.
-pub(crate) fn threads_of(words: &[String]) -> Option<(u16, u32)> {
+/// How many participants each of so many threads has of its own.
+fn group(threads: u8) -> u32 {
+    u32::from(PARTICIPANTS) / u32::from(threads.max(1))
+}
+
+impl Pattern {
+    /// The most transfers for which each of so many threads finds places.
+    fn most(self, threads: u8) -> u32 {
+        let places = u32::from(PLACES);
+        match self {
+            Pattern::Uniform => u32::from(PARTICIPANTS) * places / u32::from(threads.max(1)),
+            Pattern::Split => group(threads).saturating_mul(places),
+            Pattern::Hot => places / u32::from(threads.max(1)),
+        }
+    }
+}
+
+/// The numbers of threads, 1 to 8, and of rounds that these words choose.
+pub(crate) fn threads_of(words: &[String]) -> Option<(u8, u32)> {
     let threads = words.get(2)?.parse().ok()?;
     if threads == 0 || threads > MOST_THREADS {
         return None;
@@ -36,11 +53,13 @@ pub(crate) fn threads_of(words: &[String]) -> Option<(u16, u32)> {
 pub(crate) struct Load {
     pub(crate) pattern: Pattern,
     /// 1 to 8.
-    pub(crate) threads: u16,
+    pub(crate) threads: u8,
+    /// How many transfers each thread makes in a round.
+    pub(crate) share: u32,
 }
 
 impl Load {
-    /// The load that these words choose, and the number of rounds.
+    /// The load that these words choose, with as many transfers as find places, and the number of rounds.
     pub(crate) fn of(words: &[String]) -> Option<(Load, u32)> {
         let pattern = match words.get(1)?.as_str() {
             "uniform" => Pattern::Uniform,
@@ -49,24 +68,24 @@ impl Load {
             _ => return None,
         };
         let (threads, count) = threads_of(words)?;
-        Some((Load { pattern, threads }, count))
+        let load = Load {
+            pattern,
+            threads,
+            share: pattern.most(threads),
+        };
+        Some((load, count))
     }
 
-    /// How many transfers each thread makes in a round.
-    pub(crate) fn share(self) -> u32 {
-        let all = match self.pattern {
-            Pattern::Uniform | Pattern::Split => u32::from(PARTICIPANTS) * u32::from(PLACES),
-            Pattern::Hot => u32::from(PLACES),
-        };
-        all / u32::from(self.threads.max(1))
+    /// How many transfers all threads make in a round.
+    pub(crate) fn transfers(self) -> u32 {
+        self.share.saturating_mul(u32::from(self.threads))
     }
 
     /// The originator and the beneficiary of the transfer with this number in its thread.
-    pub(crate) fn pair(self, thread: u16, number: u32) -> (u8, u8) {
-        let threads = u32::from(self.threads.max(1));
+    pub(crate) fn pair(self, thread: u8, number: u32) -> (u8, u8) {
         match self.pattern {
             Pattern::Uniform => {
-                let number = number.saturating_mul(threads);
+                let number = number.saturating_mul(u32::from(self.threads));
                 pair_of(
                     0,
                     u32::from(PARTICIPANTS),
@@ -74,7 +93,7 @@ impl Load {
                 )
             }
             Pattern::Split => {
-                let size = (u32::from(PARTICIPANTS) / threads).max(2);
+                let size = group(self.threads);
                 pair_of(u32::from(thread).saturating_mul(size), size, number)
             }
             Pattern::Hot => (0, 1),

@@ -1,11 +1,12 @@
 //! A load of a hub by several threads, each with a teller of its own: transfers are submitted and confirmed, so many
 //! rounds, each at a hub of 64 participants that opens anew. Words: `uniform`, `split` or `hot`, the number of
 //! threads, the number of rounds. At the end it tells on standard error how many transfers were settled; who wants
-//! to know how many a second takes the time of the program.
+//! to know how many a second takes the time of the program. Where a transfer isn't settled, or the positions don't sum
+//! to the funding, it tells what failed, in which round and thread, and ends with status 1.
 //!
 //! With the word `stress` in their place the threads race for the outcomes of a few transfers between 4 participants,
 //! and after each round all that they were told is compared with the books. It tells how many calls were made and how
-//! the transfers ended, or which check failed, in which round and thread; then it ends with status 1.
+//! the transfers ended, or what failed, as a load does.
 #![tactic(auto)]
 
 mod accounts;
@@ -25,6 +26,7 @@ mod running;
 mod settling;
 mod sights;
 mod stress;
+mod stress_round;
 mod tally;
 #[cfg(test)]
 mod tests;
@@ -54,17 +56,17 @@ fn main(rt: HostRuntime) -> ExitCode {
     let Some((load, count)) = Load::of(&words) else {
         return ExitCode::from(2);
     };
-    tell_load(&rt, rounds(&rt, alloc, load, count))
+    tell_load(&rt, &rounds(&rt, alloc, load, count))
 }
 
-/// Tells how many transfers a load settled.
-fn tell_load(rt: &HostRuntime, settled: Option<u64>) -> ExitCode {
-    match settled {
-        Some(settled) => {
+/// Tells how many transfers a load settled, or what failed.
+fn tell_load(rt: &HostRuntime, ended: &Result<u64, Failure>) -> ExitCode {
+    match ended {
+        Ok(settled) => {
             let _ = writeln!(rt.stderr(), "settled {settled}");
             ExitCode::from(0)
         }
-        None => ExitCode::from(1),
+        Err(failure) => tell_failure(rt, failure),
     }
 }
 
@@ -75,9 +77,11 @@ fn tell_stress(rt: &HostRuntime, ended: &Result<Tally, Failure>) -> ExitCode {
             let _ = writeln!(rt.stderr(), "{tally}");
             ExitCode::from(0)
         }
-        Err(failure) => {
-            let _ = writeln!(rt.stderr(), "{failure}");
-            ExitCode::from(1)
-        }
+        Err(failure) => tell_failure(rt, failure),
     }
+}
+
+fn tell_failure(rt: &HostRuntime, failure: &Failure) -> ExitCode {
+    let _ = writeln!(rt.stderr(), "{failure}");
+    ExitCode::from(1)
 }

@@ -42,9 +42,9 @@ fn settings(alloc: Global, size: Size) -> Result<Settings, Fault> {
     )
 }
 
-/// The hub with so many tellers.
-pub(crate) fn open(alloc: Global, size: Size, tellers: u8) -> Result<(Hub, Vec<Teller>), Fault>
+/// The hub with a teller for each of so many threads, and one more that is in no thread.
+pub(crate) fn open(alloc: Global, size: Size, threads: u8) -> Result<(Hub, Vec<Teller>), Fault>
     ensures { IfOk result (λ r. AreOf r.0 r.1.items) }
 {
-    Hub::open(alloc, settings(alloc, size)?, tellers)
+    Hub::open(alloc, settings(alloc, size)?, threads.saturating_add(1))
 }

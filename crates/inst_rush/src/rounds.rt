@@ -3,6 +3,7 @@ ghost use Rattle.inst_hub.specs.Calls.{IsOf};
 ghost use Rattle.inst_rush.specs.Jobs.{AreJobsOf};
 
 use crate::asking::{ask_money, fund_all, settle};
+use crate::flaw::{Failure, Flaw, check_sum};
 use crate::job::{Job, jobs, last};
 use crate::load::{FUNDS, Load, PARTICIPANTS, PLACES};
 use crate::opening::{Size, open};
@@ -19,16 +20,17 @@ const SIZE: Size = Size {
 };
 
 /// Submits and confirms the thread's share: how many transfers were accepted.
-fn share<R: Wait>(rt: &R, alloc: Global, hub: &Hub, load: Load, job: Job) -> Result<u32, Fault>
+fn share<R: Wait>(rt: &R, alloc: Global, hub: &Hub, load: Load, job: Job) -> Result<u32, Failure>
     requires { IsOf hub.now job.teller }
 {
     let Job { mut teller, thread } = job;
     let mut settled = 0u32;
-    for number in 0..load.share() {
+    for number in 0..load.share {
         let pair = load.pair(thread, number);
-        if settle(rt, alloc, hub, &mut teller, pair, (thread, number))? {
-            settled = settled.saturating_add(1);
-        }
+        let is_settled = settle(rt, alloc, hub, &mut teller, pair, (thread, number)).map_err(
+            |fault| Flaw::Refused(fault).of(thread),
+        )?;
+        settled = settled.saturating_add(u32::from(is_settled));
     }
     Ok(settled)
 }
@@ -51,13 +53,13 @@ fn run<R: Threads + Wait + Sync>(
     hub: &Hub,
     load: Load,
     jobs: Vec<Job>,
-) -> Result<u32, Fault>
+) -> Result<u32, Failure>
     requires { AreJobsOf hub.now jobs.items }
 {
     let counts = thread::map_vec(
         rt,
         jobs,
-        &|job: Job| -> Result<u32, Fault>
+        &|job: Job| -> Result<u32, Failure>
             requires { IsOf hub.now job.teller }
         { share(rt, alloc, hub, load, job) },
     )?;
@@ -68,29 +70,33 @@ fn run<R: Threads + Wait + Sync>(
     Ok(settled)
 }
 
-/// A round: how many transfers were accepted, where the positions still sum to the funding.
-fn round<R: Threads + Wait + Sync>(rt: &R, alloc: Global, load: Load) -> Result<u32, Fault> {
-    let (hub, mut tellers) = open(alloc, SIZE, (load.threads % 9) as u8 + 1)?;
+/// A round: how many transfers were accepted, which are all, where the positions still sum to the funding.
+fn round<R: Threads + Wait + Sync>(rt: &R, alloc: Global, load: Load) -> Result<u32, Failure> {
+    let (hub, mut tellers) = open(alloc, SIZE, load.threads)?;
     let mut teller = last(&hub, &mut tellers)?;
     fund_all(rt, &hub, &mut teller, PARTICIPANTS, FUNDS)?;
     let jobs = jobs(alloc, &hub, tellers)?;
     let settled = run(rt, alloc, &hub, load, jobs)?;
-    if sum(rt, &hub, &mut teller)? != FUNDS * u64::from(PARTICIPANTS) {
-        return Err(Fault::BadSettings);
+    let transfers = load.transfers();
+    if settled != transfers {
+        return Err(Failure::from(Flaw::NotAllSettled { settled, transfers }));
     }
+    let positions = sum(rt, &hub, &mut teller)?;
+    check_sum(positions, FUNDS * u64::from(PARTICIPANTS))?;
     Ok(settled)
 }
 
-/// So many rounds: how many transfers were accepted. `None` where a round failed.
+/// So many rounds: how many transfers were accepted, or the first failure.
 pub(crate) fn rounds<R: Threads + Wait + Sync>(
     rt: &R,
     alloc: Global,
     load: Load,
     count: u32,
-) -> Option<u64> {
+) -> Result<u64, Failure> {
     let mut settled = 0u64;
-    for _round in 0..count {
-        settled = settled.saturating_add(u64::from(round(rt, alloc, load).ok()?));
+    for number in 0..count {
+        let accepted = round(rt, alloc, load).map_err(|failure| failure.in_round(number))?;
+        settled = settled.saturating_add(u64::from(accepted));
     }
-    Some(settled)
+    Ok(settled)
 }

@@ -5,11 +5,12 @@ ghost use Rattle.inst_rush.specs.Jobs.{AreJobsOf};
 ghost use Rattle.inst_rush.specs.Done.{AreDoneOf};
 
 use crate::acting::act_so;
-use crate::chooser::{Chooser, STEPS, Setting};
+use crate::chooser::{Chooser, STEPS};
 use crate::flaw::{Failure, Flaw};
 use crate::job::Job;
 use crate::pace::Pace;
 use crate::sights::Sights;
+use crate::stress_round::StressRound;
 use inst_hub::{Hub, Teller};
 use std::alloc::Global;
 use std::sync::Wait;
@@ -56,7 +57,7 @@ fn work<R: Wait>(
     rt: &R,
     alloc: Global,
     hub: &Hub,
-    setting: Setting,
+    round: StressRound,
     pace: &Pace,
     job: Job,
 ) -> Result<Done, Failure>
@@ -64,7 +65,7 @@ fn work<R: Wait>(
     ensures { IfOk result (λ done. IsOf hub.now done.job.teller) }
 {
     let Job { mut teller, thread } = job;
-    let chooser = Chooser::new(setting, thread);
+    let chooser = Chooser::new(round, thread);
     match take_steps(rt, alloc, hub, &mut teller, chooser, pace) {
         Ok(sights) => Ok(Done {
             job: Job { teller, thread },
@@ -98,7 +99,7 @@ pub(crate) fn run<R: Threads + Wait + Sync>(
     rt: &R,
     alloc: Global,
     hub: &Hub,
-    setting: Setting,
+    round: StressRound,
     jobs: Vec<Job>,
 ) -> Result<(Vec<Job>, Sights), Failure>
     requires { AreJobsOf hub.now jobs.items }
@@ -111,7 +112,7 @@ pub(crate) fn run<R: Threads + Wait + Sync>(
         &|job: Job| -> Result<Done, Failure>
             requires { IsOf hub.now job.teller }
             ensures { IfOk result (λ done. IsOf hub.entry.now done.job.teller) }
-        { work(rt, alloc, hub, setting, &pace, job) },
+        { work(rt, alloc, hub, round, &pace, job) },
     )?;
     gather(alloc, hub, results)
 }

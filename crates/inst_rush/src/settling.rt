@@ -4,6 +4,7 @@ ghost use Rattle.inst_hub.specs.Calls.{IsOf};
 use crate::acting::{ask_so, sweep};
 use crate::flaw::Flaw;
 use crate::sights::{ALL_PLACES, Sights, place_of};
+use crate::stress_round::StressRound;
 use crate::transfer::PARTICIPANTS;
 use inst_base::{Fault, Moment};
 use inst_board::Place;
@@ -66,12 +67,22 @@ fn sweep_each<R: Wait>(rt: &R, hub: &Hub, teller: &mut Teller) -> Result<u32, Fl
     Ok(count)
 }
 
-/// Each participant is swept, since a sweep of one tells the other side nothing; then sweeps find nothing new.
-pub(crate) fn sweep_all<R: Wait>(rt: &R, hub: &Hub, teller: &mut Teller) -> Result<(), Flaw>
+/// Each participant is swept, and then sweeps find nothing new. The first sweeps find only what earlier sweeps decided,
+/// since a sweep of one side tells the other nothing, while each call does, but where memory is refused: so they find
+/// nothing in a round in which no thread swept.
+pub(crate) fn sweep_all<R: Wait>(
+    rt: &R,
+    hub: &Hub,
+    teller: &mut Teller,
+    round: StressRound,
+) -> Result<(), Flaw>
     requires { IsOf hub.now teller.old }
     ensures { IsOf hub.now teller.new }
 {
-    sweep_each(rt, hub, teller)?;
+    let untold = sweep_each(rt, hub, teller)?;
+    if !round.sweeps && untold != 0 {
+        return Err(Flaw::NotTold);
+    }
     if sweep_each(rt, hub, teller)? != 0 {
         return Err(Flaw::StillNew);
     }

@@ -5,7 +5,6 @@ ghost use Rattle.inst_rush.specs.Jobs.{AreJobsOf};
 
 use crate::accounts::check_accounts;
 use crate::asking::fund_all;
-use crate::chooser::Setting;
 use crate::flaw::Failure;
 use crate::inbox::check_inbox;
 use crate::job::{Job, jobs, last};
@@ -14,6 +13,7 @@ use crate::opening::{Size, open};
 use crate::running::run;
 use crate::settling::{fetch_all, settle, sweep_all};
 use crate::sights::{PLACES, Sights};
+use crate::stress_round::StressRound;
 use crate::tally::Tally;
 use crate::transfer::{FUNDS, PARTICIPANTS};
 use inst_hub::{Hub, Teller};
@@ -21,30 +21,20 @@ use std::alloc::Global;
 use std::sync::Wait;
 use std::thread::Threads;
 
-/// The margin of every other round, in milliseconds; the others have none.
-const MARGIN: u32 = 500;
-
-/// What a round is about.
-fn setting(threads: u16, round: u32) -> Setting {
-    Setting {
-        round,
-        threads,
-        margin: round % 2 * MARGIN,
-    }
-}
-
 /// All tellers see the same, what was submitted came to its beneficiary, and each transfer comes to its end.
 fn end<R: Wait>(
     rt: &R,
     alloc: Global,
     hub: &Hub,
     teller: &mut Teller,
+    round: StressRound,
     jobs: Vec<Job>,
     sights: &mut Sights,
 ) -> Result<(), Failure>
     requires { IsOf hub.now teller.old × AreJobsOf hub.now jobs.items }
     ensures { IsOf hub.now teller.new }
 {
+    // The teller first learns what each of the others knows, and only then can it tell each of them all of it.
     let jobs = meet_all(alloc, hub, teller, jobs)?;
     let jobs = meet_all(alloc, hub, teller, jobs)?;
     peek_all(teller, sights)?;
@@ -52,7 +42,7 @@ fn end<R: Wait>(
     fetch_all(rt, hub, teller, sights)?;
     check_inbox(alloc, sights)?;
     settle(rt, hub, teller, sights)?;
-    sweep_all(rt, hub, teller)?;
+    sweep_all(rt, hub, teller, round)?;
     agree(alloc, hub, jobs, sights)?;
     Ok(())
 }
@@ -70,19 +60,19 @@ fn check<R: Wait>(rt: &R, hub: &Hub, teller: &mut Teller, sights: &Sights) -> Re
 fn round<R: Threads + Wait + Sync>(
     rt: &R,
     alloc: Global,
-    setting: Setting,
+    round: StressRound,
 ) -> Result<Tally, Failure> {
     let size = Size {
         participants: PARTICIPANTS,
         places: PLACES,
-        margin: setting.margin,
+        margin: round.margin,
     };
-    let (hub, mut tellers) = open(alloc, size, (setting.threads % 9) as u8 + 1)?;
+    let (hub, mut tellers) = open(alloc, size, round.threads)?;
     let mut teller = last(&hub, &mut tellers)?;
     fund_all(rt, &hub, &mut teller, PARTICIPANTS, FUNDS)?;
     let jobs = jobs(alloc, &hub, tellers)?;
-    let (jobs, mut sights) = run(rt, alloc, &hub, setting, jobs)?;
-    end(rt, alloc, &hub, &mut teller, jobs, &mut sights)?;
+    let (jobs, mut sights) = run(rt, alloc, &hub, round, jobs)?;
+    end(rt, alloc, &hub, &mut teller, round, jobs, &mut sights)?;
     check(rt, &hub, &mut teller, &sights)
 }
 
@@ -90,18 +80,15 @@ fn round<R: Threads + Wait + Sync>(
 pub(crate) fn stress<R: Threads + Wait + Sync>(
     rt: &R,
     alloc: Global,
-    threads: u16,
+    threads: u8,
     rounds: u32,
 ) -> Result<Tally, Failure> {
     let mut tally = Tally::new();
     for number in 0..rounds {
-        match round(rt, alloc, setting(threads, number)) {
-            Ok(ended) => tally = tally.plus(ended),
-            Err(failure) => return Err(Failure {
-                round: number,
-                ..failure
-            }),
-        }
+        let ended = round(rt, alloc, StressRound::of(threads, number)).map_err(
+            |failure| failure.in_round(number),
+        )?;
+        tally = tally.plus(ended);
     }
     Ok(tally)
 }
