@@ -1,5 +1,5 @@
 -- What a slot's ask is answered over a board, said of its history alone.
-use Rattle.std.proofs.Common.{◌≡◌, ◌≢◌, ℕ, true, false, List, ⊎_elim, refl, sym, ap, ◌∙◌, subst, Option, Some, None, is_none, is_some}
+use Rattle.std.proofs.Common.{◌≡◌, ◌≢◌, ◌⊎◌, inl, inr, ℕ, true, false, List, ⊎_elim, refl, sym, ap, ◌∙◌, subst, Option, Some, None, is_none, is_some}
 use Rattle.std.specs.Prelude.{Contains, position, Result, Err}
 use Rattle.std.proofs.lemmas.Bool.{false≢true, and_from}
 use Rattle.inst_base.specs.TimeLimit.{deadline_of}
@@ -15,10 +15,10 @@ use Rattle.inst_command.specs.declared.reply.Reply.{Reply}
 use Rattle.inst_board.specs.declared.place.Place.{Place}
 use Rattle.inst_board.specs.declared.wish.Wish.{Wish}
 use Rattle.inst_board.specs.declared.wish.Wish.TheVariants.{Accept, Reject as WishReject, Expire}
-use Rattle.inst_board.specs.declared.about.About.TheVariants.{Due}
+use Rattle.inst_board.specs.declared.about.About.TheVariants.{HasTerms, Due, Decided}
 use Rattle.inst_board.specs.declared.about.Fact.{Fact}
 use Rattle.inst_board.specs.Standing.{Standing, unused, pending, final, Says, about}
-use Rattle.inst_board.specs.Learning.{Answers}
+use Rattle.inst_board.specs.Learning.{IsAnswer, Answers}
 use Rattle.inst_board.specs.Wish.{wanted}
 use Rattle.inst_journal.specs.declared.event.Event.{Event}
 use Rattle.inst_journal.specs.declared.event.Event.TheVariants.{Taken, Forwarded}
@@ -28,9 +28,10 @@ use Rattle.inst_journal.specs.Sound.{IsSound}
 use Rattle.inst_journal.proofs.Finding.{there_is_found}
 use Rattle.inst_journal.proofs.KeyOnce.{forwarded_once, taken_once}
 use Rattle.inst_model.specs.Trace.{as_reply}
-use Rattle.inst_slot.specs.Book.{Book, place_at, arrived_at}
+use Rattle.inst_terms.specs.declared.terms.Terms.{Terms}
+use Rattle.inst_slot.specs.Book.{Book, place_at, terms_to, arrived_at}
 use Rattle.inst_slot.specs.LawfulBoard.{IsLawfulBoard}
-use Rattle.inst_slot.specs.Asking.{request, decides, Enters, Settles, AppliesTo, Applies}
+use Rattle.inst_slot.specs.Asking.{request, decides, Finds, Enters, Settles, AppliesTo, Applies}
 use Rattle.inst_slot.proofs.Keeping.{arrival_at}
 use Rattle.inst_slot.proofs.Learning.{itself_forwards, taken_contains}
 use Rattle.inst_slot.proofs.Deciding.{wished, taken_at_position}
@@ -55,12 +56,20 @@ decides_it book (Fetch max) wish deadline never = absurd never
 decides_it book Position wish deadline never = absurd never
 decides_it book (Statement skip count) wish deadline never = absurd never
 
+-- a place that is known to be for the participant, and of which nothing is booked
+pub record IsUnansweredFor {B : Type 0} (knows : B → Fact → Type 0) (b : B) (book : Book) (k : Place) : Type 0 where
+  pub terms : Terms
+  pub mine : terms.to ≡ book.who
+  pub known : knows b (about k (HasTerms terms))
+  pub unbooked : booked k.owner terms.id book.events ≡ None
+
 -- a place that is known due at the deadline until which the command decides its transfer, by this wish
 pub record IsAskedUntil {B : Type 0} (knows : B → Fact → Type 0) (b : B) (book : Book) (command : Command) (asked : Place × Wish) : Type 0 where
   pub deadline : ℕ
   pub decided : DecidesUntil book.settings book.who book.events command asked.1 deadline
   pub due : knows b (about asked.0 (Due deadline))
   pub only : (wish : Wish) (other : ℕ) → DecidesUntil book.settings book.who book.events command wish other → (wish ≡ asked.1) × (other ≡ deadline)
+  pub own : asked.1 ≢ Expire → IsUnansweredFor knows b book asked.0
 
 module _ {B : Type 0} (settings : B → HubSettings) (knows : B → Fact → Type 0) (has_role : B → ℕ → Type 0) where
   -- where a forwarded transfer lies, it is known due at the deadline with which it was forwarded
@@ -69,6 +78,7 @@ module _ {B : Type 0} (settings : B → HubSettings) (knows : B → Fact → Typ
     pub deadline : ℕ
     pub there : Contains book.events (Forwarded from id cents deadline)
     pub due : knows b (about (place_at from index) (Due deadline))
+    pub terms : knows b (about (place_at from index) (HasTerms (terms_to book.who cents id)))
     pub only : (amount other : ℕ) → Contains book.events (Forwarded from id amount other) → other ≡ deadline
 
   due_there : (b : B) (book : Book) (from : ℕ) (id : List ℕ) (index : ℕ) → IsLawfulBoard settings knows has_role b book → IsSound book.settings book.who book.events → arrived_at from id book.arrivals ≡ Some index
@@ -85,6 +95,8 @@ module _ {B : Type 0} (settings : B → HubSettings) (knows : B → Fact → Typ
         deadline = d;
         there = there;
         due = subst (λ (f : ℕ). knows b (about (place_at f index) (Due d))) x.from_is known.due;
+        terms = subst (λ (i : List ℕ). knows b (about (place_at from index) (HasTerms (terms_to book.who n i)))) x.id_is
+            (subst (λ (f : ℕ). knows b (about (place_at f index) (HasTerms (terms_to book.who n x.arrival.entry.id)))) x.from_is known.terms);
         only = λ amount other again.
             let same : Forwarded from id amount other ≡ Forwarded from id n d = same_one (forwards from id) book.events (Forwarded from id amount other) (Forwarded from id n d)
             (forwarded_once book.settings book.who from id book.events sound) again there (itself_forwards from id amount other) (itself_forwards from id n d) in
@@ -101,6 +113,7 @@ module _ {B : Type 0} (settings : B → HubSettings) (knows : B → Fact → Typ
         decided = (refl, w.none, (x.cents, x.there));
         due = x.due;
         only = λ wish other d. (d.0, x.only d.2.0 other d.2.1);
+        own = λ _. record { terms = terms_to book.who x.cents id; mine = refl; known = x.terms; unbooked = w.none };
       } in
       subst (IsAskedUntil knows b book (Confirm from id)) (sym w.asked_is) r
   asked_until b book (Reject from id reason) k lawful sound e =
@@ -111,6 +124,7 @@ module _ {B : Type 0} (settings : B → HubSettings) (knows : B → Fact → Typ
         decided = (refl, w.none, (x.cents, x.there));
         due = x.due;
         only = λ wish other d. (d.0, x.only d.2.0 other d.2.1);
+        own = λ _. record { terms = terms_to book.who x.cents id; mine = refl; known = x.terms; unbooked = w.none };
       } in
       subst (IsAskedUntil knows b book (Reject from id reason)) (sym w.asked_is) r
   asked_until b book (Investigate id) k lawful sound e =
@@ -127,6 +141,7 @@ module _ {B : Type 0} (settings : B → HubSettings) (knows : B → Fact → Typ
             let same : again ≡ event = same_one (takes id) book.events again event (taken_once book.settings book.who id book.events sound) d.2.3 there (same_text_refl id) (same_text_refl id) in
             let moment : d.2.2 ≡ t.stamp = cc in
             (d.0, d.2.4 ∙ ap (deadline_of book.settings.limit) moment);
+        own = λ ne. absurd (ne refl);
       } in
       subst (IsAskedUntil knows b book (Investigate id)) (sym w.asked_is) r
   asked_until b book (Fund reference cents) k lawful sound e = let no : ⊥ = cc in absurd no
@@ -143,8 +158,38 @@ nothing_wanted margin stood wish at unused found deadline answers says none = ab
 nothing_wanted margin stood wish at (pending t d) found deadline answers says none = ap (λ (e : ℕ). wanted margin wish e at) says ∙ answers.1
 nothing_wanted margin stood wish at (final t d o m) found deadline answers says none = let f = answers.0 in let no : ⊥ = cc in absurd no
 
+-- what is answered of a place stood there before, or is what was wanted of it by its deadline
+answered_so : (margin : ℕ) (Stood : Outcome → Type 0) (wish : Wish) (at : ℕ) (p : Standing) (found : Option Outcome) (deadline : ℕ) (o : Outcome) → Answers margin Stood wish at p found → Says p (Due deadline)
+    → found ≡ Some o → Stood o ⊎ (wanted margin wish deadline at ≡ Some o)
+answered_so margin Stood wish at unused found deadline o answers says is = absurd says
+answered_so margin Stood wish at (pending t d) found deadline o answers says is = let f = answers.0 in let no : ⊥ = cc in absurd no
+answered_so margin Stood wish at (final t d end m) found deadline o answers says is =
+    let f = answers.0 in
+    let same : end ≡ o = cc in
+    ⊎_elim (λ before. inl (subst Stood same before))
+    (λ own. inr (ap (λ (e : ℕ). wanted margin wish e at) says ∙ (own.0 ∙ ap (λ (x : Outcome). Some x) same)))
+    answers.1
+
+-- The holders are such that an acceptance or rejection which stood before is known to who has the beneficiary's role, and
+-- that roles stay
+pub record KnowsOwn {B : Type 0} (knows : B → Fact → Type 0) (has_role : B → ℕ → Type 0) (stood : B → Place → Outcome → Type 0) (stays : B → B → Type 0) : Type 0 where
+  pub stood_known : (b : B) (k : Place) (t : Terms) (o : Outcome) → IsAnswer o → stood b k o → knows b (about k (HasTerms t)) → has_role b t.to → knows b (about k (Decided o))
+  pub role_stays : (b c : B) (p : ℕ) → stays b c → has_role b p → has_role c p
+
 module _ {B : Type 0} (settings : B → HubSettings) (knows : B → Fact → Type 0) (has_role : B → ℕ → Type 0)
-    (stood : B → Place → Outcome → Type 0) (stays : B → B → Type 0) where
+    (stood : B → Place → Outcome → Type 0) (stays : B → B → Type 0) (own : KnowsOwn knows has_role stood stays) where
+  -- an acceptance or rejection of a place of which the beneficiary has nothing booked didn't stand before
+  never_stood : (b : B) (book : Book) (margin : ℕ) (k : Place) (wish : Wish) (at : ℕ) (found : Option Outcome) (c : B) (o : Outcome) → IsLawfulBoard settings knows has_role b book
+      → IsUnansweredFor knows b book k → (f : Finds margin knows has_role stood stays b k wish at found c) → IsAnswer o → stood f.between k o → ⊥
+  never_stood b book margin k wish at found c o lawful mine f answer before =
+      let role : has_role b mine.terms.to = subst (has_role b) (sym mine.mine) lawful.role in
+      let known = own.stood_known f.between k mine.terms o answer before (f.looks.learns.kept (about k (HasTerms mine.terms)) mine.known) (own.role_stays b f.between mine.terms.to f.same_holder role) in
+      let never : knows b (about k (Decided o)) → ⊥ = λ old.
+      (let is = lawful.answered k mine.terms o mine.mine answer mine.known old in let none = mine.unbooked in let no : ⊥ = cc in no) in
+      ⊎_elim never
+      (λ shown. never (f.looks.answered mine.terms (f.looks.learns.agrees (HasTerms mine.terms) mine.known) role o answer shown.1).1)
+      (f.looks.learns.only (about k (Decided o)) known)
+
   entered : (b c : B) (book : Book) (ask : Ask) (result : Result Reply Fault) (new : Book) → false ≡ decides book ask.command
       → Enters (settings b).margin knows b book ask result c new → result ≢ Err Memory → Answered book.settings book.who book.events ask (as_reply result) new.events
   entered b c book ask result new undecided enters served = ⊎_elim
@@ -153,6 +198,7 @@ module _ {B : Type 0} (settings : B → HubSettings) (knows : B → Fact → Typ
         reply_is = ap as_reply done.0;
         kept = ap (λ (x : Book). x.events) done.1;
         none = λ wish deadline until _. absurd (false≢true (undecided ∙ decides_it book ask.command wish deadline until));
+        own = λ wish deadline until _ o _ _. absurd (false≢true (undecided ∙ decides_it book ask.command wish deadline until));
         other = λ _. refl;
       })
       (λ refused. absurd (served refused.0)) enters
@@ -174,6 +220,16 @@ module _ {B : Type 0} (settings : B → HubSettings) (knows : B → Fact → Typ
             let same = u.only wish deadline until in
             let says = f.decides.learns.agrees (Due u.deadline) (f.looks.learns.kept (about k.0 (Due u.deadline)) u.due) in
             let wants = nothing_wanted (settings b).margin (stood f.between k.0) k.1 ask.at f.decides.standing found u.deadline f.decides.answers says nothing in
+            ap (λ (w : Wish). wanted book.settings.margin w deadline ask.at) same.0 ∙ ap (λ (d : ℕ). wanted book.settings.margin k.1 d ask.at) same.1
+            ∙ ap (λ (m : ℕ). wanted m k.1 u.deadline ask.at) (sym margin) ∙ wants;
+        own = λ wish deadline until answers o answer is.
+            let same = u.only wish deadline until in
+            let says = f.decides.learns.agrees (Due u.deadline) (f.looks.learns.kept (about k.0 (Due u.deadline)) u.due) in
+            let mine = u.own (λ e. answers (same.0 ∙ e)) in
+            let wants : wanted (settings b).margin k.1 u.deadline ask.at ≡ Some o = ⊎_elim
+            (λ before. absurd (never_stood b book (settings b).margin k.0 k.1 ask.at found c o lawful mine f answer before))
+            (λ w. w)
+            (answered_so (settings b).margin (stood f.between k.0) k.1 ask.at f.decides.standing found u.deadline o f.decides.answers says is) in
             ap (λ (w : Wish). wanted book.settings.margin w deadline ask.at) same.0 ∙ ap (λ (d : ℕ). wanted book.settings.margin k.1 d ask.at) same.1
             ∙ ap (λ (m : ℕ). wanted m k.1 u.deadline ask.at) (sym margin) ∙ wants;
         other = λ undecided. absurd (undecided k.1 u.deadline u.decided);

@@ -1,8 +1,8 @@
 -- A call under a lock: what lies behind it stays lawful, and what the caller has then seen.
-use Rattle.std.proofs.Common.{◌≡◌, ℕ, List, [], ◌∷◌, sym, refl, ◌∙◌, subst, arith, Option, Some, None, ◌++◌, append-nil, append_assoc, ap}
+use Rattle.std.proofs.Common.{◌≡◌, ℕ, ◌<◌, true, ltb-true, IfSome, List, [], ◌∷◌, sym, refl, ◌∙◌, subst, arith, Option, Some, None, ◌++◌, append-nil, append_assoc, ap}
 use Rattle.std.specs.Prelude.{Contains, Result, Ok, Err, OnErr}
 use Rattle.std.proofs.lemmas.List.Elements.{Contains-append_left, Contains-append_right}
-use Rattle.inst_settings.specs.Settings.{HubSettings}
+use Rattle.inst_settings.specs.Settings.{HubSettings, participants, is_participant}
 use Rattle.inst_command.specs.declared.ask.Ask.{Ask}
 use Rattle.inst_command.specs.declared.command.Command.{Command}
 use Rattle.inst_command.specs.declared.command.Command.TheVariants.{Fund, Defund, Submit, Confirm, Reject, Investigate, Fetch, Position, Statement}
@@ -19,14 +19,16 @@ use Rattle.inst_journal.specs.Sound.{IsSound}
 use Rattle.inst_row.specs.declared.view.Front.{Front}
 use Rattle.inst_row.specs.declared.seat.RowSeat.{RowSeat}
 use Rattle.inst_row.specs.View.{front}
-use Rattle.inst_row.specs.Row.{key_of}
+use Rattle.inst_row.specs.Row.{key_of, size}
 use Rattle.inst_row.specs.Seated.{view_of, HasSeen, GoesOn, Sees}
 use Rattle.inst_hub.specs.declared.participant.Participant.{Participant}
 use Rattle.inst_hub.specs.declared.hub.Hub.{Hub}
 use Rattle.inst_hub.specs.declared.teller.Teller.{Teller}
 use Rattle.inst_hub.specs.Behind.{IsReady, IsBehind, IsLater}
 use Rattle.inst_hub.specs.Answers.{Answered, IsSubmitted, IsTicket}
-use Rattle.inst_hub.specs.Calls.{IsCall, Calls, IsLeft, KnowsMore, Follows, IsToldMore, knows_of, sights_of}
+use Rattle.inst_hub.specs.declared.follow_up.FollowUp.{FollowUp}
+use Rattle.inst_hub.specs.Following.{follow_up_of, TellsMore}
+use Rattle.inst_hub.specs.Calls.{IsCall, Calls, Asks, IsLeft, KnowsMore, Follows, IsFollowed, knows_of, sights_of}
 
 abbrev Seat : Type 0
 Seat = RowSeat Participant Event (Snapshot SharedBoard)
@@ -94,6 +96,24 @@ call_at h t u ask answer x y p is behind goes_on seen sound answered ticket =
     call_of h t u ask answer x y (subst (λ (n : ℕ). IsBehind (key_of h.row).value n x) is behind) (subst (λ (n : ℕ). GoesOn n x.slot.events t.seat) is goes_on)
     (subst (λ (n : ℕ). sights_of u ≡ sights_of t ++ front n x.slot.events ∷ front n y.slot.events ∷ []) is seen) sound answered ticket
 
+-- the same, with what is to follow
+pub asks_at : (h : Hub) (t u : Teller) (ask : Ask) (answer : Reply × Option Place) (f : Option FollowUp) (x y : Participant) (p : ℕ) → p ≡ ask.who → IsBehind (key_of h.row).value p x
+    → GoesOn p x.slot.events t.seat → sights_of u ≡ sights_of t ++ front p x.slot.events ∷ front p y.slot.events ∷ []
+    → IsSound x.slot.settings x.slot.who x.slot.events
+    → Answered x.slot.settings x.slot.who x.slot.events ask answer.0 y.slot.events
+    → IsTicket (sees u.sight) x.slot.settings x.slot.who ask.command y.slot.events answer.0 answer.1
+    → f ≡ follow_up_of y.slot.events ask.command answer.0 answer.1 → Asks h t ask (answer, f) u
+unfolding call_at call_of
+asks_at h t u ask answer f x y p is behind goes_on seen sound answered ticket follows = (call_at h t u ask answer x y p is behind goes_on seen sound answered ticket, follows)
+
+-- who follows up is one of the hub's participants, and so has a lock
+pub lock_of : (h : Hub) (p : ℕ) (x y : Participant) (f : Option FollowUp) → IsBehind (key_of h.row).value p x → IsLater x y → IfSome f (λ g. is_participant y.slot.settings g.who ≡ true) → IfSome f (λ g. g.who < size h.row)
+lock_of h p x y None behind later fits = tt
+lock_of h p x y (Some g) behind later fits =
+    let same : y.slot.settings ≡ h.settings = later.settings ∙ (sym behind.ready.lawful.same_settings ∙ (behind.one.1 ∙ h.same)) in
+    let below : g.who < participants h.settings = ltb-true g.who (participants h.settings) (ap (λ (s : HubSettings). is_participant s g.who) (sym same) ∙ fits) in
+    subst (λ (n : ℕ). g.who < n) (sym h.sized) below
+
 pub left_at : (t u : Teller) (ask : Ask) (J K : List Event) (p : ℕ) → p ≡ ask.who → GoesOn p J t.seat → sights_of u ≡ sights_of t ++ front p J ∷ front p K ∷ [] → K ≡ J → IsLeft t ask u
 left_at t u ask J K p is goes_on seen same = record {
   before = J;
@@ -107,14 +127,26 @@ pub seen_both : (s mid last : Seat) (p : ℕ) (h l : List Event) → Sees p h s 
 seen_both s mid last p h l first second =
     second.seen ∙ (ap (λ (fs : List (Front Event)). fs ++ front p l ∷ []) first.seen ∙ append_assoc (view_of s).fronts (front p h ∷ []) (front p l ∷ []))
 
-pub follows_nothing : (t : Teller) → Follows t t
-follows_nothing t = record { sights = []; follows = tt; seen = sym (append-nil (sights_of t)) }
+pub follows_nothing : (t : Teller) → Follows None t t
+follows_nothing t = record { sights = []; followed = refl; seen = sym (append-nil (sights_of t)) }
 
-pub follows_one : (t : Teller) (mid last : Seat) (p : ℕ) (h l : List Event) → Sees p h t.seat mid → Sees p l mid last → IsToldMore h l → Follows t record { sight = t.sight; seat = last }
-follows_one t mid last p h l first second told = record {
-  sights = front p h ∷ front p l ∷ [];
-  follows = (refl, told);
-  seen = seen_both t.seat mid last p h l first second;
+pub follows_one : (f : FollowUp) (t : Teller) (mid last : Seat) (h l : List Event) → GoesOn f.who h t.seat → Sees f.who h t.seat mid → Sees f.who l mid last → TellsMore f.act f.place.owner h l
+    → Follows (Some f) t record { sight = t.sight; seat = last }
+follows_one f t mid last h l goes_on first second tells = record {
+  sights = front f.who h ∷ front f.who l ∷ [];
+  followed = record { before = h; after = l; goes_on = goes_on; tells = tells; seen = refl };
+  seen = seen_both t.seat mid last f.who h l first second;
+}
+
+-- what followed goes on from what was seen before the call
+followed_from : (f : Option FollowUp) (t u : Teller) (sights : List (Front Event)) → KnowsMore t u → IsFollowed f u sights → IsFollowed f t sights
+followed_from None t u sights more h = h
+followed_from (Some f) t u sights more h = record {
+  before = h.before;
+  after = h.after;
+  goes_on = λ J seen. h.goes_on J (more.fronts f.who J seen);
+  tells = h.tells;
+  seen = h.seen;
 }
 
 pub on_err : {A B : Type 0} (r : Result A B) (X : Type 0) → X → OnErr r X
@@ -142,16 +174,17 @@ submitted_more S S' more s (Statement n m) k h = absurd h
 
 ticket_more : (S S' : Fact → Type 0) → ((f : Fact) → S f → S' f) → (s : HubSettings) (who : ℕ) (command : Command) (K : List Event) (reply : Reply) (ticket : Option Place)
     → IsTicket S s who command K reply ticket → IsTicket S' s who command K reply ticket
-ticket_more S S' more s who command K (TakenReply id d) (Some k) h = (h.0, submitted_more S S' more s command k h.1)
+ticket_more S S' more s who command K (TakenReply id d) (Some k) h = (h.0, h.1, submitted_more S S' more s command k h.2)
 ticket_more S S' more s who command K (TakenReply id d) None h = h
 ticket_more S S' more s who command K (State from id state) (Some k) h = (
   h.0,
+  h.1,
   record {
-    terms = h.1.terms;
-    id_is = h.1.id_is;
-    opened = more _ h.1.opened;
-    has_terms = more _ h.1.has_terms;
-    outcome = λ o e. more _ (h.1.outcome o e);
+    terms = h.2.terms;
+    id_is = h.2.id_is;
+    opened = more _ h.2.opened;
+    has_terms = more _ h.2.has_terms;
+    outcome = λ o e. more _ (h.2.outcome o e);
   },
 )
 ticket_more S S' more s who command K (State from id state) None h = h
@@ -162,18 +195,17 @@ ticket_more S S' more s who command K (StatementReply l) ticket h = h
 ticket_more S S' more s who command K (Refused f) ticket h = h
 
 -- a call, and what followed
-pub call_more : (h : Hub) (t u v : Teller) (ask : Ask) (answer : Reply × Option Place) → IsCall h t ask answer [] u → KnowsMore u v → Follows u v → Calls h t ask answer v
-call_more h t u v ask answer c more follows = (
-  follows.sights,
-  follows.follows,
-  record {
-    before = c.before;
-    after = c.after;
-    sound = c.sound;
-    goes_on = c.goes_on;
-    seen = follows.seen ∙ (ap (λ (fs : List (Front Event)). fs ++ follows.sights) c.seen
-        ∙ append_assoc (sights_of t) (front ask.who c.before ∷ front ask.who c.after ∷ []) follows.sights);
-    answered = c.answered;
-    ticket = ticket_more (knows_of u) (knows_of v) more.facts h.settings ask.who ask.command c.after answer.0 answer.1 c.ticket;
-  },
-)
+pub call_more : (h : Hub) (t u v : Teller) (ask : Ask) (r : (Reply × Option Place) × Option FollowUp) → Asks h t ask r u → KnowsMore t u → KnowsMore u v → Follows r.1 u v → Calls h t ask r.0 v
+call_more h t u v ask r asks known more follows =
+    let c = asks.0 in
+    let call : IsCall h t ask r.0 follows.sights v = record {
+      before = c.before;
+      after = c.after;
+      sound = c.sound;
+      goes_on = c.goes_on;
+      seen = follows.seen ∙ (ap (λ (fs : List (Front Event)). fs ++ follows.sights) c.seen
+          ∙ append_assoc (sights_of t) (front ask.who c.before ∷ front ask.who c.after ∷ []) follows.sights);
+      answered = c.answered;
+      ticket = ticket_more (knows_of u) (knows_of v) more.facts h.settings ask.who ask.command c.after r.0.0 r.0.1 c.ticket;
+    } in
+    (follows.sights, call, subst (λ (f : Option FollowUp). IsFollowed f t follows.sights) asks.1 (followed_from r.1 t u follows.sights known follows.followed))

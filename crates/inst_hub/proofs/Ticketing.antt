@@ -78,6 +78,24 @@ taken_once_live : (s : HubSettings) (who : ℕ) (id : List ℕ) (K : List Event)
 taken_once_live s who id K sound = omega (arith, counted_kept (takes id) (takes_live who (carried K)) K, taken_once s who id K sound)
 
 module _ {B : Type 0} (settings : B → HubSettings) (knows : B → Fact → Type 0) (has_role : B → ℕ → Type 0) where
+  -- where a forwarded transfer lies, it was forwarded, and is live
+  arrived_live : (b : B) (book : Book) (from : ℕ) (id : List ℕ) (index : ℕ) → IsLawfulBoard settings knows has_role b book → arrived_at from id book.arrivals ≡ Some index
+      → (is_forwarded from id book.events ≡ true) × (is_live from id book.events ≡ true)
+  arrived_live b book from id index lawful at =
+      let x = arrival_at from id index book.arrivals at in
+      let f = arrival_forwarded settings knows has_role b book x.arrival lawful x.there in
+      subst (λ (i : List ℕ). (is_forwarded from i book.events ≡ true) × (is_live from i book.events ≡ true)) x.id_is
+      (subst (λ (p : ℕ). (is_forwarded p x.arrival.entry.id book.events ≡ true) × (is_live p x.arrival.entry.id book.events ≡ true)) x.from_is f)
+
+  -- what lies at a place is live
+  lies_live : (b : B) (book : Book) (from : ℕ) (id : List ℕ) (index : ℕ) → IsLawfulBoard settings knows has_role b book → LiesAt book from id index → is_live from id book.events ≡ true
+  lies_live b book from id index lawful lies = ⊎_elim
+      (λ own.
+      let t = own.1 in
+      ap (λ (p : ℕ). is_live p id book.events) own.0 ∙ (filtered (takes_live book.who (carried book.events)) book.events index (Taken id t.to t.cents t.stamp) t.there).1)
+      (λ at. (arrived_live b book from id index lawful at).1)
+      lies
+
   submitted : (b : B) (book : Book) (s : HubSettings) (id : List ℕ) (deadline : ℕ) (x : Submission) (ticket : Option Place) (sees : Fact → Type 0)
       → IsLawfulBoard settings knows has_role b book → book.settings ≡ s → IsSound s book.who book.events → x.id ≡ id → Contains book.events (Taken id x.to x.cents x.stamp)
       → ((k : Place) → ticket ≡ Some k → (f : Fact) → knows b f → sees f) → (o : Option ℕ) → position (takes id) (live_taken book.who book.events) ≡ o → ticket ≡ placed book.who o
@@ -100,6 +118,7 @@ module _ {B : Type 0} (settings : B → HubSettings) (knows : B → Fact → Typ
       let saw = seen k is in
       subst (IsTicket sees s book.who (Submit x) book.events (TakenReply id deadline)) (sym is) (
         refl,
+        lies_live b book book.who id index lawful (inl (refl, t)),
         (
           saw (about k Opened) known.opened,
           saw (about k (HasTerms (terms_to x.to x.cents x.id))) (subst (λ (u : Terms). knows b (about k (HasTerms u))) terms_are known.terms),
@@ -120,24 +139,6 @@ module _ {B : Type 0} (settings : B → HubSettings) (knows : B → Fact → Typ
       is ∙ ap (λ (c : Bool). placed book.who (cond c (position (takes id) (live_taken book.who book.events)) (arrived_at book.who id book.arrivals))) (eq-eqb book.who book.who refl) in
       subst (λ (c : Command). IsTicket sees s book.who c book.events (TakenReply id deadline) ticket) (sym t.command_is)
       (submitted b book s id deadline t.x ticket sees lawful replied.settings_are replied.sound t.id_is named seen (position (takes id) (live_taken book.who book.events)) refl own)
-
-  -- where a forwarded transfer lies, it was forwarded, and is live
-  arrived_live : (b : B) (book : Book) (from : ℕ) (id : List ℕ) (index : ℕ) → IsLawfulBoard settings knows has_role b book → arrived_at from id book.arrivals ≡ Some index
-      → (is_forwarded from id book.events ≡ true) × (is_live from id book.events ≡ true)
-  arrived_live b book from id index lawful at =
-      let x = arrival_at from id index book.arrivals at in
-      let f = arrival_forwarded settings knows has_role b book x.arrival lawful x.there in
-      subst (λ (i : List ℕ). (is_forwarded from i book.events ≡ true) × (is_live from i book.events ≡ true)) x.id_is
-      (subst (λ (p : ℕ). (is_forwarded p x.arrival.entry.id book.events ≡ true) × (is_live p x.arrival.entry.id book.events ≡ true)) x.from_is f)
-
-  -- what lies at a place is live
-  lies_live : (b : B) (book : Book) (from : ℕ) (id : List ℕ) (index : ℕ) → IsLawfulBoard settings knows has_role b book → LiesAt book from id index → is_live from id book.events ≡ true
-  lies_live b book from id index lawful lies = ⊎_elim
-      (λ own.
-      let t = own.1 in
-      ap (λ (p : ℕ). is_live p id book.events) own.0 ∙ (filtered (takes_live book.who (carried book.events)) book.events index (Taken id t.to t.cents t.stamp) t.there).1)
-      (λ at. (arrived_live b book from id index lawful at).1)
-      lies
 
   -- an own transfer was not forwarded
   own_or_forwarded : (b : B) (book : Book) (s : HubSettings) (from : ℕ) (id : List ℕ) → IsSound s book.who book.events → from ≡ book.who → is_forwarded from id book.events ≡ true → ⊥
@@ -208,4 +209,5 @@ module _ {B : Type 0} (settings : B → HubSettings) (knows : B → Fact → Typ
           → IsTicket sees s book.who command book.events (State from id state) ticket
       go None e told = subst (IsTicket sees s book.who command book.events (State from id state)) (sym told) (unplaced b book s from id lawful adopted replied.sound party (from == book.who) refl e)
       go (Some index) e told = subst (IsTicket sees s book.who command book.events (State from id state)) (sym told)
-          (refl, in_state b book s from id index state sees lawful replied.sound (lies_there book from id index (from == book.who) refl e) (seen (place_at from index) told) outcome)
+          (let lies = lies_there book from id index (from == book.who) refl e in
+          (refl, lies_live b book from id index lawful lies, in_state b book s from id index state sees lawful replied.sound lies (seen (place_at from index) told) outcome))

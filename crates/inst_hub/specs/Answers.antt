@@ -1,6 +1,6 @@
 -- What a participant's ask is answered in a hub of many threads: what the model replies on its history for what the ask
 -- finds, with a ticket for the transfer that the reply tells of. That there are tickets is this hub's own choice.
-use Rattle.std.specs.Prelude.{◌≡◌, ℕ, false, List, ◌++◌, Option, Some, None, Contains}
+use Rattle.std.specs.Prelude.{◌≡◌, ◌≢◌, ℕ, true, false, List, ◌++◌, Option, Some, None, Contains}
 use Rattle.inst_base.specs.TimeLimit.{deadline_of}
 use Rattle.inst_settings.specs.Settings.{HubSettings}
 use Rattle.inst_command.specs.declared.ask.Ask.{Ask}
@@ -18,6 +18,7 @@ use Rattle.inst_board.specs.declared.wish.Wish.TheVariants.{Accept, Reject as Wi
 use Rattle.inst_board.specs.declared.about.About.TheVariants.{Opened, HasTerms, Due, Decided}
 use Rattle.inst_board.specs.declared.about.Fact.{Fact}
 use Rattle.inst_board.specs.Standing.{about}
+use Rattle.inst_board.specs.Learning.{IsAnswer}
 use Rattle.inst_board.specs.Wish.{wanted}
 use Rattle.inst_journal.specs.declared.event.Event.{Event}
 use Rattle.inst_journal.specs.declared.event.Event.TheVariants.{Taken, Forwarded}
@@ -41,6 +42,7 @@ DecidesUntil s who J _ wish deadline = ⊥
 -- On the history J the ask of `who` is answered by this reply, and the history is then K
 -- reply_is, kept: it is the model's reply for what the ask finds, and the model's event is kept and nothing else
 -- none: it finds nothing only where its wish leaves the transfer pending
+-- own: a confirmation or rejection finds an acceptance or rejection only where it wants that at its reading
 -- other: an ask that decides no transfer finds nothing
 pub record Answered (s : HubSettings) (who : ℕ) (J : List Event) (ask : Ask) (reply : Reply) (K : List Event) : Type 0 where
   pub found : Option Outcome
@@ -48,6 +50,8 @@ pub record Answered (s : HubSettings) (who : ℕ) (J : List Event) (ask : Ask) (
   pub kept : K ≡ J ++ kept_events (handle s who J ask.command ask.at found)
   pub none : (wish : Wish) (deadline : ℕ) → DecidesUntil s who J ask.command wish deadline → found ≡ None →
       wanted s.margin wish deadline ask.at ≡ None
+  pub own : (wish : Wish) (deadline : ℕ) → DecidesUntil s who J ask.command wish deadline → wish ≢ Expire → (o : Outcome) →
+      IsAnswer o → found ≡ Some o → wanted s.margin wish deadline ask.at ≡ Some o
   pub other : ((wish : Wish) (deadline : ℕ) → ¬ DecidesUntil s who J ask.command wish deadline) → found ≡ None
 
 -- the place is known opened as the command submits it
@@ -67,8 +71,10 @@ pub record IsInState (sees : Fact → Type 0) (id : List ℕ) (state : StateValu
 -- The ticket that goes with the reply, where the history is then K: it names the place of the transfer that the reply
 -- tells of, and there is none where that transfer isn't live
 abbrev pub IsTicket : (Fact → Type 0) → HubSettings → ℕ → Command → List Event → Reply → Option Place → Type 0
-IsTicket sees s who command K (TakenReply id deadline) (Some k) = (k.owner ≡ who) × IsSubmitted sees s command k
+IsTicket sees s who command K (TakenReply id deadline) (Some k) = (k.owner ≡ who) × (is_live who id K ≡ true)
+    × IsSubmitted sees s command k
 IsTicket sees s who command K (TakenReply id deadline) None = is_live who id K ≡ false
-IsTicket sees s who command K (State from id state) (Some k) = (k.owner ≡ from) × IsInState sees id state k
+IsTicket sees s who command K (State from id state) (Some k) = (k.owner ≡ from) × (is_live from id K ≡ true)
+    × IsInState sees id state k
 IsTicket sees s who command K (State from id state) None = is_live from id K ≡ false
 IsTicket sees s who command K _ ticket = ticket ≡ None

@@ -1,6 +1,6 @@
 -- What a teller of a hub may rely on when it calls: a reply is the model's on a history that goes on from all that the
 -- teller has seen of it, and nothing that the teller knew is lost. This hub's own choice.
-use Rattle.std.specs.Prelude.{◌≡◌, ◌⊎◌, ◌↔◌, ℕ, List, [], ◌∷◌, ◌++◌, slice_get, Option, Some}
+use Rattle.std.specs.Prelude.{◌≡◌, ◌⊎◌, ◌↔◌, ℕ, List, [], ◌∷◌, ◌++◌, slice_get, Option, Some, None}
 use Rattle.inst_command.specs.declared.ask.Ask.{Ask}
 use Rattle.inst_command.specs.declared.reply.Reply.{Reply}
 use Rattle.inst_board.specs.declared.about.Fact.{Fact}
@@ -16,7 +16,9 @@ use Rattle.inst_row.specs.Row.{row_id, key_of}
 use Rattle.inst_row.specs.Seated.{IsOn, IsFree, HasSeen, GoesOn, view_of}
 use Rattle.inst_hub.specs.declared.hub.Hub.{Hub}
 use Rattle.inst_hub.specs.declared.teller.Teller.{Teller}
+use Rattle.inst_hub.specs.declared.follow_up.FollowUp.{FollowUp}
 use Rattle.inst_hub.specs.Answers.{Answered, IsTicket}
+use Rattle.inst_hub.specs.Following.{follow_up_of, TellsMore}
 
 -- The teller is one of this hub's: it sits on its row and has no lock, and it sees its words
 pub record IsOf (h : Hub) (t : Teller) : Type 0 where
@@ -57,16 +59,26 @@ IsTold _ = ⊥
 abbrev pub IsToldMore : List Event → List Event → Type 0
 IsToldMore J K = (K ≡ J) ⊎ ((e : Event) × IsTold e × (K ≡ J ++ e ∷ []))
 
--- what is seen of what follows from a call: nothing, or, behind one lock, the history that was found and the one left
-abbrev pub MayFollow : List (Front Event) → Type 0
-MayFollow [] = Unit {0}
-MayFollow (found ∷ left ∷ []) = (left.lock ≡ found.lock) × IsToldMore found.history left.history
-MayFollow _ = ⊥
+-- The follow-up was done, under one lock, and nothing else
+-- before, goes_on: the history that was found goes on from all that the teller had seen of it
+-- after, tells: the history that was left is the same, or has the event more that tells of the transfer
+-- seen: the teller has seen these two
+pub record IsDone (f : FollowUp) (t : Teller) (sights : List (Front Event)) : Type 0 where
+  pub before : List Event
+  pub after : List Event
+  pub goes_on : GoesOn f.who before t.seat
+  pub tells : TellsMore f.act f.place.owner before after
+  pub seen : sights ≡ front f.who before ∷ front f.who after ∷ []
+
+-- what is seen of what follows: nothing where nothing follows
+abbrev pub IsFollowed : Option FollowUp → Teller → List (Front Event) → Type 0
+IsFollowed None t sights = sights ≡ []
+IsFollowed (Some f) t sights = IsDone f t sights
 
 -- nothing else was seen, and nothing forgotten
-pub record Follows (t u : Teller) : Type 0 where
+pub record Follows (f : Option FollowUp) (t u : Teller) : Type 0 where
   pub sights : List (Front Event)
-  pub follows : MayFollow sights
+  pub followed : IsFollowed f t sights
   pub seen : sights_of u ≡ sights_of t ++ sights
 
 -- A call of the ask is answered
@@ -85,7 +97,12 @@ pub record IsCall (h : Hub) (t : Teller) (ask : Ask) (answer : Reply × Option P
 
 -- a call with what followed from it
 abbrev pub Calls : Hub → Teller → Ask → Reply × Option Place → Teller → Type 0
-Calls h t ask answer u = (sights : List (Front Event)) × MayFollow sights × IsCall h t ask answer sights u
+Calls h t ask answer u = (sights : List (Front Event)) × (call : IsCall h t ask answer sights u)
+    × IsFollowed (follow_up_of call.after ask.command answer.0 answer.1) t sights
+
+-- a call, and what is to follow from it
+abbrev pub Asks : Hub → Teller → Ask → (Reply × Option Place) × Option FollowUp → Teller → Type 0
+Asks h t ask r u = (call : IsCall h t ask r.0 [] u) × (r.1 ≡ follow_up_of call.after ask.command r.0.0 r.0.1)
 
 -- A call that memory was refused for: the asker's history was found, and left as it was
 pub record IsLeft (t : Teller) (ask : Ask) (u : Teller) : Type 0 where

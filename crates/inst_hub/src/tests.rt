@@ -4,5 +4,6 @@ mod asking;
 mod gate;
 mod race;
 mod reopening;
+mod start;
 mod sweeping;
 mod two_tellers;

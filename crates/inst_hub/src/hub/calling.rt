@@ -1,7 +1,8 @@
 //! Calls of a hub, under the locks of participants.
-ghost use Rattle.std.specs.Prelude.{◌≡◌, [], true, IfOk, OnErr, IsOkUnless};
+ghost use Rattle.std.specs.Prelude.{◌≡◌, ◌<◌, true, IfOk, IfSome, OnErr, IsOkUnless};
 ghost use Rattle.inst_command.specs.Ask.{ask_fits};
-ghost use Rattle.inst_hub.specs.Calls.{IsOf, KnowsMore, Follows, IsCall, Calls, IsLeft};
+ghost use Rattle.inst_hub.specs.Calls.{IsOf, KnowsMore, Follows, Calls, Asks, IsLeft};
+ghost use Rattle.inst_row.specs.Row.{size};
 
 use super::Hub;
 use crate::follow_up::FollowUp;
@@ -67,7 +68,8 @@ impl Hub {
         requires fits { ask_fits self.now.settings ask.now ≡ true }
         ensures of { IsOf self.now teller.new }
         ensures knows { KnowsMore teller.old teller.new }
-        ensures call { IfOk result (λ r. IsCall self.now teller.old ask.now r.0 [] teller.new) }
+        ensures call { IfOk result (λ r. Asks self.now teller.old ask.now r teller.new) }
+        ensures lock { IfOk result (λ r. IfSome r.1 (λ f. f.who < size self.now.row)) }
         ensures left { OnErr result (IsLeft teller.old ask.now teller.new) }
         ensures only { IsOkUnless result Fault.Memory }
     {
@@ -83,17 +85,15 @@ impl Hub {
     /// Does what follows under the other side's lock; what finds no memory is dropped.
     fn follow<R: Wait>(&self, rt: &R, teller: &mut Teller, follow_up: Option<FollowUp>)
         requires of { IsOf self.now teller.old }
+        requires lock { IfSome follow_up (λ f. f.who < size self.now.row) }
         ensures of { IsOf self.now teller.new }
         ensures knows { KnowsMore teller.old teller.new }
-        ensures follows { Follows teller.old teller.new }
+        ensures follows { Follows follow_up teller.old teller.new }
     {
         let Some(FollowUp { who, act, place }) = follow_up else {
             return
         };
         let lock = usize::from(who);
-        if lock >= self.row.len() {
-            return;
-        }
         let mut participant = self.row.take(rt, &mut teller.seat, lock);
         let _ = participant.follow(act, place);
         self.row.give(&mut teller.seat, lock, participant);

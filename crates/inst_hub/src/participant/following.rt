@@ -1,7 +1,9 @@
 //! What follows from a command under the other side's lock.
-ghost use Rattle.std.specs.Prelude.{◌≡◌, IsOkUnless};
+ghost use Rattle.std.specs.Prelude.{◌≡◌, true, IfSome, IsOkUnless};
+ghost use Rattle.inst_settings.specs.Settings.{is_participant};
+ghost use Rattle.inst_command.specs.Ask.{command_fits};
 ghost use Rattle.inst_hub.specs.Behind.{IsReady, IsLater};
-ghost use Rattle.inst_hub.specs.Following.{IsOtherSide, IsFollowUp, Does, Shows};
+ghost use Rattle.inst_hub.specs.Following.{follow_up_after, Does, Shows, TellsMore};
 ghost use Rattle.inst_hub.specs.Calls.{IsToldMore};
 
 use super::Participant;
@@ -9,43 +11,37 @@ use crate::follow_up::{Act, FollowUp};
 use inst_base::Fault;
 use inst_board::{Board, Look, Place};
 use inst_cell::Ticket;
-use inst_command::{Command, Reply};
+use inst_command::{Command, Reply, State};
 
 impl Participant {
-    /// What the other side has to do once the command was answered so: nothing where there is no ticket.
+    /// What the other side has to do once the command was answered so: nothing where there is no ticket, and nothing
+    /// where an investigation found its transfer pending.
     pub(crate) fn follow_up(
-        &mut self,
+        &self,
         command: &Command,
         answer: &Result<(Reply, Option<Ticket>), Fault>,
     ) -> Option<FollowUp>
-        requires ready { IsReady self.old }
-        ensures ready { IsReady self.new }
-        ensures later { IsLater self.old self.new }
-        ensures same { self.new.slot ≡ self.old.slot }
-        ensures follows { IsFollowUp self.old command.now answer.now result self.new }
+        requires fits { command_fits self.now.slot.settings command.now ≡ true }
+        ensures follows { result ≡ follow_up_after self.now.slot.events command.now answer.now }
+        ensures participant { IfSome result (λ f. is_participant self.now.slot.settings f.who ≡ true) }
     {
-        match answer {
-            Ok((_, Some(ticket))) => self.other_side(command, ticket.place()),
-            _ => None,
-        }
-    }
-
-    /// What the other side has to do about the transfer of this place, which the command named: nothing where an
-    /// investigation found it pending.
-    fn other_side(&mut self, command: &Command, place: Place) -> Option<FollowUp>
-        requires ready { IsReady self.old }
-        ensures ready { IsReady self.new }
-        ensures later { IsLater self.old self.new }
-        ensures same { self.new.slot ≡ self.old.slot }
-        ensures other { IsOtherSide self.old command.now place result self.new }
-    {
-        let (who, act) = match command {
-            Command::Submit(submission) => (submission.to, Act::Deliver),
-            Command::Confirm { from, .. } | Command::Reject { from, .. } => (*from, Act::Learn),
-            Command::Investigate { .. } => match self.look(place) {
-                Look::Decided(terms, _) => (terms.to, Act::Learn),
-                Look::Pending(..) | Look::Unused => return None,
-            },
+        let Ok((reply, Some(ticket))) = answer else {
+            return None
+        };
+        let place = ticket.place();
+        let (who, act) = match (command, reply) {
+            (Command::Submit(submission), _) => (submission.to, Act::Deliver),
+            (Command::Confirm { from, .. } | Command::Reject { from, .. }, _) => (
+                *from,
+                Act::Learn,
+            ),
+            (
+                Command::Investigate { id },
+                Reply::State {
+                    state: State::Decided(_),
+                    ..
+                },
+            ) => (self.slot.beneficiary_of(id)?, Act::Learn),
             _ => return None,
         };
         Some(FollowUp { who, act, place })
@@ -68,6 +64,7 @@ impl Participant {
         ensures ready { IsReady self.new }
         ensures later { IsLater self.old self.new }
         ensures does { Does act self.old place result self.new }
+        ensures tells { TellsMore act place.owner self.old.slot.events self.new.slot.events }
         ensures told { IsToldMore self.old.slot.events self.new.slot.events }
         ensures only { IsOkUnless result Fault.Memory }
     {

@@ -1,5 +1,6 @@
 // A hub of three participants, and what its tellers ask it.
-ghost use Rattle.std.specs.Prelude.{IfOk};
+ghost use Rattle.std.specs.Prelude.{◌≡◌, true, IfOk};
+ghost use Rattle.inst_command.specs.Ask.{ask_fits};
 ghost use Rattle.inst_hub.specs.Calls.{IsOf, AreOf};
 
 use crate::{Hub, Teller, Ticket};
@@ -45,6 +46,13 @@ pub(crate) fn submit(id: &str, cents: u64) -> Result<Command, Fault> {
     }))
 }
 
+/// An investigation of a transfer.
+pub(crate) fn investigate(id: &str) -> Result<Command, Fault> {
+    Ok(Command::Investigate {
+        id: Ident::new(id)?,
+    })
+}
+
 /// A confirmation of a transfer of participant 0.
 pub(crate) fn confirm(id: &str) -> Result<Command, Fault> {
     Ok(Command::Confirm {
@@ -85,6 +93,22 @@ pub(crate) fn position_of(reply: &Reply) -> Option<(u64, u64, u64)> {
     }
 }
 
+/// The ask of a command at this reading; `BadField` where it doesn't fit the hub.
+pub(crate) fn fitting(hub: &Hub, who: u8, command: Command, at: u64) -> Result<Ask, Fault>
+    ensures { IfOk result (λ ask. ask_fits hub.now.settings ask ≡ true) }
+{
+    let ask = Ask {
+        who,
+        command,
+        at: Moment::new(0, at)?,
+    };
+    if ask.fits(hub.settings()) {
+        Ok(ask)
+    } else {
+        Err(Fault::BadField)
+    }
+}
+
 /// What a command is answered; `BadField` where it doesn't fit the hub.
 pub(crate) fn ask<R: Wait>(
     rt: &R,
@@ -97,15 +121,7 @@ pub(crate) fn ask<R: Wait>(
     requires { IsOf hub.now teller.old }
     ensures { IsOf hub.now teller.new }
 {
-    let ask = Ask {
-        who,
-        command,
-        at: Moment::new(0, at)?,
-    };
-    if !ask.fits(hub.settings()) {
-        return Err(Fault::BadField);
-    }
-    hub.call(rt, teller, &ask)
+    hub.call(rt, teller, &fitting(hub, who, command, at)?)
 }
 
 /// The teller funds participant 0, and submits a transfer of it.

@@ -2,6 +2,7 @@
 ghost use Rattle.inst_hub.specs.Calls.{IsOf};
 
 use super::asking::{ask, fund, last, position_of, settings, state_of, submit};
+use super::start::Start;
 use crate::{Hub, Teller};
 use inst_base::{Fault, Ident};
 use inst_command::{Command, Outcome, State};
@@ -41,7 +42,8 @@ struct Count {
     timed_out: u16,
 }
 
-/// What becomes of each transfer, where the participant `who` asks so of each at this reading.
+/// What becomes of each transfer, where the participant `who` asks so of each at this reading, once both sides have
+/// started.
 fn decide_all<R: Wait>(
     rt: &R,
     alloc: Global,
@@ -49,9 +51,14 @@ fn decide_all<R: Wait>(
     teller: &mut Teller,
     who: u8,
     at: u64,
+    start: &Start,
 ) -> Result<Count, Fault>
     requires { IsOf hub.now teller.old }
 {
+    start.arrive();
+    if !start.wait_for(2) {
+        return Err(Fault::Full);
+    }
     let mut count = Count {
         accepted: 0,
         timed_out: 0,
@@ -87,10 +94,11 @@ fn race<R: Threads + Wait + Sync>(
     requires { IsOf hub.now tellers.0 × IsOf hub.now tellers.1 }
 {
     let (mut first, mut second) = tellers;
+    let start = Start::new();
     let (investigated, confirmed) = join(
         rt,
-        || decide_all(rt, alloc, hub, &mut first, 0, 11_000),
-        || decide_all(rt, alloc, hub, &mut second, 1, 10_999),
+        || decide_all(rt, alloc, hub, &mut first, 0, 11_000, &start),
+        || decide_all(rt, alloc, hub, &mut second, 1, 10_999, &start),
     );
     Ok((investigated?, confirmed?))
 }

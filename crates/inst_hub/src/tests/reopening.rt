@@ -9,7 +9,9 @@ ghost use Rattle.inst_world.specs.HasRun.{HasRun};
 ghost use Rattle.inst_world.specs.NextOpening.{AreJournalsOf, CanOpenFrom};
 ghost use Rattle.inst_hub.specs.Calls.{IsOf};
 
-use super::asking::{ask, confirm, fund, last, position_of, settings, state_of, submit};
+use super::asking::{
+    ask, confirm, fund, investigate, last, position_of, settings, state_of, submit,
+};
 use crate::{Hub, Teller};
 use inst_base::{Fault, Moment};
 use inst_command::{Ask, Command, Outcome, State, Step};
@@ -83,23 +85,27 @@ fn journals(alloc: Global, world: &World) -> Result<Vec<Journal>, Fault>
     Ok(journals)
 }
 
-/// The journals of a hub in which participant 1 got T1 of participant 0, and nobody answered it.
+/// The step that asks this.
+fn asked(who: u8, command: Command, at: u64) -> Result<Step, Fault> {
+    Ok(Step::Ask(Ask {
+        who,
+        command,
+        at: Moment::new(0, at)?,
+    }))
+}
+
+/// The journals of a hub in which participant 1 confirmed T0 of participant 0, and got T1 that nobody answered.
 fn books(alloc: Global, settings: &Settings) -> Result<Vec<Journal>, Fault>
     ensures { IfOk result (λ journals. CanOpenFrom settings.now journals.items) }
 {
+    // The check is told of a type of another crate inside another one only where a function names it.
+    let _: Option<Ask> = None;
     let mut world = World::open(alloc, settings)?;
-    let funding = Ask {
-        who: 0,
-        command: fund(50_000)?,
-        at: Moment::new(0, 0)?,
-    };
-    let submission = Ask {
-        who: 0,
-        command: submit("T1", 20_000)?,
-        at: Moment::new(0, 1_000)?,
-    };
-    run(&mut world, &Step::Ask(funding))?;
-    run(&mut world, &Step::Ask(submission))?;
+    run(&mut world, &asked(0, fund(50_000)?, 0)?)?;
+    run(&mut world, &asked(0, submit("T0", 10_000)?, 1_000)?)?;
+    close(&mut world)?;
+    run(&mut world, &asked(1, confirm("T0")?, 2_000)?)?;
+    run(&mut world, &asked(0, submit("T1", 20_000)?, 2_000)?)?;
     close(&mut world)?;
     journals(alloc, &world)
 }
@@ -128,8 +134,21 @@ fn what_was_pending_goes_on(rt: HostRuntime) -> Result<(), Fault> {
     let (hub, mut tellers) = Hub::open_from(rt.alloc(), settings, &books, 1)?;
     let mut teller = last(&hub, &mut tellers)?;
     let told = confirmed(&rt, &hub, &mut teller)?;
-    assert_eq!(rt; told.0, Some((50_000, 20_000, 30_000)));
+    assert_eq!(rt; told.0, Some((40_000, 20_000, 20_000)));
     assert_eq!(rt; told.1, Some(State::Decided(Outcome::Accepted)));
-    assert_eq!(rt; told.2, Some((30_000, 0, 30_000)));
+    assert_eq!(rt; told.2, Some((20_000, 0, 20_000)));
+    Ok(())
+}
+
+// It has no place any more.
+#[test]
+fn what_was_settled_has_no_ticket(rt: HostRuntime) -> Result<(), Fault> {
+    let settings = settings(rt.alloc(), 2)?;
+    let books = books(rt.alloc(), &settings)?;
+    let (hub, mut tellers) = Hub::open_from(rt.alloc(), settings, &books, 1)?;
+    let mut teller = last(&hub, &mut tellers)?;
+    let (reply, ticket) = ask(&rt, &hub, &mut teller, 0, investigate("T0")?, 3_000)?;
+    assert_eq!(rt; state_of(&reply), Some(State::Decided(Outcome::Accepted)));
+    assert!(rt; ticket.is_none());
     Ok(())
 }

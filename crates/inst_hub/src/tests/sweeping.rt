@@ -1,11 +1,13 @@
 // What sweeps count, and in which order they bring transfers.
 ghost use Rattle.inst_hub.specs.Calls.{IsOf};
 
-use super::asking::{ask, confirm, fund, last, settings, state_of, submit, submitted};
+use super::asking::{
+    ask, confirm, fitting, fund, investigate, last, settings, state_of, submit, submitted,
+};
 use crate::gate::Open;
 use crate::{Hub, Participant, Teller, Ticket};
 use inst_base::{Cents, Fault, Ident, Moment};
-use inst_command::{Ask, Command, Outcome, Reply, State, Submission};
+use inst_command::{Command, Outcome, Reply, State, Submission};
 use inst_journal::Event;
 use std::alloc::Global;
 use std::sync::Wait;
@@ -21,14 +23,7 @@ fn submit_unheard<R: Wait>(
     requires { IsOf hub.now teller.old }
     ensures { IsOf hub.now teller.new }
 {
-    let ask = Ask {
-        who,
-        command: submit(id, 20_000)?,
-        at: Moment::new(0, 1_000)?,
-    };
-    if !ask.fits(hub.settings()) {
-        return Err(Fault::BadField);
-    }
+    let ask = fitting(hub, who, submit(id, 20_000)?, 1_000)?;
     let (answer, _) = hub.ask(rt, teller, &ask, &Open)?;
     let (_, ticket) = answer;
     ticket.ok_or(Fault::UnknownTransfer)
@@ -64,6 +59,35 @@ fn sweep_delivers(rt: HostRuntime) -> Result<(), Fault> {
     assert_eq!(rt; delivered(&rt, &hub, &mut teller)?, (1, 0));
     let (reply, _) = ask(&rt, &hub, &mut teller, 1, confirm("T1")?, 2_000)?;
     assert_eq!(rt; state_of(&reply), Some(State::Decided(Outcome::Accepted)));
+    Ok(())
+}
+
+/// What investigations before the deadline and at it tell, and how many are new then in sweeps of both sides.
+fn investigated<R: Wait>(
+    rt: &R,
+    hub: &Hub,
+    teller: &mut Teller,
+) -> Result<(Option<State>, Option<State>, u32, u32), Fault>
+    requires { IsOf hub.now teller.old }
+{
+    submitted(rt, hub, teller)?;
+    let (before, _) = ask(rt, hub, teller, 0, investigate("T1")?, 10_999)?;
+    let (due, _) = ask(rt, hub, teller, 0, investigate("T1")?, 11_000)?;
+    let originator = sweep(rt, hub, teller, 0, 11_000)?;
+    let beneficiary = sweep(rt, hub, teller, 1, 11_000)?;
+    Ok((state_of(&before), state_of(&due), originator, beneficiary))
+}
+
+// The call has told the beneficiary, so that a sweep finds nothing.
+#[test]
+fn what_an_investigation_finds_is_learnt(rt: HostRuntime) -> Result<(), Fault> {
+    let (hub, mut tellers) = Hub::open(rt.alloc(), settings(rt.alloc(), 2)?, 1)?;
+    let mut teller = last(&hub, &mut tellers)?;
+    let timed_out = State::Decided(Outcome::TimedOut);
+    assert_eq!(rt;
+        investigated(&rt, &hub, &mut teller)?,
+        (Some(State::Pending), Some(timed_out), 0, 0)
+    );
     Ok(())
 }
 

@@ -5,4 +5,4 @@ pub returns-clause-knows : goal.returns-clause-knows
 returns-clause-knows g c = knows_twice c.args.teller.now c.ask.new.teller c.follow.new.teller c.ask.ensures.knows c.follow.ensures.knows
 
 pub returns-clause-call : goal.returns-clause-call
-returns-clause-call g c = call_more c.args.self.now c.args.teller.now c.ask.new.teller c.follow.new.teller c.args.ask.now c.in_ok-answer.answer c.in_ok-answer.ensures.call c.follow.ensures.knows c.follow.ensures.follows
+returns-clause-call g c = call_more c.args.self.now c.args.teller.now c.ask.new.teller c.follow.new.teller c.args.ask.now (c.in_ok-answer.answer, c.in_ok-answer.follow_up) c.in_ok-answer.ensures.call c.ask.ensures.knows c.follow.ensures.knows c.follow.ensures.follows

@@ -1,4 +1,4 @@
-use Rattle.std.proofs.Common.{◌≡◌, ◌∙◌, sym, ap, subst, List}
+use Rattle.std.proofs.Common.{◌≡◌, ◌∙◌, ⊎_elim, sym, ap, subst, List}
 use denote.Enum.Bare.{sameb}
 use Rattle.inst_base.specs.contracts.fault.Fault.{the_type}
 use Rattle.std.specs.Prelude.{Result, Ok, Err, false}
@@ -6,15 +6,23 @@ use Rattle.std.proofs.lemmas.Bool.{false≢true}
 use Rattle.inst_base.specs.declared.fault.Fault.{Fault}
 use Rattle.inst_base.specs.declared.fault.Fault.TheVariants.{Memory}
 use Rattle.inst_command.specs.declared.reply.Reply.{Reply}
-use Rattle.inst_cell.specs.Held.{settings_of, knows, has_role, stood, Stays}
+use Rattle.inst_cell.specs.Held.{settings_of, knows, has_role, stood, Stays, roles_same}
+use Rattle.inst_board.specs.Learning.{IsAnswer}
 use Rattle.inst_journal.specs.declared.event.Event.{Event}
 use Rattle.inst_journal.specs.Sound.{IsSound}
 use Rattle.inst_model.specs.Trace.{as_reply}
 use Rattle.inst_slot.proofs.Adopting.{asks_adopted}
 use Rattle.inst_hub.specs.Answers.{Answered}
-use Rattle.inst_hub.proofs.Answering.{answered}
+use Rattle.inst_hub.proofs.Answering.{KnowsOwn, answered}
 use Rattle.inst_hub.proofs.Serving.{grows}
 use Rattle.inst_hub.proofs.participant.Participant.answer.Goals as goal
+
+-- on shared words only a time-out may have stood that the beneficiary doesn't know
+shared_own : KnowsOwn knows has_role stood Stays
+shared_own = record {
+  stood_known = λ b k t o answer before terms role. ⊎_elim (λ known. known) (λ out. absurd (subst IsAnswer out answer)) (before t terms role);
+  role_stays = λ b c p stays role. (roles_same b c p stays).0 role;
+}
 
 pub apply-answer-requires-clause-adopted : goal.apply-answer-requires-clause-adopted
 apply-answer-requires-clause-adopted c =
@@ -27,7 +35,7 @@ returns-in-Ok-clause-grows c =
 pub returns-in-Ok-clause-answered : goal.returns-in-Ok-clause-answered
 returns-in-Ok-clause-answered c =
     subst (λ (r : Result Reply Fault). Answered c.args.self.now.slot.settings c.args.self.now.slot.who c.args.self.now.slot.events c.args.ask.now (as_reply r) c.apply-answer.new.self.events) c.in-Ok.is
-    (answered settings_of knows has_role stood Stays c.args.self.now.board c.apply-answer.new.board c.args.self.now.slot c.args.ask.now c.apply-answer.result c.apply-answer.new.self
+    (answered settings_of knows has_role stood Stays shared_own c.args.self.now.board c.apply-answer.new.board c.args.self.now.slot c.args.ask.now c.apply-answer.result c.apply-answer.new.self
     c.requires.ready.lawful (subst (λ (J : List Event). IsSound c.args.self.now.slot.settings c.args.self.now.slot.who J) c.journal.ensures.events c.journal.ensures.sound) c.apply-answer.ensures.decides c.apply-answer.ensures.applies (λ e. let no : Ok c.in-Ok.reply ≡ Err Memory = sym c.in-Ok.is ∙ e in let wrong : ⊥ = cc in absurd wrong))
 
 not_memory : (fault : Fault) → fault ≡ Memory → false ≡ sameb the_type fault Memory → ⊥
@@ -36,5 +44,5 @@ not_memory fault same e = absurd (false≢true (e ∙ ap (λ (f : Fault). sameb 
 pub returns-else-eq-clause-answered : goal.returns-else-eq-clause-answered
 returns-else-eq-clause-answered c =
     subst (λ (r : Result Reply Fault). Answered c.args.self.now.slot.settings c.args.self.now.slot.who c.args.self.now.slot.events c.args.ask.now (as_reply r) c.apply-answer.new.self.events) c.in-Err.is
-    (answered settings_of knows has_role stood Stays c.args.self.now.board c.apply-answer.new.board c.args.self.now.slot c.args.ask.now c.apply-answer.result c.apply-answer.new.self
+    (answered settings_of knows has_role stood Stays shared_own c.args.self.now.board c.apply-answer.new.board c.args.self.now.slot c.args.ask.now c.apply-answer.result c.apply-answer.new.self
     c.requires.ready.lawful (subst (λ (J : List Event). IsSound c.args.self.now.slot.settings c.args.self.now.slot.who J) c.journal.ensures.events c.journal.ensures.sound) c.apply-answer.ensures.decides c.apply-answer.ensures.applies (λ e. let is = c.in-Err.is in let same : c.in-Err.fault ≡ Memory = cc in not_memory c.in-Err.fault same c.if-eq.ensures))

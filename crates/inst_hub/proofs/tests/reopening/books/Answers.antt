@@ -29,7 +29,10 @@ pub returns : goal.returns
 returns c =
     let one = c.in_ok-run.ensures.ran First [] c.in_ok-world.ensures.ok.1 in
     let two = c.in_ok-run-2.ensures.ran First _ one in
-    let closed = c.in_ok-close.ensures.ran First _ two in
-    let same = c.run-2.ensures.settings ∙ (c.run.ensures.settings ∙ c.in_ok-world.ensures.ok.0) in
+    let told = c.in_ok-close.ensures.ran First _ two in
+    let three = c.in_ok-run-3.ensures.ran First _ told in
+    let four = c.in_ok-run-4.ensures.ran First _ three in
+    let closed = c.in_ok-close-2.ensures.ran First _ four in
+    let same = c.run-4.ensures.settings ∙ (c.run-3.ensures.settings ∙ (c.close.ensures.settings ∙ (c.run-2.ensures.settings ∙ (c.run.ensures.settings ∙ c.in_ok-world.ensures.ok.0)))) in
     if_ok_then _ _ c.journals.result
-    (λ journals are. closed_journals c.args.settings.now _ c.run-2.new.world c.close.new.world journals.items same c.close.ensures.settings two closed are) c.journals.ensures
+    (λ journals are. closed_journals c.args.settings.now _ c.run-4.new.world c.close-2.new.world journals.items same c.close-2.ensures.settings four closed are) c.journals.ensures

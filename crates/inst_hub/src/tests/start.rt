@@ -1,0 +1,40 @@
+// Where the threads of a test wait for one another, so that they go on at the same time.
+use std::sync::atomic::{AtomicU32, Ordering};
+use std::thread::yield_now;
+
+/// How often a thread looks for the others before it gives up.
+const TURNS: u32 = 1_000_000;
+
+#[derive(Drop)]
+pub(crate) struct Start {
+    arrived: AtomicU32,
+}
+
+impl Start {
+    pub(crate) fn new() -> Start {
+        Start {
+            arrived: AtomicU32::new(0),
+        }
+    }
+
+    /// Says that this thread is here.
+    pub(crate) fn arrive(&self) {
+        self.arrived.fetch_add(1, Ordering::SeqCst);
+    }
+
+    /// Waits until so many are here, with turns that let others run: whether they came.
+    pub(crate) fn wait_for(&self, threads: u32) -> bool {
+        for _ in 0..TURNS {
+            if self.arrived.load(Ordering::SeqCst) >= threads {
+                return true;
+            }
+            yield_now();
+        }
+        false
+    }
+
+    /// Whether so many are here already.
+    pub(crate) fn has(&self, threads: u32) -> bool {
+        self.arrived.load(Ordering::SeqCst) >= threads
+    }
+}
