@@ -221,9 +221,36 @@ fn funds_submits_and_investigates(rt: HostRuntime) -> Result<(), Fail> {
     assert_eq!(rt; ledger.reserved(), 0);
     assert_eq!(rt; ledger.available(), 10_000);
     assert!(rt; ledger.is_taken(&t1) && !ledger.is_taken(&t3));
-    assert_eq!(rt; ledger.beneficiary_of(&t1), Some(1));
-    assert_eq!(rt; ledger.beneficiary_of(&t3), None);
     assert_eq!(rt; ledger.booked(0, &t2), Some(Outcome::TimedOut));
+    Ok(())
+}
+
+#[test]
+fn tells_the_beneficiary(rt: HostRuntime) -> Result<(), Fail> {
+    let settings = hub(rt.alloc())?;
+    let id = Ident::new("T1")?;
+    let reference = Ident::new("F1")?;
+    let cents = Cents::new(20_000)?;
+    let stamp = Moment::new(0, 1000)?;
+    let fund = Command::Fund { reference, cents };
+    let submit = Command::Submit(Submission {
+        id,
+        to: 1,
+        cents,
+        stamp,
+    });
+    let mut ledger = Ledger::open(rt.alloc(), &settings, 0)?;
+    answer(&rt, &mut ledger, &fund, 0, &None, &Told::Done(reference))?;
+    answer(
+        &rt,
+        &mut ledger,
+        &submit,
+        1000,
+        &None,
+        &Told::Taken(id, 11_000),
+    )?;
+    assert_eq!(rt; ledger.beneficiary_of(&id), Some(1));
+    assert_eq!(rt; ledger.beneficiary_of(&reference), None);
     Ok(())
 }
 

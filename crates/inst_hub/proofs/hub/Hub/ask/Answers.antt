@@ -1,16 +1,13 @@
-use Rattle.std.proofs.Common.{◌≡◌, ◌∙◌, ap, subst, sym, ◌++◌, ◌∷◌, []}
-use mathlib.Core.List.{IsPrefix}
+use Rattle.std.proofs.Common.{◌≡◌, subst}
 use Rattle.inst_row.specs.Row.{key_of}
-use Rattle.inst_slot.specs.Book.{Book}
 use Rattle.std.specs.Prelude.{Result, Option, OnErr, IfOk}
 use Rattle.inst_base.specs.declared.fault.Fault.{Fault}
 use Rattle.inst_command.specs.declared.reply.Reply.{Reply}
 use Rattle.inst_board.specs.declared.place.Place.{Place}
 use Rattle.inst_cell.specs.Seen.{sees}
-use Rattle.inst_row.specs.View.{front}
 use Rattle.inst_hub.specs.Answers.{Answered, IsTicket}
 use Rattle.inst_hub.specs.Following.{follow_up_after}
-use Rattle.inst_hub.specs.Calls.{IsLeft, sights_of}
+use Rattle.inst_hub.specs.Calls.{IsLeft}
 use Rattle.inst_hub.proofs.Calling.{behind_later, still_knows, seen_both, asks_at, lock_of, left_at, on_err}
 use Rattle.inst_hub.proofs.hub.Hub.ask.Goals as goal
 
