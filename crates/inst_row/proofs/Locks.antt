@@ -71,11 +71,6 @@ one_value : {T : Type 0} (p : ℕ) (y z : T) (cs : List (ℕ × Option T)) → (
 unfolding first_value
 one_value p y z cs e = let f : Some y ≡ Some z = ap first_value e in cc
 
-found_at : (l : List ℕ) (i : ℕ) → i < length l → get_elem? l i ≡ some (get_or l i 0)
-found_at [] i h = absurd (omega arith)
-found_at (x ∷ xs) zero h = refl
-found_at (x ∷ xs) (suc i) h = found_at xs i (omega arith)
-
 only_one : {A : Type 0} (x y : A) (i : ℕ) → get_elem? (x ∷ []) i ≡ some y → x ≡ y
 only_one x y zero e = some-injective x y e
 only_one x y (suc i) e = absurd (some-ne-none y (sym e))

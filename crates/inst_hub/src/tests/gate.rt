@@ -22,11 +22,13 @@ struct Waits {
     done: Start,
     /// Another call of participant 0 was answered.
     queued: Start,
-    /// How often the gate was passed, for whom, whether the two were done inside the lock, and whether the other call
-    /// was answered inside it.
+    /// How often the gate was passed.
     passes: AtomicU32,
+    /// For whom it was passed last.
     who: AtomicU32,
+    /// 1 where the two were done inside the lock.
     through: AtomicU32,
+    /// 1 where the other call of participant 0 was answered inside it.
     overtaken: AtomicU32,
 }
 
