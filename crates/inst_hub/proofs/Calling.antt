@@ -1,6 +1,8 @@
 -- A call under a lock: what lies behind it stays lawful, and what the caller has then seen.
 use Rattle.std.proofs.Common.{◌≡◌, ℕ, ◌<◌, true, ltb-true, IfSome, List, [], ◌∷◌, sym, refl, ◌∙◌, subst, arith, Option, Some, None, ◌++◌, append-nil, append_assoc, ap}
-use Rattle.std.specs.Prelude.{Contains, Result, Ok, Err, OnErr}
+use Rattle.std.specs.Prelude.{Bool, Contains, Result, Ok, Err, OnErr}
+use Rattle.inst_base.specs.declared.fault.Fault.{Fault}
+use Rattle.inst_base.specs.declared.fault.Fault.TheVariants.{Memory}
 use Rattle.std.proofs.lemmas.List.Elements.{Contains-append_left, Contains-append_right}
 use Rattle.inst_settings.specs.Settings.{HubSettings, participants, is_participant}
 use Rattle.inst_command.specs.declared.ask.Ask.{Ask}
@@ -27,7 +29,8 @@ use Rattle.inst_hub.specs.declared.teller.Teller.{Teller}
 use Rattle.inst_hub.specs.Behind.{IsReady, IsBehind, IsLater}
 use Rattle.inst_hub.specs.Answers.{Answered, IsSubmitted, IsTicket}
 use Rattle.inst_hub.specs.declared.follow_up.FollowUp.{FollowUp}
-use Rattle.inst_hub.specs.Following.{follow_up_of, TellsMore}
+use Rattle.inst_hub.specs.Following.{follow_up_of, Does}
+use Rattle.inst_hub.specs.Serving.{Serves}
 use Rattle.inst_hub.specs.Calls.{IsCall, Calls, Asks, IsLeft, KnowsMore, Follows, IsFollowed, knows_of, sights_of}
 
 abbrev Seat : Type 0
@@ -69,16 +72,19 @@ still_knows t mid sight last p h l kept first second = record {
 pub call_of : (h : Hub) (t u : Teller) (ask : Ask) (answer : Reply × Option Place) (x y : Participant) → IsBehind (key_of h.row).value ask.who x
     → GoesOn ask.who x.slot.events t.seat → sights_of u ≡ sights_of t ++ front ask.who x.slot.events ∷ front ask.who y.slot.events ∷ []
     → IsSound x.slot.settings x.slot.who x.slot.events
+    → Serves x ask (Ok answer.0) y
     → Answered x.slot.settings x.slot.who x.slot.events ask answer.0 y.slot.events
     → IsTicket (sees u.sight) x.slot.settings x.slot.who ask.command y.slot.events answer.0 answer.1
     → IsCall h t ask answer [] u
-call_of h t u ask answer x y behind goes_on seen sound answered ticket =
+call_of h t u ask answer x y behind goes_on seen sound serves answered ticket =
     let settled : x.slot.settings ≡ h.settings = sym behind.ready.lawful.same_settings ∙ (behind.one.1 ∙ h.same) in record {
-      before = x.slot.events;
-      after = y.slot.events;
+      found = x;
+      left = y;
+      behind = behind;
       sound = subst (λ (s : HubSettings). IsSound s ask.who x.slot.events) settled (subst (λ (n : ℕ). IsSound x.slot.settings n x.slot.events) behind.who sound);
       goes_on = goes_on;
       seen = seen;
+      serves = serves;
       answered = subst (λ (s : HubSettings). Answered s ask.who x.slot.events ask answer.0 y.slot.events) settled
           (subst (λ (n : ℕ). Answered x.slot.settings n x.slot.events ask answer.0 y.slot.events) behind.who answered);
       ticket = subst (λ (s : HubSettings). IsTicket (sees u.sight) s ask.who ask.command y.slot.events answer.0 answer.1) settled
@@ -89,22 +95,25 @@ call_of h t u ask answer x y behind goes_on seen sound answered ticket =
 pub call_at : (h : Hub) (t u : Teller) (ask : Ask) (answer : Reply × Option Place) (x y : Participant) (p : ℕ) → p ≡ ask.who → IsBehind (key_of h.row).value p x
     → GoesOn p x.slot.events t.seat → sights_of u ≡ sights_of t ++ front p x.slot.events ∷ front p y.slot.events ∷ []
     → IsSound x.slot.settings x.slot.who x.slot.events
+    → Serves x ask (Ok answer.0) y
     → Answered x.slot.settings x.slot.who x.slot.events ask answer.0 y.slot.events
     → IsTicket (sees u.sight) x.slot.settings x.slot.who ask.command y.slot.events answer.0 answer.1
     → IsCall h t ask answer [] u
-call_at h t u ask answer x y p is behind goes_on seen sound answered ticket =
+call_at h t u ask answer x y p is behind goes_on seen sound serves answered ticket =
     call_of h t u ask answer x y (subst (λ (n : ℕ). IsBehind (key_of h.row).value n x) is behind) (subst (λ (n : ℕ). GoesOn n x.slot.events t.seat) is goes_on)
-    (subst (λ (n : ℕ). sights_of u ≡ sights_of t ++ front n x.slot.events ∷ front n y.slot.events ∷ []) is seen) sound answered ticket
+    (subst (λ (n : ℕ). sights_of u ≡ sights_of t ++ front n x.slot.events ∷ front n y.slot.events ∷ []) is seen) sound serves answered ticket
 
 -- the same, with what is to follow
 pub asks_at : (h : Hub) (t u : Teller) (ask : Ask) (answer : Reply × Option Place) (f : Option FollowUp) (x y : Participant) (p : ℕ) → p ≡ ask.who → IsBehind (key_of h.row).value p x
     → GoesOn p x.slot.events t.seat → sights_of u ≡ sights_of t ++ front p x.slot.events ∷ front p y.slot.events ∷ []
     → IsSound x.slot.settings x.slot.who x.slot.events
+    → Serves x ask (Ok answer.0) y
     → Answered x.slot.settings x.slot.who x.slot.events ask answer.0 y.slot.events
     → IsTicket (sees u.sight) x.slot.settings x.slot.who ask.command y.slot.events answer.0 answer.1
     → f ≡ follow_up_of y.slot.events ask.command answer.0 answer.1 → Asks h t ask (answer, f) u
 unfolding call_at call_of
-asks_at h t u ask answer f x y p is behind goes_on seen sound answered ticket follows = (call_at h t u ask answer x y p is behind goes_on seen sound answered ticket, follows)
+asks_at h t u ask answer f x y p is behind goes_on seen sound serves answered ticket follows =
+    (call_at h t u ask answer x y p is behind goes_on seen sound serves answered ticket, follows)
 
 -- who follows up is one of the hub's participants, and so has a lock
 pub lock_of : (h : Hub) (p : ℕ) (x y : Participant) (f : Option FollowUp) → IsBehind (key_of h.row).value p x → IsLater x y → IfSome f (λ g. is_participant y.slot.settings g.who ≡ true) → IfSome f (λ g. g.who < size h.row)
@@ -114,12 +123,18 @@ lock_of h p x y (Some g) behind later fits =
     let below : g.who < participants h.settings = ltb-true g.who (participants h.settings) (ap (λ (s : HubSettings). is_participant s g.who) (sym same) ∙ fits) in
     subst (λ (n : ℕ). g.who < n) (sym h.sized) below
 
-pub left_at : (t u : Teller) (ask : Ask) (J K : List Event) (p : ℕ) → p ≡ ask.who → GoesOn p J t.seat → sights_of u ≡ sights_of t ++ front p J ∷ front p K ∷ [] → K ≡ J → IsLeft t ask u
-left_at t u ask J K p is goes_on seen same = record {
-  before = J;
-  goes_on = subst (λ (n : ℕ). GoesOn n J t.seat) is goes_on;
-  seen = subst (λ (L : List Event). sights_of u ≡ sights_of t ++ front ask.who J ∷ front ask.who L ∷ []) same
-      (subst (λ (n : ℕ). sights_of u ≡ sights_of t ++ front n J ∷ front n K ∷ []) is seen);
+-- what was left where memory was refused
+pub left_at : (h : Hub) (t u : Teller) (ask : Ask) (x y : Participant) (p : ℕ) → p ≡ ask.who → IsBehind (key_of h.row).value p x
+    → GoesOn p x.slot.events t.seat → sights_of u ≡ sights_of t ++ front p x.slot.events ∷ front p y.slot.events ∷ []
+    → Serves x ask (Err Memory) y → y.slot ≡ x.slot → IsLeft h t ask u
+left_at h t u ask x y p is behind goes_on seen serves same = record {
+  found = x;
+  left = y;
+  behind = subst (λ (n : ℕ). IsBehind (key_of h.row).value n x) is behind;
+  goes_on = subst (λ (n : ℕ). GoesOn n x.slot.events t.seat) is goes_on;
+  seen = subst (λ (n : ℕ). sights_of u ≡ sights_of t ++ front n x.slot.events ∷ front n y.slot.events ∷ []) is seen;
+  serves = serves;
+  same = same;
 }
 
 -- who took a lock and gave it back has seen what was found and what was left
@@ -127,26 +142,28 @@ pub seen_both : (s mid last : Seat) (p : ℕ) (h l : List Event) → Sees p h s 
 seen_both s mid last p h l first second =
     second.seen ∙ (ap (λ (fs : List (Front Event)). fs ++ front p l ∷ []) first.seen ∙ append_assoc (view_of s).fronts (front p h ∷ []) (front p l ∷ []))
 
-pub follows_nothing : (t : Teller) → Follows None t t
-follows_nothing t = record { sights = []; followed = refl; seen = sym (append-nil (sights_of t)) }
+pub follows_nothing : (h : Hub) (t : Teller) → Follows h None t t
+follows_nothing h t = record { sights = []; followed = refl; seen = sym (append-nil (sights_of t)) }
 
-pub follows_one : (f : FollowUp) (t : Teller) (mid last : Seat) (h l : List Event) → GoesOn f.who h t.seat → Sees f.who h t.seat mid → Sees f.who l mid last → TellsMore f.act f.place.owner h l
-    → Follows (Some f) t record { sight = t.sight; seat = last }
-follows_one f t mid last h l goes_on first second tells = record {
-  sights = front f.who h ∷ front f.who l ∷ [];
-  followed = record { before = h; after = l; goes_on = goes_on; tells = tells; seen = refl };
-  seen = seen_both t.seat mid last f.who h l first second;
+pub follows_one : (h : Hub) (f : FollowUp) (t : Teller) (mid last : Seat) (x y : Participant) (result : Result Bool Fault) → IsBehind (key_of h.row).value f.who x
+    → GoesOn f.who x.slot.events t.seat → Sees f.who x.slot.events t.seat mid → Sees f.who y.slot.events mid last → Does f.act x f.place result y
+    → Follows h (Some f) t record { sight = t.sight; seat = last }
+follows_one h f t mid last x y result behind goes_on first second does = record {
+  sights = front f.who x.slot.events ∷ front f.who y.slot.events ∷ [];
+  followed = record { found = x; left = y; behind = behind; goes_on = goes_on; does = (result, does); seen = refl };
+  seen = seen_both t.seat mid last f.who x.slot.events y.slot.events first second;
 }
 
 -- what followed goes on from what was seen before the call
-followed_from : (f : Option FollowUp) (t u : Teller) (sights : List (Front Event)) → KnowsMore t u → IsFollowed f u sights → IsFollowed f t sights
-followed_from None t u sights more h = h
-followed_from (Some f) t u sights more h = record {
-  before = h.before;
-  after = h.after;
-  goes_on = λ J seen. h.goes_on J (more.fronts f.who J seen);
-  tells = h.tells;
-  seen = h.seen;
+followed_from : (h : Hub) (f : Option FollowUp) (t u : Teller) (sights : List (Front Event)) → KnowsMore t u → IsFollowed h f u sights → IsFollowed h f t sights
+followed_from h None t u sights more done = done
+followed_from h (Some f) t u sights more done = record {
+  found = done.found;
+  left = done.left;
+  behind = done.behind;
+  goes_on = λ J seen. done.goes_on J (more.fronts f.who J seen);
+  does = done.does;
+  seen = done.seen;
 }
 
 pub on_err : {A B : Type 0} (r : Result A B) (X : Type 0) → X → OnErr r X
@@ -195,17 +212,19 @@ ticket_more S S' more s who command K (StatementReply l) ticket h = h
 ticket_more S S' more s who command K (Refused f) ticket h = h
 
 -- a call, and what followed
-pub call_more : (h : Hub) (t u v : Teller) (ask : Ask) (r : (Reply × Option Place) × Option FollowUp) → Asks h t ask r u → KnowsMore t u → KnowsMore u v → Follows r.1 u v → Calls h t ask r.0 v
+pub call_more : (h : Hub) (t u v : Teller) (ask : Ask) (r : (Reply × Option Place) × Option FollowUp) → Asks h t ask r u → KnowsMore t u → KnowsMore u v → Follows h r.1 u v → Calls h t ask r.0 v
 call_more h t u v ask r asks known more follows =
     let c = asks.0 in
     let call : IsCall h t ask r.0 follows.sights v = record {
-      before = c.before;
-      after = c.after;
+      found = c.found;
+      left = c.left;
+      behind = c.behind;
       sound = c.sound;
       goes_on = c.goes_on;
       seen = follows.seen ∙ (ap (λ (fs : List (Front Event)). fs ++ follows.sights) c.seen
-          ∙ append_assoc (sights_of t) (front ask.who c.before ∷ front ask.who c.after ∷ []) follows.sights);
+          ∙ append_assoc (sights_of t) (front ask.who c.found.slot.events ∷ front ask.who c.left.slot.events ∷ []) follows.sights);
+      serves = c.serves;
       answered = c.answered;
-      ticket = ticket_more (knows_of u) (knows_of v) more.facts h.settings ask.who ask.command c.after r.0.0 r.0.1 c.ticket;
+      ticket = ticket_more (knows_of u) (knows_of v) more.facts h.settings ask.who ask.command c.left.slot.events r.0.0 r.0.1 c.ticket;
     } in
-    (follows.sights, call, subst (λ (f : Option FollowUp). IsFollowed f t follows.sights) asks.1 (followed_from r.1 t u follows.sights known follows.followed))
+    (follows.sights, call, subst (λ (f : Option FollowUp). IsFollowed h f t follows.sights) asks.1 (followed_from h r.1 t u follows.sights known follows.followed))

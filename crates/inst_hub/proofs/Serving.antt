@@ -13,7 +13,7 @@ use Rattle.inst_board.specs.declared.wish.Wish.{Wish}
 use Rattle.inst_board.specs.declared.about.Fact.{Fact}
 use Rattle.inst_command.specs.declared.entry.Entry.{Entry}
 use Rattle.inst_journal.specs.declared.event.Event.{Event}
-use Rattle.inst_journal.specs.declared.event.Event.TheVariants.{Funded, Defunded, Taken as TakenEvent, Forwarded, Booked, Fetched, Opened}
+use Rattle.inst_journal.specs.declared.event.Event.TheVariants.{Forwarded, Booked}
 use Rattle.inst_journal.specs.Sound.{IsSound}
 use Rattle.inst_journal.specs.Reply.{handle, told as told_of, kept_events}
 use Rattle.inst_model.specs.Trace.{as_reply}
@@ -22,7 +22,6 @@ use Rattle.inst_cell.specs.Held.{settings_of, knows, has_role}
 use Rattle.inst_cell.specs.Seen.{sees}
 use Rattle.inst_slot.specs.Book.{Book, place_of}
 use Rattle.inst_slot.specs.Telling.{delivery, with_delivery, lesson, with_event}
-use Rattle.inst_slot.proofs.Delivering.{delivers}
 use Rattle.inst_slot.proofs.Learning.{teaches}
 use Rattle.inst_slot.specs.Asking.{request, handle_ask, Applies, AppliesTo}
 use Rattle.inst_hub.specs.declared.participant.Participant.{Participant}
@@ -31,7 +30,7 @@ use Rattle.inst_hub.specs.Answers.{Answered, IsTicket}
 use Rattle.inst_hub.specs.Telling.{IsToldBy}
 use Rattle.inst_hub.specs.declared.follow_up.Act.{Act}
 use Rattle.inst_hub.specs.declared.follow_up.Act.TheVariants.{Deliver, Learn}
-use Rattle.inst_hub.specs.Following.{Does, Tells, TellsMore}
+use Rattle.inst_hub.specs.Following.{Does}
 use Rattle.inst_hub.specs.Calls.{IsTold, IsToldMore}
 use Rattle.inst_hub.proofs.Ticketing.{IsReplied, ticket_taken, ticket_state}
 
@@ -86,36 +85,21 @@ its_ticket x y u ask reply ticket ready same_who same_settings own sound answere
     go (Refused fault) t rep = t
 
 -- a delivery or a lesson tells one event more, if any
-pub tells_one : (act : Act) (x : Participant) (k : Place) (result : Result Bool Fault) (y : Participant) → Does act x k result y → TellsMore act k.owner x.slot.events y.slot.events
-tells_one Deliver x k result y (look, shows, keeps) = ⊎_elim
-    (λ kept. delivered (delivery x.slot k look) refl (ap (λ (b : Book). b.events) kept.1))
+pub told_one : (act : Act) (x : Participant) (k : Place) (result : Result Bool Fault) (y : Participant) → Does act x k result y → IsToldMore x.slot.events y.slot.events
+told_one Deliver x k result y (look, shows, keeps) = ⊎_elim
+    (λ kept. delivered (delivery x.slot k look) (ap (λ (b : Book). b.events) kept.1))
     (λ refused. inl (ap (λ (b : Book). b.events) refused.1)) keeps
   where
-    delivered : (entry : Option Entry) → delivery x.slot k look ≡ entry → y.slot.events ≡ (with_delivery x.slot k entry).events → TellsMore Deliver k.owner x.slot.events y.slot.events
-    delivered None is e = inl e
-    delivered (Some entry) is e = inr (Forwarded entry.from entry.id entry.cents entry.deadline, (refl, ap (λ (n : Entry). n.from) (delivers x.slot k look entry is).entry_is), e)
-tells_one Learn x k result y (look, shows, keeps) = ⊎_elim
+    delivered : (entry : Option Entry) → y.slot.events ≡ (with_delivery x.slot k entry).events → IsToldMore x.slot.events y.slot.events
+    delivered None e = inl e
+    delivered (Some entry) e = inr (Forwarded entry.from entry.id entry.cents entry.deadline, tt, e)
+told_one Learn x k result y (look, shows, keeps) = ⊎_elim
     (λ kept. learnt (lesson x.slot k look) refl (ap (λ (b : Book). b.events) kept.1))
     (λ refused. inl (ap (λ (b : Book). b.events) refused.1)) keeps
   where
-    is_told : (e : Event) → lesson x.slot k look ≡ Some e → Tells Learn k.owner e
-    is_told e is = subst (Tells Learn k.owner) (sym (teaches x.slot k look e is).event_is) (refl, refl)
-
-    learnt : (event : Option Event) → lesson x.slot k look ≡ event → y.slot.events ≡ (with_event x.slot event).events → TellsMore Learn k.owner x.slot.events y.slot.events
+    learnt : (event : Option Event) → lesson x.slot k look ≡ event → y.slot.events ≡ (with_event x.slot event).events → IsToldMore x.slot.events y.slot.events
     learnt None is e = inl e
-    learnt (Some event) is e = inr (event, is_told event is, e)
-
-tells_told : (act : Act) (owner : ℕ) (e : Event) → Tells act owner e → IsTold e
-tells_told act owner (Forwarded from id cents deadline) h = tt
-tells_told act owner (Booked from id outcome) h = tt
-tells_told act owner (Funded r n) h = h
-tells_told act owner (Defunded r n) h = h
-tells_told act owner (TakenEvent i p n m) h = h
-tells_told act owner (Fetched n) h = h
-tells_told act owner Opened h = h
-
-pub told_one : (act : Act) (x : Participant) (k : Place) (result : Result Bool Fault) (y : Participant) → Does act x k result y → IsToldMore x.slot.events y.slot.events
-told_one act x k result y does = ⊎_elim (λ same. inl same) (λ more. inr (more.0, tells_told act k.owner more.0 more.1, more.2)) (tells_one act x k result y does)
+    learnt (Some event) is e = inr (event, subst IsTold (sym (teaches x.slot k look event is).event_is) tt, e)
 
 -- so its history grows
 pub told_grows : (J K : List Event) → IsToldMore J K → IsPrefix J K

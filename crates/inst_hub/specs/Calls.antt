@@ -1,6 +1,8 @@
 -- What a teller of a hub may rely on when it calls: a reply is the model's on a history that goes on from all that the
 -- teller has seen of it, and nothing that the teller knew is lost. This hub's own choice.
-use Rattle.std.specs.Prelude.{◌≡◌, ◌⊎◌, ◌↔◌, ℕ, List, [], ◌∷◌, ◌++◌, slice_get, Option, Some, None}
+use Rattle.std.specs.Prelude.{◌≡◌, ◌⊎◌, ◌↔◌, ℕ, Bool, List, [], ◌∷◌, ◌++◌, slice_get, Option, Some, None, Result, Ok, Err}
+use Rattle.inst_base.specs.declared.fault.Fault.{Fault}
+use Rattle.inst_base.specs.declared.fault.Fault.TheVariants.{Memory}
 use Rattle.inst_command.specs.declared.ask.Ask.{Ask}
 use Rattle.inst_command.specs.declared.reply.Reply.{Reply}
 use Rattle.inst_board.specs.declared.about.Fact.{Fact}
@@ -15,10 +17,13 @@ use Rattle.inst_row.specs.View.{front}
 use Rattle.inst_row.specs.Row.{row_id, key_of}
 use Rattle.inst_row.specs.Seated.{IsOn, IsFree, HasSeen, GoesOn, view_of}
 use Rattle.inst_hub.specs.declared.hub.Hub.{Hub}
+use Rattle.inst_hub.specs.declared.participant.Participant.{Participant}
 use Rattle.inst_hub.specs.declared.teller.Teller.{Teller}
 use Rattle.inst_hub.specs.declared.follow_up.FollowUp.{FollowUp}
 use Rattle.inst_hub.specs.Answers.{Answered, IsTicket}
-use Rattle.inst_hub.specs.Following.{follow_up_of, TellsMore}
+use Rattle.inst_hub.specs.Behind.{IsBehind}
+use Rattle.inst_hub.specs.Following.{follow_up_of, Does}
+use Rattle.inst_hub.specs.Serving.{Serves}
 
 -- The teller is one of this hub's: it sits on its row and has no lock, and it sees its words
 pub record IsOf (h : Hub) (t : Teller) : Type 0 where
@@ -60,52 +65,62 @@ abbrev pub IsToldMore : List Event → List Event → Type 0
 IsToldMore J K = (K ≡ J) ⊎ ((e : Event) × IsTold e × (K ≡ J ++ e ∷ []))
 
 -- The follow-up was done, under one lock, and nothing else
--- before, goes_on: the history that was found goes on from all that the teller had seen of it
--- after, tells: the history that was left is the same, or has the event more that tells of the transfer
--- seen: the teller has seen these two
-pub record IsDone (f : FollowUp) (t : Teller) (sights : List (Front Event)) : Type 0 where
-  pub before : List Event
-  pub after : List Event
-  pub goes_on : GoesOn f.who before t.seat
-  pub tells : TellsMore f.act f.place.owner before after
-  pub seen : sights ≡ front f.who before ∷ front f.who after ∷ []
+-- found, left: what was found behind that lock, and what was left there
+-- goes_on: the history that was found goes on from all that the teller had seen of it
+-- does: what was left is what was found, with the place gone to as the follow-up says
+-- seen: the teller has seen these two histories
+pub record IsDone (h : Hub) (f : FollowUp) (t : Teller) (sights : List (Front Event)) : Type 0 where
+  pub found : Participant
+  pub left : Participant
+  pub behind : IsBehind (key_of h.row).value f.who found
+  pub goes_on : GoesOn f.who found.slot.events t.seat
+  pub does : (result : Result Bool Fault) × Does f.act found f.place result left
+  pub seen : sights ≡ front f.who found.slot.events ∷ front f.who left.slot.events ∷ []
 
 -- what is seen of what follows: nothing where nothing follows
-abbrev pub IsFollowed : Option FollowUp → Teller → List (Front Event) → Type 0
-IsFollowed None t sights = sights ≡ []
-IsFollowed (Some f) t sights = IsDone f t sights
+abbrev pub IsFollowed : Hub → Option FollowUp → Teller → List (Front Event) → Type 0
+IsFollowed h None t sights = sights ≡ []
+IsFollowed h (Some f) t sights = IsDone h f t sights
 
 -- nothing else was seen, and nothing forgotten
-pub record Follows (f : Option FollowUp) (t u : Teller) : Type 0 where
+pub record Follows (h : Hub) (f : Option FollowUp) (t u : Teller) : Type 0 where
   pub sights : List (Front Event)
-  pub followed : IsFollowed f t sights
+  pub followed : IsFollowed h f t sights
   pub seen : sights_of u ≡ sights_of t ++ sights
 
 -- A call of the ask is answered
--- before, goes_on: the history of the asker that was found goes on from all that the teller had seen of it
--- after: the history that was left
--- seen: the teller has seen these two, then what followed, and nothing else
+-- found, left: what was found behind the asker's lock, and what was left there
+-- goes_on: the history that was found goes on from all that the teller had seen of it
+-- seen: the teller has seen these two histories, then what followed, and nothing else
+-- serves: what was left is what was found, after its slot was asked, and nothing else was done to it
 -- answered, ticket: the reply is the model's, with its ticket
 pub record IsCall (h : Hub) (t : Teller) (ask : Ask) (answer : Reply × Option Place) (sights : List (Front Event)) (u : Teller) : Type 0 where
-  pub before : List Event
-  pub after : List Event
-  pub sound : IsSound h.settings ask.who before
-  pub goes_on : GoesOn ask.who before t.seat
-  pub seen : sights_of u ≡ sights_of t ++ front ask.who before ∷ front ask.who after ∷ sights
-  pub answered : Answered h.settings ask.who before ask answer.0 after
-  pub ticket : IsTicket (knows_of u) h.settings ask.who ask.command after answer.0 answer.1
+  pub found : Participant
+  pub left : Participant
+  pub behind : IsBehind (key_of h.row).value ask.who found
+  pub sound : IsSound h.settings ask.who found.slot.events
+  pub goes_on : GoesOn ask.who found.slot.events t.seat
+  pub seen : sights_of u ≡ sights_of t ++ front ask.who found.slot.events ∷ front ask.who left.slot.events ∷ sights
+  pub serves : Serves found ask (Ok answer.0) left
+  pub answered : Answered h.settings ask.who found.slot.events ask answer.0 left.slot.events
+  pub ticket : IsTicket (knows_of u) h.settings ask.who ask.command left.slot.events answer.0 answer.1
 
 -- a call with what followed from it
 abbrev pub Calls : Hub → Teller → Ask → Reply × Option Place → Teller → Type 0
 Calls h t ask answer u = (sights : List (Front Event)) × (call : IsCall h t ask answer sights u)
-    × IsFollowed (follow_up_of call.after ask.command answer.0 answer.1) t sights
+    × IsFollowed h (follow_up_of call.left.slot.events ask.command answer.0 answer.1) t sights
 
 -- a call, and what is to follow from it
 abbrev pub Asks : Hub → Teller → Ask → (Reply × Option Place) × Option FollowUp → Teller → Type 0
-Asks h t ask r u = (call : IsCall h t ask r.0 [] u) × (r.1 ≡ follow_up_of call.after ask.command r.0.0 r.0.1)
+Asks h t ask r u = (call : IsCall h t ask r.0 [] u) × (r.1 ≡ follow_up_of call.left.slot.events ask.command r.0.0 r.0.1)
 
--- A call that memory was refused for: the asker's history was found, and left as it was
-pub record IsLeft (t : Teller) (ask : Ask) (u : Teller) : Type 0 where
-  pub before : List Event
-  pub goes_on : GoesOn ask.who before t.seat
-  pub seen : sights_of u ≡ sights_of t ++ front ask.who before ∷ front ask.who before ∷ []
+-- A call that memory was refused for: the asker's slot was found, and left as it was; at most the place that the ask
+-- decides was looked at
+pub record IsLeft (h : Hub) (t : Teller) (ask : Ask) (u : Teller) : Type 0 where
+  pub found : Participant
+  pub left : Participant
+  pub behind : IsBehind (key_of h.row).value ask.who found
+  pub goes_on : GoesOn ask.who found.slot.events t.seat
+  pub seen : sights_of u ≡ sights_of t ++ front ask.who found.slot.events ∷ front ask.who left.slot.events ∷ []
+  pub serves : Serves found ask (Err Memory) left
+  pub same : left.slot ≡ found.slot

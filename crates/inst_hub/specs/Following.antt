@@ -1,6 +1,6 @@
 -- What follows from a command under the other side's lock: a transfer that was taken comes to its beneficiary, and an
 -- outcome is learnt by the other side. When this is done is this hub's own choice.
-use Rattle.std.specs.Prelude.{◌≡◌, ◌⊎◌, ℕ, Bool, is_some, List, [], ◌∷◌, ◌++◌, Option, Some, None, Result, Ok, Err}
+use Rattle.std.specs.Prelude.{ℕ, Bool, is_some, List, Option, Some, None, Result, Ok, Err}
 use Rattle.inst_command.specs.declared.command.Command.{Command}
 use Rattle.inst_command.specs.declared.command.Command.TheVariants.{Submit, Confirm, Reject, Investigate}
 use Rattle.inst_command.specs.declared.outcome.State.TheVariants.{Decided as IsDecided}
@@ -13,7 +13,6 @@ use Rattle.inst_board.specs.Learning.{Looks}
 use Rattle.inst_cell.specs.declared.shared_board.SharedBoard.{SharedBoard}
 use Rattle.inst_cell.specs.Held.{settings_of, knows, has_role, stood}
 use Rattle.inst_journal.specs.declared.event.Event.{Event}
-use Rattle.inst_journal.specs.declared.event.Event.TheVariants.{Forwarded, Booked}
 use Rattle.inst_ledger.specs.Beneficiary.{beneficiary_of}
 use Rattle.inst_slot.specs.Telling.{delivery, with_delivery, lesson, with_event, Keeps}
 use Rattle.inst_hub.specs.declared.participant.Participant.{Participant}
@@ -51,13 +50,3 @@ Does Deliver x k result y = (look : Look) × Shows x.board k look y.board
     × Keeps (is_some (delivery x.slot k look)) x.slot (with_delivery x.slot k (delivery x.slot k look)) result y.slot
 Does Learn x k result y = (look : Look) × Shows x.board k look y.board
     × Keeps (is_some (lesson x.slot k look)) x.slot (with_event x.slot (lesson x.slot k look)) result y.slot
-
--- the event tells what was to be done about a place of this originator: that a transfer came, or how one ended
-abbrev pub Tells : Act → ℕ → Event → Type 0
-Tells act owner (Forwarded from id cents deadline) = (act ≡ Deliver) × (from ≡ owner)
-Tells act owner (Booked from id outcome) = (act ≡ Learn) × (from ≡ owner)
-Tells act owner _ = ⊥
-
--- the history is as it was, or has one such event more
-abbrev pub TellsMore : Act → ℕ → List Event → List Event → Type 0
-TellsMore act owner J K = (K ≡ J) ⊎ ((e : Event) × Tells act owner e × (K ≡ J ++ e ∷ []))

@@ -4,5 +4,6 @@ pub mod Telling
 pub mod Opening
 pub mod Calls
 pub mod Following
+pub mod Serving
 pub mod Sweeping
 pub mod NextOpening

@@ -133,124 +133,136 @@ fn answers(
     Ok(())
 }
 
+/// A submission to participant 1, stamped at 1,000.
+fn submission(id: Ident, cents: Cents) -> Result<Command, Fail> {
+    Ok(Command::Submit(Submission {
+        id,
+        to: 1,
+        cents,
+        stamp: Moment::new(0, 1000)?,
+    }))
+}
+
+/// A ledger of participant 0 that was funded with 50,000 cents, and reserves 20,000 for this submission.
+fn submitted(
+    rt: &(impl Abort + AllocGlobal),
+    settings: &Settings,
+    id: Ident,
+) -> Result<Ledger, Fail> {
+    let reference = Ident::new("F1")?;
+    let fund = Command::Fund {
+        reference,
+        cents: Cents::new(50_000)?,
+    };
+    let submit = submission(id, Cents::new(20_000)?)?;
+    let mut ledger = Ledger::open(rt.alloc(), settings, 0)?;
+    answer(rt, &mut ledger, &fund, 0, &None, &Told::Done(reference))?;
+    let taken = Told::Taken(id, 11_000);
+    answer(rt, &mut ledger, &submit, 1000, &None, &taken)?;
+    Ok(ledger)
+}
+
 #[test]
-fn funds_submits_and_investigates(rt: HostRuntime) -> Result<(), Fail> {
+fn funds_and_submits(rt: HostRuntime) -> Result<(), Fail> {
     let settings = hub(rt.alloc())?;
     let t1 = Ident::new("T1")?;
     let t2 = Ident::new("T2")?;
-    let t3 = Ident::new("T3")?;
     let f1 = Ident::new("F1")?;
-    let d1 = Ident::new("D1")?;
-    let stamp = Moment::new(0, 1000)?;
     let all = Cents::new(50_000)?;
-    let cents = Cents::new(20_000)?;
-    let submit = |id, cents| {
-        Command::Submit(Submission {
-            id,
-            to: 1,
-            cents,
-            stamp,
-        })
+    let submit = submission(t1, Cents::new(20_000)?)?;
+    let other = submission(t1, all)?;
+    let short = submission(t2, all)?;
+    let investigate = Command::Investigate { id: t1 };
+    let fund = Command::Fund {
+        reference: f1,
+        cents: all,
     };
-    let investigate = |id| Command::Investigate { id };
-    let fund = |reference, cents| Command::Fund { reference, cents };
-    let defund = |reference, cents| Command::Defund { reference, cents };
-    let accepted = Some(Outcome::Accepted);
-    let decided = Told::State(0, t1, State::Decided(Outcome::Accepted));
-    let late = Told::State(0, t2, State::Decided(Outcome::TimedOut));
+    let defund = Command::Defund {
+        reference: f1,
+        cents: all,
+    };
+    let unknown = Told::Refused(Fault::UnknownTransfer);
+    let duplicate = Told::Refused(Fault::Duplicate);
+    let shortage = Told::Refused(Fault::Shortage);
+    let reserved = Told::Position(50_000, 20_000, 30_000);
     let rows = [
-        (
-            &investigate(t1),
-            0,
-            &accepted,
-            &Told::Refused(Fault::UnknownTransfer),
-        ),
-        (&fund(f1, all), 0, &None, &Told::Done(f1)),
-        (&fund(f1, all), 0, &None, &Told::Done(f1)),
-        (&defund(f1, all), 0, &None, &Told::Refused(Fault::Duplicate)),
-        (&submit(t1, cents), 1000, &None, &Told::Taken(t1, 11_000)),
-        (&submit(t1, cents), 20_000, &None, &Told::Taken(t1, 11_000)),
-        (
-            &submit(t1, all),
-            1000,
-            &None,
-            &Told::Refused(Fault::Duplicate),
-        ),
-        (
-            &submit(t2, all),
-            1000,
-            &None,
-            &Told::Refused(Fault::Shortage),
-        ),
-        (
-            &Command::Position,
-            1000,
-            &None,
-            &Told::Position(50_000, 20_000, 30_000),
-        ),
-        (
-            &investigate(t1),
-            1000,
-            &None,
-            &Told::State(0, t1, State::Pending),
-        ),
-        (&investigate(t1), 11_000, &accepted, &decided),
-        (&investigate(t1), 11_000, &Some(Outcome::TimedOut), &decided),
-        (&submit(t2, cents), 1000, &None, &Told::Taken(t2, 11_000)),
-        (&submit(t3, cents), 1000, &None, &Told::Refused(Fault::Full)),
-        (&investigate(t2), 11_000, &Some(Outcome::TimedOut), &late),
-        (&defund(d1, cents), 3000, &None, &Told::Done(d1)),
-        (
-            &Command::Position,
-            3000,
-            &None,
-            &Told::Position(10_000, 0, 10_000),
-        ),
-        (
-            &Command::Statement { skip: 1, count: 10 },
-            3000,
-            &None,
-            &Told::Statement(2),
-        ),
+        (&investigate, 0, &Some(Outcome::Accepted), &unknown),
+        (&fund, 0, &None, &Told::Done(f1)),
+        (&fund, 0, &None, &Told::Done(f1)),
+        (&defund, 0, &None, &duplicate),
+        (&submit, 1000, &None, &Told::Taken(t1, 11_000)),
+        (&submit, 20_000, &None, &Told::Taken(t1, 11_000)),
+        (&other, 1000, &None, &duplicate),
+        (&short, 1000, &None, &shortage),
+        (&Command::Position, 1000, &None, &reserved),
     ];
     let mut ledger = Ledger::open(rt.alloc(), &settings, 0)?;
     answers(&rt, &mut ledger, &rows)?;
-    assert_eq!(rt; ledger.journal().events().len(), 6);
+    assert_eq!(rt; ledger.journal().events().len(), 2);
+    assert_eq!(rt; ledger.fundings(), 1);
+    assert_eq!(rt; ledger.reserved(), 20_000);
+    assert!(rt; ledger.is_taken(&t1) && !ledger.is_taken(&t2));
+    assert_eq!(rt; ledger.beneficiary_of(&t1), Some(1));
+    assert_eq!(rt; ledger.beneficiary_of(&f1), None);
+    Ok(())
+}
+
+#[test]
+fn investigates(rt: HostRuntime) -> Result<(), Fail> {
+    let settings = hub(rt.alloc())?;
+    let t1 = Ident::new("T1")?;
+    let t2 = Ident::new("T2")?;
+    let cents = Cents::new(20_000)?;
+    let second = submission(t2, cents)?;
+    let third = submission(Ident::new("T3")?, cents)?;
+    let first_one = Command::Investigate { id: t1 };
+    let second_one = Command::Investigate { id: t2 };
+    let accepted = Some(Outcome::Accepted);
+    let timed_out = Some(Outcome::TimedOut);
+    let pending = Told::State(0, t1, State::Pending);
+    let decided = Told::State(0, t1, State::Decided(Outcome::Accepted));
+    let late = Told::State(0, t2, State::Decided(Outcome::TimedOut));
+    let rows = [
+        (&first_one, 1000, &None, &pending),
+        (&first_one, 11_000, &accepted, &decided),
+        (&first_one, 11_000, &timed_out, &decided),
+        (&second, 1000, &None, &Told::Taken(t2, 11_000)),
+        (&third, 1000, &None, &Told::Refused(Fault::Full)),
+        (&second_one, 11_000, &timed_out, &late),
+    ];
+    let mut ledger = submitted(&rt, &settings, t1)?;
+    answers(&rt, &mut ledger, &rows)?;
+    assert_eq!(rt; ledger.journal().events().len(), 5);
     assert_eq!(rt; ledger.live_submissions(), 2);
-    assert_eq!(rt; ledger.fundings(), 2);
-    assert_eq!(rt; ledger.reserved(), 0);
-    assert_eq!(rt; ledger.available(), 10_000);
-    assert!(rt; ledger.is_taken(&t1) && !ledger.is_taken(&t3));
     assert_eq!(rt; ledger.booked(0, &t2), Some(Outcome::TimedOut));
     Ok(())
 }
 
 #[test]
-fn tells_the_beneficiary(rt: HostRuntime) -> Result<(), Fail> {
+fn defunds(rt: HostRuntime) -> Result<(), Fail> {
     let settings = hub(rt.alloc())?;
-    let id = Ident::new("T1")?;
-    let reference = Ident::new("F1")?;
-    let cents = Cents::new(20_000)?;
-    let stamp = Moment::new(0, 1000)?;
-    let fund = Command::Fund { reference, cents };
-    let submit = Command::Submit(Submission {
-        id,
-        to: 1,
-        cents,
-        stamp,
-    });
-    let mut ledger = Ledger::open(rt.alloc(), &settings, 0)?;
-    answer(&rt, &mut ledger, &fund, 0, &None, &Told::Done(reference))?;
-    answer(
-        &rt,
-        &mut ledger,
-        &submit,
-        1000,
-        &None,
-        &Told::Taken(id, 11_000),
-    )?;
-    assert_eq!(rt; ledger.beneficiary_of(&id), Some(1));
-    assert_eq!(rt; ledger.beneficiary_of(&reference), None);
+    let t1 = Ident::new("T1")?;
+    let d1 = Ident::new("D1")?;
+    let investigate = Command::Investigate { id: t1 };
+    let accepted = Some(Outcome::Accepted);
+    let decided = Told::State(0, t1, State::Decided(Outcome::Accepted));
+    let defund = Command::Defund {
+        reference: d1,
+        cents: Cents::new(20_000)?,
+    };
+    let statement = Command::Statement { skip: 1, count: 10 };
+    let position = Told::Position(10_000, 0, 10_000);
+    let rows = [
+        (&investigate, 11_000, &accepted, &decided),
+        (&defund, 3000, &None, &Told::Done(d1)),
+        (&Command::Position, 3000, &None, &position),
+        (&statement, 3000, &None, &Told::Statement(2)),
+    ];
+    let mut ledger = submitted(&rt, &settings, t1)?;
+    answers(&rt, &mut ledger, &rows)?;
+    assert_eq!(rt; ledger.fundings(), 2);
+    assert_eq!(rt; ledger.reserved(), 0);
+    assert_eq!(rt; ledger.available(), 10_000);
     Ok(())
 }
 

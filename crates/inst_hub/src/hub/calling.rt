@@ -29,7 +29,7 @@ impl Hub {
         ensures of { IsOf self.now teller.new }
         ensures knows { KnowsMore teller.old teller.new }
         ensures call { IfOk result (λ answer. Calls self.now teller.old ask.now answer teller.new) }
-        ensures left { OnErr result (IsLeft teller.old ask.now teller.new) }
+        ensures left { OnErr result (IsLeft self.now teller.old ask.now teller.new) }
         ensures only { IsOkUnless result Fault.Memory }
     {
         self.call_with(rt, teller, ask, &Open)
@@ -48,7 +48,7 @@ impl Hub {
         ensures of { IsOf self.now teller.new }
         ensures knows { KnowsMore teller.old teller.new }
         ensures call { IfOk result (λ answer. Calls self.now teller.old ask.now answer teller.new) }
-        ensures left { OnErr result (IsLeft teller.old ask.now teller.new) }
+        ensures left { OnErr result (IsLeft self.now teller.old ask.now teller.new) }
         ensures only { IsOkUnless result Fault.Memory }
     {
         let (answer, follow_up) = self.ask(rt, teller, ask, gate)?;
@@ -70,7 +70,7 @@ impl Hub {
         ensures knows { KnowsMore teller.old teller.new }
         ensures call { IfOk result (λ r. Asks self.now teller.old ask.now r teller.new) }
         ensures lock { IfOk result (λ r. IfSome r.1 (λ f. f.who < size self.now.row)) }
-        ensures left { OnErr result (IsLeft teller.old ask.now teller.new) }
+        ensures left { OnErr result (IsLeft self.now teller.old ask.now teller.new) }
         ensures only { IsOkUnless result Fault.Memory }
     {
         let lock = usize::from(ask.who);
@@ -88,7 +88,7 @@ impl Hub {
         requires lock { IfSome follow_up (λ f. f.who < size self.now.row) }
         ensures of { IsOf self.now teller.new }
         ensures knows { KnowsMore teller.old teller.new }
-        ensures follows { Follows follow_up teller.old teller.new }
+        ensures follows { Follows self.now follow_up teller.old teller.new }
     {
         let Some(FollowUp { who, act, place }) = follow_up else {
             return

@@ -1,12 +1,14 @@
 //! What a participant is asked under its lock.
-ghost use Rattle.std.specs.Prelude.{◌≡◌, true, IfOk, OnErr, IsOkUnless};
+ghost use Rattle.std.specs.Prelude.{◌≡◌, true, IfOk, OnErr, IsOkUnless, Ok, Err};
 ghost use Rattle.inst_command.specs.Ask.{ask_fits};
 ghost use Rattle.inst_journal.specs.Sound.{IsSound};
-ghost use Rattle.inst_cell.specs.Held.{AtOneTable};
+ghost use Rattle.inst_board.specs.Learning.{KnowTheSame};
+ghost use Rattle.inst_cell.specs.Held.{AtOneTable, knows};
 ghost use Rattle.inst_cell.specs.Seen.{board_of, sees};
 ghost use Rattle.inst_hub.specs.Behind.{IsReady, IsLater, HistoryGrows};
 ghost use Rattle.inst_hub.specs.Telling.{SeesMore, IsToldOf, IsToldBy};
 ghost use Rattle.inst_hub.specs.Answers.{Answered, IsTicket};
+ghost use Rattle.inst_hub.specs.Serving.{Serves};
 
 use super::Participant;
 use inst_base::{Fault, Ident};
@@ -30,9 +32,11 @@ impl Participant {
         ensures grows { HistoryGrows self.old self.new }
         ensures sees { SeesMore teller.old teller.new }
         ensures sound { IsSound self.old.slot.settings self.old.slot.who self.old.slot.events }
+        ensures serves { IfOk result (λ answer. Serves self.old ask.now (Ok answer.0) self.new) }
         ensures answered { IfOk result (λ answer. Answered self.old.slot.settings self.old.slot.who self.old.slot.events ask.now answer.0 self.new.slot.events) }
         ensures ticket { IfOk result (λ answer. IsTicket (sees teller.new) self.old.slot.settings self.old.slot.who ask.now.command self.new.slot.events answer.0 answer.1) }
-        ensures err { OnErr result (self.new.slot.events ≡ self.old.slot.events) }
+        ensures left { OnErr result (Serves self.old ask.now (Err Fault.Memory) self.new) }
+        ensures err { OnErr result (self.new.slot ≡ self.old.slot) }
         ensures only { IsOkUnless result Fault.Memory }
     {
         let reply = self.answer(ask)?;
@@ -49,8 +53,9 @@ impl Participant {
         ensures later { IsLater self.old self.new }
         ensures grows { HistoryGrows self.old self.new }
         ensures sound { IsSound self.old.slot.settings self.old.slot.who self.old.slot.events × IsSound self.new.slot.settings self.new.slot.who self.new.slot.events }
+        ensures serves { Serves self.old ask.now result self.new }
         ensures answered { IfOk result (λ reply. Answered self.old.slot.settings self.old.slot.who self.old.slot.events ask.now reply self.new.slot.events) }
-        ensures err { OnErr result (self.new.slot.events ≡ self.old.slot.events) }
+        ensures err { OnErr result (self.new.slot ≡ self.old.slot) }
         ensures only { IsOkUnless result Fault.Memory }
     {
         // The check is told that a history is sound only by a call.
@@ -75,6 +80,7 @@ impl Participant {
         ensures ready { IsReady self.new }
         ensures later { IsLater self.old self.new }
         ensures same { self.new.slot ≡ self.old.slot }
+        ensures knows { KnowTheSame knows self.old.board self.new.board }
         ensures sees { SeesMore teller.old teller.new }
         ensures told { IsToldBy self.old who reply.now teller.new result }
     {
@@ -93,6 +99,7 @@ impl Participant {
         ensures ready { IsReady self.new }
         ensures later { IsLater self.old self.new }
         ensures same { self.new.slot ≡ self.old.slot }
+        ensures knows { KnowTheSame knows self.old.board self.new.board }
         ensures sees { SeesMore teller.old teller.new }
         ensures told { IsToldOf self.old from id.now teller.new result }
     {

@@ -3,7 +3,7 @@ ghost use Rattle.std.specs.Prelude.{◌≡◌, true, IfSome, IsOkUnless};
 ghost use Rattle.inst_settings.specs.Settings.{is_participant};
 ghost use Rattle.inst_command.specs.Ask.{command_fits};
 ghost use Rattle.inst_hub.specs.Behind.{IsReady, IsLater};
-ghost use Rattle.inst_hub.specs.Following.{follow_up_after, Does, Shows, TellsMore};
+ghost use Rattle.inst_hub.specs.Following.{follow_up_after, Does, Shows};
 ghost use Rattle.inst_hub.specs.Calls.{IsToldMore};
 
 use super::Participant;
@@ -64,7 +64,6 @@ impl Participant {
         ensures ready { IsReady self.new }
         ensures later { IsLater self.old self.new }
         ensures does { Does act self.old place result self.new }
-        ensures tells { TellsMore act place.owner self.old.slot.events self.new.slot.events }
         ensures told { IsToldMore self.old.slot.events self.new.slot.events }
         ensures only { IsOkUnless result Fault.Memory }
     {

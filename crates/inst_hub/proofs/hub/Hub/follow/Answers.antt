@@ -1,7 +1,9 @@
 use Rattle.std.proofs.Common.{◌≡◌, ◌∙◌, ℕ, Option, sym, subst}
+use Rattle.inst_row.specs.Row.{key_of}
 use Rattle.inst_row.specs.Seated.{GoesOn, Sees}
 use Rattle.inst_hub.specs.declared.follow_up.FollowUp.{FollowUp}
 use Rattle.inst_hub.specs.declared.teller.Teller.{Teller}
+use Rattle.inst_hub.specs.Behind.{IsBehind}
 use Rattle.inst_hub.specs.Calls.{Follows}
 use Rattle.inst_hub.proofs.Calling.{seen_still, follows_one}
 use Rattle.inst_hub.proofs.Serving.{told_grows}
@@ -21,10 +23,13 @@ pub returns-clause-follows : goal.returns-clause-follows
 returns-clause-follows g c =
     let f : FollowUp = c.in-Some.field-0 in
     let at : c.from-lock.result ≡ f.who = c.from-lock.ensures in
+    let h = c.args.self.now in
     let t = c.args.teller.now in
     let u : Teller = record { sight = t.sight; seat = c.give.new.seat } in
-    let h = c.take-participant.result.slot.events in
-    let l = c.follow.new.self.slot.events in
-    subst (λ (o : Option FollowUp). Follows o t u) (sym c.in-Some.is)
-    (follows_one f t c.take-participant.new.seat c.give.new.seat h l (subst (λ (n : ℕ). GoesOn n h t.seat) at c.take-participant.ensures.goes_on)
-    (subst (λ (n : ℕ). Sees n h t.seat c.take-participant.new.seat) at c.take-participant.ensures.sees) (subst (λ (n : ℕ). Sees n l c.take-participant.new.seat c.give.new.seat) at c.give.ensures.sees) c.follow.ensures.tells)
+    let x = c.take-participant.result in
+    let y = c.follow.new.self in
+    subst (λ (o : Option FollowUp). Follows h o t u) (sym c.in-Some.is)
+    (follows_one h f t c.take-participant.new.seat c.give.new.seat x y c.follow.result (subst (λ (n : ℕ). IsBehind (key_of h.row).value n x) at c.take-participant.ensures.law)
+    (subst (λ (n : ℕ). GoesOn n x.slot.events t.seat) at c.take-participant.ensures.goes_on)
+    (subst (λ (n : ℕ). Sees n x.slot.events t.seat c.take-participant.new.seat) at c.take-participant.ensures.sees)
+    (subst (λ (n : ℕ). Sees n y.slot.events c.take-participant.new.seat c.give.new.seat) at c.give.ensures.sees) c.follow.ensures.does)
