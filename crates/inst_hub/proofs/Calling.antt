@@ -12,6 +12,7 @@ use Rattle.inst_command.specs.declared.reply.Reply.{Reply}
 use Rattle.inst_command.specs.declared.reply.Reply.TheVariants.{Done, Taken as TakenReply, State, Inbox, Position as PositionReply, Statement as StatementReply, Refused}
 use Rattle.inst_board.specs.declared.place.Place.{Place}
 use Rattle.inst_board.specs.declared.about.Fact.{Fact}
+use Rattle.std.specs.Global.{Box}
 use Rattle.std.specs.declared.snapshot.Snapshot.{Snapshot}
 use Rattle.inst_cell.specs.declared.teller.Teller.{Teller as Sight}
 use Rattle.inst_cell.specs.declared.shared_board.SharedBoard.{SharedBoard}
@@ -22,7 +23,7 @@ use Rattle.inst_row.specs.declared.view.Front.{Front}
 use Rattle.inst_row.specs.declared.seat.RowSeat.{RowSeat}
 use Rattle.inst_row.specs.View.{front}
 use Rattle.inst_row.specs.Row.{key_of, size}
-use Rattle.inst_row.specs.Seated.{view_of, HasSeen, GoesOn, Sees}
+use Rattle.inst_row.specs.Seated.{view_of, Has, HasSeen, GoesOn, Sees}
 use Rattle.inst_hub.specs.declared.participant.Participant.{Participant}
 use Rattle.inst_hub.specs.declared.hub.Hub.{Hub}
 use Rattle.inst_hub.specs.declared.teller.Teller.{Teller}
@@ -34,7 +35,7 @@ use Rattle.inst_hub.specs.Serving.{Serves}
 use Rattle.inst_hub.specs.Calls.{IsCall, Calls, Asks, IsLeft, KnowsMore, Follows, IsFollowed, knows_of, sights_of}
 
 abbrev Seat : Type 0
-Seat = RowSeat Participant Event (Snapshot SharedBoard)
+Seat = RowSeat (Box Participant) Event (Snapshot SharedBoard)
 
 pub behind_later : (w : SharedBoard) (p : ℕ) (x y : Participant) → IsBehind w p x → IsLater x y → IsReady y → IsBehind w p y
 behind_later w p x y was later ready = record {
@@ -49,6 +50,20 @@ later_twice x y z first second = record {
   who = second.who ∙ first.who;
   settings = second.settings ∙ first.settings;
 }
+
+-- what was found behind the lock p: it keeps the law, and the seat has it and has seen its history
+pub record IsFound (w : SharedBoard) (p : ℕ) (s mid : Seat) (x : Participant) : Type 0 where
+  pub law : IsBehind w p x
+  pub goes_on : GoesOn p x.slot.events s
+  pub has : Has p x.slot.events mid
+  pub sees : Sees p x.slot.events s mid
+
+-- the same out of its box
+pub out_of_box : (w : SharedBoard) (p : ℕ) (s mid : Seat) (b : Box Participant) (x : Participant) → x ≡ b.value → IsBehind w p b.value → GoesOn p b.value.slot.events s
+    → Has p b.value.slot.events mid → Sees p b.value.slot.events s mid → IsFound w p s mid x
+out_of_box w p s mid b x is law goes_on has sees =
+    let found : IsFound w p s mid b.value = record { law = law; goes_on = goes_on; has = has; sees = sees } in
+    subst (λ (y : Participant). IsFound w p s mid y) (sym is) found
 
 module _ {T E K : Type 0} where
   pub seen_still : (p q : ℕ) (h l : List E) (s t : RowSeat T E K) → Sees p h s t → HasSeen q l s → HasSeen q l t

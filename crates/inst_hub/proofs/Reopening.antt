@@ -1,6 +1,7 @@
 -- A hub opens again: the places of all live transfers are opened on one board that has all roles, which is then dealt.
 use Rattle.std.proofs.Common.{◌≡◌, ◌≢◌, ℕ, zero, suc, ◌<◌, ◌≤◌, ◌+◌, ◌-◌, List, [], ◌∷◌, ◌++◌, length, append_assoc, append-nil, sym, ap, ◌∙◌, subst, refl, true, get_or, arith, Option, Some, inl, inr}
 use Rattle.std.specs.Prelude.{slice_get, ◌↔◌, Result, Ok, Err, IfOk}
+use Rattle.std.specs.Global.{Box}
 use mathlib.Core.Logic.{dite}
 use native.Mathlib.Decide.{ℕ_discrete}
 use Rattle.std.proofs.lemmas.Bool.{cases_eq, lt-ltb}
@@ -31,8 +32,8 @@ use Rattle.inst_world.proofs.Carrying.{below as less}
 use Rattle.inst_world.proofs.Reopening.{begun_known}
 use Rattle.inst_hub.specs.declared.participant.Participant.{Participant}
 use Rattle.inst_hub.specs.Behind.{IsBehind}
-use Rattle.inst_hub.specs.Opening.{AreBehind, IsBlank, AreBlank}
-use Rattle.inst_hub.proofs.Starting.{behind_values}
+use Rattle.inst_hub.specs.Opening.{unboxed, AreBehind, IsBlank, AreBlank}
+use Rattle.inst_hub.proofs.Starting.{unboxed_push, behind_values}
 use Rattle.inst_hub.specs.NextOpening.{IsCarriedBook, AreCarried, pairs, seated}
 
 -- From the first board to this one the places of the first n participants were opened, and nothing else was learnt
@@ -133,6 +134,24 @@ pairs_at pair (z ∷ xs) [] p x y e f = let no : ⊥ = cc in absurd no
 pairs_at pair (z ∷ xs) (w ∷ ys) zero x y e f = let a : z ≡ x = cc in let b : w ≡ y = cc in λ i. Some (Some (pair (a i) (b i)))
 pairs_at pair (z ∷ xs) (w ∷ ys) (suc p) x y e f = pairs_at pair xs ys p x y e f
 
+-- one more participant is put into its box
+pub one_pair : (all more : List (Option (Box Participant))) (b : Box Participant) (slot : Book) (board : SharedBoard) (slots slots_left : List Book) (boards boards_left : List SharedBoard) (whole : List (Option Participant))
+    → b.value ≡ seated slot board → more ≡ all ++ Some b ∷ [] → slots ≡ slot ∷ slots_left → boards ≡ board ∷ boards_left
+    → unboxed all ++ pairs seated slots boards ≡ whole → unboxed more ++ pairs seated slots_left boards_left ≡ whole
+one_pair all more b slot board slots slots_left boards boards_left whole in_box grown s t e =
+    let rest = pairs seated slots_left boards_left in
+    ap (λ (l : List (Option (Box Participant))). unboxed l ++ rest) grown
+    ∙ (ap (λ (l : List (Option Participant)). l ++ rest) (unboxed_push all b)
+    ∙ (append_assoc (unboxed all) (Some b.value ∷ []) rest
+    ∙ (ap (λ (x : Participant). unboxed all ++ Some x ∷ rest) in_box
+    ∙ (sym (ap (λ (l : List Book). unboxed all ++ pairs seated l boards) s ∙ ap (λ (l : List SharedBoard). unboxed all ++ pairs seated (slot ∷ slots_left) l) t) ∙ e))))
+
+pub one_less : {A B : Type 0} (x : A) (y : B) (xs xs_left : List A) (ys ys_left : List B) → xs ≡ x ∷ xs_left → ys ≡ y ∷ ys_left → length ys ≡ length xs → length ys_left ≡ length xs_left
+one_less x y xs xs_left ys ys_left s t e =
+    let a : length xs ≡ suc (length xs_left) = ap length s in
+    let b : length ys ≡ suc (length ys_left) = ap length t in
+    omega (arith, a, b, e)
+
 -- the slots of a world that begins are carried over an opening
 pub slots_carried : (s : HubSettings) (books : ℕ → List Event) (world : World) → world.board.settings ≡ s → IsHub world → HasRun (FromBooks books) [] world → AreCarried s books world.books
 slots_carried s books world same hub ran = record {
@@ -201,8 +220,8 @@ blank_admitted words w n sights are e i t at =
     blank a = record { one = (a.table, a.settings); nothing = a.nothing }
 
 -- the participants lie behind the locks of a row that was told of their words
-pub values_again : (words w : SharedBoard) (n : ℕ) (histories : ℕ → List Event) (all : List (Option Participant)) → AreBehind words n histories all → w ≡ words
-    → (p : ℕ) → p < length all → (x : Participant) × (slice_get all p ≡ Some (Some x)) × IsBehind w p x
+pub values_again : (words w : SharedBoard) (n : ℕ) (histories : ℕ → List Event) (all : List (Option (Box Participant))) → AreBehind words n histories (unboxed all) → w ≡ words
+    → (p : ℕ) → p < length all → (x : Box Participant) × (slice_get all p ≡ Some (Some x)) × IsBehind w p x.value
 values_again words w n histories all are e p below =
     let v = behind_values words n histories all are p below in
-    (v.0, v.1, subst (λ (b : SharedBoard). IsBehind b p v.0) (sym e) v.2)
+    (v.0, v.1, subst (λ (b : SharedBoard). IsBehind b p v.0.value) (sym e) v.2)

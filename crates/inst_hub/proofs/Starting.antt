@@ -1,6 +1,7 @@
 -- A hub opens: the boards of its participants, one by one, and its tellers.
-use Rattle.std.proofs.Common.{◌≡◌, ℕ, suc, ◌<◌, ◌+◌, List, [], ◌∷◌, ◌++◌, length, append-nil, append_assoc, length-append, sym, ap, ◌∙◌, subst, refl, arith, Some, None, ⊎_elim}
+use Rattle.std.proofs.Common.{◌≡◌, ℕ, suc, ◌<◌, ◌+◌, zero, List, [], ◌∷◌, ◌++◌, length, append-nil, append_assoc, length-append, sym, ap, ◌∙◌, subst, refl, arith, Some, None, ⊎_elim}
 use Rattle.std.specs.Prelude.{slice_get, Option, Contains, is_some, true}
+use Rattle.std.specs.Global.{Box}
 use Rattle.std.specs.declared.snapshot.Snapshot.{Snapshot}
 use Rattle.atomic_table.specs.Seated.{TableId}
 use Rattle.inst_settings.specs.Settings.{HubSettings, participants}
@@ -24,7 +25,7 @@ use Rattle.inst_hub.specs.declared.hub.Hub.{Hub}
 use Rattle.inst_hub.specs.Behind.{IsBehind}
 use Rattle.inst_hub.specs.Calls.{AreOf}
 use Rattle.inst_hub.specs.declared.teller.Teller.{Teller}
-use Rattle.inst_hub.specs.Opening.{AreBoards, AreBehind, AreParticipants, IsBlank, AreBlank, sights_from, first_sights, IsNew, AreNew, parts_of}
+use Rattle.inst_hub.specs.Opening.{AreBoards, unboxed, AreBehind, AreParticipants, IsBlank, AreBlank, sights_from, first_sights, IsNew, AreNew, parts_of}
 
 none_arrived : (x : Arrival) → Contains [] x → is_some x.index ≡ true
 none_arrived x (i, below, is) = absurd (omega arith)
@@ -146,10 +147,44 @@ opened_behind s n boards sights all first w opened are at is = record { enough =
         let behind : IsBehind first p o.0 = record { one = (o.2.one.0 ∙ one.0, o.2.one.1 ∙ one.1); who = o.2.who; ready = o.2.ready } in
         (o.0, o.1, subst (λ (b : SharedBoard). IsBehind b p o.0) (sym is) behind, o.3)
 
+abbrev Boxed : Type 0
+Boxed = Box Participant
+
+pub unboxed_push : (all : List (Option Boxed)) (x : Boxed) → unboxed (all ++ Some x ∷ []) ≡ unboxed all ++ Some x.value ∷ []
+unboxed_push [] x = refl
+unboxed_push (None ∷ all) x = ap (λ (l : List (Option Participant)). None ∷ l) (unboxed_push all x)
+unboxed_push (Some y ∷ all) x = ap (λ (l : List (Option Participant)). Some y.value ∷ l) (unboxed_push all x)
+
+pub unboxed_length : (all : List (Option Boxed)) → length (unboxed all) ≡ length all
+unboxed_length [] = refl
+unboxed_length (None ∷ all) = ap suc (unboxed_length all)
+unboxed_length (Some y ∷ all) = ap suc (unboxed_length all)
+
+first_is : {A : Type 0} (y x : A) (xs : List (Option A)) → slice_get (Some y ∷ xs) 0 ≡ Some (Some x) → y ≡ x
+first_is y x xs e = cc
+
+first_not : {A : Type 0} (x : A) (xs : List (Option A)) → slice_get (None ∷ xs) 0 ≡ Some (Some x) → ⊥
+first_not x xs e = cc
+
+none_there : {A : Type 0} (p : ℕ) (x : A) → slice_get {X = A} [] p ≡ Some x → ⊥
+none_there p x e = cc
+
+boxed_at : (all : List (Option Boxed)) (p : ℕ) (x : Participant) → slice_get (unboxed all) p ≡ Some (Some x) → (b : Boxed) × (slice_get all p ≡ Some (Some b)) × (b.value ≡ x)
+boxed_at [] p x e = absurd (none_there p (Some x) e)
+boxed_at (None ∷ all) zero x e = absurd (first_not x (unboxed all) e)
+boxed_at (None ∷ all) (suc p) x e = boxed_at all p x e
+boxed_at (Some y ∷ all) zero x e = (y, refl, first_is y.value x (unboxed all) e)
+boxed_at (Some y ∷ all) (suc p) x e = boxed_at all p x e
+
 -- the values behind the locks are those of the participants
-pub behind_values : (w : SharedBoard) (n : ℕ) (histories : ℕ → List Event) (all : List (Option Participant)) → AreBehind w n histories all
-    → (p : ℕ) → p < length all → (x : Participant) × (slice_get all p ≡ Some (Some x)) × IsBehind w p x
-behind_values w n histories all are p below = let enough = are.enough in let x = are.each p (omega arith) in (x.0, x.1, x.2)
+pub behind_values : (w : SharedBoard) (n : ℕ) (histories : ℕ → List Event) (all : List (Option Boxed)) → AreBehind w n histories (unboxed all)
+    → (p : ℕ) → p < length all → (b : Boxed) × (slice_get all p ≡ Some (Some b)) × IsBehind w p b.value × (b.value.slot.events ≡ histories p)
+behind_values w n histories all are p below =
+    let enough = are.enough in
+    let many = unboxed_length all in
+    let x = are.each p (omega arith) in
+    let b = boxed_at all p x.0 x.1 in
+    (b.0, b.1, subst (λ (y : Participant). IsBehind w p y) (sym b.2) x.2, ap (λ (y : Participant). y.slot.events) b.2 ∙ x.3)
 
 shifted : (a p : ℕ) → a + suc p ≡ suc a + p
 shifted a p = omega arith
@@ -159,12 +194,6 @@ not_shifted a = omega arith
 
 next_below : {A : Type 0} (y : A) (xs : List A) (p : ℕ) → p < length xs → suc p < length (y ∷ xs)
 next_below y xs p below = omega arith
-
-first_is : {A : Type 0} (y x : A) (xs : List (Option A)) → slice_get (Some y ∷ xs) 0 ≡ Some (Some x) → y ≡ x
-first_is y x xs e = cc
-
-first_not : {A : Type 0} (x : A) (xs : List (Option A)) → slice_get (None ∷ xs) 0 ≡ Some (Some x) → ⊥
-first_not x xs e = cc
 
 -- what is seen of values with these histories
 sights_match : {A : Type 0} (history : A → List Event) (histories : ℕ → List Event) (a : ℕ) (xs : List (Option A))
@@ -177,12 +206,11 @@ sights_match history histories a (Some y ∷ xs) has =
     let rest = sights_match history histories (suc a) xs (λ p below. let g = has (suc p) (next_below (Some y) xs p below) in (g.0, g.1, g.2 ∙ ap histories (shifted a p))) in
     λ i. front a (here i) ∷ rest i
 
-pub behind_sights : (w : SharedBoard) (n : ℕ) (histories : ℕ → List Event) (all : List (Option Participant)) → AreBehind w n histories all
-    → fronts_of (λ (x : Participant). x.slot.events) 0 all ≡ first_sights n histories
+pub behind_sights : (w : SharedBoard) (n : ℕ) (histories : ℕ → List Event) (all : List (Option Boxed)) → AreBehind w n histories (unboxed all)
+    → fronts_of (λ (x : Boxed). x.value.slot.events) 0 all ≡ first_sights n histories
 behind_sights w n histories all are =
-    let enough = are.enough in
-    sights_match (λ (x : Participant). x.slot.events) histories 0 all (λ p below. let x = are.each p (omega arith) in (x.0, x.1, x.3 ∙ ap histories (sym (zero_first p))))
-    ∙ ap (λ (k : ℕ). first_sights k histories) enough
+    sights_match (λ (x : Boxed). x.value.slot.events) histories 0 all (λ p below. let x = behind_values w n histories all are p below in (x.0, x.1, x.3 ∙ ap histories (sym (zero_first p))))
+    ∙ ap (λ (k : ℕ). first_sights k histories) (sym (unboxed_length all) ∙ are.enough)
   where
     zero_first : (p : ℕ) → 0 + p ≡ p
     zero_first p = omega arith

@@ -1,6 +1,7 @@
 -- A hub that opens: behind each lock is its participant, the first time with no history; its tellers have seen how the
 -- histories begin, and know of no place. This hub's own choice.
-use Rattle.std.specs.Prelude.{◌≡◌, ℕ, zero, suc, ◌<◌, List, [], ◌∷◌, length, slice_get, sum_by, Option, Some}
+use Rattle.std.specs.Prelude.{◌≡◌, ℕ, zero, suc, ◌<◌, List, [], ◌∷◌, length, slice_get, sum_by, Option, Some, None}
+use Rattle.std.specs.Global.{Box}
 use Rattle.atomic_table.specs.Seated.{TableId}
 use Rattle.inst_settings.specs.Settings.{HubSettings, participants}
 use Rattle.inst_cell.specs.declared.shared_board.SharedBoard.{SharedBoard}
@@ -22,6 +23,12 @@ use Rattle.inst_hub.specs.Behind.{IsBehind}
 pub record AreBoards (s : HubSettings) (id : TableId) (boards : List SharedBoard) : Type 0 where
   pub enough : length boards ≡ participants s
   pub each : (p : ℕ) (b : SharedBoard) → slice_get boards p ≡ Some b → IsOpened s id p b
+
+-- what lies in the boxes
+abbrev pub unboxed : List (Option (Box Participant)) → List (Option Participant)
+unboxed [] = []
+unboxed (None ∷ all) = None ∷ unboxed all
+unboxed (Some x ∷ all) = Some x.value ∷ unboxed all
 
 -- the participants, by number, over these words, with these histories
 pub record AreBehind (words : SharedBoard) (n : ℕ) (J : ℕ → List Event) (all : List (Option Participant)) : Type 0 where

@@ -8,10 +8,10 @@ use std::snapshot::Snapshot;
 /// words of the hub. A board of the hub stands for these words.
 pub struct Behind;
 
-impl Lawful<Participant, Event, Snapshot<SharedBoard>> for Behind {
+impl Lawful<Box<Participant>, Event, Snapshot<SharedBoard>> for Behind {
     ghost use Rattle.inst_hub.specs.Behind.{IsBehind};
 
-    ghost law = { λ key p x. IsBehind key.value p x };
+    ghost law = { λ key p x. IsBehind key.value p x.value };
 
-    ghost history = { λ x. x.slot.events };
+    ghost history = { λ x. x.value.slot.events };
 }

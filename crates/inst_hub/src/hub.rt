@@ -28,7 +28,7 @@ use std::snapshot::Snapshot;
 #[derive(Drop)]
 pub struct Hub {
     settings: Settings,
-    pub(crate) row: LockRow<Participant, Event, Snapshot<SharedBoard>, Behind>,
+    pub(crate) row: LockRow<Box<Participant>, Event, Snapshot<SharedBoard>, Behind>,
     pub ghost sized: { size row ≡ participants settings },
     pub ghost same: { settings_of (key_of row).value ≡ settings },
 }

@@ -9,5 +9,5 @@ use std::snapshot::Snapshot;
 #[derive(Drop)]
 pub struct Teller {
     pub(crate) sight: inst_cell::Teller,
-    pub(crate) seat: RowSeat<Participant, Event, Snapshot<SharedBoard>>,
+    pub(crate) seat: RowSeat<Box<Participant>, Event, Snapshot<SharedBoard>>,
 }

@@ -8,7 +8,7 @@ ghost use Rattle.inst_cell.specs.Opening.{MayOpen, IsWhole};
 ghost use Rattle.inst_world.specs.NextOpening.{CanOpenFrom, IsOpenedBelow};
 ghost use Rattle.inst_row.specs.Row.{row_id, key_of};
 ghost use Rattle.inst_hub.specs.Calls.{AreOf};
-ghost use Rattle.inst_hub.specs.Opening.{AreBehind, AreNew, first_sights, parts_of};
+ghost use Rattle.inst_hub.specs.Opening.{unboxed, AreBehind, AreNew, first_sights, parts_of};
 ghost use Rattle.inst_hub.specs.NextOpening.{histories_from, AreCarried, pairs, seated};
 
 use super::Hub;
@@ -44,9 +44,9 @@ fn seat(
     alloc: Global,
     slots: Vec<Slot>,
     boards: Vec<SharedBoard>,
-) -> Result<Vec<Option<Participant>>, Fault>
+) -> Result<Vec<Option<Box<Participant>>>, Fault>
     requires { length boards.items ≡ length slots.items }
-    ensures ok { IfOk result (λ all. all.items ≡ pairs seated slots.items boards.items) }
+    ensures ok { IfOk result (λ all. unboxed all.items ≡ pairs seated slots.items boards.items) }
     ensures only { IsOkUnless result Fault.Memory }
 {
     // The check is told of a type of another crate inside an event only where a function names it.
@@ -57,7 +57,7 @@ fn seat(
         let Some(board) = boards.next() else {
             unreachable!()
         };
-        all.push(Some(Participant { slot, board }))?;
+        all.push(Some(Box::new(alloc, Participant { slot, board })?))?;
     }
     Ok(all)
 }
@@ -68,10 +68,10 @@ fn carry_over(
     settings: &Settings,
     journals: &[Journal],
     whole: SharedBoard,
-) -> Result<Vec<Option<Participant>>, Fault>
+) -> Result<Vec<Option<Box<Participant>>>, Fault>
     requires journals { CanOpenFrom settings.now journals.now }
     requires whole { IsWhole settings.now whole }
-    ensures ok { IfOk result (λ all. AreBehind whole (participants settings.now) (histories_from journals.now) all.items) }
+    ensures ok { IfOk result (λ all. AreBehind whole (participants settings.now) (histories_from journals.now) (unboxed all.items)) }
     ensures only { IsOkUnless result Fault.Memory }
 {
     let slots = World::open_from(alloc, settings, journals)?.into_slots();

@@ -8,7 +8,7 @@ ghost use Rattle.inst_row.specs.Row.{row_id, key_of, size};
 ghost use Rattle.inst_row.specs.Seated.{IsOn, HasAll, view_of};
 ghost use Rattle.inst_hub.specs.Behind.{IsBehind};
 ghost use Rattle.inst_hub.specs.Calls.{AreOf};
-ghost use Rattle.inst_hub.specs.Opening.{AreBoards, AreParticipants, AreBlank, AreNew, first_sights, parts_of};
+ghost use Rattle.inst_hub.specs.Opening.{AreBoards, unboxed, AreParticipants, AreBlank, AreNew, first_sights, parts_of};
 
 use super::Hub;
 use crate::behind::Behind;
@@ -30,18 +30,16 @@ fn participant(
     settings: &Settings,
     board: SharedBoard,
     who: u8,
-) -> Result<Participant, Fault>
+) -> Result<Box<Participant>, Fault>
     requires { (table : TableId) × IsOpened settings.now table who board }
-    ensures ok { IfOk result (λ x. IsBehind board who x) }
-    ensures new { IfOk result (λ x. x.slot.events ≡ []) }
+    ensures ok { IfOk result (λ x. IsBehind board who x.value) }
+    ensures new { IfOk result (λ x. x.value.slot.events ≡ []) }
     ensures only { IsOkUnless result Fault.Memory }
 {
     // The check is told of a type of another crate inside an event only where a function names it.
     let _: Option<Outcome> = None;
-    Ok(Participant {
-        slot: Slot::open(alloc, settings, who)?,
-        board,
-    })
+    let slot = Slot::open(alloc, settings, who)?;
+    Ok(Box::new(alloc, Participant { slot, board })?)
 }
 
 /// The participants of these boards, each with no history.
@@ -49,9 +47,9 @@ fn participants(
     alloc: Global,
     settings: &Settings,
     boards: Vec<SharedBoard>,
-) -> Result<Vec<Option<Participant>>, Fault>
+) -> Result<Vec<Option<Box<Participant>>>, Fault>
     requires { (table : TableId) × AreBoards settings.now table boards.items }
-    ensures ok { IfOk result (λ all. AreParticipants boards.items all.items) }
+    ensures ok { IfOk result (λ all. AreParticipants boards.items (unboxed all.items)) }
     ensures only { IsOkUnless result Fault.Memory }
 {
     let mut all = Vec::new(alloc);
@@ -63,9 +61,9 @@ fn participants(
     Ok(all)
 }
 
-type Row = LockRow<Participant, Event, Snapshot<SharedBoard>, Behind>;
+type Row = LockRow<Box<Participant>, Event, Snapshot<SharedBoard>, Behind>;
 
-type Seat = RowSeat<Participant, Event, Snapshot<SharedBoard>>;
+type Seat = RowSeat<Box<Participant>, Event, Snapshot<SharedBoard>>;
 
 /// The tellers that see so, each with a seat on the row; together they have all its parts.
 pub(super) fn admit(

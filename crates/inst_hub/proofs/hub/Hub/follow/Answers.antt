@@ -5,12 +5,16 @@ use Rattle.inst_hub.specs.declared.follow_up.FollowUp.{FollowUp}
 use Rattle.inst_hub.specs.declared.teller.Teller.{Teller}
 use Rattle.inst_hub.specs.Behind.{IsBehind}
 use Rattle.inst_hub.specs.Calls.{Follows}
-use Rattle.inst_hub.proofs.Calling.{seen_still, follows_one}
+use Rattle.inst_hub.proofs.Calling.{out_of_box, seen_still, follows_one}
 use Rattle.inst_hub.proofs.Serving.{told_grows}
 use Rattle.inst_hub.proofs.hub.Hub.follow.Goals as goal
 
 pub give-requires-clause-has : goal.give-requires-clause-has
-give-requires-clause-has g c = (c.take-participant.result.slot.events, c.take-participant.ensures.has, told_grows _ _ c.follow.ensures.told)
+give-requires-clause-has g c =
+    let x = c.deref_mut.result.now in
+    let found = out_of_box (key_of c.args.self.now.row).value c.from-lock.result c.args.teller.now.seat c.take-participant.new.seat c.take-participant.result x c.deref_mut.ensures.value
+    c.take-participant.ensures.law c.take-participant.ensures.goes_on c.take-participant.ensures.has c.take-participant.ensures.sees in
+    (x.slot.events, found.has, told_grows _ _ c.follow.ensures.told)
 
 pub returns-clause-knows : goal.returns-clause-knows
 returns-clause-knows g c = record {
@@ -26,10 +30,12 @@ returns-clause-follows g c =
     let h = c.args.self.now in
     let t = c.args.teller.now in
     let u : Teller = record { sight = t.sight; seat = c.give.new.seat } in
-    let x = c.take-participant.result in
+    let x = c.deref_mut.result.now in
+    let found = out_of_box (key_of c.args.self.now.row).value c.from-lock.result c.args.teller.now.seat c.take-participant.new.seat c.take-participant.result x c.deref_mut.ensures.value
+    c.take-participant.ensures.law c.take-participant.ensures.goes_on c.take-participant.ensures.has c.take-participant.ensures.sees in
     let y = c.follow.new.self in
     subst (λ (o : Option FollowUp). Follows h o t u) (sym c.in-Some.is)
-    (follows_one h f t c.take-participant.new.seat c.give.new.seat x y c.follow.result (subst (λ (n : ℕ). IsBehind (key_of h.row).value n x) at c.take-participant.ensures.law)
-    (subst (λ (n : ℕ). GoesOn n x.slot.events t.seat) at c.take-participant.ensures.goes_on)
-    (subst (λ (n : ℕ). Sees n x.slot.events t.seat c.take-participant.new.seat) at c.take-participant.ensures.sees)
+    (follows_one h f t c.take-participant.new.seat c.give.new.seat x y c.follow.result (subst (λ (n : ℕ). IsBehind (key_of h.row).value n x) at found.law)
+    (subst (λ (n : ℕ). GoesOn n x.slot.events t.seat) at found.goes_on)
+    (subst (λ (n : ℕ). Sees n x.slot.events t.seat c.take-participant.new.seat) at found.sees)
     (subst (λ (n : ℕ). Sees n y.slot.events c.take-participant.new.seat c.give.new.seat) at c.give.ensures.sees) c.follow.ensures.does)

@@ -1,18 +1,22 @@
-use Rattle.std.proofs.Common.{◌≡◌, ◌∙◌, Some, rules, subst, List}
+use Rattle.std.proofs.Common.{◌≡◌, ◌∙◌, Some, rules, sym, subst, List}
 use Rattle.std.specs.Prelude.{slice_get}
 use Rattle.inst_journal.specs.declared.event.Event.{Event}
 use Rattle.inst_row.specs.declared.view.Front.{Front}
 use Rattle.inst_row.specs.Row.{row_id, key_of}
-use Rattle.inst_hub.specs.Opening.{AreNew}
-use Rattle.inst_hub.proofs.Starting.{opened_behind, behind_values, behind_sights, new_are_of}
+use Rattle.inst_hub.specs.Opening.{unboxed, AreNew}
+use Rattle.inst_hub.proofs.Starting.{unboxed_length, opened_behind, behind_values, behind_sights, new_are_of}
 use Rattle.inst_hub.proofs.hub.Hub.open.Goals as goal
 
 pub open-requires-2 : goal.open-requires-2
 open-requires-2 c =
     let at : slice_get c.in_ok-boards.boards.items 0 ≡ Some c.in-Some.first.now = search rules in
     let is : c.of-about.result.value ≡ c.in-Some.first.now = search rules in
-    let are = opened_behind c.args.settings c.args.tellers c.in_ok-boards.boards.items c.in_ok-boards.sights.items c.in_ok-all.all.items c.in-Some.first.now c.of-about.result.value c.in_ok-boards.ensures.ok c.in_ok-all.ensures.ok at is in
-    record { values = behind_values _ _ _ c.in_ok-all.all.items are }
+    let are = opened_behind c.args.settings c.args.tellers c.in_ok-boards.boards.items c.in_ok-boards.sights.items (unboxed c.in_ok-all.all.items) c.in-Some.first.now c.of-about.result.value c.in_ok-boards.ensures.ok c.in_ok-all.ensures.ok at is in
+    record { values = λ p below. let v = behind_values _ _ _ c.in_ok-all.all.items are p below in (v.0, v.1, v.2) }
+
+pub invariant_of-result-clause-sized : goal.invariant_of-result-clause-sized
+invariant_of-result-clause-sized c =
+    c.in_ok-row.ensures.row.0 ∙ (sym (unboxed_length c.in_ok-all.all.items) ∙ (c.in_ok-all.ensures.ok.enough ∙ c.in_ok-boards.ensures.ok.participants))
 
 pub returns-clause-of : goal.returns-clause-of
 returns-clause-of c = new_are_of _ _ c.in_ok-tellers.tellers.items c.in_ok-tellers.ensures.new
@@ -21,5 +25,5 @@ pub returns-clause-new : goal.returns-clause-new
 returns-clause-new c =
     let at : slice_get c.in_ok-boards.boards.items 0 ≡ Some c.in-Some.first.now = search rules in
     let is : c.of-about.result.value ≡ c.in-Some.first.now = search rules in
-    let are = opened_behind c.args.settings c.args.tellers c.in_ok-boards.boards.items c.in_ok-boards.sights.items c.in_ok-all.all.items c.in-Some.first.now c.of-about.result.value c.in_ok-boards.ensures.ok c.in_ok-all.ensures.ok at is in
+    let are = opened_behind c.args.settings c.args.tellers c.in_ok-boards.boards.items c.in_ok-boards.sights.items (unboxed c.in_ok-all.all.items) c.in-Some.first.now c.of-about.result.value c.in_ok-boards.ensures.ok c.in_ok-all.ensures.ok at is in
     subst (λ (fs : List (Front Event)). AreNew (row_id c.in_ok-row.row) (key_of c.in_ok-row.row) fs c.in_ok-tellers.tellers.items) (c.in_ok-row.ensures.seen ∙ behind_sights _ _ _ c.in_ok-all.all.items are) c.in_ok-tellers.ensures.new

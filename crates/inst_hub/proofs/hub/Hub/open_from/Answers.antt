@@ -6,7 +6,7 @@ use Rattle.inst_row.specs.declared.view.Front.{Front}
 use Rattle.inst_row.specs.Row.{row_id, key_of}
 use Rattle.inst_hub.specs.Opening.{AreNew}
 use Rattle.inst_hub.specs.NextOpening.{histories_from}
-use Rattle.inst_hub.proofs.Starting.{behind_sights, new_are_of}
+use Rattle.inst_hub.proofs.Starting.{unboxed_length, behind_sights, new_are_of}
 use Rattle.inst_hub.proofs.Reopening.{may_open, blank_admitted, values_again}
 use Rattle.inst_hub.proofs.hub.Hub.open_from.Goals as goal
 
@@ -22,6 +22,9 @@ admit-requires-clause-sights c =
       subst (λ (n : ℕ). MayOpen n) (sym are.enough) (may_open c.open_whole.result _ _ c.args.tellers c.in_ok-whole.was c.open_whole.ensures.bad.1),
       blank_admitted c.in_ok-whole.whole (key_of c.in_ok-row.row).value c.args.tellers c.in_ok-whole.sights.items are words,
     )
+
+pub invariant_of-result-clause-sized : goal.invariant_of-result-clause-sized
+invariant_of-result-clause-sized c = c.in_ok-row.ensures.row.0 ∙ (sym (unboxed_length c.in_ok-all.all.items) ∙ c.in_ok-all.ensures.ok.enough)
 
 pub returns-clause-of : goal.returns-clause-of
 returns-clause-of c = new_are_of _ _ c.in_ok-tellers.tellers.items c.in_ok-tellers.ensures.new

@@ -1,6 +1,7 @@
 use Rattle.std.proofs.Common.{◌≡◌, ◌++◌, length}
 use Rattle.std.specs.Vec.Iter.{into_iter_items}
 use Rattle.inst_hub.specs.NextOpening.{pairs, seated}
+use Rattle.inst_hub.specs.Opening.{unboxed}
 use Rattle.inst_hub.proofs.hub.next_opening.seat.Given as goal
 
 abbrev pub invariant-loop-slot : goal.invariant-loop-slot
@@ -8,4 +9,4 @@ invariant-loop-slot l =
     (goal.iterator-loop-slot).can_next l.slot-iterator ×
     (goal.iterator-loop-slot).is_finite l.slot-iterator ×
     (length (into_iter_items l.boards) ≡ length (into_iter_items l.slot-iterator)) ×
-    (l.all.items ++ pairs seated (into_iter_items l.slot-iterator) (into_iter_items l.boards) ≡ pairs seated l.fn.slots.items l.fn.boards.items)
+    (unboxed l.all.items ++ pairs seated (into_iter_items l.slot-iterator) (into_iter_items l.boards) ≡ pairs seated l.fn.slots.items l.fn.boards.items)

@@ -2,8 +2,8 @@ use Rattle.std.proofs.Common.{rules, ap, ◌∙◌, sym, subst, ◌+◌, ◌∷�
 use Rattle.std.specs.Prelude.{Option}
 use Rattle.std.specs.Vec.Iter.{into_iter_items}
 use Rattle.inst_hub.specs.declared.participant.Participant.{Participant}
-use Rattle.inst_hub.specs.Opening.{AreParticipants}
-use Rattle.inst_hub.proofs.Starting.{next_board, byte_of, next_left, one_more}
+use Rattle.inst_hub.specs.Opening.{unboxed, AreParticipants}
+use Rattle.inst_hub.proofs.Starting.{next_board, byte_of, next_left, one_more, unboxed_push}
 use Rattle.inst_hub.proofs.hub.opening.participants.Goals as goal
 
 pub overflow_cast-who : goal.overflow_cast-who
@@ -26,6 +26,6 @@ loop-board-preserved c =
       tt,
       ap (λ n. n + 1) i.2 ∙ sym (length-append c.loop-board.yielded (c.in-Some.board ∷ [])),
       append_assoc c.loop-board.yielded (c.in-Some.board ∷ []) (into_iter_items c.next.new.self) ∙ left,
-      subst (λ (l : List (Option Participant)). AreParticipants (c.loop-board.yielded ++ c.in-Some.board ∷ []) l) (sym c.in_ok-push.ensures.items)
-          (one_more c.loop-board.yielded c.loop-board.all.items c.in-Some.board c.loop-board.who c.in_ok-participant.field-0 i.4 i.2 c.in_ok-participant.ensures.ok c.in_ok-participant.ensures.new),
+      subst (λ (l : List (Option Participant)). AreParticipants (c.loop-board.yielded ++ c.in-Some.board ∷ []) l) (sym (ap unboxed c.in_ok-push.ensures.items ∙ unboxed_push c.loop-board.all.items c.in_ok-participant.field-0))
+          (one_more c.loop-board.yielded (unboxed c.loop-board.all.items) c.in-Some.board c.loop-board.who c.in_ok-participant.field-0.value i.4 i.2 c.in_ok-participant.ensures.ok c.in_ok-participant.ensures.new),
     )

@@ -4,7 +4,7 @@ use Rattle.inst_hub.proofs.tests.sweeping.booked_behind.Goals as goal
 
 pub give-requires-clause-has : goal.give-requires-clause-has
 give-requires-clause-has g c = (
-  c.take-participant.result.slot.events,
+  c.take-participant.result.value.slot.events,
   c.take-participant.ensures.has,
-  told_grows c.take-participant.result.slot.events c.take-participant.result.slot.events (inl refl),
+  told_grows c.take-participant.result.value.slot.events c.take-participant.result.value.slot.events (inl refl),
 )
