@@ -8,8 +8,6 @@ mod ident;
 mod moment;
 mod reason;
 mod short_text;
-#[cfg(test)]
-mod tests;
 
 pub use cents::{Cents, MOST_CENTS};
 pub use code::Code;

@@ -6,11 +6,11 @@ use Rattle.inst_terms.specs.declared.terms.Terms.{Terms}
 use Rattle.inst_board.specs.declared.place.Place.{Place}
 use Rattle.inst_board.specs.declared.wish.Wish.{Wish}
 use Rattle.inst_board.specs.declared.wish.Wish.TheVariants.{Accept, Reject, Expire}
-use Rattle.inst_board.specs.declared.about.About.TheVariants.{Opened, HasTerms, Due, Decided}
+use Rattle.inst_board.specs.declared.about.About.TheVariants.{Opened, HasTerms, Due, Decided, DecidedAt}
 use Rattle.inst_board.specs.declared.about.Fact.{Fact}
 use Rattle.inst_board.specs.Standing.{Standing, unused, pending, final, Says, about}
 use Rattle.inst_board.specs.Learning.{Learns, Answers, MayDecide, IsParty}
-use Rattle.inst_board.specs.Laws.{KnowsMore, DecidedOnce, EachDecisionIsOfItsReading}
+use Rattle.inst_board.specs.Laws.{KnowsMore, DecidedOnce, EachDecisionIsOfItsReading, OnlyOwnReadingsAreLearnt}
 
 module _ (margin : ℕ) where
   -- what is known as decided is answered
@@ -44,22 +44,32 @@ module _ (margin : ℕ) where
         (known_more b c k found more (answered a b k (stood a k) first at one.standing found one.learns one.answers))
 
     of_reading : (b c : B) (k : Place) (stood : Outcome → Type 0) (wish : Wish) (at : ℕ) (o : Outcome) (p : Standing)
-        → Learns margin knows b k p c → Answers margin stood wish at p (Some o)
-        → stood o ⊎ ((t : Terms) × (d : ℕ) × Learns margin knows b k (final t d o at) c)
-    of_reading b c k stood wish at o unused l h = absurd h
-    of_reading b c k stood wish at o (pending t d) l h = let no : ⊥ = let e : Some o ≡ None = h.0 in cc in absurd no
-    of_reading b c k stood wish at o (final t d q m) l h =
+        → Learns margin knows b k p c → Answers margin stood wish at p (Some o) → stood o ⊎ knows c (about k (DecidedAt at))
+        → stood o ⊎ (((t : Terms) × (d : ℕ) × Learns margin knows b k (final t d o at) c) × knows c (about k (DecidedAt at)))
+    of_reading b c k stood wish at o unused l h decided = absurd h
+    of_reading b c k stood wish at o (pending t d) l h decided = let no : ⊥ = let e : Some o ≡ None = h.0 in cc in absurd no
+    of_reading b c k stood wish at o (final t d q m) l h decided =
         let same : o ≡ q = let e : Some o ≡ Some q = h.0 in cc in
         elim h.1 [
           | inl was ↦ inl (subst stood (sym same) was)
           | inr new ↦
               let stands : final t d q m ≡ final t d o at = ap (λ (x : Outcome). final t d x m) (sym same) ∙ ap (λ (n : ℕ). final t d o n) new.1 in
-              inr (t, d, subst (λ (x : Standing). Learns margin knows b k x c) stands l)
+              elim decided [
+                | inl was ↦ inl was
+                | inr known ↦ inr ((t, d, subst (λ (x : Standing). Learns margin knows b k x c) stands l), known)
+              ]
         ]
 
     -- an outcome that is new is of this reading
     pub decided_now : (stood : B → Place → Outcome → Type 0) → EachDecisionIsOfItsReading margin knows stood
-    decided_now stood b c k wish at o h = of_reading b c k (stood b k) wish at o h.standing h.learns h.answers
+    decided_now stood b c k wish at o h = of_reading b c k (stood b k) wish at o h.standing h.learns h.answers (h.decided o refl)
+
+    -- a reading that is new to the holder is that of its own decision
+    pub own_reading : (has_role : B → ℕ → Type 0) (stood : B → Place → Outcome → Type 0) → OnlyOwnReadingsAreLearnt margin knows has_role stood
+    own_reading has_role stood b c k moment new known = (
+      λ look h. new (h.reading moment known),
+      λ wish at found h. elim (h.reading moment known) [ inl was ↦ absurd (new was) | inr own ↦ own ],
+    )
 
   party_still : (before later : ℕ → Type 0) (wish : Wish) (k : Place) (t : Terms) → ((p : ℕ) → before p → later p) → IsParty before wish k t → IsParty later wish k t
   party_still before later Accept k t keeps h = keeps t.to h

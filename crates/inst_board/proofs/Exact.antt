@@ -8,7 +8,7 @@ use Rattle.inst_board.specs.declared.wish.Wish.{Wish}
 use Rattle.inst_board.specs.declared.wish.Wish.TheVariants.{Accept, Reject, Expire}
 use Rattle.inst_board.specs.declared.look.Look.{Look}
 use Rattle.inst_board.specs.declared.about.About.{About}
-use Rattle.inst_board.specs.declared.about.About.TheVariants.{Opened, HasTerms, Due, Decided}
+use Rattle.inst_board.specs.declared.about.About.TheVariants.{Opened, HasTerms, Due, Decided, DecidedAt}
 use Rattle.inst_board.specs.Standing.{Standing, unused, pending, final, Says, about, look_of}
 use Rattle.inst_board.specs.Wish.{wanted}
 use Rattle.inst_board.specs.Learning.{Learns, Answers, Looks, Decides, MayDecide, IsParty, IsOfOpening}
@@ -44,24 +44,28 @@ module _ (margin : ℕ) where
   same_pending t s d e h (HasTerms r) x = x ∙ sym (h (HasTerms t) refl)
   same_pending t s d e h (Due f) x = x ∙ sym (h (Due d) refl)
   same_pending t s d e h (Decided o) x = absurd x
+  same_pending t s d e h (DecidedAt u) x = absurd x
 
   same_final : (t s : Terms) (d e : ℕ) (o z : Outcome) (m n : ℕ) → Follows (final t d o m) (final s e z n) → Follows (final s e z n) (final t d o m)
   same_final t s d e o z m n h Opened x = tt
   same_final t s d e o z m n h (HasTerms r) x = x ∙ sym (h (HasTerms t) refl)
   same_final t s d e o z m n h (Due f) x = x ∙ sym (h (Due d) refl)
   same_final t s d e o z m n h (Decided y) x = x ∙ sym (h (Decided o) refl)
+  same_final t s d e o z m n h (DecidedAt u) x = x ∙ sym (h (DecidedAt m) refl)
 
-  ended_same : (t s : Terms) (d e : ℕ) (o : Outcome) (m n : ℕ) → Follows (pending t d) (final s e o n) → Follows (final s e o n) (final t d o m)
-  ended_same t s d e o m n h Opened x = tt
-  ended_same t s d e o m n h (HasTerms r) x = x ∙ sym (h (HasTerms t) refl)
-  ended_same t s d e o m n h (Due f) x = x ∙ sym (h (Due d) refl)
-  ended_same t s d e o m n h (Decided y) x = x
+  ended_same : (t s : Terms) (d e : ℕ) (o : Outcome) (m n : ℕ) → n ≡ m → Follows (pending t d) (final s e o n) → Follows (final s e o n) (final t d o m)
+  ended_same t s d e o m n now h Opened x = tt
+  ended_same t s d e o m n now h (HasTerms r) x = x ∙ sym (h (HasTerms t) refl)
+  ended_same t s d e o m n now h (Due f) x = x ∙ sym (h (Due d) refl)
+  ended_same t s d e o m n now h (Decided y) x = x
+  ended_same t s d e o m n now h (DecidedAt u) x = x ∙ now
 
-  all_said : (b c : Contents) (k : Place) (t : Terms) (d : ℕ) (s : Terms) (e : ℕ) (o : Outcome) (m n : ℕ) → standing_at b k ≡ pending t d → Learns margin plain_knows b k (final s e o n) c → Follows (final t d o m) (standing_at c k)
-  all_said b c k t d s e o m n is l Opened x = l.shown Opened tt
-  all_said b c k t d s e o m n is l (HasTerms r) x = l.kept (about k (HasTerms r)) (subst (λ (q : Standing). Says q (HasTerms r)) (sym is) x)
-  all_said b c k t d s e o m n is l (Due f) x = l.kept (about k (Due f)) (subst (λ (q : Standing). Says q (Due f)) (sym is) x)
-  all_said b c k t d s e o m n is l (Decided y) x = l.shown (Decided y) x
+  all_said : (b c : Contents) (k : Place) (t : Terms) (d : ℕ) (s : Terms) (e : ℕ) (o : Outcome) (m n : ℕ) → standing_at b k ≡ pending t d → Learns margin plain_knows b k (final s e o n) c → plain_knows c (about k (DecidedAt m)) → Follows (final t d o m) (standing_at c k)
+  all_said b c k t d s e o m n is l decided Opened x = l.shown Opened tt
+  all_said b c k t d s e o m n is l decided (HasTerms r) x = l.kept (about k (HasTerms r)) (subst (λ (q : Standing). Says q (HasTerms r)) (sym is) x)
+  all_said b c k t d s e o m n is l decided (Due f) x = l.kept (about k (Due f)) (subst (λ (q : Standing). Says q (Due f)) (sym is) x)
+  all_said b c k t d s e o m n is l decided (Decided y) x = l.shown (Decided y) x
+  all_said b c k t d s e o m n is l decided (DecidedAt u) x = subst (λ (y : ℕ). plain_knows c (about k (DecidedAt y))) (sym x) decided
 
   after_is : (wish : Wish) (at : ℕ) (t : Terms) (d : ℕ) (w : Option Outcome) → wanted margin wish d at ≡ w → after margin wish at (pending t d) ≡ elim w [ None ↦ pending t d | Some o ↦ final t d o at ]
   after_is wish at t d w e = ap (λ (x : Option Outcome). elim x [ None ↦ pending t d | Some o ↦ final t d o at ]) e
@@ -70,19 +74,25 @@ module _ (margin : ℕ) where
     abbrev Exact : Standing → Type 0
     Exact q = (found ≡ outcome_of (after margin wish at q)) × Stands b k (after margin wish at q) c
 
-    from_pending : (t : Terms) (d : ℕ) → standing_at b k ≡ pending t d → (p : Standing) → Learns margin plain_knows b k p c → Answers margin (plain_stood b k) wish at p found → Exact (pending t d)
-    from_pending t d is unused l h = absurd h
-    from_pending t d is (pending s e) l h =
+    -- an outcome that didn't stand before was decided now
+    abbrev IsDecided : Type 0
+    IsDecided = (o : Outcome) → found ≡ Some o → plain_stood b k o ⊎ plain_knows c (about k (DecidedAt at))
+
+    from_pending : IsDecided → (t : Terms) (d : ℕ) → standing_at b k ≡ pending t d → (p : Standing) → Learns margin plain_knows b k p c → Answers margin (plain_stood b k) wish at p found → Exact (pending t d)
+    from_pending decided t d is unused l h = absurd h
+    from_pending decided t d is (pending s e) l h =
         let follows : Follows (pending t d) (pending s e) = subst (λ (q : Standing). Follows q (pending s e)) is l.agrees in
         let none : wanted margin wish d at ≡ None = ap (λ (x : ℕ). wanted margin wish x at) (follows (Due d) refl) ∙ h.1 in
         let stays = still b k (pending s e) c l (subst (λ (q : Standing). Follows (pending s e) q) (sym is) (same_pending t s d e follows)) in
         let unchanged = after_is wish at t d None none in
         (h.0 ∙ sym (ap outcome_of unchanged), subst (λ (q : Standing). Stands b k q c) (is ∙ sym unchanged) stays)
-    from_pending t d is (final s e o n) l h =
+    from_pending decided t d is (final s e o n) l h =
         let follows : Follows (pending t d) (final s e o n) = subst (λ (q : Standing). Follows q (final s e o n)) is l.agrees in
-        let wants : wanted margin wish d at ≡ Some o = elim h.1 [ inl was ↦ absurd (subst (λ (q : Standing). Says q (Decided o)) is was) | inr new ↦ ap (λ (x : ℕ). wanted margin wish x at) (follows (Due d) refl) ∙ new.0 ] in
-        let changed = after_is wish at t d (Some o) wants in
-        let stands = stands_as b k (final s e o n) c l (final t d o at) (stays_true margin (standing_at b k) t d at o is) (ended_same t s d e o at n follows) (all_said b c k t d s e o at n is l) in
+        let new_one : ¬ plain_stood b k o = λ was. subst (λ (q : Standing). Says q (Decided o)) is was in
+        let wants : (wanted margin wish d at ≡ Some o) × (n ≡ at) = elim h.1 [ inl was ↦ absurd (new_one was) | inr new ↦ (ap (λ (x : ℕ). wanted margin wish x at) (follows (Due d) refl) ∙ new.0, new.1) ] in
+        let known : plain_knows c (about k (DecidedAt at)) = elim (decided o h.0) [ inl was ↦ absurd (new_one was) | inr new ↦ new ] in
+        let changed = after_is wish at t d (Some o) wants.0 in
+        let stands = stands_as b k (final s e o n) c l (final t d o at) (stays_true margin (standing_at b k) t d at o is) (ended_same t s d e o at n wants.1 follows) (all_said b c k t d s e o at n is l known) in
         (h.0 ∙ sym (ap outcome_of changed), subst (λ (q : Standing). Stands b k q c) (sym changed) stands)
 
     from_final : (t : Terms) (d : ℕ) (o : Outcome) (m : ℕ) → standing_at b k ≡ final t d o m → (p : Standing) → Learns margin plain_knows b k p c → Answers margin (plain_stood b k) wish at p found → Exact (final t d o m)
@@ -93,14 +103,14 @@ module _ (margin : ℕ) where
         let stays = still b k (final s e z n) c l (subst (λ (q : Standing). Follows (final s e z n) q) (sym is) (same_final t s d e o z m n follows)) in
         (h.0 ∙ ap Some (sym (follows (Decided o) refl)), subst (λ (q : Standing). Stands b k q c) is stays)
 
-    exact_from : (q : Standing) → standing_at b k ≡ q → Says q Opened → (p : Standing) → Learns margin plain_knows b k p c → Answers margin (plain_stood b k) wish at p found → Exact q
-    exact_from unused is opened p l h = absurd opened
-    exact_from (pending t d) is opened p l h = from_pending t d is p l h
-    exact_from (final t d o m) is opened p l h = from_final t d o m is p l h
+    exact_from : IsDecided → (q : Standing) → standing_at b k ≡ q → Says q Opened → (p : Standing) → Learns margin plain_knows b k p c → Answers margin (plain_stood b k) wish at p found → Exact q
+    exact_from decided unused is opened p l h = absurd opened
+    exact_from decided (pending t d) is opened p l h = from_pending decided t d is p l h
+    exact_from decided (final t d o m) is opened p l h = from_final t d o m is p l h
 
   pub decides_exactly : (b c : Contents) (k : Place) (wish : Wish) (at : ℕ) (found : Option Outcome) → plain_knows b (about k Opened) → Decides margin plain_knows plain_stood b k wish at found c →
       (found ≡ outcome_of (after margin wish at (standing_at b k))) × Stands b k (after margin wish at (standing_at b k)) c
-  decides_exactly b c k wish at found opened h = exact_from b c k wish at found (standing_at b k) refl opened h.standing h.learns h.answers
+  decides_exactly b c k wish at found opened h = exact_from b c k wish at found h.decided (standing_at b k) refl opened h.standing h.learns h.answers
 
   looks_pending : (s t : Terms) (e d : ℕ) → s ≡ t → e ≡ d → look_of (pending s e) ≡ look_of (pending t d)
   looks_pending s t e d p q = cc

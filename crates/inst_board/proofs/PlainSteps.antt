@@ -10,7 +10,7 @@ use Rattle.inst_board.specs.declared.place.Place.{Place}
 use Rattle.inst_board.specs.declared.wish.Wish.{Wish}
 use Rattle.inst_board.specs.declared.wish.Wish.TheVariants.{Accept, Reject, Expire}
 use Rattle.inst_board.specs.declared.about.About.{About}
-use Rattle.inst_board.specs.declared.about.About.TheVariants.{Opened, HasTerms, Due, Decided}
+use Rattle.inst_board.specs.declared.about.About.TheVariants.{Opened, HasTerms, Due, Decided, DecidedAt}
 use Rattle.inst_board.specs.declared.plain.Kept.{Kept}
 use Rattle.inst_board.specs.declared.plain.Kept.TheVariants.{Pending, Final}
 use Rattle.inst_board.specs.Standing.{Standing, unused, pending, final, IsLawful, Says, Shows}
@@ -28,6 +28,7 @@ module _ (margin : ℕ) where
   shows_says (final t d o at) (HasTerms s) h = h
   shows_says (final t d o at) (Due e) h = absurd h
   shows_says (final t d o at) (Decided q) h = h
+  shows_says (final t d o at) (DecidedAt u) h = absurd h
 
   -- one who knows all that is true learns nothing by a look
   pub learns_still : (b : Contents) (k : Place) → IsLawful margin (standing_at b k) → Learns margin plain_knows b k (standing_at b k) b
@@ -73,6 +74,7 @@ module _ (margin : ℕ) where
   stays_true p t d at o is (HasTerms s) h = subst (λ (q : Standing). Says q (HasTerms s)) is h
   stays_true p t d at o is (Due e) h = subst (λ (q : Standing). Says q (Due e)) is h
   stays_true p t d at o is (Decided z) h = absurd (subst (λ (q : Standing). Says q (Decided z)) is h)
+  stays_true p t d at o is (DecidedAt u) h = absurd (subst (λ (q : Standing). Says q (DecidedAt u)) is h)
 
   -- what a wish wants is in time
   pub wanted_in_time : (wish : Wish) (d t : ℕ) (o : Outcome) → wanted margin wish d t ≡ Some o → InTime margin o d t
@@ -102,6 +104,8 @@ module _ (margin : ℕ) where
         standing = final t d o at;
         learns = learns_written b k (Final t d o at) c becomes' (due, wanted_in_time wish d at o wants) (stays_true (standing_at b k) t d at o before);
         answers = (refl, inr (wants, refl));
+        decided = λ q is. inr (says_at b k (Final t d o at) c becomes' k (DecidedAt at) (λ e. refl) (λ n. absurd (n refl)));
+        reading = λ moment h. elim (says_from b k (Final t d o at) c becomes' k (DecidedAt moment) h) [ inl was ↦ inl was | inr new ↦ inr new.1 ];
       }
 
 -- a place shows what its words have
@@ -113,3 +117,4 @@ shows_its_words = record { truly = shows_says 0; no_deadline = same_shown }
     same_shown t d e o moment (HasTerms s) h = h
     same_shown t d e o moment (Due f) h = h
     same_shown t d e o moment (Decided q) h = h
+    same_shown t d e o moment (DecidedAt u) h = h

@@ -14,7 +14,7 @@ use Rattle.inst_board.specs.declared.wish.Wish.TheVariants.{Accept, Reject, Expi
 use Rattle.inst_board.specs.declared.look.Look.{Look}
 use Rattle.inst_board.specs.declared.look.Look.TheVariants.{Unused, Pending, Decided as Ended}
 use Rattle.inst_board.specs.declared.about.About.{About}
-use Rattle.inst_board.specs.declared.about.About.TheVariants.{Opened, HasTerms, Due, Decided}
+use Rattle.inst_board.specs.declared.about.About.TheVariants.{Opened, HasTerms, Due, Decided, DecidedAt}
 use Rattle.inst_board.specs.declared.about.Fact.{Fact}
 use Rattle.inst_board.specs.Standing.{Standing, pending, final, IsPlace, IsLawful, Says, Shows, look_of, about}
 use Rattle.inst_board.specs.Wish.{wanted}
@@ -150,11 +150,19 @@ EachDecisionIsInTime {B} margin knows stood = (b c : B) (k : Place) (wish : Wish
     knows b (about k (Due deadline)) →
     Decides margin knows stood b k wish at found c → IsDecidedInTime margin stood b k wish deadline at found
 
--- an outcome that is answered stood before, where that could be, or the place stands as decided at this reading
+-- an outcome that is answered stood before, where that could be, or the place stands as decided at this reading, which the
+-- holder then knows
 abbrev pub EachDecisionIsOfItsReading : {B : Type 0} → ℕ → (B → Fact → Type 0) → (B → Place → Outcome → Type 0) → Type 0
 EachDecisionIsOfItsReading {B} margin knows stood = (b c : B) (k : Place) (wish : Wish) (at : ℕ) (o : Outcome) →
     Decides margin knows stood b k wish at (Some o) c →
-    stood b k o ⊎ ((t : Terms) × (deadline : ℕ) × Learns margin knows b k (final t deadline o at) c)
+    stood b k o ⊎ (((t : Terms) × (deadline : ℕ) × Learns margin knows b k (final t deadline o at) c) × knows c (about k (DecidedAt at)))
+
+-- by a look a holder learns no reading at which the place was decided, and by a decision none but its own
+abbrev pub OnlyOwnReadingsAreLearnt : {B : Type 0} → ℕ → (B → Fact → Type 0) → (B → ℕ → Type 0) → (B → Place → Outcome → Type 0) → Type 0
+OnlyOwnReadingsAreLearnt {B} margin knows has_role stood = (b c : B) (k : Place) (moment : ℕ) →
+    ¬ knows b (about k (DecidedAt moment)) → knows c (about k (DecidedAt moment)) →
+    ((look : Look) → ¬ Looks margin knows has_role stood b k look c) ×
+    ((wish : Wish) (at : ℕ) (found : Option Outcome) → Decides margin knows stood b k wish at found c → moment ≡ at)
 
 -- the beneficiary that answers in time, and knows no outcome, is answered what it wanted, or that it was timed out
 abbrev pub OwnAnswersStand : {B : Type 0} → ℕ → (B → Fact → Type 0) → (B → ℕ → Type 0) → (B → Place → Outcome → Type 0) →
@@ -200,7 +208,7 @@ abbrev pub EachPlaceHasItsNumber : Type 0
 EachPlaceHasItsNumber = (s : HubSettings) (j k : Place) → IsPlace s j → IsPlace s k →
     (number_of s j < s.places * participants s) × (number_of s j ≡ number_of s k → j ≡ k)
 
--- the same is true of two standings, but for the deciding moment
+-- the same is true of two standings
 abbrev pub SayTheSame : Standing → Standing → Type 0
 SayTheSame p q = (a : About) → Says p a ↔ Says q a
 

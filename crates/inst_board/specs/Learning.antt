@@ -10,7 +10,7 @@ use Rattle.inst_board.specs.declared.wish.Wish.{Wish}
 use Rattle.inst_board.specs.declared.wish.Wish.TheVariants.{Accept, Reject, Expire}
 use Rattle.inst_board.specs.declared.look.Look.{Look}
 use Rattle.inst_board.specs.declared.about.About.{About}
-use Rattle.inst_board.specs.declared.about.About.TheVariants.{Opened, HasTerms, Due, Decided}
+use Rattle.inst_board.specs.declared.about.About.TheVariants.{Opened, HasTerms, Due, Decided, DecidedAt}
 use Rattle.inst_board.specs.declared.about.Fact.{Fact}
 use Rattle.inst_board.specs.Standing.{Standing, unused, pending, final, IsLawful, Says, Shows, look_of, about}
 use Rattle.inst_board.specs.Wish.{wanted}
@@ -46,6 +46,7 @@ IsOfOpening Opened = Unit {0}
 IsOfOpening (HasTerms terms) = Unit {0}
 IsOfOpening (Due deadline) = Unit {0}
 IsOfOpening (Decided outcome) = ⊥
+IsOfOpening (DecidedAt moment) = ⊥
 
 -- what the beneficiary's slot alone can have answered
 abbrev pub IsAnswer : Outcome → Type 0
@@ -57,7 +58,9 @@ IsAnswer TimedOut = ⊥
 -- standing: what the place is then
 -- own: who has the originator's role knew its opening
 -- answered: who has the beneficiary's role knew whether it was accepted or rejected, and the terms
+-- ended: who has both roles knew how it ended
 -- before: an outcome that is shown may have stood before
+-- reading: it tells no reading at which the place was decided
 pub record Looks {B : Type 0} (margin : ℕ) (knows : B → Fact → Type 0) (has_role : B → ℕ → Type 0)
     (stood : B → Place → Outcome → Type 0) (b : B) (k : Place) (look : Look) (c : B) : Type 0 where
   pub standing : Standing
@@ -67,7 +70,10 @@ pub record Looks {B : Type 0} (margin : ℕ) (knows : B → Fact → Type 0) (ha
   pub answered : (t : Terms) → Says standing (HasTerms t) → has_role b t.to → (o : Outcome) → IsAnswer o →
       Says standing (Decided o) →
       knows b (about k (HasTerms t)) × knows b (about k (Decided o))
+  pub ended : has_role b k.owner → (t : Terms) → Says standing (HasTerms t) → has_role b t.to → (o : Outcome) →
+      Says standing (Decided o) → knows b (about k (Decided o))
   pub before : (o : Outcome) → Says standing (Decided o) → stood b k o
+  pub reading : (moment : ℕ) → knows c (about k (DecidedAt moment)) → knows b (about k (DecidedAt moment))
 
 -- who may ask for this: the beneficiary, and for a time-out the originator too
 abbrev pub IsParty : (ℕ → Type 0) → Wish → Place → Terms → Type 0
@@ -94,8 +100,12 @@ Answers margin stood wish at (final terms deadline outcome moment) found = (foun
     (stood outcome ⊎ ((wanted margin wish deadline at ≡ Some outcome) × (moment ≡ at)))
 
 -- `found` is an answer that a decision of the place k allows, for this wish and reading, from the holder b to the holder c
+-- decided: an outcome that didn't stand before was decided now, and the holder knows at which reading
+-- reading: it decides the place at this reading and at no other
 pub record Decides {B : Type 0} (margin : ℕ) (knows : B → Fact → Type 0) (stood : B → Place → Outcome → Type 0) (b : B) (k : Place)
     (wish : Wish) (at : ℕ) (found : Option Outcome) (c : B) : Type 0 where
   pub standing : Standing
   pub learns : Learns margin knows b k standing c
   pub answers : Answers margin (stood b k) wish at standing found
+  pub decided : (o : Outcome) → found ≡ Some o → stood b k o ⊎ knows c (about k (DecidedAt at))
+  pub reading : (moment : ℕ) → knows c (about k (DecidedAt moment)) → knows b (about k (DecidedAt moment)) ⊎ (moment ≡ at)

@@ -10,7 +10,7 @@ use Rattle.inst_board.specs.declared.place.Place.{Place}
 use Rattle.inst_board.specs.declared.look.Look.{Look}
 use Rattle.inst_board.specs.declared.look.Look.TheVariants.{Unused, Pending, Decided as Ended}
 use Rattle.inst_board.specs.declared.about.About.{About}
-use Rattle.inst_board.specs.declared.about.About.TheVariants.{Opened, HasTerms, Due, Decided}
+use Rattle.inst_board.specs.declared.about.About.TheVariants.{Opened, HasTerms, Due, Decided, DecidedAt}
 use Rattle.inst_board.specs.declared.about.Fact.{Fact}
 
 -- whether the settings have the place
@@ -40,12 +40,15 @@ Says (pending terms deadline) Opened = Unit {0}
 Says (pending terms deadline) (HasTerms others) = others ≡ terms
 Says (pending terms deadline) (Due other) = other ≡ deadline
 Says (pending terms deadline) (Decided other) = ⊥
+Says (pending terms deadline) (DecidedAt other) = ⊥
 Says (final terms deadline outcome at) Opened = Unit {0}
 Says (final terms deadline outcome at) (HasTerms others) = others ≡ terms
 Says (final terms deadline outcome at) (Due other) = other ≡ deadline
 Says (final terms deadline outcome at) (Decided other) = other ≡ outcome
+Says (final terms deadline outcome at) (DecidedAt other) = other ≡ at
 
--- what one who reads the place's words sees of that: a final word does not show the deadline
+-- what one who reads the place's words learns of that: a final word does not show the deadline, and at which reading a
+-- transfer was decided only who decides it learns
 abbrev pub Shows : Standing → About → Type 0
 Shows unused about = ⊥
 Shows (pending terms deadline) about = Says (pending terms deadline) about
@@ -53,6 +56,7 @@ Shows (final terms deadline outcome at) Opened = Unit {0}
 Shows (final terms deadline outcome at) (HasTerms others) = others ≡ terms
 Shows (final terms deadline outcome at) (Due other) = ⊥
 Shows (final terms deadline outcome at) (Decided other) = other ≡ outcome
+Shows (final terms deadline outcome at) (DecidedAt other) = ⊥
 
 -- the look of a place
 abbrev pub look_of : Standing → Look

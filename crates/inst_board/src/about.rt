@@ -13,6 +13,8 @@ pub enum About {
     Due(Moment),
     /// It ended so.
     Decided(Outcome),
+    /// It was decided at this reading: only who decided it learns that, and who is told by that one.
+    DecidedAt(Moment),
 }
 
 /// One thing that a holder can know. Contracts speak of it; no value of it is made.

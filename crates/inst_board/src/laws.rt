@@ -10,7 +10,8 @@ ghost use Rattle.inst_board.specs.Laws.{KnowsMore, KnowsOpening, CanOpen, Decide
 ghost use Rattle.inst_board.specs.Laws.{OnlyTheBeneficiaryAnswers, EachPartyMayDecide, AnOpeningIsKnown, ALookIsKnown};
 ghost use Rattle.inst_board.specs.Laws.{ALookShowsWhatIsKnown, OwnOpeningsAreKnown, OwnAnswersAreKnown};
 ghost use Rattle.inst_board.specs.Laws.{ADecisionIsKnown, EachWishWantsByItsReading, EachDecisionIsInTime};
-ghost use Rattle.inst_board.specs.Laws.{EachDecisionIsOfItsReading, OwnAnswersStand, WhatIsKnownStaysTrue};
+ghost use Rattle.inst_board.specs.Laws.{EachDecisionIsOfItsReading, OnlyOwnReadingsAreLearnt};
+ghost use Rattle.inst_board.specs.Laws.{OwnAnswersStand, WhatIsKnownStaysTrue};
 ghost use Rattle.inst_board.specs.Laws.{StandingsFollowTheWordLaw, ShowsItsWords};
 ghost use Rattle.inst_board.specs.Laws.{WhichPlacesThereAre, EachPlaceHasItsNumber, PlainDecidesExactly};
 ghost use Rattle.inst_board.specs.Laws.{PlainLooksExactly, PlainOpensExactly, WhatIsDecidedIsInTime};
@@ -84,6 +85,11 @@ pub fn each_decision_is_in_time<B: Board>()
 /// Over any board a new outcome was decided at the reading of the wish.
 pub fn each_decision_is_of_its_reading<B: Board>()
     ensures { (margin : ℕ) → EachDecisionIsOfItsReading margin B.knows B.stood }
+{}
+
+/// Over any board a holder learns of no deciding reading but its own.
+pub fn only_own_readings_are_learnt<B: Board>()
+    ensures { (margin : ℕ) → OnlyOwnReadingsAreLearnt margin B.knows B.has_role B.stood }
 {}
 
 /// Over any board an answer in time stands, unless the transfer was timed out before it.

@@ -8,8 +8,6 @@ pub mod laws;
 mod look;
 mod place;
 mod plain;
-#[cfg(test)]
-mod tests;
 mod wish;
 
 pub use about::{About, Fact};

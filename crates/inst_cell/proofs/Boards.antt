@@ -1,6 +1,6 @@
 -- What the holder of a shared board knows after a step.
 use Rattle.std.proofs.Common.{◌≡◌, ◌≢◌, ℕ, ◌*◌, ◌+◌, ◌/◌, ◌<◌, List, ◌∷◌, inl, inr, ⊎_elim, sym, refl, ap, ◌∙◌, subst, arith, Some, None, ◌⊎◌}
-use Rattle.std.specs.Prelude.{Contains, Option, ◌↔◌}
+use Rattle.std.specs.Prelude.{Contains, Bool, true, false, Option, ◌↔◌}
 use Rattle.std.proofs.lemmas.Nat.{same_from_place}
 use Rattle.std.proofs.lemmas.Bool.Decides.{nat_tests}
 use Rattle.inst_command.specs.declared.outcome.Outcome.{Outcome}
@@ -17,9 +17,9 @@ use Rattle.inst_board.specs.declared.wish.Wish.TheVariants.{Accept, Reject, Expi
 use Rattle.inst_board.specs.declared.look.Look.{Look}
 use Rattle.inst_board.specs.declared.look.Look.TheVariants.{Unused as LookUnused, Pending as LookPending, Decided as LookDecided}
 use Rattle.inst_board.specs.declared.about.About.{About}
-use Rattle.inst_board.specs.declared.about.About.TheVariants.{Opened, HasTerms, Due, Decided}
+use Rattle.inst_board.specs.declared.about.About.TheVariants.{Opened, HasTerms, Due, Decided, DecidedAt}
 use Rattle.inst_board.specs.declared.about.Fact.{Fact}
-use Rattle.inst_board.specs.Standing.{Standing, unused, pending, final, IsPlace, IsLawful, Says, look_of, about}
+use Rattle.inst_board.specs.Standing.{Standing, unused, pending, final, IsPlace, IsLawful, Says, Shows as WordsShow, look_of, about}
 use Rattle.inst_board.specs.Learning.{Learns, Looks, Answers, IsAnswer, IsParty}
 use Rattle.inst_board.specs.Wish.{wanted}
 use Rattle.inst_board.specs.Plain.{number_of}
@@ -28,11 +28,11 @@ use Rattle.inst_board.proofs.PlainSteps.{shows_says}
 use Rattle.inst_cell.specs.declared.view.View.{View}
 use Rattle.inst_cell.specs.declared.view.Known.{Known}
 use Rattle.inst_cell.specs.declared.shared_board.SharedBoard.{SharedBoard}
-use Rattle.inst_cell.specs.View.{known, all_of, count, note, learnt, with_note}
+use Rattle.inst_cell.specs.View.{known, all_of, count, facts_of, note, learnt, with_note}
 use Rattle.inst_cell.specs.Rule.{word_of, encode, IsShowable}
-use Rattle.inst_cell.specs.Steps.{Shows, KnewOpening, KnewAnswer}
+use Rattle.inst_cell.specs.Steps.{Shows, KnewOpening, KnewAnswer, KnewEnd}
 use Rattle.inst_cell.specs.Held.{settings_of, view_of, knows_at, knows, has_role, wrote, stood, Stays}
-use Rattle.inst_cell.proofs.Stepping.{read_true, read_all, one_place, all_left, all_right, all_cases, itself}
+use Rattle.inst_cell.proofs.Stepping.{read_true, IsSeen, read_all, read_moment, moment_unread, one_place, all_left, all_right, all_cases, itself}
 use Rattle.inst_cell.proofs.Tally.{note_else}
 use Rattle.inst_cell.proofs.Numbers.{owner_is}
 
@@ -49,36 +49,64 @@ lawful_of margin unused h = tt
 lawful_of margin (pending t d) h = h.1.0
 lawful_of margin (final t d o m) h = (h.1, h.2)
 
+-- what a place shows is seen
+shows_seen : (p : Standing) (a : About) → WordsShow p a → IsSeen a
+shows_seen p Opened h = tt
+shows_seen p (HasTerms t) h = tt
+shows_seen p (Due d) h = tt
+shows_seen p (Decided o) h = tt
+shows_seen unused (DecidedAt n) h = absurd h
+shows_seen (pending t d) (DecidedAt n) h = absurd h
+shows_seen (final t d o m) (DecidedAt n) h = absurd h
+
 -- knowledge is of the settings and the view
 pub knows_as : (s z : HubSettings) (v w : View) (f : Fact) → z ≡ s → w ≡ v → knows_at s v f → knows_at z w f
 knows_as s z v w f e q h = subst (λ (u : View). knows_at z u f) (sym q) (subst (λ (x : HubSettings). knows_at x v f) (sym e) h)
 
-module _ (b c : SharedBoard) (k : Place) (p : Standing) (place : IsPlace (settings_of b) k) (same : settings_of c ≡ settings_of b) (view : view_of c ≡ learnt (view_of b) (number_of (settings_of b) k) p) where
+module _ (b c : SharedBoard) (k : Place) (p : Standing) (mine : Bool) (place : IsPlace (settings_of b) k) (same : settings_of c ≡ settings_of b) (view : view_of c ≡ learnt (view_of b) (number_of (settings_of b) k) p mine) where
   abbrev S : HubSettings
   S = settings_of b
 
   abbrev N : ℕ
   N = number_of (settings_of b) k
 
-  pub then_knows : (f : Fact) → knows_at S (learnt (view_of b) N p) f → knows c f
-  then_knows f h = knows_as S (settings_of c) (learnt (view_of b) N p) (view_of c) f same view h
+  pub then_knows : (f : Fact) → knows_at S (learnt (view_of b) N p mine) f → knows c f
+  then_knows f h = knows_as S (settings_of c) (learnt (view_of b) N p mine) (view_of c) f same view h
 
-  pub knew : (f : Fact) → knows c f → knows_at S (learnt (view_of b) N p) f
-  knew f h = knows_as (settings_of c) S (view_of c) (learnt (view_of b) N p) f (sym same) (sym view) h
+  pub knew : (f : Fact) → knows c f → knows_at S (learnt (view_of b) N p mine) f
+  knew f h = knows_as (settings_of c) S (view_of c) (learnt (view_of b) N p mine) f (sym same) (sym view) h
 
-  pub says_known : (a : About) → Says p a → knows c (about k a)
-  says_known a h = then_knows (about k a) (place, all_right (view_of b) N p (known N a) (read_all N p a h))
+  pub says_known : (a : About) → IsSeen a → Says p a → knows c (about k a)
+  says_known a seen h = then_knows (about k a) (place, all_right (view_of b) N p mine (known N a) (read_all N p mine a seen h))
+
+  -- who decided the place knows at which reading
+  pub moment_known : (n : ℕ) → mine ≡ true → Says p (DecidedAt n) → knows c (about k (DecidedAt n))
+  moment_known n own h = then_knows (about k (DecidedAt n)) (place, all_right (view_of b) N p mine (known N (DecidedAt n)) (read_moment N p mine n own h))
+
+  -- and nobody else learns it
+  pub moment_still : (n : ℕ) → mine ≡ false → knows c (about k (DecidedAt n)) → knows b (about k (DecidedAt n))
+  moment_still n other h = let was = knew (about k (DecidedAt n)) h in ⊎_elim
+      (λ old. (was.0, old))
+      (λ new. absurd (moment_unread N N p n (subst (λ (x : Bool). Contains (facts_of N p x) (known N (DecidedAt n))) other new)))
+      (all_cases (view_of b) N p mine (known N (DecidedAt n)) was.1)
+
+  -- a reading that is known was known, or is that of the decision
+  pub moment_cases : (n : ℕ) → knows c (about k (DecidedAt n)) → knows b (about k (DecidedAt n)) ⊎ Says p (DecidedAt n)
+  moment_cases n h = let was = knew (about k (DecidedAt n)) h in ⊎_elim
+      (λ old. inl (was.0, old))
+      (λ new. inr (read_true N p mine (known N (DecidedAt n)) new).1)
+      (all_cases (view_of b) N p mine (known N (DecidedAt n)) was.1)
 
   pub learns_as : IsShowable (view_of b).margin p → ((a : About) → Contains (all_of (view_of b)) (known N a) → Says p a) → Learns S.margin knows b k p c
   learns_as showable agrees = record {
     lawful = subst (λ (m : ℕ). IsLawful m p) b.bounded (lawful_of (view_of b).margin p showable);
     agrees = λ a h. agrees a h.1;
-    kept = λ f h. then_knows f (h.0, all_left (view_of b) N p (known (number_of S f.place) f.about) h.1);
-    shown = λ a h. says_known a (shows_says S.margin p a h);
+    kept = λ f h. then_knows f (h.0, all_left (view_of b) N p mine (known (number_of S f.place) f.about) h.1);
+    shown = λ a h. says_known a (shows_seen p a h) (shows_says S.margin p a h);
     only = λ f h. let was = knew f h in ⊎_elim
         (λ old. inl (was.0, old))
-        (λ new. let t = read_true N p (known (number_of S f.place) f.about) new in inr (same_number S f.place k was.0 place t.0, t.1))
-        (all_cases (view_of b) N p (known (number_of S f.place) f.about) was.1);
+        (λ new. let t = read_true N p mine (known (number_of S f.place) f.about) new in inr (same_number S f.place k was.0 place t.0, t.1))
+        (all_cases (view_of b) N p mine (known (number_of S f.place) f.about) was.1);
   }
 
 pub learns_two : {B : Type 0} (m : ℕ) (knows : B → Fact → Type 0) (b c d : B) (k : Place) (p q : Standing) → Learns m knows b k p c → Learns m knows c k q d → Learns m knows b k q d
@@ -102,23 +130,35 @@ module _ (b : SharedBoard) (k : Place) (place : IsPlace (settings_of b) k) (p : 
   pub stood_from : KnewAnswer (number_of (settings_of b) k) (view_of b) p → (o : Outcome) → Says p (Decided o) → stood b k o
   stood_from answers o says = λ t h role. by_answer o (λ ans. (place, itself (view_of b) (known (number_of (settings_of b) k) (Decided o)) (answers t (agrees (HasTerms t) h.1) role o ans says).1))
 
-  pub looks_as : (c : SharedBoard) → settings_of c ≡ settings_of b → view_of c ≡ learnt (view_of b) (number_of (settings_of b) k) p → IsShowable (view_of b).margin p
-      → KnewOpening (number_of (settings_of b) k) (view_of b) p → KnewAnswer (number_of (settings_of b) k) (view_of b) p → (look : Look) → look ≡ look_of p → Looks (settings_of b).margin knows has_role stood b k look c
-  looks_as c same view showable opening answers look is = record {
+  pub looks_as : (c : SharedBoard) → settings_of c ≡ settings_of b → view_of c ≡ learnt (view_of b) (number_of (settings_of b) k) p false → IsShowable (view_of b).margin p
+      → KnewOpening (number_of (settings_of b) k) (view_of b) p → KnewAnswer (number_of (settings_of b) k) (view_of b) p → KnewEnd (number_of (settings_of b) k) (view_of b) p → (look : Look) → look ≡ look_of p → Looks (settings_of b).margin knows has_role stood b k look c
+  looks_as c same view showable opening answers ends look is = record {
     standing = p;
-    learns = learns_as b c k p place same view showable agrees;
+    learns = learns_as b c k p false place same view showable agrees;
     look_is = is;
     own = λ role a of says.
         let s = settings_of b in
         let owner : number_of s k / (view_of b).places ≡ k.owner = ap (λ (x : ℕ). number_of s k / x) b.based ∙ owner_is s k place in
         (place, itself (view_of b) (known (number_of s k) a) (opening (subst (λ (x : ℕ). 0 < count x (view_of b).roles) (sym owner) role) a of says));
     answered = λ t has role o ans says. let n = number_of (settings_of b) k in let was = answers t has role o ans says in ((place, itself (view_of b) (known n (HasTerms t)) was.0), (place, itself (view_of b) (known n (Decided o)) was.1));
+    ended = λ role t has its o says.
+        let s = settings_of b in
+        let owner : number_of s k / (view_of b).places ≡ k.owner = ap (λ (x : ℕ). number_of s k / x) b.based ∙ owner_is s k place in
+        (place, itself (view_of b) (known (number_of s k) (Decided o)) (ends (subst (λ (x : ℕ). 0 < count x (view_of b).roles) (sym owner) role) t has its o says));
     before = λ o says. stood_from answers o says;
+    reading = λ moment h. moment_still b c k p false place same view moment refl h;
   }
 
 -- the other half of `before`
-pub knew_before : (k : ℕ) (v w : View) (n : ℕ) (s : Shows ⊥ k v n w) → KnewOpening k v s.standing × KnewAnswer k v s.standing
-knew_before k v w n s = ⊎_elim (λ h. absurd h) (λ h. h) s.before
+pub knew_before : (k : ℕ) (v w : View) (n : ℕ) (s : Shows ⊥ k v n w) → KnewOpening k v s.standing × KnewAnswer k v s.standing × KnewEnd k v s.standing
+knew_before k v w n s = ⊎_elim (λ h. absurd h.0) (λ h. (h.1, h.2, h.3)) s.before
+
+-- who only saw the place
+pub not_mine : (k : ℕ) (v w : View) (n : ℕ) (s : Shows ⊥ k v n w) → s.mine ≡ false
+not_mine k v w n s = ⊎_elim (λ h. absurd h.0) (λ h. h.0) s.before
+
+pub seen_only : (k : ℕ) (v w : View) (n : ℕ) (s : Shows ⊥ k v n w) → w ≡ learnt v k s.standing false
+seen_only k v w n s = s.learns ∙ ap (λ (x : Bool). learnt v k s.standing x) (not_mine k v w n s)
 
 pub look_unused : (p : Standing) (w : Word) → w ≡ word_of p → w ≡ Unused → LookUnused ≡ look_of p
 look_unused unused w e f = refl
@@ -188,6 +228,24 @@ answers_settled margin stood wish at (final t c z l) w d want o m n e f is can w
       before,
 )
 
+-- an outcome that is read is the place's
+pub decided_of : (p : Standing) (w : Word) (o z : Outcome) (m : ℕ) → w ≡ word_of p → w ≡ Final o m → Some o ≡ Some z → Says p (Decided z)
+decided_of unused w o z m e f is = let no : ⊥ = cc in absurd no
+decided_of (pending t d) w o z m e f is = let no : ⊥ = cc in absurd no
+decided_of (final t d q n) w o z m e f is = cc
+
+-- an exchange that took effect is of its own reading
+pub moment_own : (margin : ℕ) (p : Standing) (w : Word) (o want : Outcome) (m at n : ℕ) → w ≡ word_of p → w ≡ Final o m → n ≡ encode p → IsShowable margin p → IsWord (Final want at) → n ≡ outcome_number want at → Says p (DecidedAt at)
+moment_own margin unused w o want m at n e f is can word own = let no : ⊥ = cc in absurd no
+moment_own margin (pending t d) w o want m at n e f is can word own = let no : ⊥ = cc in absurd no
+moment_own margin (final t d z l) w o want m at n e f is can word own =
+    let same : Final z l ≡ Final want at = words_apart (Final z l) (Final want at) can.3 word (sym is ∙ own) in cc
+
+pub same_reading : (p : Standing) (m n : ℕ) → Says p (DecidedAt m) → Says p (DecidedAt n) → m ≡ n
+same_reading unused m n h g = absurd h
+same_reading (pending t d) m n h g = absurd h
+same_reading (final t d o x) m n h g = h ∙ sym g
+
 pub settled : (p : Standing) (w : Word) (d n : ℕ) → Says p (Due d) → w ≡ word_of p → n ≡ encode p → n ≢ number d 0 0 → (o : Outcome) × (m : ℕ) × (w ≡ Final o m)
 settled unused w d n says e is moved = absurd says
 settled (pending t c) w d n says e is moved = absurd (moved (is ∙ ap (λ (x : ℕ). number x 0 0) (sym says)))
@@ -200,6 +258,12 @@ answers_party margin has (Reject r) k t d at o e party ans = party
 answers_party margin has Expire k t d at Accepted e party ans = let no : ⊥ = grind (arith, nat_tests) in absurd no
 answers_party margin has Expire k t d at (Rejected r) e party ans = let no : ⊥ = grind (arith, nat_tests) in absurd no
 answers_party margin has Expire k t d at TimedOut e party ans = absurd ans
+
+-- who may decide has a role of the two
+pub a_party : (has : ℕ → Type 0) (wish : Wish) (k : Place) (t : Terms) → IsParty has wish k t → has k.owner ⊎ has t.to
+a_party has Accept k t party = inr party
+a_party has (Reject r) k t party = inr party
+a_party has Expire k t party = party
 
 -- what stood at an exchange stood before the load that found the place pending
 pub stood_across : (b c : SharedBoard) (k : Place) (p q : Standing) (w : Word) (d : ℕ) → Stays b c → Learns (settings_of b).margin knows b k p c → w ≡ word_of p → w ≡ Pending d

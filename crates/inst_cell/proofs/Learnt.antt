@@ -20,9 +20,10 @@ hit k v w n old new m e f s = record {
   is = sym (ap (λ b. either b new n) (eq-eqb n old e)) ∙ s.is;
   showable = s.showable;
   agrees = s.agrees;
+  mine = s.mine;
   learns = s.learns;
   one = s.one;
-  before = inl f;
+  before = ⊎_elim (λ own. inl (f, own.1)) (λ b. inr b) s.before;
 }
 
 pub missed : (k : ℕ) (v w : View) (n old new m : ℕ) → n ≢ old → Shows (n ≡ old) k v (either (eqb n old) new n) w → Shows (n ≡ m) k v n w
@@ -31,9 +32,10 @@ missed k v w n old new m ne s = record {
   is = sym (ap (λ b. either b new n) (ne_eqb n old ne)) ∙ s.is;
   showable = s.showable;
   agrees = s.agrees;
+  mine = s.mine;
   learns = s.learns;
   one = s.one;
-  before = ⊎_elim (λ e. absurd (ne e)) (λ b. inr b) s.before;
+  before = ⊎_elim (λ own. absurd (ne own.0)) (λ b. inr b) s.before;
 }
 
 -- the same settings and the same view know the same

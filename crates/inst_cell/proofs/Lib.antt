@@ -8,4 +8,3 @@ mod Learnt
 mod Meeting
 pub mod Opening
 mod Seeing
-mod Trying

@@ -7,7 +7,7 @@ use Rattle.inst_board.specs.declared.place.Place.{Place}
 use Rattle.inst_board.specs.declared.about.About.{About}
 use Rattle.inst_board.specs.declared.about.About.TheVariants.{HasTerms, Decided}
 use Rattle.inst_board.specs.declared.about.Fact.{Fact}
-use Rattle.inst_board.specs.Standing.{Standing, Says, about, IsLawful}
+use Rattle.inst_board.specs.Standing.{Standing, Says, about, IsLawful, IsPlace}
 use Rattle.inst_board.specs.Plain.{number_of}
 use Rattle.inst_cell.specs.declared.view.Known.{Known}
 use Rattle.inst_cell.specs.declared.view.View.{View}
@@ -81,12 +81,17 @@ vouches_for a b u one e r = record {
   answer = λ k t o role ans has h.
       let s = settings_of b in
       let n = number_of s k in
-      let has' = knows_as (settings_of a) s (view_of a) (view_of a) (about k (HasTerms t)) one.1 refl has in
-      let h' = knows_as (settings_of a) s (view_of a) (view_of a) (about k (Decided o)) one.1 refl h in
+      let heard : (x : About) → knows b (about k x) ⊎ knows a (about k x) → IsPlace s k × Contains (all_of u) (known n x) = λ x.
+      ⊎_elim
+      (λ mine. (mine.0, (told_both (view_of a) (view_of b) u e (known n x)).1 (inr mine.1)))
+      (λ theirs. let theirs' = knows_as (settings_of a) s (view_of a) (view_of a) (about k x) one.1 refl theirs in
+      (theirs'.0, (told_both (view_of a) (view_of b) u e (known n x)).1 (inl theirs'.1))) in
+      let has' = heard (HasTerms t) has in
+      let h' = heard (Decided o) h in
       let role' : 0 < count t.to u.roles = subst (λ (l : List ℕ). 0 < count t.to l) (sym (told_roles (view_of a) (view_of b) u e)) role in
-      let got = r.answered n t o role' ans ((told_both (view_of a) (view_of b) u e (known n (HasTerms t))).1 (inl has'.1)) ((told_both (view_of a) (view_of b) u e (known n (Decided o))).1 (inl h'.1)) in
+      let got = r.answered n t o role' ans has'.1 h'.1 in
       let back : (f : Known) → Contains u.facts f → Contains (all_of (view_of b)) f = λ f g. itself (view_of b) f (subst (λ (l : List Known). Contains l f) (told_facts (view_of a) (view_of b) u e) g) in
-      ((h'.0, back (known n (HasTerms t)) got.0), (h'.0, back (known n (Decided o)) got.1));
+      ((has'.0, back (known n (HasTerms t)) got.0), (has'.0, back (known n (Decided o)) got.1));
 }
 
 -- what the words vouch for is true
@@ -125,7 +130,7 @@ both_met a b a' b' c e v one two f = (
 pub vouches_met : (a b a' b' : SharedBoard) → settings_of a' ≡ settings_of a → view_of a' ≡ view_of a → KnowsBoth a b b' → Vouches a' b' → Vouches a b
 vouches_met a b a' b' e v one r = record {
   opening = λ k x role of h. back (about k x) (r.opening k x (role_too k.owner role) of ((one (about k x)).1 (inr h)));
-  answer = λ k t o role ans has h. let got = r.answer k t o (role_too t.to role) ans ((one (about k (HasTerms t))).1 (inr has)) ((one (about k (Decided o))).1 (inr h)) in
+  answer = λ k t o role ans has h. let got = r.answer k t o (role_too t.to role) ans (inr ((one (about k (HasTerms t))).1 has)) (inr ((one (about k (Decided o))).1 h)) in
       (back (about k (HasTerms t)) got.0, back (about k (Decided o)) got.1);
 }
   where

@@ -1,5 +1,5 @@
 -- The kinds of step.
-use Rattle.std.proofs.Common.{◌≡◌, ℕ, eqb, zero, suc, ◌+◌, ◌*◌, ◌/◌, ◌^◌, ◌<◌, ◌⊎◌, List, [], ◌∷◌, ◌++◌, length, get_or, set, inl, inr, ⊎_elim, sym, refl, ap, ◌∙◌, subst, arith, eq-eqb, ne_eqb, Some}
+use Rattle.std.proofs.Common.{◌≡◌, ℕ, eqb, zero, suc, ◌+◌, ◌*◌, ◌/◌, ◌^◌, ◌<◌, ◌⊎◌, List, [], ◌∷◌, ◌++◌, length, get_or, set, inl, inr, ⊎_elim, sym, refl, ap, ◌∙◌, subst, arith, true, false, eq-eqb, ne_eqb, Some}
 use Rattle.std.specs.Prelude.{Contains}
 use Rattle.std.proofs.lemmas.Grind.{same_number_lists}
 use Rattle.std.proofs.lemmas.List.Elements.{Contains-append_left, Contains-append_right}
@@ -21,14 +21,14 @@ use Rattle.inst_terms.specs.WordLaw.{InTime}
 use Rattle.inst_terms.specs.Reason.{reason_number}
 use Rattle.inst_terms.proofs.Apart.{terms_apart}
 use Rattle.inst_board.specs.declared.about.About.{About}
-use Rattle.inst_board.specs.declared.about.About.TheVariants.{Opened, HasTerms, Due, Decided}
+use Rattle.inst_board.specs.declared.about.About.TheVariants.{Opened, HasTerms, Due, Decided, DecidedAt}
 use Rattle.inst_board.specs.Standing.{Standing, unused, pending, final, Says}
 use Rattle.inst_board.specs.Learning.{IsOfOpening, IsAnswer}
 use Rattle.inst_cell.specs.declared.view.Known.{Known}
 use Rattle.inst_cell.specs.declared.view.View.{View}
 use Rattle.inst_cell.specs.View.{known, all_of, count, note, first_view, learnt, with_note, HasNoted, KnowsOne, without_role, with_role, told, united, nobody}
-use Rattle.inst_cell.specs.Rule.{encode, IsShowable, total, Keeps, Kept}
-use Rattle.inst_cell.specs.Steps.{Sat, Vouched, KnewOpening, KnewAnswer, Shows, vouches, loads, opens, decides, loads_term, notes_term}
+use Rattle.inst_cell.specs.Rule.{encode, IsShowable, total, AllLearnt, Keeps, Kept}
+use Rattle.inst_cell.specs.Steps.{Sat, Vouched, KnewOpening, KnewAnswer, KnewEnd, Shows, vouches, loads, opens, decides, loads_term, notes_term}
 use Rattle.inst_cell.proofs.Tally.{held-set, held-snoc, count-cut, count-from, count-append, note_cases, count_cases, count_left, count_right, set_here}
 use Rattle.inst_cell.proofs.Stepping.{writes, moved, no_fact, one_place, itself, united_cases}
 use Rattle.inst_cell.proofs.Knowing.{one_from}
@@ -68,12 +68,14 @@ stays_true t d m o Opened h = tt
 stays_true t d m o (HasTerms u) h = h
 stays_true t d m o (Due e) h = h
 stays_true t d m o (Decided p) h = absurd h
+stays_true t d m o (DecidedAt n) h = absurd h
 
 same_opening : (t : Terms) (d m : ℕ) (o : Outcome) (a : About) → IsOfOpening a → Says (final t d o m) a → Says (pending t d) a
 same_opening t d m o Opened of h = tt
 same_opening t d m o (HasTerms u) of h = h
 same_opening t d m o (Due e) of h = h
 same_opening t d m o (Decided p) of h = absurd of
+same_opening t d m o (DecidedAt n) of h = absurd of
 
 has_terms : (margin : ℕ) (p : Standing) (t : Terms) → Says p (HasTerms t) → IsShowable margin p → IsTerms t
 has_terms margin unused t says h = absurd says
@@ -115,27 +117,41 @@ module _ (s : HubSettings) where
   knows_one words views id v w at r = one_from r.world w (r.honest id w (set_here views id v w at))
 
   module _ (slots id : ℕ) (me : Sat) (k : ℕ) (within : k < total s) (places : me.0.places ≡ s.places) (margin : me.0.margin ≡ s.margin) where
-    stays : (st : St) (r : Kept s st) → get_elem? st.views id ≡ some me.0 → Rows id (learnt me.0 k (r.world k)) st (k * 6 + 5) (get_or st.words (k * 6 + 5) 0)
-    stays st r at = subst (λ n. Rows id (learnt me.0 k (r.world k)) st (k * 6 + 5) n) (sym (r.shown k within))
-        (moved s st.words st.views r id me.0 at k within (r.world k) (r.showable k) (λ a h. h)
+    stays : (st : St) (r : Kept s st) → get_elem? st.views id ≡ some me.0 → Rows id (learnt me.0 k (r.world k) false) st (k * 6 + 5) (get_or st.words (k * 6 + 5) 0)
+    stays st r at = subst (λ n. Rows id (learnt me.0 k (r.world k) false) st (k * 6 + 5) n) (sym (r.shown k within))
+        (moved s st.words st.views r id me.0 at k within (r.world k) false (r.showable k) (λ a h. h)
         (λ i t small has. r.written k i t within small has)
         (inl (λ a of h. h))
-        (inl (λ o ans h. (h, λ t has. has))))
+        (inl (λ o ans h. (h, λ t has. has)))
+        (inl (λ h. (h, λ t has. has)))
+        (inl (λ m h. (h, λ t has. has))))
 
-    before : (st : St) (r : Kept s st) → get_elem? st.views id ≡ some me.0 → KnewOpening k me.0 (r.world k) × KnewAnswer k me.0 (r.world k)
+    end_known : (st : St) (r : Kept s st) → get_elem? st.views id ≡ some me.0 → 0 < count (k / me.0.places) me.0.roles → (t : Terms) → Says (r.world k) (HasTerms t) → 0 < count t.to me.0.roles
+        → (o : Outcome) → Says (r.world k) (Decided o) → Contains me.0.facts (known k (Decided o))
+    end_known st r at own t has its Accepted says = (r.answered id me.0 at k t has its Accepted tt says).1
+    end_known st r at own t has its (Rejected z) says = (r.answered id me.0 at k t has its (Rejected z) tt says).1
+    end_known st r at own t has its TimedOut says = ⊎_elim
+        (λ a. a id me.0 at (subst (λ n. 0 < count (k / n) me.0.roles) places own))
+        (λ b. b id me.0 at its)
+        (r.ended k t has says)
+
+    before : (st : St) (r : Kept s st) → get_elem? st.views id ≡ some me.0 → (false ≡ false) × KnewOpening k me.0 (r.world k) × KnewAnswer k me.0 (r.world k) × KnewEnd k me.0 (r.world k)
     before st r at = (
+      refl,
       λ role a of says. r.whole id me.0 at k (subst (λ n. 0 < count (k / n) me.0.roles) places role) a of says,
       λ t has role o ans says. r.answered id me.0 at k t has role o ans says,
+      λ own t has its o says. end_known st r at own t has its o says,
     )
 
-    shows : (own : Type 0) (st : St) (r : Kept s st) → get_elem? st.views id ≡ some me.0 → Shows own k me.0 (get_or st.words (k * 6 + 5) 0) (learnt me.0 k (r.world k))
+    shows : (own : Type 0) (st : St) (r : Kept s st) → get_elem? st.views id ≡ some me.0 → Shows own k me.0 (get_or st.words (k * 6 + 5) 0) (learnt me.0 k (r.world k) false)
     shows own st r at = record {
       standing = r.world k;
       is = r.shown k within;
       showable = subst (λ m. IsShowable m (r.world k)) (sym margin) (r.showable k);
       agrees = λ a c. r.honest id me.0 at (known k a) c;
+      mine = false;
       learns = refl;
-      one = knows_one _ st.views id me.0 (learnt me.0 k (r.world k)) at (stays st r at);
+      one = knows_one _ st.views id me.0 (learnt me.0 k (r.world k) false) at (stays st r at);
       before = inr (before st r at);
     }
 
@@ -144,11 +160,11 @@ module _ (s : HubSettings) where
 
     pub allows_loads : Allows (Kept s) slots id me (k * 6 + 5) (λ n. n) (loads (step slots (k * 6 + 5) 0 0 none) me)
     allows_loads st r _ at _ = (
-      learnt me.0 k (r.world k),
+      learnt me.0 k (r.world k) false,
       keeps,
       tt,
       stays st r at,
-      ((λ j e. subst (λ y. Shows ⊥ y me.0 (get_or st.words (k * 6 + 5) 0) (learnt me.0 k (r.world k))) (same_place j e) (shows ⊥ st r at)), refl),
+      ((λ j e. subst (λ y. Shows ⊥ y me.0 (get_or st.words (k * 6 + 5) 0) (learnt me.0 k (r.world k) false)) (same_place j e) (shows ⊥ st r at)), refl),
     )
 
     pub allows_loads_term : (i : ℕ) → i < 5 → Allows (Kept s) slots id me (k * 6 + i) (λ n. n) (loads_term (step slots (k * 6 + i) 0 0 none) me)
@@ -205,12 +221,14 @@ module _ (s : HubSettings) where
     allows_opens t d word is lawful moment noted role new st r _ at _ =
         let closed : ¬ Says (r.world k) Opened = λ h. new (itself me.0 (known k Opened) (r.whole id me.0 at k role Opened tt h)) in
         let free : (a : About) → Says (r.world k) a → ⊥ = not_opened (r.world k) closed in
-        let w : View = learnt me.0 k (pending t d) in
+        let w : View = learnt me.0 k (pending t d) false in
         let row : Rows id w st (k * 6 + 5) word = subst (λ n. Rows id w st (k * 6 + 5) n) (sym is)
-        (moved s st.words st.views r id me.0 at k within (pending t d) (lawful, moment) (λ a h. absurd (free a h))
+        (moved s st.words st.views r id me.0 at k within (pending t d) false (lawful, moment) (λ a h. absurd (free a h))
         (λ i u small has. (r.noted id me.0 at k i (get_or (words_of t) i 0) within small (noted i small)).1 closed ∙ ap (λ (x : Terms). get_or (words_of x) i 0) (sym has))
         (inr role)
-        (inl (λ o ans says. absurd says))) in (
+        (inl (λ o ans says. absurd says))
+        (inl (λ says. absurd says))
+        (inl (λ m says. absurd says))) in (
           w,
           keeps,
           tt,
@@ -221,7 +239,7 @@ module _ (s : HubSettings) where
                 let nu' : HasNoted me.0 k u = subst (λ y. HasNoted me.0 y u) (sym j_is) nu in
                 let t_is : t ≡ u = same_noted me.0 k t u lawful hu noted nu' in
                 let d_is : d ≡ c = omega arith in (
-                  subst (λ y. w ≡ learnt me.0 y (pending u c)) j_is (ap (λ (p : Standing). learnt me.0 k p) (same_pending t u d c t_is d_is)),
+                  subst (λ y. w ≡ learnt me.0 y (pending u c) false) j_is (ap (λ (p : Standing). learnt me.0 k p false) (same_pending t u d c t_is d_is)),
                   knows_one _ st.views id me.0 w at row,
                   λ a c'. free a (r.honest id me.0 at (known k a) (subst (λ y. Contains (all_of me.0) (known y a)) (sym j_is) c')),
                 )),
@@ -232,8 +250,9 @@ module _ (s : HubSettings) where
     -- who answers has the role of the beneficiary; anyone may find a place timed out
     pub allows_decides : (t : Terms) (d old new : ℕ) (o : Outcome) (m : ℕ) → old ≡ number d 0 0 → new ≡ outcome_number o m → IsWord (Final o m) → InTime s.margin o d m
         → Contains (all_of me.0) (known k (Due d)) → Contains (all_of me.0) (known k (HasTerms t)) → (IsAnswer o → 0 < count t.to me.0.roles)
+        → (0 < count (k / s.places) me.0.roles) ⊎ (0 < count t.to me.0.roles)
         → Allows (Kept s) slots id me (k * 6 + 5) (λ n. either (eqb n old) new n) (decides (step slots (k * 6 + 5) old new none) me)
-    allows_decides t d old new o m is will word in_time due has role st r _ at _ = let x : ℕ = get_or st.words (k * 6 + 5) 0 in dite (ℕ_discrete x old)
+    allows_decides t d old new o m is will word in_time due has role party st r _ at _ = let x : ℕ = get_or st.words (k * 6 + 5) 0 in dite (ℕ_discrete x old)
         (λ hit.
         let due' : Says (r.world k) (Due d) = r.honest id me.0 at (known k (Due d)) due in
         let has' : Says (r.world k) (HasTerms t) = r.honest id me.0 at (known k (HasTerms t)) has in
@@ -241,14 +260,17 @@ module _ (s : HubSettings) where
         let could : IsShowable s.margin (pending t d) = subst (IsShowable s.margin) here (r.showable k) in
         let q : Standing = final t d o m in
         let can : IsShowable s.margin q = (could.0, could.1.0, in_time, word) in
-        let w : View = learnt me.0 k q in
+        let w : View = learnt me.0 k q true in
         let e = eq-eqb x old hit in
+        let a_party : (u : Terms) → Says q (HasTerms u) → (0 < count (k / s.places) me.0.roles) ⊎ (0 < count u.to me.0.roles) = λ u says. ⊎_elim (λ mine. inl mine) (λ its. inr (subst (λ (x : Terms). 0 < count x.to me.0.roles) (sym says) its)) party in
         let row : Rows id w st (k * 6 + 5) (outcome_number o m) =
-        moved s st.words st.views r id me.0 at k within q can
+        moved s st.words st.views r id me.0 at k within q true can
         (λ a h. stays_true t d m o a (subst (λ p. Says p a) here h))
         (λ i u small says. r.written k i u within small (subst (λ p. Says p (HasTerms u)) (sym here) says))
         (inl (λ a of h. subst (λ p. Says p a) (sym here) (same_opening t d m o a of h)))
-        (replies t d o m me.0.roles (r.world k) here role) in (
+        (replies t d o m me.0.roles (r.world k) here role)
+        (inr a_party)
+        (inr (refl, a_party)) in (
           w,
           keeps,
           tt,
@@ -260,14 +282,15 @@ module _ (s : HubSettings) where
                   is = will;
                   showable = subst (λ n. IsShowable n q) (sym margin) can;
                   agrees = λ a c. stays_true t d m o a (subst (λ p. Says p a) here (r.honest id me.0 at (known k a) c));
+                  mine = true;
                   learns = refl;
                   one = knows_one _ st.views id me.0 w at row;
-                  before = inl hit;
+                  before = inl (hit, refl);
                 }))),
             refl,
           ),
         ))
-        (λ miss. let w : View = learnt me.0 k (r.world k) in let e = ne_eqb x old miss in (
+        (λ miss. let w : View = learnt me.0 k (r.world k) false in let e = ne_eqb x old miss in (
           w,
           keeps,
           tt,
@@ -316,6 +339,14 @@ module _ (s : HubSettings) where
             (λ k t has role o ans says. r.answered id v at k t has (role_left t.to role) o ans says)
             (λ k t has role o ans says. r.answered id v at k t has (role_right t.to role) o ans says)
             r.answered;
+        ended = λ k t has done. ⊎_elim
+            (λ own. inl (each (λ w. 0 < count (k / s.places) w.roles → Contains w.facts (known k (Decided TimedOut))) (λ role. own id v at (role_left (k / s.places) role)) (λ role. own id v at (role_right (k / s.places) role)) own))
+            (λ its. inr (each (λ w. 0 < count t.to w.roles → Contains w.facts (known k (Decided TimedOut))) (λ role. its id v at (role_left t.to role)) (λ role. its id v at (role_right t.to role)) its))
+            (r.ended k t has done);
+        decided = λ k t m has says. ⊎_elim
+            (λ own. inl (each (λ w. 0 < count (k / s.places) w.roles → Contains w.facts (known k (DecidedAt m))) (λ role. own id v at (role_left (k / s.places) role)) (λ role. own id v at (role_right (k / s.places) role)) own))
+            (λ its. inr (each (λ w. 0 < count t.to w.roles → Contains w.facts (known k (DecidedAt m))) (λ role. its id v at (role_left t.to role)) (λ role. its id v at (role_right t.to role)) its))
+            (r.decided k t m has says);
         noted = each (λ w. (k i n : ℕ) → k < total s → i < 5 → note w.notes (k * 6 + i) ≡ Some n → (0 < count (k / s.places) w.roles) × (¬ Says (r.world k) Opened → get_or st.words (k * 6 + i) 0 ≡ n))
             (λ k i n below under nt. absurd (nothing_noted (k * 6 + i) n nt))
             (λ k i n below under nt. absurd (nothing_noted (k * 6 + i) n nt))
@@ -341,6 +372,14 @@ module _ (s : HubSettings) where
         honest = each (λ w. (f : Known) → Contains (all_of w) f → Says (r.world f.place) f.about) (r.honest id v at) (r.honest id v at) r.honest;
         whole = each (λ w. (k : ℕ) → 0 < count (k / s.places) w.roles → (a : About) → IsOfOpening a → Says (r.world k) a → Contains w.facts (known k a)) (r.whole id v at) (λ k role a of says. absurd (omega arith)) r.whole;
         answered = each (λ w. (k : ℕ) (t : Terms) → Says (r.world k) (HasTerms t) → 0 < count t.to w.roles → (o : Outcome) → IsAnswer o → Says (r.world k) (Decided o) → Contains w.facts (known k (HasTerms t)) × Contains w.facts (known k (Decided o))) (r.answered id v at) (λ k t has role o ans says. absurd (omega arith)) r.answered;
+        ended = λ k t has done. ⊎_elim
+            (λ own. inl (each (λ w. 0 < count (k / s.places) w.roles → Contains w.facts (known k (Decided TimedOut))) (own id v at) (λ role. absurd (omega arith)) own))
+            (λ its. inr (each (λ w. 0 < count t.to w.roles → Contains w.facts (known k (Decided TimedOut))) (its id v at) (λ role. absurd (omega arith)) its))
+            (r.ended k t has done);
+        decided = λ k t m has says. ⊎_elim
+            (λ own. inl (each (λ w. 0 < count (k / s.places) w.roles → Contains w.facts (known k (DecidedAt m))) (own id v at) (λ role. absurd (omega arith)) own))
+            (λ its. inr (each (λ w. 0 < count t.to w.roles → Contains w.facts (known k (DecidedAt m))) (its id v at) (λ role. absurd (omega arith)) its))
+            (r.decided k t m has says);
         noted = each (λ w. (k i n : ℕ) → k < total s → i < 5 → note w.notes (k * 6 + i) ≡ Some n → (0 < count (k / s.places) w.roles) × (¬ Says (r.world k) Opened → get_or st.words (k * 6 + i) 0 ≡ n)) (r.noted id v at) (λ k i n below under nt. absurd (nothing_noted (k * 6 + i) n nt)) r.noted;
         alone = λ p. let one = r.alone p in let x = held-set p st.views id v v at in let y = held-snoc p (set st.views id v) right in omega arith;
       }
@@ -355,6 +394,17 @@ module _ (s : HubSettings) where
       (λ t. subst P t.1 no)
       (λ t. ⊎_elim (λ z. subst P z.1 b) (λ z. old i u z.1) (at_set st.views id i both u t.1))
       (at_set (set st.views id both) other i nobody u e) in
+      let both_learnt : (p : ℕ) (f : Known) → AllLearnt st.views p f → AllLearnt (set (set st.views id both) other nobody) p f =
+      λ p f old. each (λ u. 0 < count p u.roles → Contains u.facts f)
+      (λ role. ⊎_elim
+      (λ x. Contains-append_left v.facts w.facts f (old id v at x))
+      (λ y. Contains-append_right v.facts w.facts f (old other w there y))
+      (count_cases p v.roles w.roles role))
+      (λ role. absurd (omega arith))
+      old in
+      let both_told : (k : ℕ) (t : Terms) (f : Known) → AllLearnt st.views (k / s.places) f ⊎ AllLearnt st.views t.to f
+      → AllLearnt (set (set st.views id both) other nobody) (k / s.places) f ⊎ AllLearnt (set (set st.views id both) other nobody) t.to f =
+      λ k t f was. ⊎_elim (λ own. inl (both_learnt (k / s.places) f own)) (λ its. inr (both_learnt t.to f its)) was in
       record {
         world = r.world;
         sized = r.sized;
@@ -379,6 +429,8 @@ module _ (s : HubSettings) where
             (count_cases t.to v.roles w.roles role))
             (λ k t has role o ans says. absurd (omega arith))
             r.answered;
+        ended = λ k t has done. both_told k t (known k (Decided TimedOut)) (r.ended k t has done);
+        decided = λ k t m has says. both_told k t (known k (DecidedAt m)) (r.decided k t m has says);
         noted = each (λ u. (k i n : ℕ) → k < total s → i < 5 → note u.notes (k * 6 + i) ≡ Some n → (0 < count (k / s.places) u.roles) × (¬ Says (r.world k) Opened → get_or st.words (k * 6 + i) 0 ≡ n))
             (λ k i n below under nt. ⊎_elim
             (λ x. let was = r.noted id v at k i n below under x in (count_left (k / s.places) v.roles w.roles was.0, was.1))
@@ -406,6 +458,8 @@ starts s words sized zeros = record {
   honest = λ i v e f c. absurd (no_fact f (subst (λ (u : View). Contains (all_of u) f) (sym (only_one (first_view s) v i e)) c));
   whole = λ i v e k role a of says. absurd says;
   answered = λ i v e k t says role o ans done. absurd says;
+  ended = λ k t says done. absurd says;
+  decided = λ k t m says done. absurd says;
   noted = λ i v e k j n below small nt. absurd (none_noted (k * 6 + j) n (subst (λ (u : View). note u.notes (k * 6 + j) ≡ Some n) (sym (only_one (first_view s) v i e)) nt));
   alone = λ p. let up = (count-from p 0 (participants s)).0 in omega arith;
 }

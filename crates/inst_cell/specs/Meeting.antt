@@ -26,5 +26,6 @@ pub record Vouches (board other : SharedBoard) : Type 0 where
   pub opening : (k : Place) (a : About) → has_role board k.owner → IsOfOpening a → knows other (about k a) →
       knows board (about k a)
   pub answer : (k : Place) (t : Terms) (o : Outcome) → has_role board t.to → IsAnswer o →
-      knows other (about k (HasTerms t)) → knows other (about k (Decided o)) →
+      knows board (about k (HasTerms t)) ⊎ knows other (about k (HasTerms t)) →
+      knows board (about k (Decided o)) ⊎ knows other (about k (Decided o)) →
       knows board (about k (HasTerms t)) × knows board (about k (Decided o))

@@ -2,11 +2,12 @@
 -- outcome word goes from unused to pending, then once to final, in time, and stays; the terms words of an opened place
 -- stay; what a seat knows is true of the words. How transfers are accepted, rejected and timed out is the rulebook's
 -- (EPC004-16, chapter 4: processing flow); the words, the roles and the seats are this hub's own choice.
-use Rattle.std.specs.Prelude.{◌≡◌, ℕ, ◌+◌, ◌*◌, ◌/◌, ◌<◌, ◌≤◌, List, [], ◌∷◌, length, slice_index, Contains, Some}
+use Rattle.std.specs.Prelude.{◌≡◌, ◌⊎◌, ℕ, ◌+◌, ◌*◌, ◌/◌, ◌<◌, ◌≤◌, List, [], ◌∷◌, length, slice_index, Contains, Some}
 use mathlib.Core.Option.{some}
 use lib.ListN.{get_elem?}
 use Rattle.atomic_table.specs.Table.{State}
 use Rattle.inst_command.specs.declared.outcome.Outcome.{Outcome}
+use Rattle.inst_command.specs.declared.outcome.Outcome.TheVariants.{TimedOut}
 use Rattle.inst_settings.specs.Settings.{HubSettings, participants}
 use Rattle.inst_terms.specs.declared.terms.Terms.{Terms}
 use Rattle.inst_terms.specs.declared.word.Word.{Word}
@@ -15,7 +16,7 @@ use Rattle.inst_terms.specs.Terms.{IsTerms, words_of}
 use Rattle.inst_terms.specs.Word.{IsWord, number_of}
 use Rattle.inst_terms.specs.WordLaw.{InTime}
 use Rattle.inst_board.specs.declared.about.About.{About}
-use Rattle.inst_board.specs.declared.about.About.TheVariants.{Opened, HasTerms, Decided}
+use Rattle.inst_board.specs.declared.about.About.TheVariants.{Opened, HasTerms, Decided, DecidedAt}
 use Rattle.inst_board.specs.Standing.{Standing, unused, pending, final, Says}
 use Rattle.inst_board.specs.Learning.{IsOfOpening, IsAnswer}
 use Rattle.inst_cell.specs.declared.view.Known.{Known}
@@ -47,12 +48,18 @@ held p (v ∷ vs) = count p v.roles + held p vs
 abbrev pub total : HubSettings → ℕ
 total s = s.places * participants s
 
+-- each seat with this role learnt it by a step of its own
+abbrev pub AllLearnt : List View → ℕ → Known → Type 0
+AllLearnt views p f = (id : ℕ) (v : View) → get_elem? views id ≡ some v → 0 < count p v.roles → Contains v.facts f
+
 -- world: each place stands somehow
 -- sized, shown, written: the words are those of how the places stand; the terms words of an unused place may be any
 -- showable: each place stands as it may
 -- honest: what a seat knows is true
 -- whole: who has the originator's role knows what is opened, with its terms and its deadline
 -- answered: who has the beneficiary's role knows, with the terms, what was accepted or rejected
+-- ended: each seat with the originator's role, or each with the beneficiary's, learnt of a time-out by a step of its own
+-- decided: so one of the two learnt at which reading a place was decided
 -- noted: who noted a terms word has the originator's role, and while the place is unused the word is as noted
 -- alone: no two seats have one role
 pub record Keeps (s : HubSettings) (words : List ℕ) (views : List View) : Type 0 where
@@ -69,6 +76,10 @@ pub record Keeps (s : HubSettings) (words : List ℕ) (views : List View) : Type
   pub answered : (id : ℕ) (v : View) → get_elem? views id ≡ some v → (k : ℕ) (t : Terms) →
       Says (world k) (HasTerms t) → 0 < count t.to v.roles → (o : Outcome) → IsAnswer o → Says (world k) (Decided o) →
       Contains v.facts (known k (HasTerms t)) × Contains v.facts (known k (Decided o))
+  pub ended : (k : ℕ) (t : Terms) → Says (world k) (HasTerms t) → Says (world k) (Decided TimedOut) →
+      AllLearnt views (k / s.places) (known k (Decided TimedOut)) ⊎ AllLearnt views t.to (known k (Decided TimedOut))
+  pub decided : (k : ℕ) (t : Terms) (at : ℕ) → Says (world k) (HasTerms t) → Says (world k) (DecidedAt at) →
+      AllLearnt views (k / s.places) (known k (DecidedAt at)) ⊎ AllLearnt views t.to (known k (DecidedAt at))
   pub noted : (id : ℕ) (v : View) → get_elem? views id ≡ some v → (k i n : ℕ) → k < total s → i < 5 →
       note v.notes (k * 6 + i) ≡ Some n →
       (0 < count (k / s.places) v.roles) × (¬ Says (world k) Opened → slice_index words (k * 6 + i) ≡ n)

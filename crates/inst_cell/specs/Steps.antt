@@ -1,6 +1,6 @@
 -- What each kind of step on the shared words tells the seat that takes it, and what it then knows. An exchange that finds
 -- another word than the pending one takes no effect, and tells what it found. This hub's own choice.
-use Rattle.std.specs.Prelude.{◌≡◌, ◌⊎◌, ℕ, ◌+◌, ◌*◌, ◌/◌, ◌<◌, ◌==◌, slice_index, Contains}
+use Rattle.std.specs.Prelude.{◌≡◌, ◌⊎◌, Bool, true, false, ℕ, ◌+◌, ◌*◌, ◌/◌, ◌<◌, ◌==◌, slice_index, Contains}
 use prog.Atomic.{either}
 use Rattle.atomic_table.specs.Table.{Me, Step}
 use Rattle.inst_command.specs.declared.outcome.Outcome.{Outcome}
@@ -29,11 +29,16 @@ abbrev pub KnewAnswer : ℕ → View → Standing → Type 0
 KnewAnswer k v p = (t : Terms) → Says p (HasTerms t) → 0 < count t.to v.roles → (o : Outcome) → IsAnswer o →
     Says p (Decided o) → Contains v.facts (known k (HasTerms t)) × Contains v.facts (known k (Decided o))
 
+-- who has both roles knew how it ended
+abbrev pub KnewEnd : ℕ → View → Standing → Type 0
+KnewEnd k v p = 0 < count (k / v.places) v.roles → (t : Terms) → Says p (HasTerms t) → 0 < count t.to v.roles →
+    (o : Outcome) → Says p (Decided o) → Contains v.facts (known k (Decided o))
+
 -- The outcome word n shows how the place k stands, to a seat that has and knows v before and w after
 -- standing: how the place stands
 -- is, showable: as the word shows, and as a place may
 -- agrees: all is true of it that was known
--- learns: then the seat knows what is true of it
+-- mine, learns: then the seat knows what is true of it, and at which reading it was decided where this step decided it
 -- one: and what it knows agrees
 -- before: this step changed the word (`own`), or what only the seat itself can have done it knew
 pub record Shows (own : Type 0) (k : ℕ) (v : View) (n : ℕ) (w : View) : Type 0 where
@@ -41,9 +46,10 @@ pub record Shows (own : Type 0) (k : ℕ) (v : View) (n : ℕ) (w : View) : Type
   pub is : n ≡ encode standing
   pub showable : IsShowable v.margin standing
   pub agrees : (a : About) → Contains (all_of v) (known k a) → Says standing a
-  pub learns : w ≡ learnt v k standing
+  pub mine : Bool
+  pub learns : w ≡ learnt v k standing mine
   pub one : KnowsOne w
-  pub before : own ⊎ (KnewOpening k v standing × KnewAnswer k v standing)
+  pub before : (own × (mine ≡ true)) ⊎ ((mine ≡ false) × KnewOpening k v standing × KnewAnswer k v standing × KnewEnd k v standing)
 
 -- What the seat knows is true of the places, and of those whose originator's or beneficiary's role it has it learnt by
 -- steps of its own what only that role can have done
@@ -81,7 +87,7 @@ notes_term st m n m' = (m'.0 ≡ with_note m.0 st.word n) × (m'.1 ≡ m.1)
 -- the opening of a place whose terms were noted: nothing was known of it, and then all is that is true of it
 abbrev pub opens : Step (Unit {0}) → Sat → ℕ → Sat → Type 0
 opens st m n m' = ((k : ℕ) (t : Terms) (d : ℕ) → st.word ≡ k * 6 + 5 → IsTerms t → HasNoted m.0 k t → n ≡ number_of (Pending d) →
-    (m'.0 ≡ learnt m.0 k (pending t d)) × KnowsOne m'.0 × ((a : About) → ¬ Contains (all_of m.0) (known k a))) × (m'.1 ≡ m.1)
+    (m'.0 ≡ learnt m.0 k (pending t d) false) × KnowsOne m'.0 × ((a : About) → ¬ Contains (all_of m.0) (known k a))) × (m'.1 ≡ m.1)
 
 -- an exchange of the pending word for a final one
 abbrev pub decides : Step (Unit {0}) → Sat → ℕ → Sat → Type 0

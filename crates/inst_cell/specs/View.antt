@@ -2,14 +2,15 @@
 -- learnt and what it heard. That only a participant's slot opens its places and answers what is addressed to it, and
 -- that a caller's seat has no role, is this hub's own choice.
 use Rattle.std.proofs.Props.{props}
-use Rattle.std.specs.Prelude.{◌≡◌, ℕ, zero, suc, ◌+◌, ◌*◌, ◌<◌, cond, ◌==◌, List, [], ◌∷◌, ◌++◌, slice_index, take, drop, Contains, Option, Some, None}
+use Rattle.std.specs.Prelude.{◌≡◌, ℕ, Bool, zero, suc, ◌+◌, ◌*◌, ◌<◌, cond, ◌==◌, List, [], ◌∷◌, ◌++◌, slice_index, take, drop, Contains, Option, Some, None}
 use Rattle.std.specs.Option.{option_or, unwrap_or}
 use Rattle.inst_command.specs.declared.outcome.Outcome.{Outcome}
+use Rattle.inst_command.specs.declared.outcome.Outcome.TheVariants.{TimedOut}
 use Rattle.inst_settings.specs.Settings.{HubSettings, participants}
 use Rattle.inst_terms.specs.declared.terms.Terms.{Terms}
 use Rattle.inst_terms.specs.Terms.{words_of}
 use Rattle.inst_board.specs.declared.about.About.{About}
-use Rattle.inst_board.specs.declared.about.About.TheVariants.{Opened, HasTerms, Due, Decided}
+use Rattle.inst_board.specs.declared.about.About.TheVariants.{Opened, HasTerms, Due, Decided, DecidedAt}
 use Rattle.inst_board.specs.Standing.{Standing, unused, pending, final, Says}
 use Rattle.inst_cell.specs.declared.view.Known.{Known}
 use Rattle.inst_cell.specs.declared.view.View.{View}
@@ -35,12 +36,13 @@ note (n ∷ ns) x = cond (n.0 == x) (Some n.1) (note ns x)
 abbrev pub HasNoted : View → ℕ → Terms → Type 0
 HasNoted v k t = (i : ℕ) → i < 5 → note v.notes (k * 6 + i) ≡ Some (slice_index (words_of t) i)
 
--- all that is true of a place that stands so
-abbrev pub all_true : ℕ → Standing → List Known
-all_true k unused = []
-all_true k (pending terms deadline) = known k Opened ∷ known k (HasTerms terms) ∷ known k (Due deadline) ∷ []
-all_true k (final terms deadline outcome at) =
-    known k Opened ∷ known k (HasTerms terms) ∷ known k (Due deadline) ∷ known k (Decided outcome) ∷ []
+-- what a step learns of a place that stands so: all that is true of it, but at which reading it was decided only where
+-- this step decided it
+abbrev pub facts_of : ℕ → Standing → Bool → List Known
+facts_of k unused mine = []
+facts_of k (pending terms deadline) mine = known k Opened ∷ known k (HasTerms terms) ∷ known k (Due deadline) ∷ []
+facts_of k (final terms deadline outcome at) mine = known k Opened ∷ known k (HasTerms terms) ∷ known k (Due deadline)
+    ∷ known k (Decided outcome) ∷ cond mine (known k (DecidedAt at) ∷ []) []
 
 -- the first thing of a kind that is known of a place
 abbrev pub first_of : {X : Type 0} → (About → Option X) → ℕ → List Known → Option X
@@ -52,28 +54,39 @@ terms_in Opened = None
 terms_in (HasTerms terms) = Some terms
 terms_in (Due deadline) = None
 terms_in (Decided outcome) = None
+terms_in (DecidedAt moment) = None
 
 abbrev pub due_in : About → Option ℕ
 due_in Opened = None
 due_in (HasTerms terms) = None
 due_in (Due deadline) = Some deadline
 due_in (Decided outcome) = None
+due_in (DecidedAt moment) = None
 
 abbrev pub outcome_in : About → Option Outcome
 outcome_in Opened = None
 outcome_in (HasTerms terms) = None
 outcome_in (Due deadline) = None
 outcome_in (Decided outcome) = Some outcome
+outcome_in (DecidedAt moment) = None
 
--- a place with these terms, this deadline and this outcome, if it has one
-abbrev pub standing_with : Terms → ℕ → Option Outcome → Standing
-standing_with terms deadline None = pending terms deadline
-standing_with terms deadline (Some outcome) = final terms deadline outcome 0
+abbrev pub moment_in : About → Option ℕ
+moment_in Opened = None
+moment_in (HasTerms terms) = None
+moment_in (Due deadline) = None
+moment_in (Decided outcome) = None
+moment_in (DecidedAt moment) = Some moment
+
+-- a place with these terms, this deadline, and this outcome and deciding moment, if it has one
+abbrev pub standing_with : Terms → ℕ → Option Outcome → Option ℕ → Standing
+standing_with terms deadline None None = pending terms deadline
+standing_with terms deadline None (Some moment) = final terms deadline TimedOut moment
+standing_with terms deadline (Some outcome) moment = final terms deadline outcome (unwrap_or moment 0)
 
 -- how the place stands, as far as it is known: what isn't known may be anything
 abbrev pub known_standing : View → ℕ → Standing
 known_standing v k = standing_with (unwrap_or (first_of terms_in k (all_of v)) (record { to = 0; cents = 0; id = [] }))
-    (unwrap_or (first_of due_in k (all_of v)) 0) (first_of outcome_in k (all_of v))
+    (unwrap_or (first_of due_in k (all_of v)) 0) (first_of outcome_in k (all_of v)) (first_of moment_in k (all_of v))
 
 -- all that a seat knows of a place is true of one standing
 abbrev pub KnowsOne : View → Type 0
@@ -85,10 +98,12 @@ says_one (pending terms deadline) Opened = Prim.hlevel props
 says_one (pending terms deadline) (HasTerms others) = Prim.hlevel props
 says_one (pending terms deadline) (Due other) = Prim.hlevel props
 says_one (pending terms deadline) (Decided other) = Prim.hlevel props
+says_one (pending terms deadline) (DecidedAt other) = Prim.hlevel props
 says_one (final terms deadline outcome at) Opened = Prim.hlevel props
 says_one (final terms deadline outcome at) (HasTerms others) = Prim.hlevel props
 says_one (final terms deadline outcome at) (Due other) = Prim.hlevel props
 says_one (final terms deadline outcome at) (Decided other) = Prim.hlevel props
+says_one (final terms deadline outcome at) (DecidedAt other) = Prim.hlevel props
 
 -- it is one fact, however it is shown
 pub knows_one_once : (v : View) → IsProp (KnowsOne v)
@@ -110,14 +125,14 @@ first_view s = record {
   heard = [];
 }
 
--- after the place was seen to stand so
-abbrev pub learnt : View → ℕ → Standing → View
-learnt v k p = record {
+-- after the place was seen to stand so, or was decided so
+abbrev pub learnt : View → ℕ → Standing → Bool → View
+learnt v k p mine = record {
   places = v.places;
   margin = v.margin;
   roles = v.roles;
   notes = v.notes;
-  facts = v.facts ++ all_true k p;
+  facts = v.facts ++ facts_of k p mine;
   heard = v.heard;
 }
 

@@ -7,8 +7,6 @@ mod rule;
 mod shared_board;
 mod steps;
 mod teller;
-#[cfg(test)]
-mod tests;
 mod ticket;
 mod view;
 mod words;

@@ -13,8 +13,6 @@ mod outcome;
 mod reply;
 mod step;
 mod submission;
-#[cfg(test)]
-mod tests;
 
 pub use ask::Ask;
 pub use command::Command;

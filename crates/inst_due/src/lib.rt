@@ -2,7 +2,5 @@
 #![tactic(auto)]
 
 mod due;
-#[cfg(test)]
-mod tests;
 
 pub use due::Due;

@@ -13,7 +13,7 @@ use Rattle.inst_command.specs.declared.reply.Reply.TheVariants.{Done, Taken as T
 use Rattle.inst_board.specs.declared.place.Place.{Place}
 use Rattle.inst_board.specs.declared.about.Fact.{Fact}
 use Rattle.std.specs.Global.{Box}
-use Rattle.std.specs.declared.snapshot.Snapshot.{Snapshot}
+use Rattle.inst_hub.specs.declared.outset.Outset.{Outset}
 use Rattle.inst_cell.specs.declared.teller.Teller.{Teller as Sight}
 use Rattle.inst_cell.specs.declared.shared_board.SharedBoard.{SharedBoard}
 use Rattle.inst_cell.specs.Seen.{sees}
@@ -24,32 +24,18 @@ use Rattle.inst_row.specs.declared.seat.RowSeat.{RowSeat}
 use Rattle.inst_row.specs.View.{front}
 use Rattle.inst_row.specs.Row.{key_of, size}
 use Rattle.inst_row.specs.Seated.{view_of, Has, HasSeen, GoesOn, Sees}
-use Rattle.inst_hub.specs.declared.participant.Participant.{Participant}
+use Rattle.inst_participant.specs.declared.participant.Participant.{Participant}
 use Rattle.inst_hub.specs.declared.hub.Hub.{Hub}
 use Rattle.inst_hub.specs.declared.teller.Teller.{Teller}
-use Rattle.inst_hub.specs.Behind.{IsReady, IsBehind, IsLater}
-use Rattle.inst_hub.specs.Answers.{Answered, IsSubmitted, IsTicket}
-use Rattle.inst_hub.specs.declared.follow_up.FollowUp.{FollowUp}
-use Rattle.inst_hub.specs.Following.{follow_up_of, Does}
-use Rattle.inst_hub.specs.Serving.{Serves}
+use Rattle.inst_participant.specs.Behind.{IsReady, IsBehind, IsLater}
+use Rattle.inst_participant.specs.Answers.{Answered, IsSubmitted, IsTicket}
+use Rattle.inst_participant.specs.declared.follow_up.FollowUp.{FollowUp}
+use Rattle.inst_participant.specs.Following.{follow_up_of, Does}
+use Rattle.inst_participant.specs.Serving.{Serves}
 use Rattle.inst_hub.specs.Calls.{IsCall, Calls, Asks, IsLeft, KnowsMore, Follows, IsFollowed, knows_of, sights_of}
 
 abbrev Seat : Type 0
-Seat = RowSeat (Box Participant) Event (Snapshot SharedBoard)
-
-pub behind_later : (w : SharedBoard) (p : ℕ) (x y : Participant) → IsBehind w p x → IsLater x y → IsReady y → IsBehind w p y
-behind_later w p x y was later ready = record {
-  one = (later.stays.table ∙ was.one.0, later.stays.settings ∙ was.one.1);
-  who = later.who ∙ was.who;
-  ready = ready;
-}
-
-pub later_twice : (x y z : Participant) → IsLater x y → IsLater y z → IsLater x z
-later_twice x y z first second = record {
-  stays = record { settings = second.stays.settings ∙ first.stays.settings; table = second.stays.table ∙ first.stays.table; roles = second.stays.roles ∙ first.stays.roles };
-  who = second.who ∙ first.who;
-  settings = second.settings ∙ first.settings;
-}
+Seat = RowSeat (Box Participant) Event Outset
 
 -- what was found behind the lock p: it keeps the law, and the seat has it and has seen its history
 pub record IsFound (w : SharedBoard) (p : ℕ) (s mid : Seat) (x : Participant) : Type 0 where
@@ -84,7 +70,7 @@ still_knows t mid sight last p h l kept first second = record {
 }
 
 -- what was answered under the lock of the asker
-pub call_of : (h : Hub) (t u : Teller) (ask : Ask) (answer : Reply × Option Place) (x y : Participant) → IsBehind (key_of h.row).value ask.who x
+pub call_of : (h : Hub) (t u : Teller) (ask : Ask) (answer : Reply × Option Place) (x y : Participant) → IsBehind (key_of h.row).words.value ask.who x
     → GoesOn ask.who x.slot.events t.seat → sights_of u ≡ sights_of t ++ front ask.who x.slot.events ∷ front ask.who y.slot.events ∷ []
     → IsSound x.slot.settings x.slot.who x.slot.events
     → Serves x ask (Ok answer.0) y
@@ -107,7 +93,7 @@ call_of h t u ask answer x y behind goes_on seen sound serves answered ticket =
     }
 
 -- the same at the lock p, which is the asker's
-pub call_at : (h : Hub) (t u : Teller) (ask : Ask) (answer : Reply × Option Place) (x y : Participant) (p : ℕ) → p ≡ ask.who → IsBehind (key_of h.row).value p x
+pub call_at : (h : Hub) (t u : Teller) (ask : Ask) (answer : Reply × Option Place) (x y : Participant) (p : ℕ) → p ≡ ask.who → IsBehind (key_of h.row).words.value p x
     → GoesOn p x.slot.events t.seat → sights_of u ≡ sights_of t ++ front p x.slot.events ∷ front p y.slot.events ∷ []
     → IsSound x.slot.settings x.slot.who x.slot.events
     → Serves x ask (Ok answer.0) y
@@ -115,11 +101,11 @@ pub call_at : (h : Hub) (t u : Teller) (ask : Ask) (answer : Reply × Option Pla
     → IsTicket (sees u.sight) x.slot.settings x.slot.who ask.command y.slot.events answer.0 answer.1
     → IsCall h t ask answer [] u
 call_at h t u ask answer x y p is behind goes_on seen sound serves answered ticket =
-    call_of h t u ask answer x y (subst (λ (n : ℕ). IsBehind (key_of h.row).value n x) is behind) (subst (λ (n : ℕ). GoesOn n x.slot.events t.seat) is goes_on)
+    call_of h t u ask answer x y (subst (λ (n : ℕ). IsBehind (key_of h.row).words.value n x) is behind) (subst (λ (n : ℕ). GoesOn n x.slot.events t.seat) is goes_on)
     (subst (λ (n : ℕ). sights_of u ≡ sights_of t ++ front n x.slot.events ∷ front n y.slot.events ∷ []) is seen) sound serves answered ticket
 
 -- the same, with what is to follow
-pub asks_at : (h : Hub) (t u : Teller) (ask : Ask) (answer : Reply × Option Place) (f : Option FollowUp) (x y : Participant) (p : ℕ) → p ≡ ask.who → IsBehind (key_of h.row).value p x
+pub asks_at : (h : Hub) (t u : Teller) (ask : Ask) (answer : Reply × Option Place) (f : Option FollowUp) (x y : Participant) (p : ℕ) → p ≡ ask.who → IsBehind (key_of h.row).words.value p x
     → GoesOn p x.slot.events t.seat → sights_of u ≡ sights_of t ++ front p x.slot.events ∷ front p y.slot.events ∷ []
     → IsSound x.slot.settings x.slot.who x.slot.events
     → Serves x ask (Ok answer.0) y
@@ -131,7 +117,7 @@ asks_at h t u ask answer f x y p is behind goes_on seen sound serves answered ti
     (call_at h t u ask answer x y p is behind goes_on seen sound serves answered ticket, follows)
 
 -- who follows up is one of the hub's participants, and so has a lock
-pub lock_of : (h : Hub) (p : ℕ) (x y : Participant) (f : Option FollowUp) → IsBehind (key_of h.row).value p x → IsLater x y → IfSome f (λ g. is_participant y.slot.settings g.who ≡ true) → IfSome f (λ g. g.who < size h.row)
+pub lock_of : (h : Hub) (p : ℕ) (x y : Participant) (f : Option FollowUp) → IsBehind (key_of h.row).words.value p x → IsLater x y → IfSome f (λ g. is_participant y.slot.settings g.who ≡ true) → IfSome f (λ g. g.who < size h.row)
 lock_of h p x y None behind later fits = tt
 lock_of h p x y (Some g) behind later fits =
     let same : y.slot.settings ≡ h.settings = later.settings ∙ (sym behind.ready.lawful.same_settings ∙ (behind.one.1 ∙ h.same)) in
@@ -139,13 +125,13 @@ lock_of h p x y (Some g) behind later fits =
     subst (λ (n : ℕ). g.who < n) (sym h.sized) below
 
 -- what was left where memory was refused
-pub left_at : (h : Hub) (t u : Teller) (ask : Ask) (x y : Participant) (p : ℕ) → p ≡ ask.who → IsBehind (key_of h.row).value p x
+pub left_at : (h : Hub) (t u : Teller) (ask : Ask) (x y : Participant) (p : ℕ) → p ≡ ask.who → IsBehind (key_of h.row).words.value p x
     → GoesOn p x.slot.events t.seat → sights_of u ≡ sights_of t ++ front p x.slot.events ∷ front p y.slot.events ∷ []
     → Serves x ask (Err Memory) y → y.slot ≡ x.slot → IsLeft h t ask u
 left_at h t u ask x y p is behind goes_on seen serves same = record {
   found = x;
   left = y;
-  behind = subst (λ (n : ℕ). IsBehind (key_of h.row).value n x) is behind;
+  behind = subst (λ (n : ℕ). IsBehind (key_of h.row).words.value n x) is behind;
   goes_on = subst (λ (n : ℕ). GoesOn n x.slot.events t.seat) is goes_on;
   seen = subst (λ (n : ℕ). sights_of u ≡ sights_of t ++ front n x.slot.events ∷ front n y.slot.events ∷ []) is seen;
   serves = serves;
@@ -160,7 +146,7 @@ seen_both s mid last p h l first second =
 pub follows_nothing : (h : Hub) (t : Teller) → Follows h None t t
 follows_nothing h t = record { sights = []; followed = refl; seen = sym (append-nil (sights_of t)) }
 
-pub follows_one : (h : Hub) (f : FollowUp) (t : Teller) (mid last : Seat) (x y : Participant) (result : Result Bool Fault) → IsBehind (key_of h.row).value f.who x
+pub follows_one : (h : Hub) (f : FollowUp) (t : Teller) (mid last : Seat) (x y : Participant) (result : Result Bool Fault) → IsBehind (key_of h.row).words.value f.who x
     → GoesOn f.who x.slot.events t.seat → Sees f.who x.slot.events t.seat mid → Sees f.who y.slot.events mid last → Does f.act x f.place result y
     → Follows h (Some f) t record { sight = t.sight; seat = last }
 follows_one h f t mid last x y result behind goes_on first second does = record {

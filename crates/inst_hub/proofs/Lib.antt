@@ -1,11 +1,7 @@
-pub mod Sameness
 pub mod Starting
-pub mod Once
-pub mod Answering
-pub mod Replying
-pub mod Ticketing
-pub mod Serving
 pub mod Calling
 pub mod Sweeping
-pub mod Due
 pub mod Reopening
+pub mod Gathering
+pub mod TakingApart
+pub mod Founding

@@ -30,8 +30,8 @@ use Rattle.inst_world.specs.HasRun.{Hub as World, IsHub, HasRun, IsBoardOf}
 use Rattle.inst_world.specs.NextOpening.{IsOpenedBelow}
 use Rattle.inst_world.proofs.Carrying.{below as less}
 use Rattle.inst_world.proofs.Reopening.{begun_known}
-use Rattle.inst_hub.specs.declared.participant.Participant.{Participant}
-use Rattle.inst_hub.specs.Behind.{IsBehind}
+use Rattle.inst_participant.specs.declared.participant.Participant.{Participant}
+use Rattle.inst_participant.specs.Behind.{IsBehind}
 use Rattle.inst_hub.specs.Opening.{unboxed, AreBehind, IsBlank, AreBlank}
 use Rattle.inst_hub.proofs.Starting.{unboxed_push, behind_values}
 use Rattle.inst_hub.specs.NextOpening.{IsCarriedBook, AreCarried, pairs, seated}

@@ -2,7 +2,7 @@
 use Rattle.std.proofs.Common.{◌≡◌, ℕ, suc, ◌<◌, ◌+◌, zero, List, [], ◌∷◌, ◌++◌, length, append-nil, append_assoc, length-append, sym, ap, ◌∙◌, subst, refl, arith, Some, None, ⊎_elim}
 use Rattle.std.specs.Prelude.{slice_get, Option, Contains, is_some, true}
 use Rattle.std.specs.Global.{Box}
-use Rattle.std.specs.declared.snapshot.Snapshot.{Snapshot}
+use Rattle.inst_hub.specs.declared.outset.Outset.{Outset}
 use Rattle.atomic_table.specs.Seated.{TableId}
 use Rattle.inst_settings.specs.Settings.{HubSettings, participants}
 use Rattle.inst_cell.specs.declared.shared_board.SharedBoard.{SharedBoard}
@@ -20,9 +20,9 @@ use Rattle.inst_journal.proofs.Pushing.{sum_by_push}
 use Rattle.inst_slot.proofs.Adopting.{begins}
 use Rattle.inst_slot.proofs.Growing.{snoc_cases, slice_get_left, slice_get_at}
 use Rattle.inst_slot.proofs.Indexed.{last_at}
-use Rattle.inst_hub.specs.declared.participant.Participant.{Participant}
+use Rattle.inst_participant.specs.declared.participant.Participant.{Participant}
 use Rattle.inst_hub.specs.declared.hub.Hub.{Hub}
-use Rattle.inst_hub.specs.Behind.{IsBehind}
+use Rattle.inst_participant.specs.Behind.{IsBehind}
 use Rattle.inst_hub.specs.Calls.{AreOf}
 use Rattle.inst_hub.specs.declared.teller.Teller.{Teller}
 use Rattle.inst_hub.specs.Opening.{AreBoards, unboxed, AreBehind, AreParticipants, IsBlank, AreBlank, sights_from, first_sights, IsNew, AreNew, parts_of}
@@ -117,7 +117,7 @@ pub few_before : (before rest all : List Sight) (last : Sight) → before ++ (re
 few_before before rest all last e none =
     sym (length-append before (last ∷ [])) ∙ ap length (ap (λ (l : List Sight). before ++ (l ++ last ∷ [])) (sym none) ∙ e)
 
-pub one_teller : (id : TableId) (key : Snapshot SharedBoard) (sights : List (Front Event)) (tellers : List Teller) (t : Teller) → AreNew id key sights tellers → IsNew id key sights t → AreNew id key sights (tellers ++ t ∷ [])
+pub one_teller : (id : TableId) (key : Outset) (sights : List (Front Event)) (tellers : List Teller) (t : Teller) → AreNew id key sights tellers → IsNew id key sights t → AreNew id key sights (tellers ++ t ∷ [])
 one_teller id key sights tellers t are new i u e = ⊎_elim
     (λ old. are i u old)
     (λ last. subst (λ (x : Teller). IsNew id key sights x) last.1 new)

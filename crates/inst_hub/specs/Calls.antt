@@ -10,26 +10,25 @@ use Rattle.inst_board.specs.declared.place.Place.{Place}
 use Rattle.inst_cell.specs.Held.{AtOneTable}
 use Rattle.inst_cell.specs.Seen.{board_of, sees}
 use Rattle.inst_journal.specs.declared.event.Event.{Event}
-use Rattle.inst_journal.specs.declared.event.Event.TheVariants.{Forwarded, Booked}
 use Rattle.inst_journal.specs.Sound.{IsSound}
 use Rattle.inst_row.specs.declared.view.Front.{Front}
 use Rattle.inst_row.specs.View.{front}
 use Rattle.inst_row.specs.Row.{row_id, key_of}
 use Rattle.inst_row.specs.Seated.{IsOn, IsFree, HasSeen, GoesOn, view_of}
 use Rattle.inst_hub.specs.declared.hub.Hub.{Hub}
-use Rattle.inst_hub.specs.declared.participant.Participant.{Participant}
+use Rattle.inst_participant.specs.declared.participant.Participant.{Participant}
 use Rattle.inst_hub.specs.declared.teller.Teller.{Teller}
-use Rattle.inst_hub.specs.declared.follow_up.FollowUp.{FollowUp}
-use Rattle.inst_hub.specs.Answers.{Answered, IsTicket}
-use Rattle.inst_hub.specs.Behind.{IsBehind}
-use Rattle.inst_hub.specs.Following.{follow_up_of, Does}
-use Rattle.inst_hub.specs.Serving.{Serves}
+use Rattle.inst_participant.specs.declared.follow_up.FollowUp.{FollowUp}
+use Rattle.inst_participant.specs.Answers.{Answered, IsTicket}
+use Rattle.inst_participant.specs.Behind.{IsBehind}
+use Rattle.inst_participant.specs.Following.{follow_up_of, Does}
+use Rattle.inst_participant.specs.Serving.{Serves}
 
 -- The teller is one of this hub's: it sits on its row and has no lock, and it sees its words
 pub record IsOf (h : Hub) (t : Teller) : Type 0 where
   pub on : IsOn (row_id h.row) (key_of h.row) t.seat
   pub free : IsFree t.seat
-  pub one : AtOneTable (key_of h.row).value (board_of t.sight)
+  pub one : AtOneTable (key_of h.row).words.value (board_of t.sight)
 
 abbrev pub AreOf : Hub → List Teller → Type 0
 AreOf h tellers = (i : ℕ) (t : Teller) → slice_get tellers i ≡ Some t → IsOf h t
@@ -54,16 +53,6 @@ pub record KnowBoth (t other u : Teller) : Type 0 where
 abbrev pub sights_of : Teller → List (Front Event)
 sights_of t = (view_of t.seat).fronts
 
--- the event says that a transfer came, or how one ended
-abbrev pub IsTold : Event → Type 0
-IsTold (Forwarded from id cents deadline) = Unit {0}
-IsTold (Booked from id outcome) = Unit {0}
-IsTold _ = ⊥
-
--- the history is as it was, or has one such event more
-abbrev pub IsToldMore : List Event → List Event → Type 0
-IsToldMore J K = (K ≡ J) ⊎ ((e : Event) × IsTold e × (K ≡ J ++ e ∷ []))
-
 -- The follow-up was done, under one lock, and nothing else
 -- found, left: what was found behind that lock, and what was left there
 -- goes_on: the history that was found goes on from all that the teller had seen of it
@@ -72,7 +61,7 @@ IsToldMore J K = (K ≡ J) ⊎ ((e : Event) × IsTold e × (K ≡ J ++ e ∷ [])
 pub record IsDone (h : Hub) (f : FollowUp) (t : Teller) (sights : List (Front Event)) : Type 0 where
   pub found : Participant
   pub left : Participant
-  pub behind : IsBehind (key_of h.row).value f.who found
+  pub behind : IsBehind (key_of h.row).words.value f.who found
   pub goes_on : GoesOn f.who found.slot.events t.seat
   pub does : (result : Result Bool Fault) × Does f.act found f.place result left
   pub seen : sights ≡ front f.who found.slot.events ∷ front f.who left.slot.events ∷ []
@@ -97,7 +86,7 @@ pub record Follows (h : Hub) (f : Option FollowUp) (t u : Teller) : Type 0 where
 pub record IsCall (h : Hub) (t : Teller) (ask : Ask) (answer : Reply × Option Place) (sights : List (Front Event)) (u : Teller) : Type 0 where
   pub found : Participant
   pub left : Participant
-  pub behind : IsBehind (key_of h.row).value ask.who found
+  pub behind : IsBehind (key_of h.row).words.value ask.who found
   pub sound : IsSound h.settings ask.who found.slot.events
   pub goes_on : GoesOn ask.who found.slot.events t.seat
   pub seen : sights_of u ≡ sights_of t ++ front ask.who found.slot.events ∷ front ask.who left.slot.events ∷ sights
@@ -119,7 +108,7 @@ Asks h t ask r u = (call : IsCall h t ask r.0 [] u) × (r.1 ≡ follow_up_of cal
 pub record IsLeft (h : Hub) (t : Teller) (ask : Ask) (u : Teller) : Type 0 where
   pub found : Participant
   pub left : Participant
-  pub behind : IsBehind (key_of h.row).value ask.who found
+  pub behind : IsBehind (key_of h.row).words.value ask.who found
   pub goes_on : GoesOn ask.who found.slot.events t.seat
   pub seen : sights_of u ≡ sights_of t ++ front ask.who found.slot.events ∷ front ask.who left.slot.events ∷ []
   pub serves : Serves found ask (Err Memory) left

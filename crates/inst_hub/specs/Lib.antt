@@ -1,9 +1,6 @@
-pub mod Behind
-pub mod Answers
-pub mod Telling
+pub mod Founding
 pub mod Opening
 pub mod Calls
-pub mod Following
-pub mod Serving
 pub mod Sweeping
 pub mod NextOpening
+pub mod Closing

@@ -8,7 +8,7 @@ use Rattle.inst_journal.specs.History.{History}
 use Rattle.inst_slot.specs.Book.{Book}
 use Rattle.inst_cell.specs.declared.shared_board.SharedBoard.{SharedBoard}
 use Rattle.inst_world.specs.NextOpening.{books_of}
-use Rattle.inst_hub.specs.declared.participant.Participant.{Participant}
+use Rattle.inst_participant.specs.declared.participant.Participant.{Participant}
 
 -- the history of each participant of a hub that opens from these journals
 abbrev pub histories_from : List History → ℕ → List Event

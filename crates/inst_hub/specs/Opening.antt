@@ -5,7 +5,7 @@ use Rattle.std.specs.Global.{Box}
 use Rattle.atomic_table.specs.Seated.{TableId}
 use Rattle.inst_settings.specs.Settings.{HubSettings, participants}
 use Rattle.inst_cell.specs.declared.shared_board.SharedBoard.{SharedBoard}
-use Rattle.std.specs.declared.snapshot.Snapshot.{Snapshot}
+use Rattle.inst_hub.specs.declared.outset.Outset.{Outset}
 use Rattle.inst_board.specs.declared.about.Fact.{Fact}
 use Rattle.inst_cell.specs.declared.teller.Teller.{Teller as Sight}
 use Rattle.inst_cell.specs.Held.{AtOneTable}
@@ -16,8 +16,8 @@ use Rattle.inst_row.specs.declared.view.Front.{Front}
 use Rattle.inst_row.specs.View.{front}
 use Rattle.inst_row.specs.Seated.{IsOn, IsFree, view_of}
 use Rattle.inst_hub.specs.declared.teller.Teller.{Teller}
-use Rattle.inst_hub.specs.declared.participant.Participant.{Participant}
-use Rattle.inst_hub.specs.Behind.{IsBehind}
+use Rattle.inst_participant.specs.declared.participant.Participant.{Participant}
+use Rattle.inst_participant.specs.Behind.{IsBehind}
 
 -- the boards of all participants, by number
 pub record AreBoards (s : HubSettings) (id : TableId) (boards : List SharedBoard) : Type 0 where
@@ -60,13 +60,13 @@ abbrev pub first_sights : ℕ → (ℕ → List Event) → List (Front Event)
 first_sights n J = sights_from J 0 n
 
 -- a teller of a hub that opens: it may take a lock, and has seen these histories
-pub record IsNew (id : TableId) (key : Snapshot SharedBoard) (sights : List (Front Event)) (t : Teller) : Type 0 where
+pub record IsNew (id : TableId) (key : Outset) (sights : List (Front Event)) (t : Teller) : Type 0 where
   pub on : IsOn id key t.seat
   pub free : IsFree t.seat
   pub seen : (view_of t.seat).fronts ≡ sights
-  pub blank : IsBlank key.value t.sight
+  pub blank : IsBlank key.words.value t.sight
 
-abbrev pub AreNew : TableId → Snapshot SharedBoard → List (Front Event) → List Teller → Type 0
+abbrev pub AreNew : TableId → Outset → List (Front Event) → List Teller → Type 0
 AreNew id key sights tellers = (i : ℕ) (t : Teller) → slice_get tellers i ≡ Some t → IsNew id key sights t
 
 -- the parts of the row that they have

@@ -1,17 +1,16 @@
-use crate::participant::Participant;
-use inst_cell::SharedBoard;
+use crate::outset::Outset;
 use inst_journal::Event;
+use inst_participant::Participant;
 use inst_row::Lawful;
-use std::snapshot::Snapshot;
 
 /// The law of what lies behind a lock: the slot of its participant, with the board that has that one's role, over the
-/// words of the hub. A board of the hub stands for these words.
+/// words of the hub; its history carries what it carried when the hub opened.
 pub struct Behind;
 
-impl Lawful<Box<Participant>, Event, Snapshot<SharedBoard>> for Behind {
-    ghost use Rattle.inst_hub.specs.Behind.{IsBehind};
+impl Lawful<Box<Participant>, Event, Outset> for Behind {
+    ghost use Rattle.inst_hub.specs.Founding.{IsSince};
 
-    ghost law = { λ key p x. IsBehind key.value p x.value };
+    ghost law = { λ key p x. IsSince key p x.value };
 
     ghost history = { λ x. x.value.slot.events };
 }

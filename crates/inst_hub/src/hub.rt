@@ -4,18 +4,19 @@ ghost use Rattle.inst_cell.specs.Held.{settings_of};
 ghost use Rattle.inst_row.specs.Row.{key_of, size};
 
 mod calling;
+mod closing;
 mod meeting;
 mod next_opening;
 mod opening;
 mod sweeping;
 
 use crate::behind::Behind;
-use crate::participant::Participant;
-use inst_cell::SharedBoard;
+use crate::outset::Outset;
+pub use closing::TakeFault;
 use inst_journal::Event;
+use inst_participant::Participant;
 use inst_row::LockRow;
 use inst_settings::Settings;
-use std::snapshot::Snapshot;
 
 /// A hub that threads share by reference, each with a teller of its own. No call holds two locks, and a call of one
 /// participant waits for none of another's, but for the follow-up under the other side's lock.
@@ -28,9 +29,9 @@ use std::snapshot::Snapshot;
 #[derive(Drop)]
 pub struct Hub {
     settings: Settings,
-    pub(crate) row: LockRow<Box<Participant>, Event, Snapshot<SharedBoard>, Behind>,
+    pub(crate) row: LockRow<Box<Participant>, Event, Outset, Behind>,
     pub ghost sized: { size row ≡ participants settings },
-    pub ghost same: { settings_of (key_of row).value ≡ settings },
+    pub ghost same: { settings_of (key_of row).words.value ≡ settings },
 }
 
 impl Hub {

@@ -3,18 +3,15 @@
 #![tactic(auto)]
 
 mod behind;
-mod follow_up;
 mod gate;
 mod hub;
-mod participant;
+mod outset;
 mod teller;
-#[cfg(test)]
-mod tests;
 
 pub use behind::Behind;
-pub use follow_up::{Act, FollowUp};
 pub use gate::Gate;
-pub use hub::Hub;
+pub use hub::{Hub, TakeFault};
 pub use inst_cell::Ticket;
-pub use participant::Participant;
+pub use inst_participant::{Act, FollowUp, Participant};
+pub use outset::Outset;
 pub use teller::Teller;

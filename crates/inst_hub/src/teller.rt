@@ -1,13 +1,12 @@
-use crate::participant::Participant;
-use inst_cell::SharedBoard;
+use crate::outset::Outset;
 use inst_journal::Event;
+use inst_participant::Participant;
 use inst_row::RowSeat;
-use std::snapshot::Snapshot;
 
 /// Who calls a hub, one in each thread: it knows the transfers that it was told of and has seen, and the beginnings of
 /// the histories behind the locks.
 #[derive(Drop)]
 pub struct Teller {
     pub(crate) sight: inst_cell::Teller,
-    pub(crate) seat: RowSeat<Box<Participant>, Event, Snapshot<SharedBoard>>,
+    pub(crate) seat: RowSeat<Box<Participant>, Event, Outset>,
 }

@@ -16,8 +16,6 @@ mod reply;
 pub mod rows;
 mod statement;
 mod sums;
-#[cfg(test)]
-mod tests;
 mod transfers;
 
 pub use event::Event;

@@ -11,11 +11,7 @@ mod lists;
 mod piece;
 mod read;
 mod reply;
-#[cfg(test)]
-mod scan_tests;
 mod step;
-#[cfg(test)]
-mod tests;
 mod verb;
 mod write;
 

@@ -3,8 +3,6 @@
 
 mod ledger;
 mod references;
-#[cfg(test)]
-mod tests;
 mod totals;
 mod transfers;
 

@@ -8,10 +8,11 @@ use Rattle.inst_base.specs.declared.fault.Fault.{Fault}
 use Rattle.inst_base.specs.declared.fault.Fault.TheVariants.{BadSettings, Memory}
 use Rattle.inst_settings.specs.Settings.{HubSettings}
 use Rattle.inst_settings.specs.Lawful.{IsSettings}
-use Rattle.inst_world.specs.Answers.{Answerer, output}
-use Rattle.inst_world.specs.Answering.{Past, opened, running, playing}
-use Rattle.inst_world.specs.Lines.{lines_of}
-use Rattle.inst_world.specs.Session.{FailsAfter}
+use Rattle.inst_lines.specs.Answers.{Answerer, output}
+use Rattle.inst_lines.specs.Answering.{Past, opened, running, playing}
+use Rattle.inst_lines.specs.Headline.{LinesKeepTheHeadline}
+use Rattle.inst_lines.specs.Lines.{lines_of}
+use Rattle.inst_lines.specs.Session.{FailsAfter}
 use Rattle.inst_main.specs.Options.{AreChosen, AreRefused, AreWhole, faults_of}
 use Rattle.inst_main.specs.declared.task.Task.{Task}
 use Rattle.inst_main.specs.declared.task.Task.TheVariants.{Run, Play}
@@ -33,6 +34,7 @@ answerer Run = running
 answerer Play = playing
 
 -- a hub of the settings that the words choose answered, as the words ask for, all that the reader had left, and wrote the replies alone
+-- headline: the run that these lines stand for keeps it
 pub record Serves (words : List (List ℕ)) (left left' held held' : Option (List ℕ)) : Type 0 where
   pub task : Task
   pub settings : HubSettings
@@ -41,6 +43,7 @@ pub record Serves (words : List (List ℕ)) (left left' held held' : Option (Lis
   pub chosen : AreChosen words task settings
   pub at_end : IsAtEnd left'
   pub answered : IfSome left (λ bytes. Appends held held' (output (answerer task) (opened settings) (lines_of bytes)))
+  pub headline : IfSome left (λ bytes. LinesKeepTheHeadline (answerer task) settings (lines_of bytes))
 
 -- a hub of the settings that the words choose was ended by this fault
 pub record Fails (words : List (List ℕ)) (left left' held held' : Option (List ℕ)) (fault : Fault) : Type 0 where

@@ -5,8 +5,6 @@ mod options;
 mod program;
 mod rows;
 mod task;
-#[cfg(test)]
-mod tests;
 mod texts;
 
 use program::program;

@@ -1,19 +1,26 @@
-ghost use Rattle.std.specs.Prelude.{◌≡◌, ◌≢◌, ◌⊎◌, map, string_bytes, OnOk, IfOk, IfErr};
+ghost use Rattle.std.specs.Prelude.{◌≡◌, ◌≢◌, ◌⊎◌, map, string_bytes, OnOk, IfOk, IfErr, IfSome};
+ghost use Rattle.std.specs.Io.KnownBytes.{Appends, IsAtEnd};
+ghost use Rattle.std.specs.IoError.{error_kind};
 ghost use Rattle.clap.specs.Words.{kind_of};
 ghost use Rattle.inst_base.specs.declared.fault.Fault.{Fault as SomeFault};
 ghost use Rattle.inst_settings.specs.Lawful.{IsSettings};
 ghost use Rattle.inst_main.specs.Options.{AreChosen, AreRefused, AreWhole, AskForHelp, AreWrong};
-ghost use Rattle.inst_main.specs.Program.{status_of, Serves, Fails, IsEnding, IsUnbegun, IsOfKind};
+ghost use Rattle.inst_lines.specs.Answering.{opened};
+ghost use Rattle.inst_lines.specs.Answers.{output};
+ghost use Rattle.inst_lines.specs.Headline.{LinesKeepTheHeadline};
+ghost use Rattle.inst_lines.specs.Lines.{lines_of};
+ghost use Rattle.inst_lines.specs.Session.{FailsAfter};
+ghost use Rattle.inst_main.specs.Program.{answerer, status_of, Serves, Fails, IsEnding, IsUnbegun, IsOfKind};
 
 use crate::options::{command_line, settings};
 use crate::task::Task;
 use clap::Error;
 use clap::error::ErrorKind;
 use inst_base::Fault;
+use inst_lines::{Counts, play_lines, run_lines};
 use inst_settings::Settings;
-use inst_world::{play_lines, run_lines};
 use std::alloc::{AllocError, Global};
-use std::io::{self, Read, Write};
+use std::io::{self, ErrorKind as IoErrorKind, Read, Write};
 
 /// Why the program ends without having served its input.
 #[derive(Drop)]
@@ -95,13 +102,16 @@ pub fn program<R: Read, W: Write, E: Write>(
 /// Tells that the words of the command line can't be read, and answers the exit status: 3 where memory
 /// was wanting, and 2 for a word that is no text.
 pub fn words_failed<E: Write>(error: &io::Error, errors: &mut E) -> u8
-    ensures { (result ≡ 2) ⊎ (result ≡ 3) }
+    ensures memory { error_kind error.now ≡ IoErrorKind.OutOfMemory → result ≡ status_of Fault.Memory }
+    ensures no_text { error_kind error.now ≢ IoErrorKind.OutOfMemory → result ≡ 2 }
 {
-    if error.kind() == io::ErrorKind::OutOfMemory {
-        return tell(Fault::Memory, errors);
+    match error.kind() {
+        IoErrorKind::OutOfMemory => tell(Fault::Memory, errors),
+        _ => {
+            let _ = writeln!(errors, "error: a word of the command line is no text");
+            2
+        }
     }
-    let _ = writeln!(errors, "error: a word of the command line is no text");
-    2
 }
 
 /// Writes the line of a fault, and answers its exit status.
@@ -125,11 +135,32 @@ fn serve<R: Read, W: Write>(
         (Fails (map string_bytes words.now) (R.remaining reader.old) (R.remaining reader.new) (W.contents writer.old) (W.contents writer.new))) }
 {
     let (task, settings) = chosen(alloc, words)?;
-    match task {
-        Task::Run => run_lines(alloc, &settings, reader, writer)?,
-        Task::Play => play_lines(alloc, &settings, reader, writer)?,
-    };
+    answer(alloc, task, &settings, reader, writer)?;
     Ok(())
+}
+
+/// Answers the input as the task asks for.
+fn answer<R: Read, W: Write>(
+    alloc: Global,
+    task: Task,
+    settings: &Settings,
+    reader: &mut R,
+    writer: &mut W,
+) -> Result<Counts, Fault>
+    ensures end { OnOk result (IsAtEnd (R.remaining reader.new)) }
+    ensures answered { OnOk result (IfSome (R.remaining reader.old) (λ bytes.
+        Appends (W.contents writer.old) (W.contents writer.new)
+        (output (answerer task) (opened settings.now) (lines_of bytes)))) }
+    ensures headline { OnOk result (IfSome (R.remaining reader.old) (λ bytes.
+        LinesKeepTheHeadline (answerer task) settings.now (lines_of bytes))) }
+    ensures err { IfErr result (FailsAfter (answerer task) (opened settings.now)
+        (W.contents writer.old) (W.contents writer.new)
+        (R.remaining reader.old) (R.remaining reader.new)) }
+{
+    match task {
+        Task::Run => run_lines(alloc, settings, reader, writer),
+        Task::Play => play_lines(alloc, settings, reader, writer),
+    }
 }
 
 /// What the words ask for, and the settings of its hub.

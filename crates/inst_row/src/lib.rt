@@ -8,8 +8,6 @@ mod row;
 mod rule;
 mod seat;
 mod steps;
-#[cfg(test)]
-mod tests;
 mod view;
 
 pub use beginning::Beginning;

@@ -59,7 +59,8 @@ pub(crate) struct Load {
 }
 
 impl Load {
-    /// The load that these words choose, with as many transfers as find places, and the number of rounds.
+    /// The load that these words choose, and the number of rounds. Without a word for it each thread makes as many
+    /// transfers as find places.
     pub(crate) fn of(words: &[String]) -> Option<(Load, u32)> {
         let pattern = match words.get(1)?.as_str() {
             "uniform" => Pattern::Uniform,
@@ -68,10 +69,14 @@ impl Load {
             _ => return None,
         };
         let (threads, count) = threads_of(words)?;
+        let share = match words.get(4) {
+            Some(word) => word.parse().ok()?,
+            None => pattern.most(threads),
+        };
         let load = Load {
             pattern,
             threads,
-            share: pattern.most(threads),
+            share,
         };
         Some((load, count))
     }

@@ -1,6 +1,7 @@
 //! A load of a hub by several threads, each with a teller of its own: transfers are submitted and confirmed, so many
 //! rounds, each at a hub of 64 participants that opens anew. Words: `uniform`, `split` or `hot`, the number of
-//! threads, the number of rounds. At the end it tells on standard error how many transfers were settled; who wants
+//! threads, the number of rounds, and, where it isn't as many as find places, how many transfers each thread makes in a
+//! round. At the end it tells on standard error how many transfers were settled; who wants
 //! to know how many a second takes the time of the program. Where a transfer isn't settled, or the positions don't sum
 //! to the funding, it tells what failed, in which round and thread, and ends with status 1.
 //!
@@ -28,8 +29,6 @@ mod sights;
 mod stress;
 mod stress_round;
 mod tally;
-#[cfg(test)]
-mod tests;
 mod transfer;
 
 use flaw::Failure;

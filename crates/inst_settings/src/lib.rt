@@ -5,8 +5,6 @@ mod codes;
 mod finder;
 mod ranges;
 mod settings;
-#[cfg(test)]
-mod tests;
 
 pub use ranges::{
     MOST_AHEAD, MOST_BASE, MOST_CEILING, MOST_FUNDINGS, MOST_LIMIT, MOST_PARTICIPANTS, MOST_PLACES,

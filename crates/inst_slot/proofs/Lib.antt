@@ -10,7 +10,6 @@ pub mod Entering
 pub mod Refusing
 pub mod Others
 pub mod Adopting
-pub mod Together
 pub mod Telling
 pub mod Opening
 pub mod Positions

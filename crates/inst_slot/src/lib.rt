@@ -7,8 +7,6 @@ mod finding;
 pub mod laws;
 mod own;
 mod slot;
-#[cfg(test)]
-mod tests;
 mod waiting;
 
 pub use arrival::Arrival;

@@ -3,12 +3,8 @@
 
 mod kept_statement;
 mod movement;
-#[cfg(test)]
-mod tests;
 mod transfers;
 mod walk;
-#[cfg(test)]
-mod walk_tests;
 
 pub use kept_statement::KeptStatement;
 pub use movement::Movement;

@@ -7,8 +7,6 @@ pub mod laws;
 mod outcome;
 mod reason;
 mod terms;
-#[cfg(test)]
-mod tests;
 mod word;
 
 pub use outcome::{pack_outcome, read_outcome};

@@ -1,13 +1,13 @@
 -- An ask, over a board that has the model's outcomes, is answered and kept as the model says.
-use Rattle.std.proofs.Common.{◌≡◌, ℕ, true, false, List, [], ◌∷◌, ◌++◌, length, Option, Some, None, is_none, is_some, Result, Err, refl, sym, ap, subst, ◌∙◌, inl, inr, ◌⊎◌, append-nil}
-use Rattle.std.proofs.lemmas.Bool.{cases_eq, cond-true}
+use Rattle.std.proofs.Common.{◌≡◌, ℕ, ◌<◌, Bool, true, false, cond, ltb, ◌&&◌, ◌||◌, List, [], ◌∷◌, ◌++◌, length, Option, Some, None, is_none, is_some, Result, Err, refl, sym, ap, subst, ◌∙◌, inl, inr, ◌⊎◌, append-nil, arith, length-append}
+use Rattle.std.proofs.lemmas.Bool.{cases_eq, cond-true, false≢true, ltb-true}
 use Rattle.inst_base.specs.TimeLimit.{deadline_of}
 use Rattle.inst_base.specs.declared.fault.Fault.{Fault}
-use Rattle.inst_base.specs.declared.fault.Fault.TheVariants.{Memory}
+use Rattle.inst_base.specs.declared.fault.Fault.TheVariants.{Memory, UnknownTransfer, Expired}
 use Rattle.inst_settings.specs.Settings.{HubSettings}
 use Rattle.inst_command.specs.declared.ask.Ask.{Ask as AskValue}
 use Rattle.inst_command.specs.declared.command.Command.{Command}
-use Rattle.inst_command.specs.declared.command.Command.TheVariants.{Submit}
+use Rattle.inst_command.specs.declared.command.Command.TheVariants.{Fund, Defund, Submit, Confirm, Reject, Investigate, Fetch, Position, Statement}
 use Rattle.inst_command.specs.declared.outcome.Outcome.{Outcome}
 use Rattle.inst_command.specs.declared.reply.Reply.{Reply}
 use Rattle.inst_command.specs.declared.submission.Submission.{Submission}
@@ -16,16 +16,16 @@ use Rattle.inst_command.specs.declared.step.Step.TheVariants.{Ask}
 use Rattle.inst_board.specs.declared.place.Place.{Place}
 use Rattle.inst_board.specs.declared.wish.Wish.{Wish}
 use Rattle.inst_board.specs.Wish.{wanted}
-use Rattle.inst_board.specs.Standing.{pending}
+use Rattle.inst_board.specs.Standing.{pending, look_of}
 use Rattle.inst_board.specs.Learning.{Learns}
 use Rattle.inst_board.specs.Plain.{Contents, standing_at, plain_knows, plain_stood}
 use Rattle.inst_board.proofs.Exact.{opens_exactly}
 use Rattle.inst_journal.specs.declared.event.Event.{Event}
 use Rattle.inst_journal.specs.declared.event.Event.TheVariants.{Funded, Defunded, Taken, Booked, Fetched}
 use Rattle.inst_journal.specs.declared.handle.Handled.{Handled}
-use Rattle.inst_journal.specs.Booked.{booked, or_else}
+use Rattle.inst_journal.specs.Booked.{booked, is_taken, is_forwarded, or_else}
 use Rattle.inst_journal.specs.Opened.{carried, is_live, live_submissions}
-use Rattle.inst_journal.specs.Reply.{handle, told, kept_events}
+use Rattle.inst_journal.specs.Reply.{handle, told, kept_events, standing, still_pending, copies}
 use Rattle.inst_journal.proofs.Carrying.{carried_unbooked}
 use Rattle.inst_model.specs.Opening.{Opening, IsOpening}
 use Rattle.inst_model.specs.Interleaving.{IsInterleaving}
@@ -40,9 +40,9 @@ use Rattle.inst_model.proofs.Naming.{live_grown}
 use Rattle.inst_model.proofs.Together.{together}
 use Rattle.inst_model.proofs.Transfers.{transfer_none}
 use Rattle.inst_slot.specs.Book.{Book, place_at, terms_to}
-use Rattle.inst_slot.specs.Asking.{decides, request, handle_ask, book_after, Finds, Opens, Enters, Settles, AppliesTo, Applies}
-use Rattle.inst_world.specs.HasRun.{StandsWith, StandsFor, terms_of, IsBoardOf, IsMember}
-use Rattle.inst_world.proofs.Exactly.{say_pending, finds_settle}
+use Rattle.inst_slot.specs.Asking.{decides, request, handle_ask, book_after, Finds, Opens, takes_memory, Enters, Settles, AppliesTo, Applies}
+use Rattle.inst_world.specs.HasRun.{StandsWith, StandsFor, terms_of, IsBoardOf, IsMember, NeedsMemory}
+use Rattle.inst_world.proofs.Exactly.{say_pending, finds_settle, looked, wish_finds}
 use Rattle.inst_world.proofs.Placing.{sees_this, if_own, live_kept, others_stay, untaken_unbooked, untaken_undecided}
 use Rattle.inst_world.proofs.Boarding.{SameLive, board_stays, board_settles, board_opens}
 use Rattle.inst_world.proofs.Telling.{Ran, looked_still}
@@ -71,6 +71,28 @@ kind_of s who J command at o = kept_cases s who J command at o (λ E. OpensNothi
   books = λ from id z why. inl (record { live = live_kept who J (Booked from id z) refl refl; board = λ margin book b c e. e });
   hands_out = λ max entry entries is some. inl (record { live = live_kept who J (Fetched (length (entry ∷ entries))) refl refl; board = λ margin book b c e. e });
 })
+
+either_true : (a c : Bool) → (a || c) ≡ true → (a ≡ true) ⊎ (c ≡ true)
+either_true true c is = inl refl
+either_true false c is = inr is
+
+-- what is found for a command that decides a transfer is kept
+kept_of : (party : Bool) (from : ℕ) (id : List ℕ) (else_so : Result Handled Fault) (before : Option Outcome) (o : Outcome) → (party && is_none before) ≡ true
+    → 0 < length (kept_events (cond party (standing from id else_so before (Some o)) (Err UnknownTransfer)))
+kept_of true from id else_so None o decided = omega arith
+kept_of true from id else_so (Some z) o decided = absurd (false≢true decided)
+kept_of false from id else_so before o decided = absurd (false≢true decided)
+
+found_is_kept : (book : Book) (command : Command) (at : ℕ) (o : Outcome) → decides book command ≡ true → 0 < length (kept_events (handle book.settings book.who book.events command at (Some o)))
+found_is_kept book (Fund reference cents) at o decided = absurd (false≢true decided)
+found_is_kept book (Defund reference cents) at o decided = absurd (false≢true decided)
+found_is_kept book (Submit x) at o decided = absurd (false≢true decided)
+found_is_kept book (Confirm from id) at o decided = kept_of (is_forwarded from id book.events) from id (Err Expired) (booked from id book.events) o decided
+found_is_kept book (Reject from id reason) at o decided = kept_of (is_forwarded from id book.events) from id (still_pending from id) (booked from id book.events) o decided
+found_is_kept book (Investigate id) at o decided = kept_of (is_taken id book.events) book.who id (still_pending book.who id) (booked book.who id book.events) o decided
+found_is_kept book (Fetch max) at o decided = absurd (false≢true decided)
+found_is_kept book Position at o decided = absurd (false≢true decided)
+found_is_kept book (Statement skip count) at o decided = absurd (false≢true decided)
 
 module _ (s : HubSettings) (O : Opening) (opening : IsOpening s O) (L : List Step) (steps : IsInterleaving s L) (b : Contents) (board : IsBoardOf s O L b) where
   module _ (ask : AskValue) (book : Book) (member : IsMember s b ask.who book) (events : book.events ≡ history s O L ask.who) where
@@ -106,10 +128,16 @@ module _ (s : HubSettings) (O : Opening) (opening : IsOpening s O) (L : List Ste
         ap (λ (n : Book). n.events) is ∙ ap (λ (h : Result Handled Fault). book.events ++ kept_events h) same
         ∙ ap (λ (E : List Event). E ++ kept_events model_handles) events ∙ sym history_is
 
-    -- the ask was run: it is answered as in the model; or memory was refused, and nothing changed
+    -- the ask was run: it is answered as in the model; or memory was refused that it needs, and nothing changed
     abbrev pub AskRanOrNot : Result Reply Fault → Book → Contents → Type 0
     AskRanOrNot result new c =
-        ((result ≡ told model_handles) × Ran s O (Ask ask) L new c) ⊎ ((result ≡ Err Memory) × (new ≡ book) × IsBoardOf s O L c)
+        ((result ≡ told model_handles) × Ran s O (Ask ask) L new c) ⊎ ((result ≡ Err Memory) × (new ≡ book) × IsBoardOf s O L c × NeedsMemory s O L (Ask ask))
+
+    -- an ask whose event is kept needs memory
+    keeping_needs : (h : Result Handled Fault) → h ≡ model_handles → 0 < length (kept_events h) → NeedsMemory s O L (Ask ask)
+    keeping_needs h same kept =
+        let kept_too : 0 < length (kept_events model_handles) = subst (λ (r : Result Handled Fault). 0 < length (kept_events r)) same kept in
+        inr (omega (arith, ap length history_is, length-append (history s O L ask.who) (kept_events model_handles), kept_too))
 
     module _ (none : decides book ask.command ≡ false) where
       outcomes_stay : (p : ℕ) (id : List ℕ) → outcome s O (Ask ask ∷ L) p id ≡ outcome s O L p id
@@ -160,6 +188,12 @@ module _ (s : HubSettings) (O : Opening) (opening : IsOpening s O) (L : List Ste
           subst (λ (d : Contents). IsBoardOf s O (Ask ask ∷ L) d) (sym (nothing.board margin book b c opens))
           (board_stays s O opening L steps (Ask ask) b b board (live_same nothing.live) (λ j a. (λ h. h, λ h. h)) (λ p place y is. outcomes_stay p y.id))
 
+      entering_needs : takes_memory book ask ≡ true → NeedsMemory s O L (Ask ask)
+      entering_needs takes = elim (either_true (copies book.events ask.command) (ltb 0 (length (kept_events (handle_ask book ask None)))) takes) [
+        | inl copied ↦ inl (ap (λ (E : List Event). copies E ask.command) (sym events) ∙ copied)
+        | inr kept ↦ keeping_needs (handle_ask book ask None) handled_none (ltb-true 0 (length (kept_events (handle_ask book ask None))) kept)
+      ]
+
       enters_run : (margin : ℕ) (c : Contents) (result : Result Reply Fault) (new : Book) → Enters margin plain_knows b book ask result c new → AskRanOrNot result new c
       enters_run margin c result new did = elim did [
         | inl done ↦ inl (
@@ -170,7 +204,7 @@ module _ (s : HubSettings) (O : Opening) (opening : IsOpening s O) (L : List Ste
                 (kind_of s ask.who (history s O L ask.who) ask.command ask.at (found (outcome s O (Ask ask ∷ L)) ask.who (history s O L ask.who) ask.command));
           },
         )
-        | inr refused ↦ inr (refused.0, refused.1, subst (λ (d : Contents). IsBoardOf s O L d) (sym refused.2) board)
+        | inr refused ↦ inr (refused.0, refused.1, subst (λ (d : Contents). IsBoardOf s O L d) (sym refused.2) board, entering_needs refused.3)
       ]
 
     module _ (asked : Place × Wish) (d : Decides s O L ask asked) where
@@ -179,15 +213,13 @@ module _ (s : HubSettings) (O : Opening) (opening : IsOpening s O) (L : List Ste
       takes_no_place (inl nothing) = nothing.live
       takes_no_place (inr one) = absurd (d.no_submission one.submission one.command_is)
 
-      settles_run : (margin : ℕ) (stays : Contents → Contents → Type 0) (c : Contents) (result : Result Reply Fault) (new : Book) → margin ≡ s.margin
+      settles_run : decides book ask.command ≡ true → (margin : ℕ) (stays : Contents → Contents → Type 0) (c : Contents) (result : Result Reply Fault) (new : Book) → margin ≡ s.margin
           → Settles margin plain_knows (λ _ _. Unit {0}) plain_stood stays b book ask asked.0 asked.1 result c new → AskRanOrNot result new c
-      settles_run margin stays c result new margin_is did = elim did [
+      settles_run decided margin stays c result new margin_is did = elim did [
         | inl done ↦
             let x : Transfer = d.transfer in
             let o : Option Outcome = done.0 in
             let k : Place = place_at d.from d.index in
-            let stands : StandsWith (terms_of x) (deadline s x) (outcome s O L d.from x.id) (standing_at b k) =
-            subst (λ (X : Option Transfer). StandsFor s (outcome s O L d.from) X (standing_at b k)) d.there (board d.from d.index) in
             let finds : Finds margin plain_knows (λ _ _. Unit {0}) plain_stood stays b k asked.1 ask.at o c =
             subst (λ (j : Place). Finds margin plain_knows (λ _ _. Unit {0}) plain_stood stays b j asked.1 ask.at o c) d.place_is done.3 in
             let settled = finds_settle margin b c k asked.1 ask.at o (outcome s O L d.from x.id) (terms_of x) (deadline s x) stays stands finds in
@@ -205,15 +237,32 @@ module _ (s : HubSettings) (O : Opening) (opening : IsOpening s O) (L : List Ste
                     (λ p id other. d.others p id other);
               },
             )
-        | inr refused ↦ inr (refused.0, refused.1, looked_still s O opening L steps b board margin c asked.0 refused.2.look refused.2.looks)
+        | inr refused ↦
+            let x : Transfer = d.transfer in
+            let shown : refused.2.look ≡ look_of (standing_at b (place_at d.from d.index)) =
+            (looked margin b c asked.0 refused.2.look refused.2.looks).0 ∙ ap (λ (j : Place). look_of (standing_at b j)) d.place_is in
+            let z = wish_finds margin asked.1 ask.at (terms_of x) (deadline s x) (outcome s O L d.from x.id) (standing_at b (place_at d.from d.index)) refused.2.look stands shown refused.2.books in
+            let after_is : outcome s O (Ask ask ∷ L) d.from x.id ≡ Some z.0 =
+            d.wants ∙ ap (λ (m : ℕ). or_else (outcome s O L d.from x.id) (wanted m asked.1 (deadline s x) ask.at)) (sym margin_is) ∙ z.1 in
+            let same : handle_ask book ask (Some z.0) ≡ model_handles =
+            handled_alike (Some z.0) ∙ ap (handle s ask.who (history s O L ask.who) ask.command ask.at) (sym (d.found_is ∙ after_is)) in
+            inr (
+              refused.0,
+              refused.1,
+              looked_still s O opening L steps b board margin c asked.0 refused.2.look refused.2.looks,
+              keeping_needs (handle_ask book ask (Some z.0)) same (found_is_kept book ask.command ask.at z.0 decided),
+            )
       ]
+        where
+          stands : StandsWith (terms_of d.transfer) (deadline s d.transfer) (outcome s O L d.from d.transfer.id) (standing_at b (place_at d.from d.index))
+          stands = subst (λ (X : Option Transfer). StandsFor s (outcome s O L d.from) X (standing_at b (place_at d.from d.index))) d.there (board d.from d.index)
 
     by_request : (margin : ℕ) (stays : Contents → Contents → Type 0) (c : Contents) (result : Result Reply Fault) (new : Book) → margin ≡ s.margin
         → (r : Option (Place × Wish)) → request book ask.command ≡ r → is_some r ≡ decides book ask.command
         → AppliesTo margin plain_knows (λ _ _. Unit {0}) plain_stood stays b book ask r result c new → AskRanOrNot result new c
     by_request margin stays c result new margin_is None is decided did = enters_run (sym decided) margin c result new did
     by_request margin stays c result new margin_is (Some asked) is decided did =
-        settles_run asked (decides_this s O opening L steps b board ask.who book member events ask.at ask.command asked is) margin stays c result new margin_is did
+        settles_run asked (decides_this s O opening L steps b board ask.who book member events ask.at ask.command asked is) (sym decided) margin stays c result new margin_is did
 
     pub applies_run : (margin : ℕ) (stays : Contents → Contents → Type 0) (c : Contents) (result : Result Reply Fault) (new : Book) → margin ≡ s.margin
         → is_some (request book ask.command) ≡ decides book ask.command

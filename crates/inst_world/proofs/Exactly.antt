@@ -1,5 +1,5 @@
 -- What a look, a decision and an opening over a plain board say of a place of which the transfer is known.
-use Rattle.std.proofs.Common.{◌≡◌, ◌≢◌, ℕ, List, refl, sym, ap, ◌∙◌, subst, Option, Some, None}
+use Rattle.std.proofs.Common.{◌≡◌, ◌≢◌, ℕ, false, is_none, List, refl, sym, ap, ◌∙◌, subst, Option, Some, None}
 use Rattle.inst_settings.specs.Settings.{HubSettings}
 use Rattle.inst_command.specs.declared.outcome.Outcome.{Outcome}
 use Rattle.inst_terms.specs.declared.terms.Terms.{Terms}
@@ -15,7 +15,7 @@ use Rattle.inst_board.specs.Laws.{SayTheSame, Stands}
 use Rattle.inst_board.proofs.Exact.{looks_exactly, decides_exactly}
 use Rattle.inst_journal.specs.Booked.{or_else}
 use Rattle.inst_model.specs.Transfer.{Transfer, deadline}
-use Rattle.inst_slot.specs.Asking.{Finds}
+use Rattle.inst_slot.specs.Asking.{Finds, stays_pending}
 use Rattle.inst_world.specs.HasRun.{StandsWith, StandsFor, terms_of}
 
 pub say_pending : (p : Standing) (t : Terms) (d : ℕ) → SayTheSame p (pending t d) → p ≡ pending t d
@@ -125,3 +125,14 @@ finds_settle margin b c k wish at found before t d stays is f =
       here = r.1;
       elsewhere = λ j other. same_through (standing_at c j) (standing_at f.between j) (standing_at b j) (exact.1.elsewhere j other) (seen.1.elsewhere j other);
     }
+
+some_where_not_none : (o : Option Outcome) → is_none o ≡ false → (z : Outcome) × (o ≡ Some z)
+some_where_not_none None is = let no : ⊥ = cc in absurd no
+some_where_not_none (Some z) is = (z, refl)
+
+-- where a look shows that something is to be booked, the wish finds an outcome
+pub wish_finds : (margin : ℕ) (wish : Wish) (at : ℕ) (t : Terms) (d : ℕ) (before : Option Outcome) (p : Standing) (look : Look) → StandsWith t d before p → look ≡ look_of p
+    → stays_pending margin wish at look ≡ false → (z : Outcome) × (or_else before (wanted margin wish d at) ≡ Some z)
+wish_finds margin wish at t d None p look is seen books =
+    some_where_not_none (wanted margin wish d at) (ap (stays_pending margin wish at) (sym (seen ∙ ap look_of is)) ∙ books)
+wish_finds margin wish at t d (Some z) p look is seen books = (z, refl)

@@ -8,6 +8,9 @@ use Rattle.inst_command.specs.Deciding.{expired}
 use Rattle.inst_command.specs.declared.outcome.Outcome.{Outcome}
 use Rattle.inst_command.specs.declared.step.Step.{Step}
 use Rattle.inst_command.specs.declared.step.Step.TheVariants.{Expire}
+use Rattle.inst_board.specs.declared.look.Look.{Look}
+use Rattle.inst_board.specs.declared.place.Place.{Place}
+use Rattle.inst_board.specs.Standing.{look_of}
 use Rattle.inst_board.specs.declared.wish.Wish.TheVariants.{Expire as WishExpire}
 use Rattle.inst_board.specs.Plain.{Contents, standing_at, plain_knows, plain_stood}
 use Rattle.inst_journal.specs.declared.event.Event.{Event}
@@ -18,6 +21,7 @@ use Rattle.inst_model.specs.Opening.{Opening, IsOpening}
 use Rattle.inst_model.specs.Interleaving.{IsInterleaving}
 use Rattle.inst_model.specs.Transfer.{Transfer, transfer, at_place, deadline, is_named}
 use Rattle.inst_model.specs.View.{Seen, news, tells}
+use Rattle.inst_model.specs.Trace.{is_seen}
 use Rattle.inst_model.specs.Wants.{taken_wants}
 use Rattle.inst_model.specs.Hub.{outcome, history}
 use Rattle.inst_model.proofs.Basics.{eqb_refl, same_text_refl, same_text-true, or_else_none, or_else_kept}
@@ -28,7 +32,7 @@ use Rattle.inst_slot.specs.Book.{Book, place_at}
 use Rattle.inst_slot.specs.Asking.{Finds}
 use Rattle.inst_slot.specs.Telling.{with_event, taken_by, if_unbooked, unbooked_at, booking, ExpiresFor, Expires}
 use Rattle.inst_world.specs.HasRun.{StandsWith, StandsFor, terms_of, IsBoardOf, IsMember}
-use Rattle.inst_world.proofs.Exactly.{finds_settle}
+use Rattle.inst_world.proofs.Exactly.{finds_settle, looked, wish_finds}
 use Rattle.inst_world.proofs.Placing.{sees_this, if_own, at_taken, terms_in}
 use Rattle.inst_world.proofs.Matching.{expiry_tells}
 use Rattle.inst_world.proofs.Boarding.{board_stays, board_settles}
@@ -108,19 +112,11 @@ module _ (s : HubSettings) (O : Opening) (opening : IsOpening s O) (L : List Ste
           elim did [
             | inl done ↦
                 let found : Option Outcome = done.0 in
-                let stands : StandsWith (terms_of x) (deadline s x) (outcome s O L q x.id) (standing_at b (place_at q place)) =
-                subst (λ (X : Option Transfer). StandsFor s (outcome s O L q) X (standing_at b (place_at q place))) there (board q place) in
                 let finds : Finds margin plain_knows (λ _ _. Unit {0}) plain_stood stays b (place_at q place) WishExpire at found c =
                 subst (λ (w : ℕ). Finds margin plain_knows (λ _ _. Unit {0}) plain_stood stays b (place_at w place) WishExpire at found c) member.who_is done.3 in
                 let settled = finds_settle margin b c (place_at q place) WishExpire at found (outcome s O L q x.id) (terms_of x) (deadline s x) stays stands finds in
                 let after_is : outcome s O (Expire q place at ∷ L) q x.id ≡ found = wants_this x there ∙ sym settled.found_is in
-                let f : ℕ → List Event → List Seen = λ w E. cond ((w == w) || is_forwarded w x.id E) (news w x.id found (booked w x.id E)) [] in
-                let seen = sees_this s O (Expire q place at) L q (f q (history s O L q))
-                (if_own q (tells (outcome s O (Expire q place at ∷ L)) q q (history s O L q) (at_place q (history s O L q) place))
-                ∙ ap (tells (outcome s O (Expire q place at ∷ L)) q q (history s O L q)) there
-                ∙ ap (λ (o : Option Outcome). cond ((q == q) || is_forwarded q x.id (history s O L q)) (news q x.id o (booked q x.id (history s O L q))) []) after_is) in
-                let a = added s O opening L steps b board q book member events (Expire q place at) refl f seen (with_event book (booking book.who x.id found)) (is_some found)
-                (expiry_tells s book x.id found (booked book.who x.id book.events) none) in
+                let a = booked_so found after_is in
                 inl (
                   done.1 ∙ ap (λ (y : Bool). Ok y) a.1,
                   record {
@@ -133,8 +129,30 @@ module _ (s : HubSettings) (O : Opening) (opening : IsOpening s O) (L : List Ste
                         ]));
                   },
                 )
-            | inr refused ↦ inr (refused.0, refused.1, looked_still s O opening L steps b board margin c (place_at book.who place) refused.2.look refused.2.looks)
+            | inr refused ↦
+                let k : Place = place_at book.who place in
+                let look : Look = refused.2.look in
+                let shown : look ≡ look_of (standing_at b (place_at q place)) =
+                (looked margin b c k look refused.2.looks).0 ∙ ap (λ (w : ℕ). look_of (standing_at b (place_at w place))) member.who_is in
+                let z = wish_finds margin WishExpire at (terms_of x) (deadline s x) (outcome s O L q x.id) (standing_at b (place_at q place)) look stands shown refused.2.books in
+                let a = booked_so (Some z.0) (wants_this x there ∙ z.1) in
+                inr (refused.0, refused.1, looked_still s O opening L steps b board margin c k look refused.2.looks, sym a.1)
           ]
+        where
+          stands : StandsWith (terms_of x) (deadline s x) (outcome s O L q x.id) (standing_at b (place_at q place))
+          stands = subst (λ (X : Option Transfer). StandsFor s (outcome s O L q) X (standing_at b (place_at q place))) there (board q place)
+
+          -- the outcome after the step is booked, and seen
+          booked_so : (found : Option Outcome) → outcome s O (Expire q place at ∷ L) q x.id ≡ found
+              → ((with_event book (booking book.who x.id found)).events ≡ history s O (Expire q place at ∷ L) q) × (is_some found ≡ is_seen s O L (Expire q place at) q)
+          booked_so found after_is =
+              let f : ℕ → List Event → List Seen = λ w E. cond ((w == w) || is_forwarded w x.id E) (news w x.id found (booked w x.id E)) [] in
+              let seen = sees_this s O (Expire q place at) L q (f q (history s O L q))
+              (if_own q (tells (outcome s O (Expire q place at ∷ L)) q q (history s O L q) (at_place q (history s O L q) place))
+              ∙ ap (tells (outcome s O (Expire q place at ∷ L)) q q (history s O L q)) there
+              ∙ ap (λ (o : Option Outcome). cond ((q == q) || is_forwarded q x.id (history s O L q)) (news q x.id o (booked q x.id (history s O L q))) []) after_is) in
+              added s O opening L steps b board q book member events (Expire q place at) refl f seen (with_event book (booking book.who x.id found)) (is_some found)
+              (expiry_tells s book x.id found (booked book.who x.id book.events) none)
 
       by_booked : (margin : ℕ) (stays : Contents → Contents → Type 0) (x : Transfer) → at_place q (history s O L q) place ≡ Some x → (o : Option Outcome) → booked book.who x.id book.events ≡ o
           → (c : Contents) (result : Result Bool Fault) (new : Book)

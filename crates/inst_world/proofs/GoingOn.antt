@@ -1,23 +1,20 @@
 -- What a hub has run, after a step that was run or was refused its memory.
-use Rattle.std.proofs.Common.{◌≡◌, ℕ, true, List, ◌∷◌, Some, Result, Ok, Err, IfOk, OnErr, sym, ap, subst, ◌∙◌}
+use Rattle.std.proofs.Common.{◌≡◌, ℕ, List, ◌∷◌, Some, Result, Ok, Err, IfOk, OnErr, sym, ap, subst, ◌∙◌}
 use Rattle.std.specs.Prelude.{slice_get}
 use Rattle.inst_base.specs.declared.fault.Fault.{Fault}
 use Rattle.inst_settings.specs.Settings.{HubSettings}
 use Rattle.inst_settings.specs.Lawful.{IsSettings}
-use Rattle.inst_command.specs.Step.{step_fits}
 use Rattle.inst_command.specs.declared.reply.Answer.{Answer}
 use Rattle.inst_command.specs.declared.step.Step.{Step}
 use Rattle.inst_board.specs.declared.place.Place.{Place}
 use Rattle.inst_board.specs.Plain.{standing_at}
-use Rattle.inst_json.specs.Replies.{answer_can_be_written}
 use Rattle.inst_model.specs.Opening.{Opening, IsOpening}
 use Rattle.inst_model.specs.Interleaving.{IsInterleaving}
 use Rattle.inst_model.specs.Transfer.{at_place}
 use Rattle.inst_model.specs.Hub.{outcome, history}
 use Rattle.inst_slot.specs.Book.{Book, place_at}
-use Rattle.inst_world.specs.HasRun.{Hub, settings_of, IsBoardOf, HasRun, HasRunSomething, Runs, IsAsBefore}
+use Rattle.inst_world.specs.HasRun.{Hub, settings_of, IsBoardOf, HasRun, HasRunSomething, Runs, IsOfModel, IsAsBefore}
 use Rattle.inst_world.proofs.Exactly.{same_for}
-use Rattle.inst_world.proofs.Writing.{answer_written}
 
 -- a hub that is as it was has run what it had
 pub still_has_run : (old new : Hub) → IsAsBefore old new → (O : Opening) (L : List Step) → HasRun O L old → HasRun O L new
@@ -40,12 +37,18 @@ pub goes_on : (old new : Hub) (step : Step) (result : Result Answer Fault) → H
 goes_on old new step (Ok answer) was ran refused = (was.0, step ∷ was.1, (ran was.0 was.1 was.2).1)
 goes_on old new step (Err fault) was ran refused = (was.0, was.1, still_has_run old new refused was.0 was.1 was.2)
 
--- and what it answers can be written
-pub written : (old new : Hub) (step : Step) (result : Result Answer Fault) → HasRunSomething old → IsSettings (settings_of old) → step_fits (settings_of old) step ≡ true → IfOk result (λ answer. Runs old step answer new)
-    → IfOk result (λ answer. answer_can_be_written (settings_of old) answer ≡ true)
-written old new step (Ok answer) was lawful fits ran =
-    ap (answer_can_be_written (settings_of old)) (ran was.0 was.1 was.2).0 ∙ answer_written (settings_of old) was.0 was.1 step lawful was.2.opening was.2.steps fits
-written old new step (Err fault) was lawful fits ran = tt
+-- and what it answers is the model's
+pub of_model : (old new : Hub) (step : Step) (result : Result Answer Fault) → HasRunSomething old → IsSettings (settings_of old) → IfOk result (λ answer. Runs old step answer new)
+    → IfOk result (IsOfModel (settings_of old) step)
+of_model old new step (Ok answer) was lawful ran = record {
+  lawful = lawful;
+  opening = was.0;
+  steps = was.1;
+  is_opening = was.2.opening;
+  is_interleaving = was.2.steps;
+  answer_is = (ran was.0 was.1 was.2).0;
+}
+of_model old new step (Err fault) was lawful ran = tt
 
 pub unrun : (old new : Hub) (result : Result Answer Fault) → OnErr result (IsAsBefore old new) → OnErr result ((O : Opening) (L : List Step) → HasRun O L old → HasRun O L new)
 unrun old new (Ok answer) refused = tt

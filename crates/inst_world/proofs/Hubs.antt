@@ -31,7 +31,7 @@ use Rattle.inst_slot.specs.Book.{Book, place_at}
 use Rattle.inst_slot.specs.Asking.{decides, request, AppliesTo, Applies}
 use Rattle.inst_slot.specs.Telling.{Keeps, ExpiresFor}
 use Rattle.inst_slot.specs.LawfulBoard.{IsLawfulBoard, KeepsOthers, AllAreAdopted}
-use Rattle.inst_world.specs.HasRun.{Hub, settings_of, IsMember, IsHub, HasRun, Runs, IsAsBefore, IsBoardOf, refusals_told}
+use Rattle.inst_world.specs.HasRun.{Hub, settings_of, IsMember, IsHub, HasRun, Runs, IsAsBefore, IsBoardOf, NeedsMemory, TakesMemory, refusals_told}
 use Rattle.inst_world.proofs.Exactly.{IsTheSame, looked}
 use Rattle.inst_world.proofs.Placing.{actor, others_stay}
 use Rattle.inst_world.proofs.Telling.{Ran, RanOrNot, board_looked}
@@ -153,6 +153,17 @@ ran_ok books b c i slot new step result leads stays fits answers ran =
     ok_is : {x y : Bool} → ◌≡◌ {A = Result Bool Fault} (Ok x) (Ok y) → x ≡ y
     ok_is e = cc
 
+-- where it is refused memory, it needs it
+pub ran_needs : (books : List Book) (b c : Contents) (slot new : Book) (step : Step) (result : Result Bool Fault)
+    → ((O : Opening) (L : List Step) → is_seen b.settings O L step (actor step) ≡ true → NeedsMemory b.settings O L step)
+    → ((O : Opening) (L : List Step) → HasRun O L (record { books = books; board = b }) → RanOrNot b.settings O step L slot result new c)
+    → OnErr result (TakesMemory (record { books = books; board = b }) step)
+ran_needs books b c slot new step result needs ran =
+    on_err result (TakesMemory (record { books = books; board = b }) step) (λ e is O L was. elim (ran O L was) [
+      | inl done ↦ let f : Err e ≡ Ok (is_seen b.settings O L step (actor step)) = sym is ∙ done.0 in let no : ⊥ = cc in absurd no
+      | inr refused ↦ needs O L refused.3
+    ])
+
 -- memory was refused to a delivery or a lesson
 pub kept_refused : (b c : Contents) (place : Place) (look : Look) (is_new : Bool) (slot after new : Book) (result : Result Bool Fault) (margin : ℕ)
     → Looks margin plain_knows (λ _ _. Unit {0}) plain_stood b place look c → Keeps is_new slot after result new → (e : Fault) → result ≡ Err e → (new ≡ slot) × IsTheSame b c
@@ -211,6 +222,20 @@ asked_ok books b c i slot new ask x r stays_as leads stays fits decided did told
       | inr refused ↦
           let e : Ok reply ≡ Err Memory = sym is ∙ told_is ∙ ap refusals_told refused.0 in
           let no : ⊥ = cc in absurd no
+    ])
+
+pub asked_needs : (books : List Book) (b c : Contents) (i : ℕ) (slot new : Book) (ask : AskValue) (x r : Result ReplyValue Fault) (stays_as : Contents → Contents → Type 0) → LeadsTo (record { books = books; board = b }) ask.who i slot
+    → is_some (request slot ask.command) ≡ decides slot ask.command
+    → Applies b.settings.margin plain_knows (λ _ _. Unit {0}) plain_stood stays_as b slot ask x c new → r ≡ refusals_told x
+    → OnErr r (TakesMemory (record { books = books; board = b }) (Ask ask))
+asked_needs books b c i slot new ask x r stays_as leads decided did told_is =
+    on_err r (TakesMemory (record { books = books; board = b }) (Ask ask)) (λ e is O L was.
+    elim (applies_run b.settings O was.opening L was.steps b was.board ask slot leads.member (was.histories ask.who slot leads.there) b.settings.margin stays_as c x new refl decided did) [
+      | inl done ↦
+          let J : List Event = history b.settings O L ask.who in
+          let f : Option Outcome = found (outcome b.settings O (Ask ask ∷ L)) ask.who J ask.command in
+          absurd (never_memory b.settings ask.who J ask.command ask.at f (sym done.0 ∙ told_memory x e (sym told_is ∙ is)))
+      | inr refused ↦ refused.3
     ])
 
 pub asked_err : (books : List Book) (b c : Contents) (i : ℕ) (slot new : Book) (ask : AskValue) (x r : Result ReplyValue Fault) (stays_as : Contents → Contents → Type 0) → LeadsTo (record { books = books; board = b }) ask.who i slot

@@ -1,10 +1,10 @@
 -- What the hub promises of each run follows from the laws of the model.
-use Rattle.std.proofs.Common.{◌≡◌, ℕ, zero, suc, ◌+◌, ◌≤◌, ◌<◌, pos, ℤ, ◌+ℤ◌, true, List, [], ◌∷◌, ◌++◌, length, reverse, take, Some, is_some, refl, sym, ap, subst, ◌∙◌, inl, inr, ◌⊎◌, ⊎_elim, arith, Contains}
+use Rattle.std.proofs.Common.{◌≡◌, ℕ, zero, suc, ◌+◌, ◌≤◌, ◌<◌, pos, ℤ, ◌+ℤ◌, true, List, [], ◌∷◌, ◌++◌, length, reverse, take, drop, Some, is_some, refl, sym, ap, subst, ◌∙◌, inl, inr, ◌⊎◌, ⊎_elim, arith, Contains}
 use Rattle.std.specs.Prelude.{slice_get}
 use Rattle.std.proofs.lemmas.Bool.{cases_Bool, ltb-true, ltb-false, lt-ltb}
 use Rattle.std.proofs.lemmas.Int.{ints}
-use Rattle.std.proofs.lemmas.List.{reverse-append, reverse-reverse, length-reverse}
-use Rattle.std.proofs.lemmas.List.Elements.{Contains-append_right}
+use Rattle.std.proofs.lemmas.List.{reverse-append, reverse-reverse, length-reverse, take-append-drop}
+use Rattle.std.proofs.lemmas.List.Elements.{Contains-append_left, Contains-append_right}
 use Rattle.std.proofs.lemmas.Option.{slice_get_cases, slice_get_past, none-some}
 use Rattle.inst_settings.specs.Settings.{HubSettings, participants, is_participant}
 use Rattle.inst_command.specs.declared.outcome.Outcome.{Outcome}
@@ -22,7 +22,7 @@ use Rattle.inst_journal.specs.Covered.{IsNeverOverdrawn}
 use Rattle.inst_journal.specs.Money.{reserved, position, available}
 use Rattle.inst_journal.specs.Sound.{Fits, IsSound}
 use Rattle.inst_journal.specs.Statement.{statement}
-use Rattle.inst_journal.specs.Sums.{net}
+use Rattle.inst_journal.specs.Sums.{net, reservation}
 use Rattle.inst_model.specs.Conservation.{IsConserved}
 use Rattle.inst_journal.proofs.Soundness.{sound_induction}
 use Rattle.inst_model.specs.Fit.{BooksFit}
@@ -33,12 +33,13 @@ use Rattle.inst_model.specs.Once.{IsSettledOnce}
 use Rattle.inst_model.specs.Opening.{Opening, IsOpening}
 use Rattle.inst_model.specs.Trace.{answer, trace, own_answers, replies}
 use Rattle.inst_model.specs.Transfer.{Transfer, transfer}
-use Rattle.inst_model.specs.Untold.{signed_sum_below, total, signed_total, untold_by, untold}
+use Rattle.inst_model.specs.Untold.{signed_sum_below, total, if_untold, signed_total, untold_by, untold}
 use Rattle.inst_model.proofs.Agreeing.{nothing_untold}
 use Rattle.inst_model.proofs.Conserved.{money_is_conserved}
 use Rattle.inst_model.proofs.Fitting.{histories_are_sound, histories_fit}
 use Rattle.inst_model.proofs.Isolated.{isolated}
 use Rattle.inst_model.proofs.Local.{outcome_is_local}
+use Rattle.inst_model.proofs.Histories.{persists_step}
 use Rattle.inst_model.proofs.Outcomes.{answered_is_the_outcome, booked_is_the_outcome, outcome_stays}
 use Rattle.inst_model.proofs.Settling.{money_is_settled_once}
 use Rattle.inst_model.proofs.Stepping.{replies_are_in_the_trace}
@@ -46,7 +47,7 @@ use Rattle.inst_model.proofs.Totals.{sum_below_same, sum_below_zero}
 use Rattle.inst_slot.proofs.Growing.{snoc_cases}
 use Rattle.inst_slot.specs.Book.{Book}
 use Rattle.inst_world.specs.HasRun.{Hub, settings_of, HasRun, IsHub, events_of, journal_of}
-use Rattle.inst_world.specs.Headline.{Run, run_of, IsRun, SeesTheSame, GotTheSame, IsIsolated, HasOneOutcome, SettlesOnce, AddsUp, BooksOfFit, IsLocal}
+use Rattle.inst_world.specs.Headline.{Run, run_of, IsRun, SeesTheSame, GotTheSame, IsIsolated, HasOneOutcome, SettlesOnce, AddsUp, BooksOfFit, IsLocal, KeepsTheHeadline}
 
 module _ (s : HubSettings) (run : Run) (is : IsRun s run) where
   -- the replies among the answers are the model's
@@ -71,7 +72,7 @@ got s one other is_one is_other p number saw =
       same_statement = ap statement same;
     }
 
-pub is_isolated : (s : HubSettings) (run : Run) → IsRun s run → IsIsolated s run
+is_isolated : (s : HubSettings) (run : Run) → IsRun s run → IsIsolated s run
 is_isolated s run is other is_other p one saw = got s run other is is_other p one saw
 
 -- an answer of the trace is that to a step
@@ -120,13 +121,31 @@ answered_state s O begun past (Deliver owner place to) from id o e = let no : �
 answered_state s O begun past (Learn who owner place) from id o e = let no : ⊥ = cc in absurd no
 answered_state s O begun past (Expire who place at) from id o e = let no : ⊥ = cc in absurd no
 
-pub has_one_outcome : (s : HubSettings) (run : Run) → IsRun s run → HasOneOutcome s run
+-- what a journal has it keeps, whatever steps follow
+stays_there : (s : HubSettings) (O : Opening) (later past : List Step) (p : ℕ) (event : Event) → Contains (history s O past p) event → Contains (history s O (later ++ past) p) event
+stays_there s O [] past p event held = held
+stays_there s O (step ∷ later) past p event held =
+    persists_step s O step (later ++ past) p (λ (J : List Event). Contains J event) (λ J last there. Contains-append_left J (last ∷ []) event there)
+    (stays_there s O later past p event held)
+
+-- the first k steps and the others
+front_and_rest : (steps : List Step) (k : ℕ) → reverse steps ≡ reverse (drop k steps) ++ reverse (take k steps)
+front_and_rest steps k = ap (λ (xs : List Step). reverse xs) (sym (take-append-drop k steps)) ∙ reverse-append (take k steps) (drop k steps)
+
+has_one_outcome : (s : HubSettings) (run : Run) → IsRun s run → HasOneOutcome s run
 has_one_outcome s run is = record {
   answered = λ k from id o e.
       let at : AnswersAt s run.opening (reverse run.steps) k (Reply (State from id (Decided o))) =
       trace_at s run.opening (reverse run.steps) k (Reply (State from id (Decided o))) (ap (λ (xs : List Answer). slice_get xs k) (sym is.answers_are) ∙ e) in
       ap (λ (L : List Step). outcome s run.opening L from id) (steps_to run.steps at.later at.past at.step k at.whole at.before)
       ∙ answered_state s run.opening is.opens at.past at.step from id o at.is;
+  booked_then = λ k p from id o held. booked_is_the_outcome s run.opening is.opens (reverse (take k run.steps)) p from id o held;
+  booked_for_good = λ k p from id o one held.
+      let there : Contains (history s run.opening (reverse (drop k run.steps) ++ reverse (take k run.steps)) p) (Booked from id o) =
+      stays_there s run.opening (reverse (drop k run.steps)) (reverse (take k run.steps)) p (Booked from id o) held in
+      let in_the_end : Contains (history s run.opening (reverse run.steps) p) (Booked from id o) =
+      subst (λ (L : List Step). Contains (history s run.opening L p) (Booked from id o)) (sym (front_and_rest run.steps k)) there in
+      subst (λ (J : List Event). Contains J (Booked from id o)) (sym (is.journals_are p one)) in_the_end;
   booked_is = λ p from id o one held.
       booked_is_the_outcome s run.opening is.opens (reverse run.steps) p from id o
       (subst (λ (J : List Event). Contains J (Booked from id o)) (is.journals_are p one) held);
@@ -135,7 +154,18 @@ has_one_outcome s run is = record {
       ∙ outcome_stays s run.opening (reverse more) (reverse (take k run.steps)) from id o e;
 }
 
-pub settles_once : (s : HubSettings) (run : Run) → IsRun s run → SettlesOnce s run
+-- what has an event is a participant's
+held_by : (s : HubSettings) (run : Run) → IsRun s run → (p : ℕ) (event : Event) → Contains (run.journals p) event → is_participant s p ≡ true
+held_by s run is p event held = elim (cases_Bool (is_participant s p)) [
+  | inl one ↦ one
+  | inr none ↦
+      absurd (none_there event (subst (λ (J : List Event). Contains J event) (is.nobody_else p none) held))
+]
+  where
+    none_there : (event : Event) → Contains [] event → ⊥
+    none_there event there = omega (arith, there.1)
+
+settles_once : (s : HubSettings) (run : Run) → IsRun s run → SettlesOnce s run
 settles_once s run is p one =
     subst (λ (J : List Event). IsSettledOnce p J) (sym (is.journals_are p one))
     (money_is_settled_once s run.opening is.opens (reverse run.steps) is.fits p)
@@ -148,13 +178,18 @@ signed_same (suc n) f g same =
 plus_nothing : (z : ℤ) (n : ℕ) → n ≡ 0 → (z +ℤ pos n) ≡ z
 plus_nothing z n e = omega (arith, ints)
 
-pub adds_up : (s : HubSettings) (run : Run) → IsRun s run → AddsUp s run
+adds_up : (s : HubSettings) (run : Run) → IsRun s run → AddsUp s run
 adds_up s run is = record {
   sum = summed;
   all_told = λ told. summed ∙ plus_nothing (signed_total s (λ p. net (run.journals p))) (untold s O L)
       (sum_below_zero (participants s) (untold_by s O L) (λ p below. nothing_untold (history s O L) (outcome s O L) p
       (λ id o e. subst (λ (J : List Event). is_some (booked p id J) ≡ true) (same p below) (told p id o (lt-ltb p (participants s) below) e))));
   untold_is_reserved = λ p one. subst (λ (J : List Event). untold_by s O L p ≤ reserved J) (sym (is.journals_are p one)) (law.untold_is_reserved p);
+  each_untold_is_reserved = λ p id to cents stamp held.
+      let event : Event = Taken id to cents stamp in
+      let one : is_participant s p ≡ true = held_by s run is p event held in
+      let at : List Event → Type 0 = λ J. Contains J event → if_untold (outcome s O L p id) (booked p id J) cents ≤ reservation J event in
+      subst at (sym (is.journals_are p one)) (law.each_untold_is_reserved p id to cents stamp) held;
   never_overdrawn = λ p one. subst (λ (J : List Event). IsNeverOverdrawn J) (sym (is.journals_are p one)) (law.never_overdrawn p);
 }
   where
@@ -176,17 +211,6 @@ adds_up s run is = record {
         ∙ law.signed_sum
         ∙ ap (λ (z : ℤ). z +ℤ pos (untold s O L)) (signed_same (participants s) (λ p. net (history s O L p)) (λ p. net (run.journals p)) (λ p below. ap net (sym (same p below))))
 
--- what has an event is a participant's
-held_by : (s : HubSettings) (run : Run) → IsRun s run → (p : ℕ) (event : Event) → Contains (run.journals p) event → is_participant s p ≡ true
-held_by s run is p event held = elim (cases_Bool (is_participant s p)) [
-  | inl one ↦ one
-  | inr none ↦
-      absurd (none_there event (subst (λ (J : List Event). Contains J event) (is.nobody_else p none) held))
-]
-  where
-    none_there : (event : Event) → Contains [] event → ⊥
-    none_there event there = omega (arith, there.1)
-
 -- the event fits a front of the history
 pub fitting : (s : HubSettings) (who : ℕ) (J : List Event) → IsSound s who J → (event : Event) → Contains J event → (front : List Event) × Fits s who front event
 fitting s who =
@@ -203,7 +227,7 @@ fitting s who =
     contains_push (x ∷ J) last event (zero, below, is) = inl (zero, omega arith, is)
     contains_push (x ∷ J) last event (suc i, below, is) = ⊎_elim (λ old. inl (Contains-append_right (x ∷ []) J event old)) (λ new. inr new) (contains_push J last event (i, omega arith, is))
 
-pub books_fit : (s : HubSettings) (run : Run) → IsRun s run → BooksOfFit s run
+books_fit : (s : HubSettings) (run : Run) → IsRun s run → BooksOfFit s run
 books_fit s run is = record {
   forwarded_is_taken = λ p from id cents deadline held.
       let event : Event = Forwarded from id cents deadline in
@@ -244,7 +268,7 @@ taken_by s run is p id x found = elim (cases_Bool (is_participant s p)) [
       absurd (none-some x no)
 ]
 
-pub is_local : (s : HubSettings) (run : Run) → IsRun s run → IsLocal s run
+is_local : (s : HubSettings) (run : Run) → IsRun s run → IsLocal s run
 is_local s run is other is_other p id x begin found also same =
     let one : is_participant s p ≡ true = taken_by s run is p id x found in
     outcome_is_local s run.opening other.opening (reverse run.steps) (reverse other.steps) p id x
@@ -252,6 +276,17 @@ is_local s run is other is_other p id x begin found also same =
     (ap (transfer id) (sym (is.journals_are p one)) ∙ found)
     (ap (transfer id) (sym (is_other.journals_are p one)) ∙ also)
     same
+
+pub keeps_the_headline : (s : HubSettings) (run : Run) → IsRun s run → KeepsTheHeadline s run
+keeps_the_headline s run is = record {
+  is_run = is;
+  isolation = is_isolated s run is;
+  one_outcome = has_one_outcome s run is;
+  once = settles_once s run is;
+  sums = adds_up s run is;
+  fit = books_fit s run is;
+  locality = is_local s run is;
+}
 
 -- the hub has a book for each participant, and for nobody else
 module _ (s : HubSettings) (O : Opening) (steps : List Step) (hub : Hub) (answers : List Answer) (same : settings_of hub ≡ s) (whole : IsHub hub) where

@@ -1,5 +1,5 @@
 -- A delivery, a lesson and an expiry, over a board that has the model's outcomes, do what the model says.
-use Rattle.std.proofs.Common.{◌≡◌, ◌≢◌, ℕ, Bool, List, ◌∷◌, Option, is_some, Result, Ok, Err, refl, sym, ap, subst, ◌∙◌, inl, inr, ◌⊎◌}
+use Rattle.std.proofs.Common.{◌≡◌, ◌≢◌, ℕ, Bool, true, List, ◌∷◌, Option, is_some, Result, Ok, Err, refl, sym, ap, subst, ◌∙◌, inl, inr, ◌⊎◌}
 use Rattle.std.proofs.lemmas.Bool.{cases_eq}
 use Rattle.inst_base.specs.declared.fault.Fault.{Fault}
 use Rattle.inst_base.specs.declared.fault.Fault.TheVariants.{Memory}
@@ -68,11 +68,11 @@ pub record Ran (s : HubSettings) (O : Opening) (step : Step) (L : List Step) (ne
   pub events : new.events ≡ history s O (step ∷ L) (actor step)
   pub board : IsBoardOf s O (step ∷ L) c
 
--- a step that is answered by whether there is something new was run; or memory was refused, and nothing changed
+-- a step that is answered by whether there is something new was run; or memory was refused for that, and nothing changed
 abbrev pub RanOrNot : HubSettings → Opening → Step → List Step → Book → Result Bool Fault → Book → Contents → Type 0
 RanOrNot s O step L book result new c =
     ((result ≡ Ok (is_seen s O L step (actor step))) × Ran s O step L new c)
-    ⊎ ((result ≡ Err Memory) × (new ≡ book) × IsBoardOf s O L c)
+    ⊎ ((result ≡ Err Memory) × (new ≡ book) × IsBoardOf s O L c × (is_seen s O L step (actor step) ≡ true))
 
 pub no_ask_deliver : (from place to : ℕ) (ask : AskValue) → Deliver from place to ≡ Ask ask → ⊥
 no_ask_deliver from place to ask e = let no : ⊥ = cc in no
@@ -126,7 +126,7 @@ module _ (s : HubSettings) (O : Opening) (opening : IsOpening s O) (L : List Ste
               board = board_stays s O opening L steps step b c board (takes_none s O step L (no_ask_deliver from place q)) same (λ p n x there. same_outcome s O step L refl p x.id);
             },
           )
-          | inr refused ↦ inr (refused.0, refused.1, still c same)
+          | inr refused ↦ inr (refused.0, refused.1, still c same, sym a.1 ∙ refused.2)
         ]
 
     pub learns_run : (margin from place : ℕ) (look : Look) (c : Contents) (result : Result Bool Fault) (new : Book)
@@ -153,5 +153,5 @@ module _ (s : HubSettings) (O : Opening) (opening : IsOpening s O) (L : List Ste
               board = board_stays s O opening L steps step b c board (takes_none s O step L (no_ask_learn q from place)) same (λ p n x there. same_outcome s O step L refl p x.id);
             },
           )
-          | inr refused ↦ inr (refused.0, refused.1, still c same)
+          | inr refused ↦ inr (refused.0, refused.1, still c same, sym a.1 ∙ refused.2)
         ]

@@ -1,16 +1,20 @@
 -- What a world of slots over one board has run: a list of steps since an opening. Its histories are the model's, and its
 -- board has, at each place, the live transfer that the model has there with its outcome, and nothing else. That one
 -- thread holds all slots is this hub's own choice.
-use Rattle.std.specs.Prelude.{◌≡◌, ℕ, zero, suc, List, [], ◌∷◌, ◌++◌, length, slice_get, Option, Some, None, Result, Ok, Err}
+use Rattle.std.specs.Prelude.{◌≡◌, ◌⊎◌, ℕ, zero, suc, ◌<◌, true, List, [], ◌∷◌, ◌++◌, length, slice_get, Option, Some, None, Result, Ok, Err}
 use Rattle.inst_base.specs.declared.fault.Fault.{Fault}
 use Rattle.inst_base.specs.declared.fault.Fault.TheVariants.{Memory}
 use Rattle.inst_settings.specs.Settings.{HubSettings, participants}
+use Rattle.inst_settings.specs.Lawful.{IsSettings}
 use Rattle.inst_command.specs.declared.outcome.Outcome.{Outcome}
 use Rattle.inst_command.specs.declared.reply.Answer.{Answer}
+use Rattle.inst_command.specs.declared.reply.Answer.TheVariants.{New}
 use Rattle.inst_command.specs.declared.reply.Reply.{Reply}
 use Rattle.inst_command.specs.declared.reply.Reply.TheVariants.{Refused}
 use Rattle.inst_command.specs.declared.step.Step.{Step}
+use Rattle.inst_command.specs.declared.step.Step.TheVariants.{Ask, Deliver, Learn, Expire}
 use Rattle.inst_journal.specs.declared.event.Event.{Event}
+use Rattle.inst_journal.specs.Reply.{copies}
 use Rattle.inst_terms.specs.declared.terms.Terms.{Terms}
 use Rattle.inst_board.specs.declared.place.Place.{Place}
 use Rattle.inst_board.specs.Standing.{Standing, unused, pending, final}
@@ -88,6 +92,28 @@ HasRunSomething hub = (O : Opening) × (L : List Step) × HasRun O L hub
 abbrev pub Runs : Hub → Step → Answer → Hub → Type 0
 Runs old step answered new = (O : Opening) (L : List Step) → HasRun O L old →
     (answered ≡ answer (settings_of old) O L step) × HasRun O (step ∷ L) new
+
+-- The step needs memory where these have been run: an ask that keeps an event, or whose reply is a copy of unread entries
+-- or of lines; and each other step that finds something new, which it keeps. No refused ask does, and no repeat
+abbrev pub NeedsMemory : HubSettings → Opening → List Step → Step → Type 0
+NeedsMemory s O L (Ask ask) = (copies (history s O L ask.who) ask.command ≡ true)
+    ⊎ (length (history s O L ask.who) < length (history s O (Ask ask ∷ L) ask.who))
+NeedsMemory s O L (Deliver from place to) = answer s O L (Deliver from place to) ≡ New true
+NeedsMemory s O L (Learn who from place) = answer s O L (Learn who from place) ≡ New true
+NeedsMemory s O L (Expire who place at) = answer s O L (Expire who place at) ≡ New true
+
+-- the step needs memory at this world, whatever was run before
+abbrev pub TakesMemory : Hub → Step → Type 0
+TakesMemory hub step = (O : Opening) (L : List Step) → HasRun O L hub → NeedsMemory (settings_of hub) O L step
+
+-- the answer is the model's, at a hub with these settings that has run some steps since some opening
+pub record IsOfModel (s : HubSettings) (step : Step) (answered : Answer) : Type 0 where
+  pub lawful : IsSettings s
+  pub opening : Opening
+  pub steps : List Step
+  pub is_opening : IsOpening s opening
+  pub is_interleaving : IsInterleaving s steps
+  pub answer_is : answered ≡ answer s opening steps step
 
 -- the second world is as the first: the same books, and the board says the same of each place
 pub record IsAsBefore (old new : Hub) : Type 0 where

@@ -11,12 +11,12 @@ use Rattle.inst_command.specs.declared.reply.Answer.TheVariants.{Reply}
 use Rattle.inst_command.specs.declared.reply.Reply.TheVariants.{State}
 use Rattle.inst_command.specs.declared.step.Step.{Step}
 use Rattle.inst_journal.specs.declared.event.Event.{Event}
-use Rattle.inst_journal.specs.declared.event.Event.TheVariants.{Booked}
+use Rattle.inst_journal.specs.declared.event.Event.TheVariants.{Taken, Booked}
 use Rattle.inst_journal.specs.Booked.{booked}
 use Rattle.inst_journal.specs.Covered.{IsNeverOverdrawn}
 use Rattle.inst_journal.specs.Money.{reserved, position, available}
 use Rattle.inst_journal.specs.Statement.{statement}
-use Rattle.inst_journal.specs.Sums.{net}
+use Rattle.inst_journal.specs.Sums.{net, reservation}
 use Rattle.inst_model.specs.Fit.{BooksFit}
 use Rattle.inst_model.specs.Hub.{view, outcome, history}
 use Rattle.inst_model.specs.Interleaving.{IsInterleaving}
@@ -25,7 +25,7 @@ use Rattle.inst_model.specs.Once.{IsSettledOnce}
 use Rattle.inst_model.specs.Opening.{Opening, IsOpening, beginning}
 use Rattle.inst_model.specs.Trace.{trace, own_answers}
 use Rattle.inst_model.specs.Transfer.{Transfer, transfer}
-use Rattle.inst_model.specs.Untold.{total, signed_total, untold_by, untold}
+use Rattle.inst_model.specs.Untold.{total, signed_total, if_untold, untold_by, untold}
 
 -- what a run was given, in order, and what it returned: the journal of each participant, and an answer to each step
 pub record Run : Type 0 where
@@ -72,11 +72,20 @@ outcome_in s run from id = outcome s run.opening (reverse run.steps) from id
 abbrev pub outcome_after : HubSettings → Run → ℕ → ℕ → List ℕ → Option Outcome
 outcome_after s run k from id = outcome s run.opening (reverse (take k run.steps)) from id
 
--- each outcome that is answered is the transfer's as it stands then, each that is booked the transfer's in the end; and
--- once there is one it is the same whatever steps follow
+-- the journal of a participant after the first k steps of the run, as the run of these alone would return it
+abbrev pub journal_after : HubSettings → Run → ℕ → ℕ → List Event
+journal_after s run k p = history s run.opening (reverse (take k run.steps)) p
+
+-- each outcome that is answered is the transfer's as it stands then, and so is each that any journal has booked by then,
+-- which it has booked in the end too; each that is booked in the end is the transfer's in the end; and once there is one it
+-- is the same whatever steps follow
 pub record HasOneOutcome (s : HubSettings) (run : Run) : Type 0 where
   pub answered : (k from : ℕ) (id : List ℕ) (o : Outcome) →
       slice_get run.answers k ≡ Some (Reply (State from id (Decided o))) → outcome_after s run (k + 1) from id ≡ Some o
+  pub booked_then : (k p from : ℕ) (id : List ℕ) (o : Outcome) →
+      Contains (journal_after s run k p) (Booked from id o) → outcome_after s run k from id ≡ Some o
+  pub booked_for_good : (k p from : ℕ) (id : List ℕ) (o : Outcome) → is_participant s p ≡ true →
+      Contains (journal_after s run k p) (Booked from id o) → Contains (run.journals p) (Booked from id o)
   pub booked_is : (p from : ℕ) (id : List ℕ) (o : Outcome) → is_participant s p ≡ true →
       Contains (run.journals p) (Booked from id o) → outcome_in s run from id ≡ Some o
   pub for_good : (k from : ℕ) (id : List ℕ) (o : Outcome) → outcome_after s run k from id ≡ Some o →
@@ -92,7 +101,8 @@ abbrev pub AllAreTold : HubSettings → Run → Type 0
 AllAreTold s run = (p : ℕ) (id : List ℕ) (o : Outcome) → is_participant s p ≡ true →
     outcome_in s run p id ≡ Some o → is_some (booked p id (run.journals p)) ≡ true
 
--- sums: no money is made or lost, what is untold is still reserved at its originator, and nobody is overdrawn
+-- sums: no money is made or lost, what is untold is still reserved at its originator, in sum and transfer by transfer, and
+-- nobody is overdrawn
 pub record AddsUp (s : HubSettings) (run : Run) : Type 0 where
   pub sum : pos (total s (λ p. position (run.journals p)))
       ≡ (signed_total s (λ p. net (run.journals p)) +ℤ pos (untold s run.opening (reverse run.steps)))
@@ -100,6 +110,10 @@ pub record AddsUp (s : HubSettings) (run : Run) : Type 0 where
       pos (total s (λ p. position (run.journals p))) ≡ signed_total s (λ p. net (run.journals p))
   pub untold_is_reserved : (p : ℕ) → is_participant s p ≡ true →
       untold_by s run.opening (reverse run.steps) p ≤ reserved (run.journals p)
+  pub each_untold_is_reserved : (p : ℕ) (id : List ℕ) (to cents stamp : ℕ) →
+      Contains (run.journals p) (Taken id to cents stamp) →
+      if_untold (outcome_in s run p id) (booked p id (run.journals p)) cents
+      ≤ reservation (run.journals p) (Taken id to cents stamp)
   pub never_overdrawn : (p : ℕ) → is_participant s p ≡ true → IsNeverOverdrawn (run.journals p)
 
 -- fit: what came was sent with the same terms, both sides book the same outcome, and what is paid is received
@@ -114,3 +128,18 @@ IsLocal s run = (other : Run) → IsRun s other → (p : ℕ) (id : List ℕ) (x
     decisive run.opening p id (steps_on s run.opening (reverse run.steps) p id)
     ≡ decisive other.opening p id (steps_on s other.opening (reverse other.steps) p id) →
     outcome_in s run p id ≡ outcome_in s other p id
+
+-- The headline of a run, all of it
+-- is_run: its journals are the model's histories, and its answers the model's
+-- isolation: whoever sees the same in another run gets the same of it
+-- one_outcome, once: a transfer has one outcome, and its money is settled or released at most once
+-- sums: the positions sum to the net funding and what is untold
+-- fit, locality: the books fit one another, and the steps on a transfer alone decide it
+pub record KeepsTheHeadline (s : HubSettings) (run : Run) : Type 0 where
+  pub is_run : IsRun s run
+  pub isolation : IsIsolated s run
+  pub one_outcome : HasOneOutcome s run
+  pub once : SettlesOnce s run
+  pub sums : AddsUp s run
+  pub fit : BooksOfFit s run
+  pub locality : IsLocal s run

@@ -1,16 +1,3 @@
-pub mod Limits
-pub mod Lines
-pub mod Answers
 pub mod HasRun
-pub mod FollowUps
-pub mod Resting
-pub mod Agenda
-pub mod Naming
-pub mod Watching
-pub mod Answering
-pub mod LineBuffer
-pub mod Replies
-pub mod Progress
-pub mod Session
 pub mod Headline
 pub mod NextOpening

@@ -6,7 +6,7 @@ ghost use Rattle.inst_command.specs.Ask.{ask_fits};
 ghost use Rattle.inst_command.specs.Step.{step_fits};
 ghost use Rattle.inst_command.specs.declared.step.Step.{Step};
 ghost use Rattle.inst_command.specs.declared.reply.Answer.{Answer};
-ghost use Rattle.inst_world.specs.HasRun.{Hub, IsHub, Runs, IsAsBefore, new_books, refusals_told};
+ghost use Rattle.inst_world.specs.HasRun.{Hub, IsHub, Runs, IsAsBefore, TakesMemory, new_books, refusals_told};
 
 use inst_base::{Fault, Moment};
 use inst_board::{Place, PlainBoard};
@@ -38,6 +38,7 @@ pub(crate) fn step(
     ensures ok { IfOk result (λ answer. Runs (record { books = slots.old.items; board = board.old }) step.now answer
         (record { books = slots.new.items; board = board.new })) }
     ensures err { OnErr result (IsAsBefore (record { books = slots.old.items; board = board.old }) (record { books = slots.new.items; board = board.new })) }
+    ensures memory { OnErr result (TakesMemory (record { books = slots.old.items; board = board.old }) step.now) }
     ensures only { IsOkUnless result Fault.Memory }
     ensures hub { IsHub (record { books = slots.new.items; board = board.new }) }
     ensures settings { board.new.settings ≡ board.old.settings }
@@ -76,6 +77,7 @@ fn deliver(
     ensures ok { IfOk result (λ is_new. Runs (record { books = slots.old.items; board = board.old })
         (Step.Deliver place.owner place.index to) (Answer.New is_new) (record { books = slots.new.items; board = board.new })) }
     ensures err { OnErr result (IsAsBefore (record { books = slots.old.items; board = board.old }) (record { books = slots.new.items; board = board.new })) }
+    ensures memory { OnErr result (TakesMemory (record { books = slots.old.items; board = board.old }) (Step.Deliver place.owner place.index to)) }
     ensures only { IsOkUnless result Fault.Memory }
     ensures hub { IsHub (record { books = slots.new.items; board = board.new }) }
     ensures settings { board.new.settings ≡ board.old.settings }
@@ -95,6 +97,7 @@ fn learn(
     ensures ok { IfOk result (λ is_new. Runs (record { books = slots.old.items; board = board.old })
         (Step.Learn who place.owner place.index) (Answer.New is_new) (record { books = slots.new.items; board = board.new })) }
     ensures err { OnErr result (IsAsBefore (record { books = slots.old.items; board = board.old }) (record { books = slots.new.items; board = board.new })) }
+    ensures memory { OnErr result (TakesMemory (record { books = slots.old.items; board = board.old }) (Step.Learn who place.owner place.index)) }
     ensures only { IsOkUnless result Fault.Memory }
     ensures hub { IsHub (record { books = slots.new.items; board = board.new }) }
     ensures settings { board.new.settings ≡ board.old.settings }
@@ -115,6 +118,7 @@ fn expire(
     ensures ok { IfOk result (λ is_new. Runs (record { books = slots.old.items; board = board.old })
         (Step.Expire who index at) (Answer.New is_new) (record { books = slots.new.items; board = board.new })) }
     ensures err { OnErr result (IsAsBefore (record { books = slots.old.items; board = board.old }) (record { books = slots.new.items; board = board.new })) }
+    ensures memory { OnErr result (TakesMemory (record { books = slots.old.items; board = board.old }) (Step.Expire who index at)) }
     ensures only { IsOkUnless result Fault.Memory }
     ensures hub { IsHub (record { books = slots.new.items; board = board.new }) }
     ensures settings { board.new.settings ≡ board.old.settings }
@@ -129,6 +133,7 @@ fn ask(slots: &mut Vec<Slot>, board: &mut PlainBoard, ask: &Ask) -> Result<Reply
     ensures ok { IfOk result (λ reply. Runs (record { books = slots.old.items; board = board.old })
         (Step.Ask ask.now) (Answer.Reply reply) (record { books = slots.new.items; board = board.new })) }
     ensures err { OnErr result (IsAsBefore (record { books = slots.old.items; board = board.old }) (record { books = slots.new.items; board = board.new })) }
+    ensures memory { OnErr result (TakesMemory (record { books = slots.old.items; board = board.old }) (Step.Ask ask.now)) }
     ensures only { IsOkUnless result Fault.Memory }
     ensures hub { IsHub (record { books = slots.new.items; board = board.new }) }
     ensures settings { board.new.settings ≡ board.old.settings }

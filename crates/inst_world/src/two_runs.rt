@@ -3,7 +3,7 @@ ghost use Rattle.inst_settings.specs.Settings.{is_participant};
 ghost use Rattle.inst_model.specs.Interleaving.{IsInterleaving};
 ghost use Rattle.inst_model.specs.Opening.{Opening};
 ghost use Rattle.inst_world.specs.HasRun.{journal_of};
-ghost use Rattle.inst_world.specs.Headline.{run_of, IsRun, SeesTheSame, GotTheSame};
+ghost use Rattle.inst_world.specs.Headline.{run_of, KeepsTheHeadline, SeesTheSame, GotTheSame};
 
 use crate::trace::Trace;
 use crate::world::World;
@@ -30,8 +30,8 @@ pub fn run_both(
     requires other { IsInterleaving settings.now other.now }
     requires participant { is_participant settings.now who ≡ true }
     requires same { SeesTheSame settings.now who Opening.First Opening.First one.now other.now }
-    ensures one { IfOk result (λ r. IsRun settings.now (run_of Opening.First one.now (journal_of r.0.0) r.0.1.answers)) }
-    ensures other { IfOk result (λ r. IsRun settings.now (run_of Opening.First other.now (journal_of r.1.0) r.1.1.answers)) }
+    ensures one { IfOk result (λ r. KeepsTheHeadline settings.now (run_of Opening.First one.now (journal_of r.0.0) r.0.1.answers)) }
+    ensures other { IfOk result (λ r. KeepsTheHeadline settings.now (run_of Opening.First other.now (journal_of r.1.0) r.1.1.answers)) }
     ensures isolation { IfOk result (λ r. GotTheSame who (run_of Opening.First one.now (journal_of r.0.0) r.0.1.answers)
         (run_of Opening.First other.now (journal_of r.1.0) r.1.1.answers)) }
     ensures only { IsOkUnless result Fault.Memory }

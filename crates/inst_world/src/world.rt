@@ -3,7 +3,6 @@ ghost use Rattle.inst_settings.specs.Settings.{is_participant};
 ghost use Rattle.inst_settings.specs.Lawful.{IsSettings};
 ghost use Rattle.inst_command.specs.Step.{step_fits};
 ghost use Rattle.inst_journal.specs.Sound.{IsSound};
-ghost use Rattle.inst_json.specs.Replies.{answer_can_be_written};
 ghost use Rattle.inst_model.specs.Opening.{Opening};
 ghost use Rattle.inst_model.specs.Interleaving.{IsInterleaving};
 ghost use Rattle.inst_model.specs.Trace.{trace};
@@ -11,8 +10,8 @@ ghost use Rattle.inst_model.specs.Transfer.{Transfer, at_place, deadline};
 ghost use Rattle.inst_command.specs.declared.step.Step.{Step};
 ghost use Rattle.inst_model.specs.Hub.{history, outcome};
 ghost use Rattle.inst_slot.specs.Book.{place_at};
-ghost use Rattle.inst_world.specs.HasRun.{IsHub, HasRun, Runs, IsAsBefore, journal_of};
-ghost use Rattle.inst_world.specs.Headline.{run_of, IsRun, IsIsolated, HasOneOutcome, SettlesOnce, AddsUp, BooksOfFit, IsLocal};
+ghost use Rattle.inst_world.specs.HasRun.{IsHub, HasRun, Runs, IsOfModel, IsAsBefore, TakesMemory, journal_of};
+ghost use Rattle.inst_world.specs.Headline.{run_of, KeepsTheHeadline};
 
 mod next_opening;
 
@@ -99,13 +98,14 @@ impl World {
         slots
     }
 
-    /// Runs one step. A refused ask is answered by its refusal. The only error is `Memory`, and then the
-    /// hub is as it was.
+    /// Runs one step. A refused ask is answered by its refusal. The only error is `Memory`, which comes only
+    /// where an event is to be kept, or entries or lines are to be copied, and then the hub is as it was.
     pub fn step(&mut self, step: &Step) -> Result<Answer, Fault>
         requires fits { step_fits self.old.board.settings step.now ≡ true }
         ensures ok { IfOk result (λ answer. Runs self.old step.now answer self.new) }
-        ensures writable { IfOk result (λ answer. answer_can_be_written self.old.board.settings answer ≡ true) }
+        ensures model { IfOk result (λ answer. IsOfModel self.old.board.settings step.now answer) }
         ensures err { OnErr result (IsAsBefore self.old self.new) }
+        ensures memory { OnErr result (TakesMemory self.old step.now) }
         ensures unrun { OnErr result ((O : Opening) (L : List Step) → HasRun O L self.old → HasRun O L self.new) }
         ensures only { IsOkUnless result Fault.Memory }
         ensures settings { self.new.board.settings ≡ self.old.board.settings }
@@ -114,7 +114,7 @@ impl World {
     }
 
     /// The beneficiary of the transfer at the place, if one was taken there.
-    pub(crate) fn beneficiary_at(&mut self, place: Place) -> Option<u8>
+    pub fn beneficiary_at(&mut self, place: Place) -> Option<u8>
         ensures beneficiary { (O : Opening) (L : List Step) → HasRun O L self.old →
             result ≡ option_map (λ x. x.to) (at_place place.owner (history self.old.board.settings O L place.owner) place.index) }
         ensures participant { IfSome result (λ to. is_participant self.old.board.settings to ≡ true) }
@@ -128,7 +128,7 @@ impl World {
     }
 
     /// The deadline of the transfer at the place, if one is pending there.
-    pub(crate) fn pending_until(&mut self, place: Place) -> Option<Moment>
+    pub fn pending_until(&mut self, place: Place) -> Option<Moment>
         ensures deadline { (O : Opening) (L : List Step) → HasRun O L self.old → (x : Transfer) →
             at_place place.owner (history self.old.board.settings O L place.owner) place.index ≡ Some x →
             outcome self.old.board.settings O L place.owner x.id ≡ None → result ≡ Some (deadline self.old.board.settings x) }
@@ -141,7 +141,7 @@ impl World {
     }
 
     /// The place of the originator's live transfer with this identifier.
-    pub(crate) fn place_of(&self, from: u8, id: &Ident) -> Option<Place>
+    pub fn place_of(&self, from: u8, id: &Ident) -> Option<Place>
         requires participant { is_participant self.now.board.settings from ≡ true }
         ensures place { (O : Opening) (L : List Step) → HasRun O L self.now → (index : ℕ) (x : Transfer) →
             at_place from (history self.now.board.settings O L from) index ≡ Some x → x.id ≡ id.now → result ≡ Some (place_at from index) }
@@ -158,13 +158,7 @@ impl World {
     pub fn run(alloc: Global, settings: &Settings, steps: &[Step]) -> Result<(World, Trace), Fault>
         requires fits { IsInterleaving settings.now steps.now }
         ensures ran { IfOk result (λ r. (r.0.board.settings ≡ settings.now) × HasRun Opening.First (reverse steps.now) r.0) }
-        ensures run { IfOk result (λ r. IsRun settings.now (run_of Opening.First steps.now (journal_of r.0) r.1.answers)) }
-        ensures isolation { IfOk result (λ r. IsIsolated settings.now (run_of Opening.First steps.now (journal_of r.0) r.1.answers)) }
-        ensures one_outcome { IfOk result (λ r. HasOneOutcome settings.now (run_of Opening.First steps.now (journal_of r.0) r.1.answers)) }
-        ensures once { IfOk result (λ r. SettlesOnce settings.now (run_of Opening.First steps.now (journal_of r.0) r.1.answers)) }
-        ensures sums { IfOk result (λ r. AddsUp settings.now (run_of Opening.First steps.now (journal_of r.0) r.1.answers)) }
-        ensures fit { IfOk result (λ r. BooksOfFit settings.now (run_of Opening.First steps.now (journal_of r.0) r.1.answers)) }
-        ensures locality { IfOk result (λ r. IsLocal settings.now (run_of Opening.First steps.now (journal_of r.0) r.1.answers)) }
+        ensures headline { IfOk result (λ r. KeepsTheHeadline settings.now (run_of Opening.First steps.now (journal_of r.0) r.1.answers)) }
         ensures only { IsOkUnless result Fault.Memory }
     {
         let mut world = World::open(alloc, settings)?;

@@ -1,5 +1,5 @@
 //! The steps of a seat on the words of a place.
-ghost use Rattle.std.specs.Prelude.{◌≡◌, ◌≢◌, ◌≤◌, ◌<◌, ◌+◌, ◌*◌, slice_index, IsTrue};
+ghost use Rattle.std.specs.Prelude.{false, ◌≡◌, ◌⊎◌, ◌≢◌, ◌≤◌, ◌<◌, ◌+◌, ◌*◌, slice_index, IsTrue};
 ghost use Rattle.inst_base.specs.Moment.{is_moment};
 ghost use Rattle.inst_terms.specs.declared.terms.Terms.{Terms};
 ghost use Rattle.inst_terms.specs.Terms.{IsTerms, words_of};
@@ -88,7 +88,7 @@ impl SharedBoard {
         requires deadline { 1 ≤ deadline }
         ensures stays { Stays self.old self.new }
         ensures learns { (t : Terms) → wrote self.old place t
-            → view_of self.new ≡ learnt (view_of self.old) (number_of (settings_of self.old) place) (pending t deadline) }
+            → view_of self.new ≡ learnt (view_of self.old) (number_of (settings_of self.old) place) (pending t deadline) false }
         ensures moment { IsTrue (is_moment deadline) }
         ensures new { (a : About) → ¬ knows self.old (about place a) }
     {
@@ -110,7 +110,8 @@ impl SharedBoard {
     ) -> u64
         requires in_time { InTime (settings_of self.old).margin outcome.now deadline at }
         requires due { knows self.old (about place (Due deadline)) }
-        requires terms { (t : Terms) × knows self.old (about place (HasTerms t)) × (IsAnswer outcome.now → has_role self.old t.to) }
+        requires terms { (t : Terms) × knows self.old (about place (HasTerms t)) × (IsAnswer outcome.now → has_role self.old t.to)
+            × (has_role self.old place.owner ⊎ has_role self.old t.to) }
         ensures stays { Stays self.old self.new }
         ensures shows { Shows (result ≡ outcome_number outcome.now at) (number_of (settings_of self.old) place) (view_of self.old) result (view_of self.new) }
         ensures moved { result ≢ number deadline 0 0 }

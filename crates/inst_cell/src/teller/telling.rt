@@ -4,7 +4,7 @@ ghost use Rattle.inst_board.specs.declared.about.About.TheVariants.{Opened};
 ghost use Rattle.inst_board.specs.declared.about.Fact.{Fact};
 ghost use Rattle.inst_board.specs.Standing.{about};
 ghost use Rattle.inst_cell.specs.Held.{knows, Stays, AtOneTable};
-ghost use Rattle.inst_cell.specs.Meeting.{KnowsBoth, Vouches};
+ghost use Rattle.inst_cell.specs.Meeting.{KnowsBoth, KnowsTruth, Vouches};
 ghost use Rattle.inst_cell.specs.Seen.{board_of};
 
 use super::Teller;
@@ -30,6 +30,7 @@ impl SharedBoard {
     pub fn join_teller(&mut self, teller: Teller)
         requires one { AtOneTable self.old (board_of teller) }
         ensures both { KnowsBoth self.old (board_of teller) self.new }
+        ensures truly { KnowsTruth self.new }
         ensures vouches { Vouches self.old (board_of teller) }
         ensures stays { Stays self.old self.new }
     {

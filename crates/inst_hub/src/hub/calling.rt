@@ -5,12 +5,12 @@ ghost use Rattle.inst_hub.specs.Calls.{IsOf, KnowsMore, Follows, Calls, Asks, Is
 ghost use Rattle.inst_row.specs.Row.{size};
 
 use super::Hub;
-use crate::follow_up::FollowUp;
 use crate::gate::{Gate, Open};
 use crate::teller::Teller;
 use inst_base::Fault;
 use inst_cell::Ticket;
 use inst_command::{Ask, Reply};
+use inst_participant::FollowUp;
 use std::sync::Wait;
 
 impl Hub {

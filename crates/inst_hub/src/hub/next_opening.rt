@@ -5,20 +5,23 @@ ghost use Rattle.inst_board.specs.declared.about.Fact.{Fact};
 ghost use Rattle.inst_journal.specs.declared.event.Event.{Event};
 ghost use Rattle.inst_cell.specs.Held.{settings_of, knows, Stays};
 ghost use Rattle.inst_cell.specs.Opening.{MayOpen, IsWhole};
-ghost use Rattle.inst_world.specs.NextOpening.{CanOpenFrom, IsOpenedBelow};
+ghost use Rattle.inst_model.specs.Opening.{FromBooks};
+ghost use Rattle.inst_world.specs.NextOpening.{CanOpenFrom, IsOpenedBelow, books_of};
 ghost use Rattle.inst_row.specs.Row.{row_id, key_of};
 ghost use Rattle.inst_hub.specs.Calls.{AreOf};
+ghost use Rattle.inst_hub.specs.Founding.{HasOpened};
 ghost use Rattle.inst_hub.specs.Opening.{unboxed, AreBehind, AreNew, first_sights, parts_of};
 ghost use Rattle.inst_hub.specs.NextOpening.{histories_from, AreCarried, pairs, seated};
 
 use super::Hub;
 use super::opening::admit;
-use crate::participant::Participant;
+use crate::outset::Outset;
 use crate::teller::Teller;
 use inst_base::Fault;
 use inst_cell::SharedBoard;
 use inst_command::Outcome;
 use inst_journal::Journal;
+use inst_participant::Participant;
 use inst_row::LockRow;
 use inst_settings::Settings;
 use inst_slot::Slot;
@@ -98,13 +101,18 @@ impl Hub {
         ensures of { IfOk result (λ r. AreOf r.0 r.1.items) }
         ensures new { IfOk result (λ r. AreNew (row_id r.0.row) (key_of r.0.row) (first_sights (participants settings) (histories_from journals.now)) r.1.items) }
         ensures parts { IfOk result (λ r. parts_of r.1.items ≡ 16) }
+        ensures opened { IfOk result (λ r. HasOpened (FromBooks (books_of journals.now)) r.0) }
         ensures bad { (result ≡ Err Fault.BadSettings) ↔ ¬ MayOpen tellers }
         ensures only { IfErr result (λ e. (e ≡ Fault.Memory) ⊎ (e ≡ Fault.BadSettings)) }
     {
         let (whole, sights) = SharedBoard::open_whole(alloc, &settings, tellers)?;
-        let about = Snapshot::of(&whole);
+        let words = Snapshot::of(&whole);
         let all = carry_over(alloc, &settings, journals, whole)?;
-        let (row, seat) = LockRow::open(alloc, all, &about)?;
+        let outset = Outset {
+            words,
+            all: Snapshot::of(&all),
+        };
+        let (row, seat) = LockRow::open(alloc, all, &outset)?;
         let tellers = admit(alloc, &row, seat, sights)?;
         Ok((Hub { settings, row }, tellers))
     }

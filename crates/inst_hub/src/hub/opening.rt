@@ -6,18 +6,21 @@ ghost use Rattle.inst_cell.specs.Held.{settings_of};
 ghost use Rattle.inst_cell.specs.Opening.{MayOpen, IsOpened, AreAdmitted};
 ghost use Rattle.inst_row.specs.Row.{row_id, key_of, size};
 ghost use Rattle.inst_row.specs.Seated.{IsOn, HasAll, view_of};
-ghost use Rattle.inst_hub.specs.Behind.{IsBehind};
+ghost use Rattle.inst_model.specs.Opening.{First};
+ghost use Rattle.inst_participant.specs.Behind.{IsBehind};
+ghost use Rattle.inst_hub.specs.Founding.{HasOpened};
 ghost use Rattle.inst_hub.specs.Calls.{AreOf};
 ghost use Rattle.inst_hub.specs.Opening.{AreBoards, unboxed, AreParticipants, AreBlank, AreNew, first_sights, parts_of};
 
 use super::Hub;
 use crate::behind::Behind;
-use crate::participant::Participant;
+use crate::outset::Outset;
 use crate::teller::Teller;
 use inst_base::Fault;
 use inst_cell::SharedBoard;
 use inst_command::Outcome;
 use inst_journal::Event;
+use inst_participant::Participant;
 use inst_row::{LockRow, RowSeat};
 use inst_settings::Settings;
 use inst_slot::Slot;
@@ -61,9 +64,9 @@ fn participants(
     Ok(all)
 }
 
-type Row = LockRow<Box<Participant>, Event, Snapshot<SharedBoard>, Behind>;
+type Row = LockRow<Box<Participant>, Event, Outset, Behind>;
 
-type Seat = RowSeat<Box<Participant>, Event, Snapshot<SharedBoard>>;
+type Seat = RowSeat<Box<Participant>, Event, Outset>;
 
 /// The tellers that see so, each with a seat on the row; together they have all its parts.
 pub(super) fn admit(
@@ -75,7 +78,7 @@ pub(super) fn admit(
     requires some { 0 < size row.now }
     requires on { IsOn (row_id row.now) (key_of row.now) seat }
     requires all { HasAll seat }
-    requires sights { MayOpen (length sights.items) × AreBlank (key_of row.now).value sights.items }
+    requires sights { MayOpen (length sights.items) × AreBlank (key_of row.now).words.value sights.items }
     ensures enough { IfOk result (λ all. length all.items ≡ length sights.items) }
     ensures new { IfOk result (λ all. AreNew (row_id row.now) (key_of row.now) (view_of seat).fronts all.items) }
     ensures parts { IfOk result (λ all. parts_of all.items ≡ 16) }
@@ -104,6 +107,7 @@ impl Hub {
         ensures of { IfOk result (λ r. AreOf r.0 r.1.items) }
         ensures new { IfOk result (λ r. AreNew (row_id r.0.row) (key_of r.0.row) (first_sights (participants settings) (λ p. [])) r.1.items) }
         ensures parts { IfOk result (λ r. parts_of r.1.items ≡ 16) }
+        ensures opened { IfOk result (λ r. HasOpened First r.0) }
         ensures bad { (result ≡ Err Fault.BadSettings) ↔ ¬ MayOpen tellers }
         ensures only { IfErr result (λ e. (e ≡ Fault.Memory) ⊎ (e ≡ Fault.BadSettings)) }
     {
@@ -111,9 +115,13 @@ impl Hub {
         let Some(first) = boards.first() else {
             unreachable!()
         };
-        let about = Snapshot::of(first);
+        let words = Snapshot::of(first);
         let all = participants(alloc, &settings, boards)?;
-        let (row, seat) = LockRow::open(alloc, all, &about)?;
+        let outset = Outset {
+            words,
+            all: Snapshot::of(&all),
+        };
+        let (row, seat) = LockRow::open(alloc, all, &outset)?;
         let tellers = admit(alloc, &row, seat, sights)?;
         Ok((Hub { settings, row }, tellers))
     }

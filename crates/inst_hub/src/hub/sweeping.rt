@@ -13,8 +13,8 @@ impl Hub {
     /// Under the lock of the participant `who`, for which it waits: each own transfer with nothing booked expires if it
     /// may at this reading, in order of deadline and place; each forwarded one with nothing booked is learnt, in order
     /// of arrival; and of each other originator, by number, the places from 0 to the first unused one are looked at, and
-    /// what is new there comes. How many of these were new, at most 2^32 - 1. `Memory` ends it, and what was done before
-    /// stands. The cost grows with the number of the live transfers that came to the participant, and of all places in
+    /// what is new there comes. How many of these were new, at most 2^32 - 1. `Memory` ends it: what was
+    /// done before stands, and nothing is done after it. The cost grows with the number of the live transfers that came to the participant, and of all places in
     /// use.
     pub fn sweep<R: Wait>(
         &self,

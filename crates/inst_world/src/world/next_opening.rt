@@ -7,7 +7,7 @@ ghost use Rattle.inst_board.specs.declared.plain.Kept.TheVariants.{Unused as Kep
 ghost use Rattle.inst_board.specs.Plain.{kept_at};
 ghost use Rattle.inst_model.specs.Interleaving.{IsInterleaving};
 ghost use Rattle.inst_world.specs.HasRun.{HasRun, journal_of};
-ghost use Rattle.inst_world.specs.Headline.{run_of, IsRun, IsIsolated, HasOneOutcome, SettlesOnce, AddsUp, BooksOfFit, IsLocal};
+ghost use Rattle.inst_world.specs.Headline.{run_of, KeepsTheHeadline};
 ghost use Rattle.inst_world.specs.NextOpening.{books_of, opening_from, CanOpenFrom, AreOpenedAgain, IsCarryingHub, HaveFoundBefore, OnlyFinds};
 
 use super::World;
@@ -55,13 +55,7 @@ impl World {
         requires journals { CanOpenFrom settings.now journals.now }
         requires fits { IsInterleaving settings.now steps.now }
         ensures ran { IfOk result (λ r. (r.0.board.settings ≡ settings.now) × HasRun (opening_from journals.now) (reverse steps.now) r.0) }
-        ensures run { IfOk result (λ r. IsRun settings.now (run_of (opening_from journals.now) steps.now (journal_of r.0) r.1.answers)) }
-        ensures isolation { IfOk result (λ r. IsIsolated settings.now (run_of (opening_from journals.now) steps.now (journal_of r.0) r.1.answers)) }
-        ensures one_outcome { IfOk result (λ r. HasOneOutcome settings.now (run_of (opening_from journals.now) steps.now (journal_of r.0) r.1.answers)) }
-        ensures once { IfOk result (λ r. SettlesOnce settings.now (run_of (opening_from journals.now) steps.now (journal_of r.0) r.1.answers)) }
-        ensures sums { IfOk result (λ r. AddsUp settings.now (run_of (opening_from journals.now) steps.now (journal_of r.0) r.1.answers)) }
-        ensures fit { IfOk result (λ r. BooksOfFit settings.now (run_of (opening_from journals.now) steps.now (journal_of r.0) r.1.answers)) }
-        ensures locality { IfOk result (λ r. IsLocal settings.now (run_of (opening_from journals.now) steps.now (journal_of r.0) r.1.answers)) }
+        ensures headline { IfOk result (λ r. KeepsTheHeadline settings.now (run_of (opening_from journals.now) steps.now (journal_of r.0) r.1.answers)) }
         ensures only { IsOkUnless result Fault.Memory }
     {
         let mut world = World::open_from(alloc, settings, journals)?;

@@ -4,7 +4,7 @@ use Rattle.inst_settings.specs.Settings.{is_participant}
 use Rattle.inst_command.specs.Ask.{command_fits, ask_fits}
 use Rattle.inst_world.specs.HasRun.{Hub}
 use Rattle.inst_slot.proofs.Adopting.{asks_adopted}
-use Rattle.inst_world.proofs.Hubs.{leads_to, acted, asked_ok, asked_err}
+use Rattle.inst_world.proofs.Hubs.{leads_to, acted, asked_ok, asked_needs, asked_err}
 use Rattle.inst_world.proofs.slots.ask.Goals as goal
 
 pub apply-requires-clause-lawful : goal.apply-requires-clause-lawful
@@ -44,6 +44,13 @@ returns-clause-ok c =
     let l = leads_to hub c.args.ask.now.who c.from.result c.index_mut.result.now c.requires.hub (and_parts (is_participant c.args.board.now.settings c.args.ask.now.who) (command_fits c.args.board.now.settings c.args.ask.now.command) c.requires.fits).0 c.from.ensures c.index_mut.ensures.value in
     let e = c.apply.ensures in
     asked_ok c.args.slots.now.items c.args.board.now c.apply.new.board c.from.result c.index_mut.result.now c.apply.new.self c.args.ask.now c.apply.result c.refusals_told.result (λ a d. d.settings ≡ a.settings) l e.stays c.requires.fits e.decides e.applies c.refusals_told.ensures
+
+pub returns-clause-memory : goal.returns-clause-memory
+returns-clause-memory c =
+    let hub : Hub = record { books = c.args.slots.now.items; board = c.args.board.now } in
+    let l = leads_to hub c.args.ask.now.who c.from.result c.index_mut.result.now c.requires.hub (and_parts (is_participant c.args.board.now.settings c.args.ask.now.who) (command_fits c.args.board.now.settings c.args.ask.now.command) c.requires.fits).0 c.from.ensures c.index_mut.ensures.value in
+    let e = c.apply.ensures in
+    asked_needs c.args.slots.now.items c.args.board.now c.apply.new.board c.from.result c.index_mut.result.now c.apply.new.self c.args.ask.now c.apply.result c.refusals_told.result (λ a d. d.settings ≡ a.settings) l e.decides e.applies c.refusals_told.ensures
 
 pub returns-clause-err : goal.returns-clause-err
 returns-clause-err c =

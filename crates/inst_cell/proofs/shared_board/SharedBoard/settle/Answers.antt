@@ -1,17 +1,22 @@
-use Rattle.std.proofs.Common.{rules, ◌+◌, ℕ, ap, refl, ◌∙◌}
+use Rattle.std.proofs.Common.{rules, ◌+◌, ◌<◌, ℕ, ap, refl, sym, subst, ◌∙◌, ⊎_elim, inl, inr}
 use Rattle.inst_board.specs.Plain.{number_of}
 use Rattle.inst_cell.specs.declared.view.View.{View}
-use Rattle.inst_cell.specs.Held.{settings_of}
+use Rattle.inst_cell.specs.View.{count}
+use Rattle.inst_cell.specs.Held.{settings_of, roles_of}
 use Rattle.inst_cell.proofs.Moving.{allows_decides}
-use Rattle.inst_cell.proofs.Numbers.{below}
+use Rattle.inst_cell.proofs.Numbers.{below, owner_is}
 use Rattle.inst_cell.proofs.Learnt.{hit, missed}
 use Rattle.inst_cell.proofs.shared_board.SharedBoard.settle.Goals as goal
 
 pub compare_exchange-found-requires : goal.compare_exchange-found-requires
 compare_exchange-found-requires c =
     let s = settings_of c.args.self.now in
-    let w = c.requires.terms in
-    (search rules, search rules, rw (c.deref.ensures, c.first_word-word.ensures.value) (allows_decides s _ _ _ _ (below s c.args.place c.requires.due.0) c.args.self.now.based c.args.self.now.bounded w.0 c.args.deadline _ _ c.args.outcome.now c.args.at c.pending_word-pending.ensures.value c.final_word-decided.ensures.value c.final_word-decided.ensures.word c.requires.in_time c.requires.due.1 w.1.1 w.2))
+    let w = c.requires.terms in (
+      search rules,
+      search rules,
+      rw (c.deref.ensures, c.first_word-word.ensures.value) (allows_decides s _ _ _ _ (below s c.args.place c.requires.due.0) c.args.self.now.based c.args.self.now.bounded w.0 c.args.deadline _ _ c.args.outcome.now c.args.at c.pending_word-pending.ensures.value c.final_word-decided.ensures.value c.final_word-decided.ensures.word c.requires.in_time c.requires.due.1 w.1.1 w.2
+          (⊎_elim (λ mine. inl (subst (λ (n : ℕ). 0 < count n (roles_of c.args.self.now)) (sym (owner_is s c.args.place c.requires.due.0)) mine)) (λ its. inr its) w.3)),
+    )
 
 pub invariant_of-self-clause-based : goal.invariant_of-self-clause-based
 invariant_of-self-clause-based c =

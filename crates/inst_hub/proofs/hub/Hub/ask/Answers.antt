@@ -7,28 +7,32 @@ use Rattle.inst_base.specs.declared.fault.Fault.TheVariants.{Memory}
 use Rattle.inst_command.specs.declared.reply.Reply.{Reply}
 use Rattle.inst_board.specs.declared.place.Place.{Place}
 use Rattle.inst_cell.specs.Seen.{sees}
-use Rattle.inst_hub.specs.Answers.{Answered, IsTicket}
-use Rattle.inst_hub.specs.Following.{follow_up_after}
+use Rattle.inst_participant.specs.Answers.{Answered, IsTicket}
+use Rattle.inst_participant.specs.Following.{follow_up_after}
 use Rattle.inst_hub.specs.Calls.{IsLeft}
-use Rattle.inst_hub.specs.Serving.{Serves}
-use Rattle.inst_hub.specs.declared.participant.Participant.{Participant}
+use Rattle.inst_participant.specs.Serving.{Serves}
+use Rattle.inst_participant.specs.declared.participant.Participant.{Participant}
 use Rattle.inst_hub.specs.declared.teller.Teller.{Teller}
-use Rattle.inst_hub.proofs.Calling.{out_of_box, behind_later, still_knows, seen_both, asks_at, lock_of, left_at, on_err}
+use Rattle.inst_hub.proofs.Calling.{out_of_box, still_knows, seen_both, asks_at, lock_of, left_at, on_err}
+use Rattle.inst_participant.proofs.Later.{behind_later}
+use Rattle.inst_hub.proofs.Founding.{since_later, serve_carries}
 use Rattle.inst_hub.proofs.hub.Hub.ask.Goals as goal
 
 pub give-requires-clause-has : goal.give-requires-clause-has
 give-requires-clause-has g c =
     let x = c.deref_mut.result.now in
-    let found = out_of_box (key_of c.args.self.now.row).value c.from-lock.result c.args.teller.now.seat c.take-participant.new.seat c.take-participant.result x c.deref_mut.ensures.value
-    c.take-participant.ensures.law c.take-participant.ensures.goes_on c.take-participant.ensures.has c.take-participant.ensures.sees in
+    let found = out_of_box (key_of c.args.self.now.row).words.value c.from-lock.result c.args.teller.now.seat c.take-participant.new.seat c.take-participant.result x c.deref_mut.ensures.value
+    c.take-participant.ensures.law.behind c.take-participant.ensures.goes_on c.take-participant.ensures.has c.take-participant.ensures.sees in
     (x.slot.events, found.has, c.serve-answer.ensures.grows)
 
 pub give-requires-clause-law : goal.give-requires-clause-law
 give-requires-clause-law g c =
     let x = c.deref_mut.result.now in
-    let found = out_of_box (key_of c.args.self.now.row).value c.from-lock.result c.args.teller.now.seat c.take-participant.new.seat c.take-participant.result x c.deref_mut.ensures.value
-    c.take-participant.ensures.law c.take-participant.ensures.goes_on c.take-participant.ensures.has c.take-participant.ensures.sees in
-    behind_later (key_of c.args.self.now.row).value c.from-lock.result x c.serve-answer.new.self found.law c.serve-answer.ensures.later c.serve-answer.ensures.ready
+    let found = out_of_box (key_of c.args.self.now.row).words.value c.from-lock.result c.args.teller.now.seat c.take-participant.new.seat c.take-participant.result x c.deref_mut.ensures.value
+    c.take-participant.ensures.law.behind c.take-participant.ensures.goes_on c.take-participant.ensures.has c.take-participant.ensures.sees in
+    since_later (key_of c.args.self.now.row) c.from-lock.result c.take-participant.result x c.serve-answer.new.self c.deref_mut.ensures.value c.take-participant.ensures.law
+    (behind_later (key_of c.args.self.now.row).words.value c.from-lock.result x c.serve-answer.new.self found.law c.serve-answer.ensures.later c.serve-answer.ensures.ready)
+    (serve_carries c.args.ask.now x c.serve-answer.new.self c.serve-answer.result c.serve-answer.ensures.answered c.serve-answer.ensures.err)
 
 pub returns-in_err-answer-clause-knows : goal.returns-in_err-answer-clause-knows
 returns-in_err-answer-clause-knows g c = still_knows c.args.teller.now c.take-participant.new.seat c.serve-answer.new.teller c.give.new.seat _ _ _
@@ -37,8 +41,8 @@ returns-in_err-answer-clause-knows g c = still_knows c.args.teller.now c.take-pa
 pub returns-in_err-answer-clause-left : goal.returns-in_err-answer-clause-left
 returns-in_err-answer-clause-left g c =
     let x = c.deref_mut.result.now in
-    let found = out_of_box (key_of c.args.self.now.row).value c.from-lock.result c.args.teller.now.seat c.take-participant.new.seat c.take-participant.result x c.deref_mut.ensures.value
-    c.take-participant.ensures.law c.take-participant.ensures.goes_on c.take-participant.ensures.has c.take-participant.ensures.sees in
+    let found = out_of_box (key_of c.args.self.now.row).words.value c.from-lock.result c.args.teller.now.seat c.take-participant.new.seat c.take-participant.result x c.deref_mut.ensures.value
+    c.take-participant.ensures.law.behind c.take-participant.ensures.goes_on c.take-participant.ensures.has c.take-participant.ensures.sees in
     let y = c.serve-answer.new.self in
     let same = subst (λ (r : Result (Reply × Option Place) Fault). OnErr r (y.slot ≡ x.slot)) c.in_err-answer.was c.serve-answer.ensures.err in
     let serves = subst (λ (r : Result (Reply × Option Place) Fault). OnErr r (Serves x c.args.ask.now (Err Memory) y)) c.in_err-answer.was c.serve-answer.ensures.left in
@@ -55,8 +59,8 @@ returns-clause-knows g c = still_knows c.args.teller.now c.take-participant.new.
 pub returns-clause-call : goal.returns-clause-call
 returns-clause-call g c =
     let x = c.deref_mut.result.now in
-    let found = out_of_box (key_of c.args.self.now.row).value c.from-lock.result c.args.teller.now.seat c.take-participant.new.seat c.take-participant.result x c.deref_mut.ensures.value
-    c.take-participant.ensures.law c.take-participant.ensures.goes_on c.take-participant.ensures.has c.take-participant.ensures.sees in
+    let found = out_of_box (key_of c.args.self.now.row).words.value c.from-lock.result c.args.teller.now.seat c.take-participant.new.seat c.take-participant.result x c.deref_mut.ensures.value
+    c.take-participant.ensures.law.behind c.take-participant.ensures.goes_on c.take-participant.ensures.has c.take-participant.ensures.sees in
     let y = c.serve-answer.new.self in
     let ask = c.args.ask.now in
     let serves = subst (λ (r : Result (Reply × Option Place) Fault). IfOk r (λ answer. Serves x ask (Ok answer.0) y)) c.in_ok-answer.was c.serve-answer.ensures.serves in
@@ -72,7 +76,7 @@ returns-clause-call g c =
 pub returns-clause-lock : goal.returns-clause-lock
 returns-clause-lock g c =
     let x = c.deref_mut.result.now in
-    let found = out_of_box (key_of c.args.self.now.row).value c.from-lock.result c.args.teller.now.seat c.take-participant.new.seat c.take-participant.result x c.deref_mut.ensures.value
-    c.take-participant.ensures.law c.take-participant.ensures.goes_on c.take-participant.ensures.has c.take-participant.ensures.sees in
+    let found = out_of_box (key_of c.args.self.now.row).words.value c.from-lock.result c.args.teller.now.seat c.take-participant.new.seat c.take-participant.result x c.deref_mut.ensures.value
+    c.take-participant.ensures.law.behind c.take-participant.ensures.goes_on c.take-participant.ensures.has c.take-participant.ensures.sees in
     lock_of c.args.self.now c.from-lock.result x c.serve-answer.new.self c.follow_up-follow_up.result found.law c.serve-answer.ensures.later
     (subst (λ (z : Participant). IfSome c.follow_up-follow_up.result (λ f. is_participant z.slot.settings f.who ≡ true)) c.deref.ensures c.follow_up-follow_up.ensures.participant)

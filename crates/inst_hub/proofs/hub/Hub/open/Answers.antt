@@ -1,18 +1,21 @@
-use Rattle.std.proofs.Common.{◌≡◌, ◌∙◌, Some, rules, sym, subst, List}
+use Rattle.std.proofs.Common.{ℕ, ◌<◌, length, [], refl, ap, ◌≡◌, ◌∙◌, Some, rules, sym, subst, List}
 use Rattle.std.specs.Prelude.{slice_get}
 use Rattle.inst_journal.specs.declared.event.Event.{Event}
 use Rattle.inst_row.specs.declared.view.Front.{Front}
 use Rattle.inst_row.specs.Row.{row_id, key_of}
+use Rattle.inst_settings.specs.Settings.{participants}
+use Rattle.inst_hub.specs.Founding.{outset_of}
 use Rattle.inst_hub.specs.Opening.{unboxed, AreNew}
-use Rattle.inst_hub.proofs.Starting.{unboxed_length, opened_behind, behind_values, behind_sights, new_are_of}
+use Rattle.inst_hub.proofs.Starting.{unboxed_length, opened_behind, behind_sights, new_are_of}
+use Rattle.inst_hub.proofs.Founding.{first_since, first_carried}
 use Rattle.inst_hub.proofs.hub.Hub.open.Goals as goal
 
 pub open-requires-2 : goal.open-requires-2
 open-requires-2 c =
     let at : slice_get c.in_ok-boards.boards.items 0 ≡ Some c.in-Some.first.now = search rules in
-    let is : c.of-about.result.value ≡ c.in-Some.first.now = search rules in
-    let are = opened_behind c.args.settings c.args.tellers c.in_ok-boards.boards.items c.in_ok-boards.sights.items (unboxed c.in_ok-all.all.items) c.in-Some.first.now c.of-about.result.value c.in_ok-boards.ensures.ok c.in_ok-all.ensures.ok at is in
-    record { values = λ p below. let v = behind_values _ _ _ c.in_ok-all.all.items are p below in (v.0, v.1, v.2) }
+    let is : c.of-words.result.value ≡ c.in-Some.first.now = search rules in
+    let are = opened_behind c.args.settings c.args.tellers c.in_ok-boards.boards.items c.in_ok-boards.sights.items (unboxed c.in_ok-all.all.items) c.in-Some.first.now c.of-words.result.value c.in_ok-boards.ensures.ok c.in_ok-all.ensures.ok at is in
+    record { values = first_since (record { words = c.of-words.result; all = c.of.result }) _ _ _ c.in_ok-all.all.items are refl (ap (λ v. v.items) c.of.ensures) }
 
 pub invariant_of-result-clause-sized : goal.invariant_of-result-clause-sized
 invariant_of-result-clause-sized c =
@@ -24,6 +27,15 @@ returns-clause-of c = new_are_of _ _ c.in_ok-tellers.tellers.items c.in_ok-telle
 pub returns-clause-new : goal.returns-clause-new
 returns-clause-new c =
     let at : slice_get c.in_ok-boards.boards.items 0 ≡ Some c.in-Some.first.now = search rules in
-    let is : c.of-about.result.value ≡ c.in-Some.first.now = search rules in
-    let are = opened_behind c.args.settings c.args.tellers c.in_ok-boards.boards.items c.in_ok-boards.sights.items (unboxed c.in_ok-all.all.items) c.in-Some.first.now c.of-about.result.value c.in_ok-boards.ensures.ok c.in_ok-all.ensures.ok at is in
+    let is : c.of-words.result.value ≡ c.in-Some.first.now = search rules in
+    let are = opened_behind c.args.settings c.args.tellers c.in_ok-boards.boards.items c.in_ok-boards.sights.items (unboxed c.in_ok-all.all.items) c.in-Some.first.now c.of-words.result.value c.in_ok-boards.ensures.ok c.in_ok-all.ensures.ok at is in
     subst (λ (fs : List (Front Event)). AreNew (row_id c.in_ok-row.row) (key_of c.in_ok-row.row) fs c.in_ok-tellers.tellers.items) (c.in_ok-row.ensures.seen ∙ behind_sights _ _ _ c.in_ok-all.all.items are) c.in_ok-tellers.ensures.new
+
+pub returns-clause-opened : goal.returns-clause-opened
+returns-clause-opened c = λ p below.
+    let at : slice_get c.in_ok-boards.boards.items 0 ≡ Some c.in-Some.first.now = search rules in
+    let is : c.of-words.result.value ≡ c.in-Some.first.now = search rules in
+    let are = opened_behind c.args.settings c.args.tellers c.in_ok-boards.boards.items c.in_ok-boards.sights.items (unboxed c.in_ok-all.all.items) c.in-Some.first.now c.of-words.result.value c.in_ok-boards.ensures.ok c.in_ok-all.ensures.ok at is in
+    let many : length c.in_ok-all.all.items ≡ participants c.args.settings = sym (unboxed_length c.in_ok-all.all.items) ∙ (c.in_ok-all.ensures.ok.enough ∙ c.in_ok-boards.ensures.ok.participants) in
+    ap (λ k. outset_of k p) c.in_ok-row.ensures.row.1
+    ∙ first_carried (record { words = c.of-words.result; all = c.of.result }) c.of-words.result.value (participants c.args.settings) (λ q. []) c.in_ok-all.all.items are (ap (λ v. v.items) c.of.ensures) p (subst (λ (n : ℕ). p < n) (sym many) below)

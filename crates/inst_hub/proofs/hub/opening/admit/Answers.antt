@@ -20,7 +20,7 @@ loop-sight-preserved c =
       on = c.split-seat.ensures.on.1;
       free = halves.free;
       seen = halves.told ∙ i.4;
-      blank = blank_next (key_of c.args.row.now).value c.loop-sight.yielded rest after c.args.sights.items sight c.in-Some.last c.requires.sights.1 i.5 is;
+      blank = blank_next (key_of c.args.row.now).words.value c.loop-sight.yielded rest after c.args.sights.items sight c.in-Some.last c.requires.sights.1 i.5 is;
     } in
     let pushed = c.in_ok-push.ensures.items in
     let longer = length-append c.loop-sight.yielded (sight ∷ []) in
@@ -60,7 +60,7 @@ returns-clause-new c =
       on = i.2;
       free = record { idle = i.3; part = part };
       seen = i.4;
-      blank = blank_last (key_of c.args.row.now).value c.loop-sight.yielded rest c.args.sights.items c.in-Some.last c.requires.sights.1 i.5 none;
+      blank = blank_last (key_of c.args.row.now).words.value c.loop-sight.yielded rest c.args.sights.items c.in-Some.last c.requires.sights.1 i.5 none;
     } in
     subst (λ (l : List Teller). AreNew (row_id c.args.row.now) (key_of c.args.row.now) (view_of c.args.seat).fronts l) (sym c.in_ok-push-2.ensures.items)
     (one_teller (row_id c.args.row.now) (key_of c.args.row.now) (view_of c.args.seat).fronts c.loop-sight.all.items teller i.7 new)

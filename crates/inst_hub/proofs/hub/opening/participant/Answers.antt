@@ -1,6 +1,6 @@
 use Rattle.std.proofs.Common.{sym, subst}
-use Rattle.inst_hub.specs.declared.participant.Participant.{Participant}
-use Rattle.inst_hub.specs.Behind.{IsBehind}
+use Rattle.inst_participant.specs.declared.participant.Participant.{Participant}
+use Rattle.inst_participant.specs.Behind.{IsBehind}
 use Rattle.inst_hub.proofs.Starting.{begins_behind}
 use Rattle.inst_hub.proofs.hub.opening.participant.Goals as goal
 

@@ -8,7 +8,7 @@ use Rattle.inst_model.proofs.Together.{together}
 use Rattle.inst_slot.specs.Book.{place_at}
 use Rattle.inst_world.specs.HasRun.{Hub, HasRun}
 use Rattle.inst_world.proofs.Hubs.{leads_to}
-use Rattle.inst_world.proofs.Noting.{place_found_by_name}
+use Rattle.inst_world.proofs.Finding.{place_found_by_name}
 use Rattle.inst_world.proofs.world.World.place_of.Goals as goal
 
 pub returns-clause-place : goal.returns-clause-place

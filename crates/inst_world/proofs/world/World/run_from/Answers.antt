@@ -4,7 +4,7 @@ use Rattle.inst_world.specs.NextOpening.{opening_from}
 use Rattle.inst_model.specs.Trace.{trace}
 use Rattle.inst_world.specs.HasRun.{IsHub, journal_of}
 use Rattle.inst_world.specs.Headline.{run_of}
-use Rattle.inst_world.proofs.Promising.{is_run, is_isolated, has_one_outcome, settles_once, adds_up, books_fit, is_local}
+use Rattle.inst_world.proofs.Promising.{is_run, keeps_the_headline}
 use Rattle.inst_world.proofs.world.World.run_from.Goals as goal
 
 pub returns-clause-ran : goal.returns-clause-ran
@@ -12,34 +12,11 @@ returns-clause-ran c =
     let opened = c.in_ok-world.ensures.ok in
     (c.run_steps.ensures.settings ∙ opened.0, (c.in_ok-trace.ensures.ok (opening_from c.args.journals.now) opened.1).0)
 
-pub returns-clause-run : goal.returns-clause-run
-returns-clause-run c =
+pub returns-clause-headline : goal.returns-clause-headline
+returns-clause-headline c =
     let opened = c.in_ok-world.ensures.ok in
     let ran = c.in_ok-trace.ensures.ok (opening_from c.args.journals.now) opened.1 in
     let whole : IsHub c.run_steps.new.self = subst IsHub c.world.view_is c.world.invariant.0 in
-    is_run c.args.settings.now (opening_from c.args.journals.now) c.args.steps.now c.run_steps.new.self c.in_ok-trace.trace.answers (c.run_steps.ensures.settings ∙ opened.0) whole
-    ran.0 (ran.1 ∙ ap (λ (s : HubSettings). trace s (opening_from c.args.journals.now) (reverse c.args.steps.now)) opened.0)
-
-pub returns-clause-isolation : goal.returns-clause-isolation
-returns-clause-isolation c =
-    is_isolated c.args.settings.now (run_of (opening_from c.args.journals.now) c.args.steps.now (journal_of c.run_steps.new.self) c.in_ok-trace.trace.answers) (returns-clause-run c)
-
-pub returns-clause-one_outcome : goal.returns-clause-one_outcome
-returns-clause-one_outcome c =
-    has_one_outcome c.args.settings.now (run_of (opening_from c.args.journals.now) c.args.steps.now (journal_of c.run_steps.new.self) c.in_ok-trace.trace.answers) (returns-clause-run c)
-
-pub returns-clause-once : goal.returns-clause-once
-returns-clause-once c =
-    settles_once c.args.settings.now (run_of (opening_from c.args.journals.now) c.args.steps.now (journal_of c.run_steps.new.self) c.in_ok-trace.trace.answers) (returns-clause-run c)
-
-pub returns-clause-sums : goal.returns-clause-sums
-returns-clause-sums c =
-    adds_up c.args.settings.now (run_of (opening_from c.args.journals.now) c.args.steps.now (journal_of c.run_steps.new.self) c.in_ok-trace.trace.answers) (returns-clause-run c)
-
-pub returns-clause-fit : goal.returns-clause-fit
-returns-clause-fit c =
-    books_fit c.args.settings.now (run_of (opening_from c.args.journals.now) c.args.steps.now (journal_of c.run_steps.new.self) c.in_ok-trace.trace.answers) (returns-clause-run c)
-
-pub returns-clause-locality : goal.returns-clause-locality
-returns-clause-locality c =
-    is_local c.args.settings.now (run_of (opening_from c.args.journals.now) c.args.steps.now (journal_of c.run_steps.new.self) c.in_ok-trace.trace.answers) (returns-clause-run c)
+    keeps_the_headline c.args.settings.now (run_of (opening_from c.args.journals.now) c.args.steps.now (journal_of c.run_steps.new.self) c.in_ok-trace.trace.answers)
+    (is_run c.args.settings.now (opening_from c.args.journals.now) c.args.steps.now c.run_steps.new.self c.in_ok-trace.trace.answers (c.run_steps.ensures.settings ∙ opened.0) whole
+    ran.0 (ran.1 ∙ ap (λ (s : HubSettings). trace s (opening_from c.args.journals.now) (reverse c.args.steps.now)) opened.0))

@@ -1,7 +1,7 @@
 use Rattle.std.proofs.Common.{◌∙◌, sym}
 use Rattle.inst_board.specs.declared.about.About.TheVariants.{Opened, HasTerms}
 use Rattle.inst_board.specs.declared.look.Look.TheVariants.{Unused, Pending, Decided}
-use Rattle.inst_cell.proofs.Boards.{opened_too, looks_as, knew_before, says_known, terms_of, pending_not_unused, final_not_unused, look_unused, look_pending, look_decided}
+use Rattle.inst_cell.proofs.Boards.{opened_too, looks_as, knew_before, seen_only, says_known, terms_of, pending_not_unused, final_not_unused, look_unused, look_pending, look_decided}
 use Rattle.inst_cell.proofs.shared_board.board.SharedBoardBoard.look.Goals as goal
 
 pub terms-terms-requires-clause-opened : goal.terms-terms-requires-clause-opened
@@ -9,28 +9,28 @@ terms-terms-requires-clause-opened c =
     let l = c.load-word.ensures in
     let s = l.shows in
     let t = terms_of s.standing c.read_word.result (c.read_word.ensures _ s.standing s.showable s.is) (pending_not_unused _ _ c.in-Pending.is) in
-    says_known c.args.self.now c.load-word.new.self c.args.place s.standing (sym c.has.ensures ∙ c.if-not-has.false) l.stays.settings s.learns Opened (opened_too s.standing (HasTerms t.0) t.1)
+    says_known c.args.self.now c.load-word.new.self c.args.place s.standing s.mine (sym c.has.ensures ∙ c.if-not-has.false) l.stays.settings s.learns Opened tt (opened_too s.standing (HasTerms t.0) t.1)
 
 pub terms-terms-requires-clause-known : goal.terms-terms-requires-clause-known
 terms-terms-requires-clause-known c =
     let l = c.load-word.ensures in
     let s = l.shows in
     let t = terms_of s.standing c.read_word.result (c.read_word.ensures _ s.standing s.showable s.is) (pending_not_unused _ _ c.in-Pending.is) in
-    (t.0, (says_known c.args.self.now c.load-word.new.self c.args.place s.standing (sym c.has.ensures ∙ c.if-not-has.false) l.stays.settings s.learns (HasTerms t.0) t.1))
+    (t.0, (says_known c.args.self.now c.load-word.new.self c.args.place s.standing s.mine (sym c.has.ensures ∙ c.if-not-has.false) l.stays.settings s.learns (HasTerms t.0) tt t.1))
 
 pub terms-terms-requires-in-Final-clause-opened : goal.terms-terms-requires-in-Final-clause-opened
 terms-terms-requires-in-Final-clause-opened c =
     let l = c.load-word.ensures in
     let s = l.shows in
     let t = terms_of s.standing c.read_word.result (c.read_word.ensures _ s.standing s.showable s.is) (final_not_unused _ _ _ c.in-Final.is) in
-    says_known c.args.self.now c.load-word.new.self c.args.place s.standing (sym c.has.ensures ∙ c.if-not-has.false) l.stays.settings s.learns Opened (opened_too s.standing (HasTerms t.0) t.1)
+    says_known c.args.self.now c.load-word.new.self c.args.place s.standing s.mine (sym c.has.ensures ∙ c.if-not-has.false) l.stays.settings s.learns Opened tt (opened_too s.standing (HasTerms t.0) t.1)
 
 pub terms-terms-requires-in-Final-clause-known : goal.terms-terms-requires-in-Final-clause-known
 terms-terms-requires-in-Final-clause-known c =
     let l = c.load-word.ensures in
     let s = l.shows in
     let t = terms_of s.standing c.read_word.result (c.read_word.ensures _ s.standing s.showable s.is) (final_not_unused _ _ _ c.in-Final.is) in
-    (t.0, (says_known c.args.self.now c.load-word.new.self c.args.place s.standing (sym c.has.ensures ∙ c.if-not-has.false) l.stays.settings s.learns (HasTerms t.0) t.1))
+    (t.0, (says_known c.args.self.now c.load-word.new.self c.args.place s.standing s.mine (sym c.has.ensures ∙ c.if-not-has.false) l.stays.settings s.learns (HasTerms t.0) tt t.1))
 
 pub returns-in-Unused-clause-look : goal.returns-in-Unused-clause-look
 returns-in-Unused-clause-look c =
@@ -38,7 +38,7 @@ returns-in-Unused-clause-look c =
     let s = l.shows in
     let before = knew_before _ _ _ _ s in
     let word = c.read_word.ensures _ s.standing s.showable s.is in
-    looks_as c.args.self.now c.args.place (sym c.has.ensures ∙ c.if-not-has.false) s.standing s.agrees c.load-word.new.self l.stays.settings s.learns s.showable before.0 before.1 Unused (look_unused s.standing _ word c.in-Unused.is)
+    looks_as c.args.self.now c.args.place (sym c.has.ensures ∙ c.if-not-has.false) s.standing s.agrees c.load-word.new.self l.stays.settings (seen_only _ _ _ _ s) s.showable before.0 before.1 before.2 Unused (look_unused s.standing _ word c.in-Unused.is)
 
 pub returns-in-Pending-clause-look : goal.returns-in-Pending-clause-look
 returns-in-Pending-clause-look c =
@@ -48,9 +48,9 @@ returns-in-Pending-clause-look c =
     let s = l.shows in
     let before = knew_before _ _ _ _ s in
     let word = c.read_word.ensures _ s.standing s.showable s.is in
-    looks_as b c.args.place (sym c.has.ensures ∙ c.if-not-has.false) s.standing s.agrees c.terms-terms.new.self (e.stays.settings ∙ l.stays.settings) (e.view ∙ s.learns) s.showable before.0 before.1 (Pending c.terms-terms.result c.in-Pending.deadline)
+    looks_as b c.args.place (sym c.has.ensures ∙ c.if-not-has.false) s.standing s.agrees c.terms-terms.new.self (e.stays.settings ∙ l.stays.settings) (e.view ∙ seen_only _ _ _ _ s) s.showable before.0 before.1 before.2 (Pending c.terms-terms.result c.in-Pending.deadline)
     (look_pending s.standing _ c.terms-terms.result c.in-Pending.deadline word c.in-Pending.is
-    (λ u says. e.terms u (says_known b c.load-word.new.self c.args.place s.standing (sym c.has.ensures ∙ c.if-not-has.false) l.stays.settings s.learns (HasTerms u) says)))
+    (λ u says. e.terms u (says_known b c.load-word.new.self c.args.place s.standing s.mine (sym c.has.ensures ∙ c.if-not-has.false) l.stays.settings s.learns (HasTerms u) tt says)))
 
 pub returns-in-Final-clause-look : goal.returns-in-Final-clause-look
 returns-in-Final-clause-look c =
@@ -61,6 +61,6 @@ returns-in-Final-clause-look c =
     let s = l.shows in
     let before = knew_before _ _ _ _ s in
     let word = c.read_word.ensures _ s.standing s.showable s.is in
-    looks_as b c.args.place (sym c.has.ensures ∙ c.if-not-has.false) s.standing s.agrees call.new.self (e.stays.settings ∙ l.stays.settings) (e.view ∙ s.learns) s.showable before.0 before.1 (Decided call.result c.in-Final.outcome)
+    looks_as b c.args.place (sym c.has.ensures ∙ c.if-not-has.false) s.standing s.agrees call.new.self (e.stays.settings ∙ l.stays.settings) (e.view ∙ seen_only _ _ _ _ s) s.showable before.0 before.1 before.2 (Decided call.result c.in-Final.outcome)
     (look_decided s.standing _ call.result c.in-Final.outcome c.in-Final.field-1 word c.in-Final.is
-    (λ u says. e.terms u (says_known b c.load-word.new.self c.args.place s.standing (sym c.has.ensures ∙ c.if-not-has.false) l.stays.settings s.learns (HasTerms u) says)))
+    (λ u says. e.terms u (says_known b c.load-word.new.self c.args.place s.standing s.mine (sym c.has.ensures ∙ c.if-not-has.false) l.stays.settings s.learns (HasTerms u) tt says)))

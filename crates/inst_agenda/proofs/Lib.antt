@@ -1,0 +1,7 @@
+pub mod Agendas
+pub mod Noting
+pub mod Following
+pub mod Settled
+pub mod AfterAsking
+pub mod Skipping
+pub mod GoingOver

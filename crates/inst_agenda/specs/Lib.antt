@@ -1,0 +1,5 @@
+pub mod FollowUps
+pub mod Resting
+pub mod Agenda
+pub mod Naming
+pub mod Watching

@@ -1,0 +1,142 @@
+//! A hub that is run line by line, and goes over those transfers alone of which there is something to do.
+ghost use Rattle.std.specs.Prelude.{◌≡◌, ℕ, true, Some, List, [], ◌∷◌, IfOk, IfSome, OnOk, IsOkUnless};
+ghost use Rattle.inst_settings.specs.Settings.{is_participant};
+ghost use Rattle.inst_command.specs.Ask.{ask_fits};
+ghost use Rattle.inst_command.specs.Step.{step_fits};
+ghost use Rattle.inst_command.specs.declared.step.Step.{Step};
+ghost use Rattle.inst_model.specs.Opening.{Opening};
+ghost use Rattle.inst_model.specs.Hub.{history};
+ghost use Rattle.inst_model.specs.Trace.{answer};
+ghost use Rattle.inst_model.specs.Transfer.{Transfer, at_place};
+ghost use Rattle.inst_slot.specs.Book.{place_at};
+ghost use Rattle.inst_world.specs.HasRun.{HasRun, Runs, IsOfModel};
+ghost use Rattle.inst_agenda.specs.Naming.{named_by};
+ghost use Rattle.inst_agenda.specs.Agenda.{is_next};
+ghost use Rattle.inst_agenda.specs.Watching.{Watches, NotesSome, NotesNamed};
+
+use crate::agenda::Agenda;
+use inst_base::Fault;
+use inst_board::Place;
+use inst_command::{Answer, Ask, Command, Step};
+use inst_settings::Settings;
+use inst_world::World;
+use std::alloc::Global;
+
+/// A hub, and what there is left to do of its transfers.
+#[derive(Drop)]
+pub struct Runner {
+    /// What was run so far.
+    pub world: World,
+    /// What is left to do of its transfers.
+    pub agenda: Agenda,
+}
+
+impl Runner {
+    /// A hub that opens for the first time. `Memory` where there is no room for its slots and places.
+    pub fn open(alloc: Global, settings: &Settings) -> Result<Runner, Fault>
+        ensures settings { IfOk result (λ runner. runner.world.board.settings ≡ settings.now) }
+        ensures watches { IfOk result (λ runner. Watches Opening.First [] runner.world runner.agenda) }
+        ensures only { IsOkUnless result Fault.Memory }
+    {
+        let world = World::open(alloc, settings)?;
+        Runner::new(alloc, world)
+    }
+
+    /// Runs this hub from now on, whatever it has gone through: all its transfers are gone over first.
+    pub fn new(alloc: Global, world: World) -> Result<Runner, Fault>
+        ensures world { IfOk result (λ runner. runner.world ≡ world) }
+        ensures ok { IfOk result (λ runner. (O : Opening) (L : List Step) → HasRun O L world → Watches O L runner.world runner.agenda) }
+        ensures only { IsOkUnless result Fault.Memory }
+    {
+        let mut runner = Runner {
+            world,
+            agenda: Agenda::new(alloc),
+        };
+        for owner in 0..runner.world.settings().participants() {
+            runner.note_all(owner as u8)?;
+        }
+        Ok(runner)
+    }
+
+    /// All live transfers of an originator are gone over next.
+    fn note_all(&mut self, owner: u8) -> Result<(), Fault>
+        ensures world { self.new.world ≡ self.old.world }
+        ensures notes { OnOk result (NotesSome self.old.agenda self.new.agenda owner) }
+        ensures noted { OnOk result ((O : Opening) (L : List Step) → HasRun O L self.old.world → (index : ℕ) (x : Transfer) →
+            at_place owner (history self.old.world.board.settings O L owner) index ≡ Some x → is_next self.new.agenda owner index ≡ true) }
+        ensures only { IsOkUnless result Fault.Memory }
+    {
+        for index in 0..self.world.settings().places() {
+            let place = Place { owner, index };
+            if self.world.beneficiary_at(place).is_none() {
+                return Ok(());
+            }
+            self.agenda.note(place)?;
+        }
+        Ok(())
+    }
+
+    /// The settings of the hub.
+    pub fn settings(&self) -> &Settings
+        ensures { result.now ≡ self.now.world.board.settings }
+    {
+        self.world.settings()
+    }
+
+    /// Runs a step of a script. What it names is not noted. The only error is `Memory`.
+    pub fn step(&mut self, step: &Step) -> Result<Answer, Fault>
+        requires fits { step_fits self.old.world.board.settings step.now ≡ true }
+        ensures ok { IfOk result (λ answer. Runs self.old.world step.now answer self.new.world) }
+        ensures model { IfOk result (λ answer. IsOfModel self.old.world.board.settings step.now answer) }
+        ensures only { IsOkUnless result Fault.Memory }
+        ensures settings { self.new.world.board.settings ≡ self.old.world.board.settings }
+    {
+        self.world.step(step)
+    }
+
+    /// Runs the ask of a line. What it names is gone over next. `Memory` may leave it run, and what it names not noted.
+    pub fn ask(&mut self, ask: Ask) -> Result<Answer, Fault>
+        requires fits { ask_fits self.old.world.board.settings ask ≡ true }
+        ensures ok { IfOk result (λ told. (O : Opening) (L : List Step) → Watches O L self.old.world self.old.agenda →
+            (told ≡ answer self.old.world.board.settings O L (Step.Ask ask))
+            × Watches O (Step.Ask ask ∷ L) self.new.world self.new.agenda) }
+        ensures model { IfOk result (IsOfModel self.old.world.board.settings (Step.Ask ask)) }
+        ensures only { IsOkUnless result Fault.Memory }
+        ensures settings { self.new.world.board.settings ≡ self.old.world.board.settings }
+    {
+        let answer = self.world.step(&Step::Ask(ask))?;
+        self.note_named(&ask)?;
+        Ok(answer)
+    }
+
+    /// The transfer that the ask names is gone over next, if it is live.
+    fn note_named(&mut self, ask: &Ask) -> Result<(), Fault>
+        requires fits { ask_fits self.old.world.board.settings ask.now ≡ true }
+        ensures world { self.new.world ≡ self.old.world }
+        ensures notes { OnOk result (NotesNamed self.old.world (named_by ask.now.who ask.now.command) self.old.agenda self.new.agenda) }
+        ensures only { IsOkUnless result Fault.Memory }
+    {
+        match self.place_named(ask) {
+            Some(place) => self.agenda.note(place),
+            None => Ok(()),
+        }
+    }
+
+    /// The place of the transfer that the ask names, if it is live.
+    fn place_named(&self, ask: &Ask) -> Option<Place>
+        requires fits { ask_fits self.now.world.board.settings ask.now ≡ true }
+        ensures place { (O : Opening) (L : List Step) → HasRun O L self.now.world → (p index : ℕ) (x : Transfer) →
+            at_place p (history self.now.world.board.settings O L p) index ≡ Some x → named_by ask.now.who ask.now.command ≡ Some (p, x.id) →
+            result ≡ Some (place_at p index) }
+        ensures participant { IfSome result (λ place. is_participant self.now.world.board.settings place.owner ≡ true) }
+    {
+        match &ask.command {
+            Command::Submit(submission) => self.world.place_of(ask.who, &submission.id),
+            Command::Confirm { from, id } | Command::Reject { from, id, .. } => {
+                self.world.place_of(*from, id)
+            }
+            Command::Investigate { id } => self.world.place_of(ask.who, id),
+            _ => None,
+        }
+    }
+}

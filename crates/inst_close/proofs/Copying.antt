@@ -1,0 +1,86 @@
+-- Copies of the books, one after the other, and that a hub can be opened from them.
+use Rattle.std.proofs.Common.{◌≡◌, ℕ, zero, suc, ◌+◌, ◌<◌, ◌≤◌, arith, false, List, [], ◌∷◌, ◌++◌, length, length-append, get_or, inl, inr, refl, sym, ap, ◌∙◌, subst, Some}
+use Rattle.std.specs.Prelude.{slice_get, nat_lt}
+use Rattle.std.proofs.lemmas.Bool.{cases_eq, cases_Bool, ltb-true}
+use Rattle.std.proofs.lemmas.Bool.Decides.{nat_tests}
+use Rattle.std.proofs.lemmas.Option.{slice_get-get_or, slice_get_past}
+use Rattle.inst_settings.specs.Settings.{HubSettings}
+use Rattle.inst_journal.specs.declared.event.Event.{Event}
+use Rattle.inst_journal.specs.History.{History}
+use Rattle.inst_journal.specs.Opened.{openings}
+use Rattle.inst_slot.specs.Book.{Book}
+use Rattle.inst_world.specs.NextOpening.{kept_by, books_of, CanOpenFrom}
+use Rattle.inst_world.proofs.Journals.{can_open_from}
+use Rattle.inst_together.specs.Together.{events_of, histories}
+use Rattle.inst_close.specs.ClosedHub.{IsClosed}
+use Rattle.inst_close.specs.NextOpening.{AreCopies}
+
+-- the first n are copied
+pub record CopiedBelow (books : List Book) (journals : List History) (n : ℕ) : Type 0 where
+  pub many : length journals ≡ n
+  pub same : (p : ℕ) → p < n → books_of journals p ≡ histories books p
+
+got_snoc : {A : Type 0} (xs : List A) (y : A) → slice_get (xs ++ y ∷ []) (length xs) ≡ Some y
+got_snoc [] y = refl
+got_snoc (x ∷ xs) y = got_snoc xs y
+
+got_left : {A : Type 0} (xs : List A) (y : A) (p : ℕ) → p < length xs → slice_get (xs ++ y ∷ []) p ≡ slice_get xs p
+got_left [] y p below = absurd (omega arith)
+got_left (x ∷ xs) y zero below = refl
+got_left (x ∷ xs) y (suc p) below = got_left xs y p (omega arith)
+
+pub one_copied : (books : List Book) (journals more : List History) (n : ℕ) (book : Book) (j : History) → n < length books → book ≡ get_or books n book → j.events ≡ book.events → more ≡ journals ++ j ∷ [] → CopiedBelow books journals n → CopiedBelow books more (n + 1)
+one_copied books journals more n book j below here same pushed so = record {
+  many = ap length pushed ∙ (length-append journals (j ∷ []) ∙ ap (λ (k : ℕ). k + 1) so.many);
+  same = λ p small. elim (cases_eq p n) [
+    | inl at ↦
+        let found : slice_get books n ≡ Some book = slice_get-get_or books n book below ∙ ap (λ (b : Book). Some b) (sym here) in
+        let got : slice_get more n ≡ Some j = ap (λ (l : List History). slice_get l n) pushed ∙ (ap (slice_get (journals ++ j ∷ [])) (sym so.many) ∙ got_snoc journals j) in
+        ap (λ (q : ℕ). kept_by (slice_get more q)) at ∙ (ap kept_by got ∙ (same ∙ (sym (ap events_of found) ∙ ap (λ (q : ℕ). events_of (slice_get books q)) (sym at))))
+    | inr other ↦
+        let less : p < n = omega (arith, small, other) in
+        ap kept_by (ap (λ (l : List History). slice_get l p) pushed ∙ got_left journals j p (omega (arith, less, so.many))) ∙ so.same p less
+  ];
+}
+
+pub all_copied : (books : List Book) (journals : List History) (n : ℕ) → length books ≤ n → n ≤ length books → CopiedBelow books journals n → AreCopies books journals
+all_copied books journals n most few so =
+    let long : length journals ≡ length books = omega (arith, so.many, most, few) in
+    record {
+      one_each = long;
+      same = λ p. elim (cases_Bool (nat_lt p n)) [
+        | inl below ↦ so.same p (ltb-true p n below)
+        | inr past ↦
+            let far : n ≤ p = not_below p n past in
+            ap kept_by (slice_get_past journals p (omega (arith, far, long, most, few))) ∙ sym (ap events_of (slice_get_past books p (omega (arith, far, most))))
+      ];
+    }
+  where
+    not_below : (p n : ℕ) → nat_lt p n ≡ false → n ≤ p
+    not_below p n e = grind (arith, nat_tests)
+
+-- the first n may be opened from once more
+pub one_more_few : (books : List Book) (n : ℕ) (book : Book) (count : ℕ) → n < length books → book ≡ get_or books n book → openings book.events < 500 → ((p : ℕ) → p < n → openings (histories books p) < 500) → (p : ℕ) → p < n + 1 → openings (histories books p) < 500
+one_more_few books n book count below here few so p small = elim (cases_eq p n) [
+  | inl at ↦
+      let found : slice_get books n ≡ Some book = slice_get-get_or books n book below ∙ ap (λ (b : Book). Some b) (sym here) in
+      subst (λ (J : List Event). openings J < 500) (sym (ap (λ (q : ℕ). events_of (slice_get books q)) at ∙ ap events_of found)) few
+  | inr other ↦ so p (omega (arith, small, other))
+]
+
+pub all_few : (books : List Book) (n : ℕ) → length books ≤ n → ((p : ℕ) → p < n → openings (histories books p) < 500) → (p : ℕ) → openings (histories books p) < 500
+all_few books n most so p = elim (cases_Bool (nat_lt p n)) [
+  | inl below ↦ so p (ltb-true p n below)
+  | inr past ↦ subst (λ (J : List Event). openings J < 500) (sym (ap events_of (slice_get_past books p (omega (arith, not_below p n past, most))))) none_opened
+]
+  where
+    not_below : (p n : ℕ) → nat_lt p n ≡ false → n ≤ p
+    not_below p n e = grind (arith, nat_tests)
+
+    none_opened : openings [] < 500
+    none_opened = omega arith
+
+pub can_open : (s : HubSettings) (books : List Book) (journals : List History) → IsClosed s books → ((p : ℕ) → openings (histories books p) < 500) → AreCopies books journals → CanOpenFrom s journals
+can_open s books journals closed few copies =
+    can_open_from s (histories books) journals (record { sound = closed.closed.sound; closed = closed.closed.closed; few = few })
+    (record { one_each = copies.one_each ∙ closed.one_each; same = λ p number. copies.same p })

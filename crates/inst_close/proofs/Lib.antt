@@ -1,0 +1,3 @@
+pub mod AtPlace
+pub mod Copying
+pub mod Left

@@ -1,0 +1,5 @@
+use Rattle.inst_close.proofs.Copying.{CopiedBelow}
+use Rattle.inst_close.proofs.books.Books.copies.Given as goal
+
+abbrev pub invariant-loop-slot : goal.invariant-loop-slot
+invariant-loop-slot l = CopiedBelow l.self.books l.journals.items l.slot-index

@@ -1,0 +1,23 @@
+use Rattle.std.proofs.Common.{◌≡◌, ◌<◌, ℕ, arith, length, get_or, ap, ◌∙◌, subst, List}
+use Rattle.inst_journal.specs.declared.event.Event.{Event}
+use Rattle.inst_journal.specs.Opened.{openings}
+use Rattle.inst_slot.specs.Book.{Book}
+use Rattle.inst_close.specs.ClosedHub.{ClosedHub}
+use Rattle.inst_close.proofs.Copying.{one_more_few, all_few}
+use Rattle.inst_close.proofs.books.Books.may_open.Goals as goal
+
+pub loop-slot-preserved : goal.loop-slot-preserved
+loop-slot-preserved c =
+    let books : List Book = c.args.self.now.books in
+    let whole : c.as_slice-slot-items.result.now ≡ books = c.as_slice-slot-items.ensures.value ∙ ap (λ (h : ClosedHub). h.books) c.self.view_is in
+    let i : ℕ = c.loop-slot.slot-index in
+    let below : i < length books = omega (arith, c.loop-slot-test.true, ap (λ (l : List Book). length l) whole) in
+    let here = c.slot-item.is ∙ ap (λ (l : List Book). get_or l i c.slot-item.result) whole in
+    let few : openings c.slot-item.result.events < 500 = subst (λ (J : List Event). openings J < 500) c.journal.ensures.events (subst (λ (n : ℕ). n < 500) c.openings.ensures c.if-openings-ge-MOST_OPENINGS.false) in
+    one_more_few books i c.slot-item.result 0 below here few c.loop-slot.invariant
+
+pub returns : goal.returns
+returns c = λ yes.
+    let books : List Book = c.args.self.now.books in
+    let whole : c.as_slice-slot-items.result.now ≡ books = c.as_slice-slot-items.ensures.value ∙ ap (λ (h : ClosedHub). h.books) c.self.view_is in
+    all_few books c.loop-slot.slot-index (omega (arith, c.loop-slot-test.false, ap (λ (l : List Book). length l) whole)) c.loop-slot.invariant

@@ -1,0 +1,3 @@
+pub mod ClosedHub
+pub mod NextOpening
+pub mod Closing

@@ -1,0 +1,92 @@
+ghost use Rattle.std.specs.Prelude.{◌≡◌, ◌<◌, length};
+ghost use Rattle.inst_settings.specs.Settings.{participants};
+ghost use Rattle.inst_journal.specs.Sound.{IsSound};
+ghost use Rattle.inst_model.specs.Closing.{AreClosed};
+ghost use Rattle.inst_together.specs.Together.{histories};
+ghost use Rattle.inst_together.specs.Told.{told};
+ghost use Rattle.inst_close.specs.ClosedHub.{taken_state};
+
+use inst_board::Place;
+use inst_cell::Ticket;
+use inst_command::{Outcome, State};
+use inst_journal::{Event, Journal};
+use inst_settings::Settings;
+use inst_slot::Slot;
+use std::marker::Model;
+
+/// The books of all participants of a hub that was closed: each is a history that a participant can have, and together
+/// they are closed.
+#[derive(Drop)]
+pub struct Books {
+    pub(crate) settings: Settings,
+    pub(crate) slots: Vec<Slot>,
+}
+
+impl Model for Books {
+    ghost use Rattle.inst_close.specs.ClosedHub.{ClosedHub, IsClosed};
+
+    ghost Value = { ClosedHub };
+
+    ghost view = { λ b. record { settings = b.settings; books = b.slots.items } };
+
+    ghost invariant = { λ b. IsClosed b.settings b.slots.items };
+}
+
+impl Books {
+    /// The books that these slots have.
+    pub(crate) fn of(settings: Settings, slots: Vec<Slot>) -> Books
+        requires one_each { length slots.items ≡ participants settings }
+        requires closed { AreClosed settings (histories slots.items) }
+        ensures settings { result.settings ≡ settings }
+        ensures books { result.books ≡ slots.items }
+    {
+        Books { settings, slots }
+    }
+
+    /// The settings of the hub. Its books are closed.
+    pub fn settings(&self) -> &Settings
+        ensures settings { result.now ≡ self.now.settings }
+        ensures one_each { length self.now.books ≡ participants self.now.settings }
+        ensures closed { AreClosed self.now.settings (histories self.now.books) }
+    {
+        &self.settings
+    }
+
+    /// The book of the participant `who`.
+    pub fn book(&self, who: u8) -> &Journal
+        requires { who < participants self.now.settings }
+        ensures events { result.now.events ≡ histories self.now.books who }
+        ensures sound { IsSound self.now.settings who result.now.events }
+    {
+        self.slots[usize::from(who)].journal()
+    }
+
+    /// What the originator's book says of the ticket's place: `Unused` where no transfer was taken there.
+    pub fn told(&self, ticket: &Ticket) -> State
+        ensures { result ≡ told (histories self.now.books) ticket.now }
+    {
+        let Place { owner, index } = ticket.place();
+        if usize::from(owner) >= self.slots.len() {
+            return State::Unused;
+        }
+        let journal = self.slots[usize::from(owner)].journal();
+        let Some(event) = journal.taken_at(owner, usize::from(index)) else {
+            return State::Unused
+        };
+        state(journal, owner, &event)
+    }
+}
+
+/// The state of what the event took.
+fn state(journal: &Journal, owner: u8, event: &Event) -> State
+    ensures { result ≡ taken_state owner journal.now.events event.now }
+{
+    let _: Option<Outcome> = None;
+    match event {
+        Event::Taken { id, .. } => match journal.booked(owner, id) {
+            Some(outcome) => State::Decided(outcome),
+            None => State::Pending,
+        },
+        _ => State::Unused,
+    }
+}

@@ -1,0 +1,78 @@
+//! The hub of the next opening.
+ghost use Rattle.std.specs.Prelude.{◌≡◌, ◌⊎◌, ◌↔◌, ◌<◌, ◌++◌, ◌∷◌, [], ℕ, true, length, IfOk, IfErr, IsOkUnless, Err};
+ghost use Rattle.inst_settings.specs.Settings.{participants};
+ghost use Rattle.inst_journal.specs.Opened.{openings};
+ghost use Rattle.inst_world.specs.NextOpening.{CanOpenFrom};
+ghost use Rattle.inst_together.specs.Together.{histories};
+ghost use Rattle.inst_hub.specs.Calls.{AreOf};
+ghost use Rattle.inst_hub.specs.Opening.{parts_of};
+ghost use Rattle.inst_close.specs.ClosedHub.{ClosedHub};
+ghost use Rattle.inst_close.specs.NextOpening.{AreCopies};
+ghost use Rattle.inst_close.specs.Closing.{IsNextOf};
+
+use crate::Books;
+use inst_base::Fault;
+use inst_command::Outcome;
+use inst_hub::{Hub, Teller};
+use inst_journal::{Event, Journal};
+use std::alloc::Global;
+
+/// How often books can be opened from.
+const MOST_OPENINGS: usize = 500;
+
+/// How often the journal was opened from.
+fn openings(journal: &Journal) -> usize
+    ensures { result ≡ openings journal.now.events }
+{
+    let _: Option<Outcome> = None;
+    journal
+        .events()
+        .iter()
+        .filter(|event| matches!(event, Event::Opened))
+        .count()
+}
+
+impl Books {
+    /// Copies of the books, by number.
+    fn copies(&self, alloc: Global) -> Result<Vec<Journal>, Fault>
+        ensures ok { IfOk result (λ journals. AreCopies self.now.books journals.items) }
+        ensures only { IsOkUnless result Fault.Memory }
+    {
+        let mut journals = Vec::new(alloc);
+        for slot in self.slots.as_slice() {
+            journals.push(slot.journal().copy()?)?;
+        }
+        Ok(journals)
+    }
+
+    /// Whether each book can be opened from once more.
+    pub fn may_open(&self) -> bool
+        ensures { result ≡ true → (p : ℕ) → openings (histories self.now.books p) < 500 }
+    {
+        for slot in self.slots.as_slice() {
+            if openings(slot.journal()) >= MOST_OPENINGS {
+                return false;
+            }
+        }
+        true
+    }
+
+    /// The hub of the next opening, with as many tellers as are wanted: what was pending goes on, what was decided gives
+    /// its place back. The books stay as they are. `BadSettings` where the tellers are not 1 to 16 or a book was opened
+    /// from 500 times, `Memory` where there is no room.
+    pub fn open_next(&self, alloc: Global, tellers: u8) -> Result<(Hub, Vec<Teller>), Fault>
+        ensures settings { IfOk result (λ r. r.0.settings ≡ self.now.settings) }
+        ensures enough { IfOk result (λ r. length r.1.items ≡ tellers) }
+        ensures of { IfOk result (λ r. AreOf r.0 r.1.items) }
+        ensures parts { IfOk result (λ r. parts_of r.1.items ≡ 16) }
+        ensures opened { IfOk result (λ r. IsNextOf self.now.books r.0) }
+        ensures only { IfErr result (λ e. (e ≡ Fault.Memory) ⊎ (e ≡ Fault.BadSettings)) }
+    {
+        if !self.may_open() {
+            return Err(Fault::BadSettings);
+        }
+        let settings = self.settings().copy()?;
+        let journals = self.copies(alloc)?;
+        Hub::open_from(alloc, settings, &journals, tellers)
+    }
+}

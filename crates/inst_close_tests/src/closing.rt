@@ -1,0 +1,95 @@
+// A hub of two tellers is closed with one transfer confirmed and one pending, and another opens from its books.
+ghost use Rattle.std.specs.Prelude.{◌≡◌, IfOk};
+ghost use Rattle.inst_model.specs.Opening.{Opening};
+ghost use Rattle.inst_hub.specs.Calls.{AreOf};
+ghost use Rattle.inst_hub.specs.Opening.{parts_of};
+ghost use Rattle.inst_close.specs.Closing.{IsOpenedSo};
+
+use crate::asking::{confirm, one_confirmed};
+use crate::reading::{Sums, sums_of, told};
+use inst_base::Fault;
+use inst_close::{Books, close};
+use inst_command::{Outcome, State};
+use inst_hub::{Hub, Teller, Ticket};
+use inst_rows::settings;
+use std::alloc::Global;
+use std::sync::Wait;
+
+/// The hub of the first opening, with two tellers.
+fn opened(alloc: Global) -> Result<(Hub, Vec<Teller>), Fault>
+    ensures of { IfOk result (λ r. AreOf r.0 r.1.items) }
+    ensures parts { IfOk result (λ r. parts_of r.1.items ≡ 16) }
+    ensures opened { IfOk result (λ r. (O : Opening) × IsOpenedSo O r.0) }
+{
+    Hub::open(alloc, settings(alloc)?, 2)
+}
+
+/// The hub of the next opening, with one teller.
+fn opened_again(alloc: Global, books: &Books) -> Result<(Hub, Vec<Teller>), Fault>
+    ensures of { IfOk result (λ r. AreOf r.0 r.1.items) }
+    ensures parts { IfOk result (λ r. parts_of r.1.items ≡ 16) }
+    ensures opened { IfOk result (λ r. (O : Opening) × IsOpenedSo O r.0) }
+{
+    books.open_next(alloc, 1)
+}
+
+/// The books of the hub; `Memory` where there was no room.
+fn closed(alloc: Global, hub: Hub, tellers: Vec<Teller>) -> Result<Books, Fault>
+    requires of { AreOf hub tellers.items }
+    requires parts { parts_of tellers.items ≡ 16 }
+    requires opened { (O : Opening) × IsOpenedSo O hub }
+{
+    match close(alloc, hub, tellers) {
+        Ok(books) => Ok(books),
+        Err(_) => Err(Fault::Memory),
+    }
+}
+
+/// The books of a hub in which one transfer was confirmed and one stayed pending, with the tickets of both.
+fn first_books<R: Wait>(rt: &R, alloc: Global) -> Result<(Books, (Ticket, Ticket)), Fault> {
+    let (hub, mut tellers) = opened(alloc)?;
+    let tickets = one_confirmed(rt, &hub, &mut tellers)?;
+    Ok((closed(alloc, hub, tellers)?, tickets))
+}
+
+#[test]
+fn closes_and_tells(rt: HostRuntime) -> Result<(), Fault> {
+    let (books, tickets) = first_books(&rt, rt.alloc())?;
+    let accepted = State::Decided(Outcome::Accepted);
+    assert_eq!(rt; told(&books, &tickets), (accepted, State::Pending));
+    let expected = Sums {
+        first: 30_000,
+        second: 20_000,
+        third: 0,
+        net: 50_000,
+    };
+    assert_eq!(rt; sums_of(&books)?, expected);
+    Ok(())
+}
+
+/// The state that the confirmation of the pending transfer tells in the next opening, and the books of this one.
+fn next_books<R: Wait>(
+    rt: &R,
+    alloc: Global,
+    books: &Books,
+) -> Result<(Option<State>, Books), Fault> {
+    let (hub, mut tellers) = opened_again(alloc, books)?;
+    let state = confirm(rt, &hub, &mut tellers, 0, "T2")?;
+    Ok((state, closed(alloc, hub, tellers)?))
+}
+
+#[test]
+fn opens_again_from_its_books(rt: HostRuntime) -> Result<(), Fault> {
+    let alloc = rt.alloc();
+    let (books, _) = first_books(&rt, alloc)?;
+    let (state, next) = next_books(&rt, alloc, &books)?;
+    assert_eq!(rt; state, Some(State::Decided(Outcome::Accepted)));
+    let expected = Sums {
+        first: 25_000,
+        second: 25_000,
+        third: 0,
+        net: 50_000,
+    };
+    assert_eq!(rt; sums_of(&next)?, expected);
+    Ok(())
+}

@@ -1,0 +1,127 @@
+-- The seats of all tellers are joined to one, and what lay behind the locks is taken out, one after the other.
+use Rattle.std.proofs.Common.{◌≡◌, ◌≢◌, ℕ, zero, suc, ◌+◌, ◌<◌, ◌≤◌, arith, Bool, true, false, List, [], ◌∷◌, ◌++◌, length, length-append, append_assoc, append-nil, get_or, set, inl, inr, ◌⊎◌, ⊎_elim, refl, sym, ap, ◌∙◌, subst, Option, Some, None}
+use Rattle.std.specs.Prelude.{slice_get, map, ◌↔◌}
+use Rattle.std.specs.Global.{Box}
+use Rattle.std.proofs.lemmas.List.{map-append}
+use Rattle.std.proofs.lemmas.Option.{slice_get_within}
+use Rattle.std.proofs.lemmas.Bool.{cases_eq}
+use Rattle.atomic_table.specs.Seated.{TableId}
+use Rattle.inst_hub.specs.declared.outset.Outset.{Outset}
+use Rattle.inst_cell.specs.declared.shared_board.SharedBoard.{SharedBoard}
+use Rattle.inst_cell.specs.declared.teller.Teller.{Teller as Sight}
+use Rattle.inst_journal.specs.declared.event.Event.{Event}
+use Rattle.inst_row.specs.declared.seat.RowSeat.{RowSeat}
+use Rattle.inst_row.specs.Seated.{IsOn, IsIdle, IsFree, HasAll, HasSeen, SeesBoth, view_of}
+use Rattle.inst_slot.specs.Book.{Book}
+use Rattle.inst_slot.proofs.Growing.{snoc_cases}
+use Rattle.inst_participant.specs.declared.participant.Participant.{Participant}
+use Rattle.inst_hub.specs.declared.teller.Teller.{Teller}
+use Rattle.inst_hub.specs.Closing.{IsSeated, AreSeated, IsTakenOut, AreTakenOut}
+use Rattle.inst_hub.specs.Opening.{parts_of}
+use Rattle.inst_hub.proofs.Starting.{parts_more}
+
+abbrev pub Seat : Type 0
+Seat = RowSeat (Box Participant) Event Outset
+
+abbrev pub sight_of : Teller → Sight
+sight_of t = t.sight
+
+-- what is gathered so far
+pub record Gathered (id : TableId) (key : Outset) (all done rest : List Teller) (seat : Seat) (sights : List Sight) : Type 0 where
+  pub split : done ++ rest ≡ all
+  pub on : IsOn id key seat
+  pub idle : IsIdle seat
+  pub parts : (view_of seat).parts ≡ parts_of done
+  pub seen : (i : ℕ) (t : Teller) (p : ℕ) (h : List Event) → slice_get done i ≡ Some t → HasSeen p h t.seat → HasSeen p h seat
+  pub sights_are : sights ≡ map sight_of done
+
+got_last : {A : Type 0} (done rest : List A) (x : A) (all : List A) → done ++ x ∷ rest ≡ all → slice_get all (length done) ≡ Some x
+got_last [] rest x all e = ap (λ l. slice_get l 0) (sym e)
+got_last (y ∷ done) rest x all e = ap (λ l. slice_get l (suc (length done))) (sym e) ∙ got_last done rest x (done ++ x ∷ rest) refl
+
+got_only : {A : Type 0} (x y : A) (p : ℕ) → slice_get (x ∷ []) p ≡ Some y → x ≡ y
+got_only x y zero e = cc
+got_only x y (suc p) e = let no : ⊥ = cc in absurd no
+
+pub first_gathered : (id : TableId) (key : Outset) (all rest : List Teller) (t : Teller) (sights new : List Sight) → AreSeated id key all → all ≡ t ∷ rest → sights ≡ [] → new ≡ sights ++ t.sight ∷ [] → Gathered id key all (t ∷ []) rest t.seat new
+first_gathered id key all rest t sights new seated e none pushed =
+    let s = seated 0 t (ap (λ (l : List Teller). slice_get l 0) e) in
+    record {
+      split = sym e;
+      on = s.on;
+      idle = s.free.idle;
+      parts = (let p = parts_more [] t in let none : parts_of [] ≡ 0 = refl in omega (arith, p, none));
+      seen = λ i u p h at seen. subst (λ (v : Teller). HasSeen p h v.seat) (sym (got_only t u i at)) seen;
+      sights_are = pushed ∙ ap (λ (l : List Sight). l ++ t.sight ∷ []) none;
+    }
+
+pub its_seat : (id : TableId) (key : Outset) (all done rest left : List Teller) (t : Teller) (seat : Seat) (sights : List Sight) → AreSeated id key all → Gathered id key all done rest seat sights → rest ≡ t ∷ left → IsSeated id key t
+its_seat id key all done rest left t seat sights seated so e =
+    seated (length done) t (got_last done left t all (ap (λ (l : List Teller). done ++ l) (sym e) ∙ so.split))
+
+pub more_gathered : (id : TableId) (key : Outset) (all done rest left : List Teller) (t : Teller) (seat new : Seat) (sights more : List Sight) → rest ≡ t ∷ left → Gathered id key all done rest seat sights → IsOn id key new → IsIdle new
+    → (view_of new).parts ≡ (view_of seat).parts + (view_of t.seat).parts → SeesBoth seat t.seat new → more ≡ sights ++ t.sight ∷ [] → Gathered id key all (done ++ t ∷ []) left new more
+more_gathered id key all done rest left t seat new sights more e so on idle parts sees pushed = record {
+  split = append_assoc done (t ∷ []) left ∙ (ap (λ (l : List Teller). done ++ l) (sym e) ∙ so.split);
+  on = on;
+  idle = idle;
+  parts = parts ∙ (ap (λ (n : ℕ). n + (view_of t.seat).parts) so.parts ∙ sym (parts_more done t));
+  seen = λ i u p h at seen. ⊎_elim
+      (λ old. (sees p h).1 (inl (so.seen i u p h old seen)))
+      (λ last. (sees p h).1 (inr (subst (λ (v : Teller). HasSeen p h v.seat) (sym last.1) seen)))
+      (snoc_cases done t u i at);
+  sights_are = pushed ∙ (ap (λ (l : List Sight). l ++ t.sight ∷ []) so.sights_are ∙ sym (map-append sight_of done (t ∷ [])));
+}
+
+whole : (id : TableId) (key : Outset) (all done rest : List Teller) (seat : Seat) (sights : List Sight) → rest ≡ [] → Gathered id key all done rest seat sights → done ≡ all
+whole id key all done rest seat sights none so = sym (append-nil done) ∙ (ap (λ (l : List Teller). done ++ l) (sym none) ∙ so.split)
+
+pub all_gathered : (id : TableId) (key : Outset) (all done rest : List Teller) (seat : Seat) (sights : List Sight) → rest ≡ [] → parts_of all ≡ 16 → Gathered id key all done rest seat sights → HasAll seat
+all_gathered id key all done rest seat sights none parts so =
+    let sixteen : (view_of seat).parts ≡ 16 = so.parts ∙ (ap parts_of (whole id key all done rest seat sights none so) ∙ parts) in
+    record { free = record { idle = so.idle; part = omega (arith, sixteen) }; parts = sixteen }
+
+pub all_seen : (id : TableId) (key : Outset) (all done rest : List Teller) (seat : Seat) (sights : List Sight) → rest ≡ [] → Gathered id key all done rest seat sights
+    → (i : ℕ) (t : Teller) (p : ℕ) (h : List Event) → slice_get all i ≡ Some t → HasSeen p h t.seat → HasSeen p h seat
+all_seen id key all done rest seat sights none so i t p h at seen = so.seen i t p h (ap (λ (l : List Teller). slice_get l i) (whole id key all done rest seat sights none so) ∙ at) seen
+
+pub all_sights : (id : TableId) (key : Outset) (all done rest : List Teller) (seat : Seat) (sights : List Sight) → rest ≡ [] → Gathered id key all done rest seat sights → sights ≡ map sight_of all
+all_sights id key all done rest seat sights none so = so.sights_are ∙ ap (map sight_of) (whole id key all done rest seat sights none so)
+
+-- there is room for one sight more
+pub room_left : (id : TableId) (key : Outset) (all done rest left : List Teller) (t : Teller) (seat : Seat) (sights : List Sight) → rest ≡ t ∷ left → Gathered id key all done rest seat sights → length sights < length all
+room_left id key all done rest left t seat sights e so =
+    let split = ap (λ (l : List Teller). length l) so.split in
+    let joined : length (done ++ rest) ≡ length done + length rest = length-append done rest in
+    let some : length rest ≡ suc (length left) = ap (λ (l : List Teller). length l) e in
+    let few : length sights ≡ length done = ap (λ (l : List Sight). length l) so.sights_are ∙ same_length done in
+    omega (arith, split, joined, some, few)
+  where
+    same_length : (ts : List Teller) → length (map sight_of ts) ≡ length ts
+    same_length [] = refl
+    same_length (x ∷ xs) = ap suc (same_length xs)
+
+-- one slot and its board more were taken out
+pub none_out : (words : Outset) (seat : Seat) (slots : List Book) (boards : List SharedBoard) → slots ≡ [] → boards ≡ [] → AreTakenOut words 0 seat slots boards
+none_out words seat slots boards e f = record {
+  enough = (ap length e, ap length f);
+  each = λ p x b at on. let no : None ≡ Some x = sym (ap (λ (l : List Book). slice_get l p) e) ∙ at in let bad : ⊥ = cc in absurd bad;
+}
+
+pub one_out : (words : Outset) (n : ℕ) (seat : Seat) (slots more : List Book) (boards others : List SharedBoard) (x : Book) (b : SharedBoard) → AreTakenOut words n seat slots boards → IsTakenOut words seat n x b → more ≡ slots ++ x ∷ [] → others ≡ boards ++ b ∷ []
+    → AreTakenOut words (n + 1) seat more others
+one_out words n seat slots more boards others x b so new e f = record {
+  enough = (
+    ap length e ∙ (length-append slots (x ∷ []) ∙ ap (λ (k : ℕ). k + 1) so.enough.0),
+    ap length f ∙ (length-append boards (b ∷ []) ∙ ap (λ (k : ℕ). k + 1) so.enough.1),
+  );
+  each = λ p y c at on. at_each p y c (snoc_cases slots x y p (ap (λ (l : List Book). slice_get l p) (sym e) ∙ at)) (snoc_cases boards b c p (ap (λ (l : List SharedBoard). slice_get l p) (sym f) ∙ on));
+}
+  where
+    at_each : (p : ℕ) (y : Book) (c : SharedBoard) → (slice_get slots p ≡ Some y) ⊎ ((p ≡ length slots) × (x ≡ y)) → (slice_get boards p ≡ Some c) ⊎ ((p ≡ length boards) × (b ≡ c)) → IsTakenOut words seat p y c
+    at_each p y c (inl old) (inl had) = so.each p y c old had
+    at_each p y c (inl old) (inr last) = absurd (omega (arith, slice_get_within slots p y old, so.enough.0, so.enough.1, last.0))
+    at_each p y c (inr last) (inl had) = absurd (omega (arith, slice_get_within boards p c had, so.enough.0, so.enough.1, last.0))
+    at_each p y c (inr last) (inr end) =
+        subst (λ (q : ℕ). IsTakenOut words seat q y c) (sym (last.0 ∙ so.enough.0))
+        (subst (λ (d : SharedBoard). IsTakenOut words seat n y d) end.1 (subst (λ (z : Book). IsTakenOut words seat n z b) last.1 new))

@@ -1,0 +1,39 @@
+use Rattle.std.proofs.Common.{ℕ, ◌<◌, ◌≡◌, sym, ap, ◌∙◌, subst, List}
+use mathlib.Core.List.{IsPrefix}
+use Rattle.inst_journal.specs.declared.event.Event.{Event}
+use Rattle.inst_row.specs.Row.{key_of}
+use Rattle.inst_slot.specs.Book.{Book}
+use Rattle.inst_cell.specs.declared.teller.Teller.{Teller as Sight}
+use Rattle.std.specs.Prelude.{slice_get}
+use Rattle.inst_together.specs.Together.{histories}
+use Rattle.inst_hub.proofs.TakingApart.{at_one, sights_of_words, separate, goes_on, map_got}
+use Rattle.inst_hub.proofs.Gathering.{sight_of}
+use Rattle.inst_hub.proofs.hub.Hub.take_apart.Goals as goal
+
+pub unite-requires : goal.unite-requires
+unite-requires c =
+    let h = c.args.self in
+    record {
+      one = (
+        (key_of h.row).words.value,
+        at_one h c.gather-seat.result c.empty.new.slots.items c.empty.new.boards.items c.empty.ensures.taken,
+        sights_of_words h c.gather-seat.result c.empty.new.slots.items c.empty.new.boards.items c.empty.ensures.taken c.args.tellers.items c.gather-seat.new.sights.items c.requires.of c.gather-seat.ensures.sights,
+      );
+    }
+
+pub returns-clause-parts : goal.returns-clause-parts
+returns-clause-parts c = λ O opened from.
+    let h = c.args.self in
+    c.unite.ensures.parts (key_of h.row).words.value O
+    (separate h c.gather-seat.result c.empty.new.slots.items c.empty.new.boards.items c.empty.ensures.taken O opened from)
+
+pub returns-clause-goes_on : goal.returns-clause-goes_on
+returns-clause-goes_on c = λ i t p seen at below saw.
+    let h = c.args.self in
+    let g = goes_on h c.gather-seat.result c.empty.new.slots.items c.empty.new.boards.items c.empty.ensures.taken p (subst (λ (n : ℕ). p < n) (sym h.sized) below) in
+    let whole : histories c.unite.result.slots.items p ≡ g.0.events = ap (λ (l : List Book). histories l p) c.unite.ensures.slots ∙ g.1 in
+    subst (λ (J : List Event). IsPrefix seen J) (sym whole) (g.2 seen (c.gather-seat.ensures.seen i t p seen at saw))
+
+pub returns-clause-knows : goal.returns-clause-knows
+returns-clause-knows c = λ i t f at kn.
+    c.unite.ensures.sights i t.sight f (ap (λ (l : List Sight). slice_get l i) c.gather-seat.ensures.sights ∙ map_got sight_of c.args.tellers.items i t at) kn

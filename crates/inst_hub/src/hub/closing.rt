@@ -1,0 +1,139 @@
+//! How a hub is taken apart when it closes.
+ghost use Rattle.std.specs.Prelude.{◌≡◌, ℕ, ◌<◌, ◌≤◌, ◌+◌, [], List, map, length, slice_get, Some, IfOk, IfErr, vec_len, vec_capacity};
+ghost use mathlib.Core.List.{IsPrefix};
+ghost use Rattle.inst_board.specs.declared.about.Fact.{Fact};
+ghost use Rattle.inst_cell.specs.Held.{knows};
+ghost use Rattle.inst_journal.specs.declared.event.Event.{Event};
+ghost use Rattle.inst_model.specs.Opening.{Opening, IsOpening};
+ghost use Rattle.inst_row.specs.Row.{row_id, key_of, size};
+ghost use Rattle.inst_row.specs.Seated.{IsOn, HasAll, HasSeen, GoesOn};
+ghost use Rattle.inst_parts.specs.Apart.{IsPartsOf, histories_of, board_of, hub_of};
+ghost use Rattle.inst_hub.specs.declared.teller.Teller.{Teller};
+ghost use Rattle.inst_hub.specs.Calls.{AreOf, knows_of};
+ghost use Rattle.inst_hub.specs.Opening.{parts_of};
+ghost use Rattle.inst_settings.specs.Settings.{participants};
+ghost use Rattle.inst_hub.specs.Founding.{HasOpened};
+ghost use Rattle.inst_hub.specs.Closing.{AreSeated, AreTakenOut};
+
+use super::Hub;
+use crate::behind::Behind;
+use crate::outset::Outset;
+use crate::teller::Teller;
+use inst_base::Fault;
+use inst_cell::SharedBoard;
+use inst_command::Outcome;
+use inst_journal::Event;
+use inst_participant::Participant;
+use inst_parts::Parts;
+use inst_row::{LockRow, RowSeat};
+use inst_slot::Slot;
+use std::alloc::{AllocError, Global};
+
+type Row = LockRow<Box<Participant>, Event, Outset, Behind>;
+
+type Seat = RowSeat<Box<Participant>, Event, Outset>;
+
+/// Why a hub wasn't taken apart, with the hub and its tellers as they were.
+#[derive(Drop)]
+pub struct TakeFault {
+    pub fault: Fault,
+    pub hub: Hub,
+    pub tellers: Vec<Teller>,
+}
+
+/// One seat with the parts of all tellers' seats, which has seen what each of them had; what the tellers see with goes
+/// into a list with room for it.
+fn gather(row: &Row, tellers: Vec<Teller>, sights: &mut Vec<inst_cell::Teller>) -> Seat
+    requires some { 0 < size row.now }
+    requires seated { AreSeated (row_id row.now) (key_of row.now) tellers.items }
+    requires parts { parts_of tellers.items ≡ 16 }
+    requires none { sights.old.items ≡ [] }
+    requires room { length tellers.items ≤ vec_capacity sights.old }
+    ensures on { IsOn (row_id row.now) (key_of row.now) result }
+    ensures all { HasAll result }
+    ensures seen { (i : ℕ) (t : Teller) (p : ℕ) (h : List Event) → slice_get tellers.items i ≡ Some t → HasSeen p h t.seat → HasSeen p h result }
+    ensures sights { sights.new.items ≡ map (λ t. t.sight) tellers.items }
+{
+    let mut tellers = tellers.into_iter();
+    let Some(Teller { sight, seat }) = tellers.next() else {
+        unreachable!()
+    };
+    let mut whole = seat;
+    sights.push_reserved(sight);
+    for teller in tellers {
+        let Teller { sight, seat } = teller;
+        row.join(&mut whole, seat);
+        sights.push_reserved(sight);
+    }
+    whole
+}
+
+/// Takes each slot with its board out of its lock, by number, into lists with room for them.
+fn empty(row: Row, seat: Seat, slots: &mut Vec<Slot>, boards: &mut Vec<SharedBoard>)
+    requires on { IsOn (row_id row) (key_of row) seat }
+    requires all { HasAll seat }
+    requires none { (slots.old.items ≡ []) × (boards.old.items ≡ []) }
+    requires room { (size row ≤ vec_capacity slots.old) × (size row ≤ vec_capacity boards.old) }
+    ensures taken { AreTakenOut (key_of row) (size row) seat slots.new.items boards.new.items }
+{
+    // The check is told of a type of another crate inside an event only where a function names it.
+    let _: Option<Outcome> = None;
+    let mut closed = row.take_apart(seat);
+    for lock in 0..closed.slot_count() {
+        let Some(found) = closed.take(lock) else {
+            unreachable!()
+        };
+        let Participant { slot, board } = Box::into_inner(found);
+        // The check is told that a history is sound only by a call.
+        let _ = slot.journal();
+        slots.push_reserved(slot);
+        boards.push_reserved(board);
+    }
+    closed.free();
+}
+
+impl Hub {
+    /// The parts of the hub: the slots of its participants, whose histories go on from all that a teller has seen, over
+    /// one board with the roles of all that knows what each teller knew. It waits for no lock, since nobody else has the
+    /// hub. Where memory is refused it hands the hub and its tellers back as they were.
+    pub fn take_apart(self, alloc: Global, tellers: Vec<Teller>) -> Result<Parts, TakeFault>
+        requires of { AreOf self tellers.items }
+        requires parts { parts_of tellers.items ≡ 16 }
+        ensures settings { IfOk result (λ parts. hub_of parts ≡ self.settings) }
+        ensures parts { IfOk result (λ parts. (O : Opening) → IsOpening self.settings O → HasOpened O self → IsPartsOf O parts) }
+        ensures goes_on { IfOk result (λ parts. (i : ℕ) (t : Teller) (p : ℕ) (h : List Event) → slice_get tellers.items i ≡ Some t → p < participants self.settings → HasSeen p h t.seat → IsPrefix h (histories_of parts p)) }
+        ensures knows { IfOk result (λ parts. (i : ℕ) (t : Teller) (f : Fact) → slice_get tellers.items i ≡ Some t → knows_of t f → knows (board_of parts) f) }
+        ensures err { IfErr result (λ e. (e.fault ≡ Fault.Memory) × (e.hub ≡ self) × (e.tellers.items ≡ tellers.items)) }
+    {
+        let locks = self.row.len();
+        let rooms = rooms(alloc, locks, tellers.as_slice().len());
+        let Ok((mut slots, mut boards, mut sights)) = rooms else {
+            return Err(TakeFault {
+                fault: Fault::Memory,
+                hub: self,
+                tellers,
+            });
+        };
+        // The check is told that there are participants only by a call.
+        let _ = self.settings.participants();
+        let Hub { settings, row } = self;
+        let seat = gather(&row, tellers, &mut sights);
+        empty(row, seat, &mut slots, &mut boards);
+        Ok(Parts::unite(settings, slots, boards, sights))
+    }
+}
+
+/// Lists with room for what the locks hold and for what the tellers see with.
+fn rooms(
+    alloc: Global,
+    locks: usize,
+    tellers: usize,
+) -> Result<(Vec<Slot>, Vec<SharedBoard>, Vec<inst_cell::Teller>), AllocError>
+    ensures none { IfOk result (λ r. (r.0.items ≡ []) × (r.1.items ≡ []) × (r.2.items ≡ [])) }
+    ensures room { IfOk result (λ r. (locks ≤ vec_capacity r.0) × (locks ≤ vec_capacity r.1) × (tellers ≤ vec_capacity r.2)) }
+{
+    let slots = Vec::with_capacity(alloc, locks)?;
+    let boards = Vec::with_capacity(alloc, locks)?;
+    let sights = Vec::with_capacity(alloc, tellers)?;
+    Ok((slots, boards, sights))
+}

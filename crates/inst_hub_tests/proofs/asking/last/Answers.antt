@@ -1,0 +1,9 @@
+use Rattle.std.proofs.Common.{◌≡◌, sym, subst, List, Some}
+use Rattle.std.specs.Prelude.{slice_get}
+use Rattle.inst_slot.proofs.Growing.{slice_get_left}
+use Rattle.inst_hub.specs.declared.teller.Teller.{Teller}
+use Rattle.inst_hub_tests.proofs.asking.last.Goals as goal
+
+pub returns-in-Some-clause-rest : goal.returns-in-Some-clause-rest
+returns-in-Some-clause-rest c = λ i t at. c.requires i t
+    (subst (λ (l : List Teller). slice_get l i ≡ Some t) (sym c.in-Some.ensures.items) (slice_get_left c.pop.new.self.items c.in-Some.teller t i at))

@@ -1,0 +1,102 @@
+// A hub that opens again from the journals of a hub in one thread, which was closed with a transfer pending.
+ghost use Rattle.std.specs.Prelude.{◌≡◌, IfOk};
+ghost use Rattle.inst_model.specs.Rows as rows;
+ghost use Rattle.inst_hub.specs.Calls.{IsOf};
+
+use crate::asking::{ask, confirm, investigate, last, position_of, state_of};
+use inst_base::Fault;
+use inst_command::{Command, Outcome, State, Step};
+use inst_hub::{Hub, Teller};
+use inst_rows::{A, B, books, settings};
+use std::sync::Wait;
+
+/// Participant 1 gets two transfers of participant 0, and confirms the first.
+fn one_settled() -> Result<[Step; 7], Fault>
+    ensures { IfOk result (λ steps. steps ≡ rows.one_settled) }
+{
+    let first = Step::Deliver {
+        from: A,
+        place: 0,
+        to: B,
+    };
+    let second = Step::Deliver {
+        from: A,
+        place: 1,
+        to: B,
+    };
+    let learn = Step::Learn {
+        who: A,
+        from: A,
+        place: 0,
+    };
+    Ok([
+        inst_rows::fund(A, "F1", 50_000, 0)?,
+        inst_rows::submit(A, "T1", B, 100, 1000, 1000)?,
+        inst_rows::submit(A, "T2", B, 100, 1000, 1000)?,
+        first,
+        second,
+        inst_rows::confirm(B, A, "T1", 2000)?,
+        learn,
+    ])
+}
+
+/// The originator's position, reserved and available cents, the state that the confirmation tells, and that position
+/// afterwards.
+type Told = (
+    Option<(u64, u64, u64)>,
+    Option<State>,
+    Option<(u64, u64, u64)>,
+);
+
+fn confirmed<R: Wait>(rt: &R, hub: &Hub, teller: &mut Teller) -> Result<Told, Fault>
+    requires { IsOf hub.now teller.old }
+{
+    let (before, _) = ask(rt, hub, teller, 0, Command::Position, 2_000)?;
+    let (answer, _) = ask(rt, hub, teller, 1, confirm("T2")?, 2_000)?;
+    let (after, _) = ask(rt, hub, teller, 0, Command::Position, 2_000)?;
+    Ok((position_of(&before), state_of(&answer), position_of(&after)))
+}
+
+#[test]
+fn what_was_pending_goes_on(rt: HostRuntime) -> Result<(), Fault> {
+    let settings = settings(rt.alloc())?;
+    let books = books(rt.alloc(), &settings, &one_settled()?)?;
+    let (hub, mut tellers) = Hub::open_from(rt.alloc(), settings, &books, 1)?;
+    let mut teller = last(&hub, &mut tellers)?;
+    let accepted = State::Decided(Outcome::Accepted);
+    assert!(rt;
+        confirmed(&rt, &hub, &mut teller)?
+            == (
+                Some((49_900, 100, 49_800)),
+                Some(accepted),
+                Some((49_800, 0, 49_800))
+            )
+    );
+    Ok(())
+}
+
+/// The state that an investigation of the settled transfer tells, and whether there is a ticket.
+fn investigated<R: Wait>(
+    rt: &R,
+    hub: &Hub,
+    teller: &mut Teller,
+) -> Result<(Option<State>, bool), Fault>
+    requires { IsOf hub.now teller.old }
+{
+    let (reply, ticket) = ask(rt, hub, teller, 0, investigate("T1")?, 3_000)?;
+    Ok((state_of(&reply), ticket.is_some()))
+}
+
+// It has no place any more.
+#[test]
+fn what_was_settled_has_no_ticket(rt: HostRuntime) -> Result<(), Fault> {
+    let settings = settings(rt.alloc())?;
+    let books = books(rt.alloc(), &settings, &one_settled()?)?;
+    let (hub, mut tellers) = Hub::open_from(rt.alloc(), settings, &books, 1)?;
+    let mut teller = last(&hub, &mut tellers)?;
+    assert_eq!(rt;
+        investigated(&rt, &hub, &mut teller)?,
+        (Some(State::Decided(Outcome::Accepted)), false)
+    );
+    Ok(())
+}

@@ -1,0 +1,59 @@
+// One teller submits a transfer, and another confirms it.
+ghost use Rattle.inst_hub.specs.Calls.{IsOf};
+
+use crate::asking::{ask, confirm, last, position_of, state_of, submitted};
+use inst_base::Fault;
+use inst_command::{Command, Outcome, State};
+use inst_hub::{Hub, Teller};
+use inst_rows::settings;
+use std::sync::Wait;
+
+/// What the tellers are told and see, in order.
+#[derive(Clone, Copy, Debug, PartialEq)]
+struct Sights {
+    submitted: State,
+    confirmed: Option<State>,
+    second: State,
+    first_before_meeting: State,
+    first: State,
+    position: Option<(u64, u64, u64)>,
+}
+
+fn see<R: Wait>(rt: &R, hub: &Hub, first: &mut Teller, second: &mut Teller) -> Result<Sights, Fault>
+    requires { IsOf hub.now first.old × IsOf hub.now second.old }
+{
+    let ticket = submitted(rt, hub, first)?;
+    let submitted = first.peek(&ticket);
+    let (confirmed, _) = ask(rt, hub, second, 1, confirm("T1")?, 2_000)?;
+    let seen_second = second.peek(&ticket);
+    let first_before_meeting = first.peek(&ticket);
+    hub.meet(first, second);
+    let seen_first = first.peek(&ticket);
+    let (position, _) = ask(rt, hub, second, 0, Command::Position, 2_000)?;
+    Ok(Sights {
+        submitted,
+        confirmed: state_of(&confirmed),
+        second: seen_second,
+        first_before_meeting,
+        first: seen_first,
+        position: position_of(&position),
+    })
+}
+
+#[test]
+fn two_tellers(rt: HostRuntime) -> Result<(), Fault> {
+    let (hub, mut tellers) = Hub::open(rt.alloc(), settings(rt.alloc())?, 2)?;
+    let mut second = last(&hub, &mut tellers)?;
+    let mut first = last(&hub, &mut tellers)?;
+    let accepted = State::Decided(Outcome::Accepted);
+    let expected = Sights {
+        submitted: State::Pending,
+        confirmed: Some(accepted),
+        second: accepted,
+        first_before_meeting: accepted,
+        first: accepted,
+        position: Some((30_000, 0, 30_000)),
+    };
+    assert_eq!(rt; see(&rt, &hub, &mut first, &mut second)?, expected);
+    Ok(())
+}

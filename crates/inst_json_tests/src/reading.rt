@@ -1,0 +1,160 @@
+// Each command and each step as it is read.
+use crate::hub::{MOST, hub};
+use inst_base::{Cents, Fault, Ident, Moment, Reason};
+use inst_command::{Ask, Command, Step, Submission};
+use inst_json::{read_command, read_step};
+use inst_settings::Settings;
+use std::process::Abort;
+use std::test::Fail;
+
+fn ask(who: u8, command: Command, at: u64) -> Result<Ask, Fault> {
+    let at = Moment::new(0, at)?;
+    Ok(Ask { who, command, at })
+}
+
+/// Lines of commands.
+const COMMANDS: [&str; 11] = [
+    r#"{"at":0,"cents":50000,"cmd":"fund","ref":"F1","who":"AAAADEFF"}"#,
+    r#"{"at":3000,"cents":5000,"cmd":"defund","ref":"D1","who":"AAAADEFF"}"#,
+    r#"{"at":1000,"cents":50000,"cmd":"submit","id":"T1","stamp":1000,"to":"BBBBFRPP","who":"AAAADEFF"}"#,
+    r#"{"at":2000,"cmd":"confirm","from":"AAAADEFF","id":"T1","who":"BBBBFRPP"}"#,
+    r#"{"at":2000,"cmd":"reject","from":"AAAADEFF","id":"T1","reason":"AC04","who":"BBBBFRPP"}"#,
+    r#"{"at":2100,"cmd":"investigate","id":"T1","who":"AAAADEFF"}"#,
+    r#"{"at":1500,"cmd":"fetch","max":10,"who":"BBBBFRPP"}"#,
+    r#"{"at":0,"cmd":"position","who":"AAAADEFF"}"#,
+    r#"{"at":3000,"cmd":"statement","count":10,"skip":0,"who":"AAAADEFF"}"#,
+    " \t{\"who\":\"CCCCITMM\",\"x\":{},\"skip\":18446744073709551615,\"count\":100,\"at\":9,\"\\u0061t\":7,\"cmd\":\"\\u0073tatement\"}\r",
+    r#"{"cents":null,"step2":1,"cmd":"position","who":"AAAADEFF","at":5}"#,
+];
+
+/// The asks that they are.
+fn asks() -> Result<[Ask; 11], Fault> {
+    let id = Ident::new("T1")?;
+    let reference = Ident::new("F1")?;
+    let debit = Ident::new("D1")?;
+    let cents = Cents::new(50_000)?;
+    let less = Cents::new(5000)?;
+    let stamp = Moment::new(0, 1000)?;
+    let reason = Reason::new("AC04")?;
+    Ok([
+        ask(0, Command::Fund { reference, cents }, 0)?,
+        ask(
+            0,
+            Command::Defund {
+                reference: debit,
+                cents: less,
+            },
+            3000,
+        )?,
+        ask(
+            0,
+            Command::Submit(Submission {
+                id,
+                to: 1,
+                cents,
+                stamp,
+            }),
+            1000,
+        )?,
+        ask(1, Command::Confirm { from: 0, id }, 2000)?,
+        ask(
+            1,
+            Command::Reject {
+                from: 0,
+                id,
+                reason,
+            },
+            2000,
+        )?,
+        ask(0, Command::Investigate { id }, 2100)?,
+        ask(1, Command::Fetch { max: 10 }, 1500)?,
+        ask(0, Command::Position, 0)?,
+        ask(0, Command::Statement { skip: 0, count: 10 }, 3000)?,
+        ask(
+            2,
+            Command::Statement {
+                skip: u64::MAX,
+                count: 100,
+            },
+            7,
+        )?,
+        ask(0, Command::Position, 5)?,
+    ])
+}
+
+/// Each line is read as its ask.
+fn reads(rt: &(impl Abort + AllocGlobal), hub: &Settings, asks: &[Ask]) -> Result<(), Fail> {
+    for (line, ask) in COMMANDS.iter().zip(asks) {
+        assert_eq!(rt;
+            read_command(rt.alloc(), hub, line.as_bytes())?,
+            *ask,
+            "{line}"
+        );
+    }
+    Ok(())
+}
+
+#[test]
+fn reads_each_command(rt: HostRuntime) -> Result<(), Fail> {
+    let hub = hub(rt.alloc(), MOST, 0)?;
+    let asks = asks()?;
+    reads(&rt, &hub, &asks)
+}
+
+/// Lines of scripts.
+const STEPS: [&str; 4] = [
+    r#"{"from":"AAAADEFF","place":0,"step":"deliver","who":"BBBBFRPP"}"#,
+    r#"{"from":"AAAADEFF","place":1023,"step":"learn","who":"AAAADEFF","at":-1}"#,
+    r#"{"at":11000,"place":0,"step":"expire","who":"AAAADEFF"}"#,
+    r#"{"at":11000,"cmd":"position","who":"AAAADEFF"}"#,
+];
+
+/// The steps that they are.
+fn steps() -> Result<[Step; 4], Fault> {
+    let at = Moment::new(0, 11_000)?;
+    Ok([
+        Step::Deliver {
+            from: 0,
+            place: 0,
+            to: 1,
+        },
+        Step::Learn {
+            who: 0,
+            from: 0,
+            place: 1023,
+        },
+        Step::Expire {
+            who: 0,
+            place: 0,
+            at,
+        },
+        Step::Ask(Ask {
+            who: 0,
+            command: Command::Position,
+            at,
+        }),
+    ])
+}
+
+/// Each line of a script is read as its step.
+fn reads_steps(
+    rt: &(impl Abort + AllocGlobal),
+    hub: &Settings,
+    steps: &[Step],
+) -> Result<(), Fail> {
+    for (line, step) in STEPS.iter().zip(steps) {
+        assert_eq!(rt;
+            read_step(rt.alloc(), hub, line.as_bytes())?,
+            *step,
+            "{line}"
+        );
+    }
+    Ok(())
+}
+
+#[test]
+fn reads_each_step(rt: HostRuntime) -> Result<(), Fail> {
+    let hub = hub(rt.alloc(), MOST, 0)?;
+    let steps = steps()?;
+    reads_steps(&rt, &hub, &steps)
+}

@@ -1,0 +1,152 @@
+// What lines are refused for, in the order of the refusals.
+use crate::hub::{MOST, hub};
+use inst_base::Fault;
+use inst_json::{read_command, read_step};
+use inst_settings::Settings;
+use std::process::Abort;
+use std::test::Fail;
+
+/// A line, and what it is refused for.
+type Row = (&'static str, Fault);
+
+/// Of commands, at a ceiling of 1,000 cents.
+const COMMANDS: &[Row] = &[
+    ("", Fault::NotJson),
+    ("    ", Fault::NotJson),
+    (r#"{"cmd":"sub"#, Fault::NotJson),
+    (r#"{"cmd":"\ud800"}"#, Fault::NotJson),
+    ("{\"cmd\":1,}", Fault::NotJson),
+    ("null", Fault::BadField),
+    ("[]", Fault::BadField),
+    ("{}", Fault::BadField),
+    (
+        r#"{"at":0,"cmd":"Position","who":"AAAADEFF"}"#,
+        Fault::BadField,
+    ),
+    (
+        r#"{"at":0,"cmd":["position"],"who":"AAAADEFF"}"#,
+        Fault::BadField,
+    ),
+    (
+        r#"{"at":"0","cmd":"position","who":"AAAADEFF"}"#,
+        Fault::BadField,
+    ),
+    (r#"{"at":0,"cmd":"position","who":1}"#, Fault::BadField),
+    (
+        r#"{"at":0,"cmd":"fetch","max":0,"who":"AAAADEFF"}"#,
+        Fault::BadField,
+    ),
+    (
+        r#"{"at":0,"cmd":"fetch","max":101,"who":"AAAADEFF"}"#,
+        Fault::BadField,
+    ),
+    (
+        r#"{"at":0,"cmd":"statement","count":101,"skip":0,"who":"AAAADEFF"}"#,
+        Fault::BadField,
+    ),
+    (
+        r#"{"at":0,"cmd":"statement","count":1,"skip":-1,"who":"AAAADEFF"}"#,
+        Fault::BadField,
+    ),
+    (
+        r#"{"at":0,"cmd":"reject","from":"AAAADEFF","id":"T1","reason":"AC4","who":"BBBBFRPP"}"#,
+        Fault::BadField,
+    ),
+    (
+        r#"{"at":0,"cmd":"reject","from":"AAAADEFF","id":"T1","reason":"ac04","who":"BBBBFRPP"}"#,
+        Fault::BadField,
+    ),
+    (
+        r#"{"at":9999999999999,"cents":0,"cmd":"submit","id":"","stamp":"","to":"DDDDESMM","who":"DDDDESMM"}"#,
+        Fault::BadField,
+    ),
+    (
+        r#"{"at":9999999999999,"cents":0,"cmd":"submit","id":"","stamp":0,"to":"DDDDESMM","who":"DDDDESMM"}"#,
+        Fault::BadIdentifier,
+    ),
+    (
+        r#"{"at":9999999999999,"cents":0,"cmd":"submit","id":"T","stamp":0,"to":"DDDDESMM","who":"DDDDESMM"}"#,
+        Fault::BadAmount,
+    ),
+    (
+        r#"{"at":9999999999999,"cents":1,"cmd":"submit","id":"T","stamp":0,"to":"DDDDESMM","who":"DDDDESMM"}"#,
+        Fault::BadMoment,
+    ),
+    (
+        r#"{"at":0,"cents":1,"cmd":"submit","id":"T","stamp":2199023245552,"to":"DDDDESMM","who":"DDDDESMM"}"#,
+        Fault::BadMoment,
+    ),
+    (
+        r#"{"at":0,"cents":1,"cmd":"submit","id":"T","stamp":0,"to":"AAAADEFF","who":"DDDDESMM"}"#,
+        Fault::UnknownParticipant,
+    ),
+    (
+        r#"{"at":0,"cents":1,"cmd":"submit","id":"T","stamp":0,"to":"DDDDESMM","who":"AAAADEFF"}"#,
+        Fault::UnknownParticipant,
+    ),
+    (
+        r#"{"at":0,"cmd":"confirm","from":"DDDDESMM","id":"T","who":"AAAADEFF"}"#,
+        Fault::UnknownParticipant,
+    ),
+];
+
+/// Of steps.
+const STEPS: &[Row] = &[
+    (
+        r#"{"from":"AAAADEFF","place":1024,"step":"learn","who":"AAAADEFF"}"#,
+        Fault::BadField,
+    ),
+    (
+        r#"{"from":"AAAADEFF","place":0,"step":"learn","who":"AAAADEF"}"#,
+        Fault::BadField,
+    ),
+    (
+        r#"{"from":"DDDDESMM","place":0,"step":"deliver","who":"BBBBFRPP"}"#,
+        Fault::UnknownParticipant,
+    ),
+    (
+        r#"{"at":2199023255552,"place":0,"step":"expire","who":"DDDDESMM"}"#,
+        Fault::BadMoment,
+    ),
+    (
+        r#"{"at":0,"cmd":"position","step":null,"who":"AAAADEFF"}"#,
+        Fault::BadField,
+    ),
+    (
+        r#"{"at":0,"cmd":"position","step":"submit","who":"AAAADEFF"}"#,
+        Fault::BadField,
+    ),
+    ("[\"step\"]", Fault::BadField),
+    ("{\"step\"", Fault::NotJson),
+];
+
+fn refuses_commands(rt: &(impl Abort + AllocGlobal), hub: &Settings) {
+    for (line, fault) in COMMANDS {
+        let refusal = read_command(rt.alloc(), hub, line.as_bytes()).err();
+        assert_eq!(rt; refusal, Some(*fault), "{line}");
+    }
+    let broken = b"{\"at\":0,\"cmd\":\"position\",\"who\":\"AAAADEFF\",\"x\":\"\xff\"}";
+    let refusal = read_command(rt.alloc(), hub, broken).err();
+    assert_eq!(rt; refusal, Some(Fault::NotJson));
+}
+
+#[test]
+fn refuses_in_order(rt: HostRuntime) -> Result<(), Fail> {
+    let hub = hub(rt.alloc(), 1000, 0)?;
+    refuses_commands(&rt, &hub);
+    Ok(())
+}
+
+fn refuses_steps(rt: &(impl Abort + AllocGlobal), hub: &Settings) {
+    for (line, fault) in STEPS {
+        let refusal = read_step(rt.alloc(), hub, line.as_bytes()).err();
+        assert_eq!(rt; refusal, Some(*fault), "{line}");
+    }
+}
+
+#[test]
+fn refuses_steps_in_order(rt: HostRuntime) -> Result<(), Fail> {
+    let hub = hub(rt.alloc(), MOST, 0)?;
+    refuses_steps(&rt, &hub);
+    Ok(())
+}

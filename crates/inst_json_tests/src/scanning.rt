@@ -1,0 +1,207 @@
+// Which lines are read in one pass, without a tree. What they are read as a contract says, whichever way it is.
+use inst_scan::scan;
+use std::alloc::Global;
+use std::process::Abort;
+use std::test::Fail;
+
+/// The members of each command and step.
+const LINES: [&[&str]; 12] = [
+    &[
+        r#""at":0"#,
+        r#""cents":50000"#,
+        r#""cmd":"fund""#,
+        r#""ref":"F1""#,
+        r#""who":"AAAADEFF""#,
+    ],
+    &[
+        r#""at":0"#,
+        r#""cents":1"#,
+        r#""cmd":"defund""#,
+        r#""ref":"D1""#,
+        r#""who":"AAAADEFF""#,
+    ],
+    &[
+        r#""at":1000"#,
+        r#""cents":50000"#,
+        r#""cmd":"submit""#,
+        r#""id":"T1""#,
+        r#""stamp":1000"#,
+        r#""to":"BBBBFRPP""#,
+        r#""who":"AAAADEFF""#,
+    ],
+    &[
+        r#""at":2"#,
+        r#""cmd":"confirm""#,
+        r#""from":"AAAADEFF""#,
+        r#""id":"T1""#,
+        r#""who":"BBBBFRPP""#,
+    ],
+    &[
+        r#""at":2"#,
+        r#""cmd":"reject""#,
+        r#""from":"AAAADEFF""#,
+        r#""id":"T1""#,
+        r#""reason":"AC04""#,
+        r#""who":"BBBBFRPP""#,
+    ],
+    &[
+        r#""at":2"#,
+        r#""cmd":"investigate""#,
+        r#""id":"T1""#,
+        r#""who":"AAAADEFF""#,
+    ],
+    &[
+        r#""at":1500"#,
+        r#""cmd":"fetch""#,
+        r#""max":10"#,
+        r#""who":"BBBBFRPP""#,
+    ],
+    &[r#""at":0"#, r#""cmd":"position""#, r#""who":"AAAADEFF""#],
+    &[
+        r#""at":3"#,
+        r#""cmd":"statement""#,
+        r#""count":10"#,
+        r#""skip":0"#,
+        r#""who":"AAAADEFF""#,
+    ],
+    &[
+        r#""from":"AAAADEFF""#,
+        r#""place":0"#,
+        r#""step":"deliver""#,
+        r#""who":"BBBBFRPP""#,
+    ],
+    &[
+        r#""from":"AAAADEFF""#,
+        r#""place":1023"#,
+        r#""step":"learn""#,
+        r#""who":"AAAADEFF""#,
+    ],
+    &[
+        r#""at":11000"#,
+        r#""place":0"#,
+        r#""step":"expire""#,
+        r#""who":"AAAADEFF""#,
+    ],
+];
+
+/// Members that a line may have before and behind its own, and whether one pass reads the line.
+const MEMBERS: [(&str, bool); 38] = [
+    (r#""at":7"#, true),
+    (r#""at":"7""#, true),
+    (r#""at":null"#, false),
+    (r#""who":"CCCCITMM""#, true),
+    (r#""who":7"#, true),
+    (r#""cmd":"position""#, true),
+    (r#""step":"expire""#, true),
+    (r#""step":7"#, true),
+    (r#""x":7"#, true),
+    (r#""x":"y","x":7"#, true),
+    (r#""x":7,"x":"y""#, true),
+    (r#""":"""#, true),
+    (r#""\u0061t":7"#, false),
+    (r#""a\u0074":"7""#, false),
+    (r#""who":"AAAADE\u0046F""#, false),
+    (r#""who":"AAAADEF\/""#, false),
+    (r#""é":7"#, false),
+    (r#""id":"é""#, false),
+    (r#""id":"\ud83d\ude00""#, false),
+    (r#""id":"\ud83d""#, false),
+    (r#""skip":0"#, true),
+    (r#""skip":999999999999999999"#, true),
+    (r#""skip":1000000000000000000"#, true),
+    (r#""skip":9999999999999999999"#, true),
+    (r#""skip":18446744073709551615"#, false),
+    (r#""skip":18446744073709551616"#, false),
+    (r#""skip":99999999999999999999"#, false),
+    (r#""skip":-0"#, false),
+    (r#""skip":-1"#, false),
+    (r#""skip":1.0"#, false),
+    (r#""skip":1e3"#, false),
+    (r#""skip":1e400"#, false),
+    (r#""skip":01"#, false),
+    (r#""skip":true"#, false),
+    (r#""x":{"at":7}"#, false),
+    (r#""x":[{},[1]]"#, false),
+    (r#""x""#, false),
+    (r#","#, false),
+];
+
+/// An object of members, the one at `first` first, and then as they come; `more` stands before or
+/// behind them.
+fn line_of(
+    alloc: Global,
+    members: &[&str],
+    first: usize,
+    more: Option<&str>,
+    is_behind: bool,
+) -> Result<String, Fail> {
+    let mut parts: Vec<&str> = Vec::new(alloc);
+    if let Some(more) = more
+        && !is_behind
+    {
+        parts.push(more)?;
+    }
+    for (place, member) in members.iter().enumerate() {
+        if place >= first {
+            parts.push(member)?;
+        }
+    }
+    for (place, member) in members.iter().enumerate() {
+        if place < first {
+            parts.push(member)?;
+        }
+    }
+    if let Some(more) = more
+        && is_behind
+    {
+        parts.push(more)?;
+    }
+    let mut line = String::from_str(alloc, "{")?;
+    for (place, part) in parts.iter().enumerate() {
+        if place > 0 {
+            line.push_str(",")?;
+        }
+        line.push_str(part)?;
+    }
+    line.push_str("}")?;
+    Ok(line)
+}
+
+/// The members in each order, each of them once in front.
+fn scans_each_order(rt: &(impl Abort + AllocGlobal), members: &[&str]) -> Result<(), Fail> {
+    for first in 0..members.len() {
+        let line = line_of(rt.alloc(), members, first, None, false)?;
+        assert!(rt; scan(line.as_bytes()).is_some(), "{line}");
+    }
+    Ok(())
+}
+
+#[test]
+fn keys_in_any_order_are_read_in_one_pass(rt: HostRuntime) -> Result<(), Fail> {
+    for members in LINES {
+        scans_each_order(&rt, members)?;
+    }
+    Ok(())
+}
+
+/// A line with each of the other members before or behind its own.
+fn scans_with_more(
+    rt: &(impl Abort + AllocGlobal),
+    members: &[&str],
+    is_behind: bool,
+) -> Result<(), Fail> {
+    for (more, is_scanned) in MEMBERS {
+        let line = line_of(rt.alloc(), members, 0, Some(more), is_behind)?;
+        assert_eq!(rt; scan(line.as_bytes()).is_some(), is_scanned, "{line}");
+    }
+    Ok(())
+}
+
+#[test]
+fn more_members_may_be_read_in_one_pass(rt: HostRuntime) -> Result<(), Fail> {
+    for members in LINES {
+        scans_with_more(&rt, members, false)?;
+        scans_with_more(&rt, members, true)?;
+    }
+    Ok(())
+}

@@ -1,0 +1,168 @@
+//! Rows that are answered: by the ledger, by the plain functions on its events, and a statement by a walk over them.
+ghost use Rattle.std.specs.Prelude.{◌≡◌, ◌<◌, true};
+ghost use Rattle.inst_command.specs.Ask.{command_fits};
+ghost use Rattle.inst_journal.specs.Opened.{openings};
+
+use crate::asked::{Asks, End, command, outcome};
+use crate::told::{Told, are_lines, is_refused, is_reply};
+use inst_base::{Fault, Moment};
+use inst_command::{Ask, Outcome};
+use inst_journal::{Event, Handled, Journal, handle_command, reply_of};
+use inst_ledger::Ledger;
+use inst_rows::settings;
+use inst_statement::statement;
+use std::process::Abort;
+use std::test::Fail;
+
+/// What is asked, its reading, what is found of its transfer, and what is told.
+pub(crate) type Row = (Asks, u64, Option<End>, Told);
+
+/// Whether that is told, and that is to be kept.
+fn is_handled(handled: &Handled, told: &Told, wanted: &Option<Event>) -> bool {
+    is_reply(&handled.reply, told) && handled.kept == *wanted
+}
+
+/// Compares what the plain functions answer, and what is to be kept of it.
+fn plainly(
+    rt: &(impl Abort + AllocGlobal),
+    ledger: &Ledger,
+    ask: &Ask,
+    found: &Option<Outcome>,
+    told: &Told,
+    wanted: &Option<Event>,
+) -> Result<(), Fail>
+    requires { command_fits ledger.now.book.settings ask.now.command ≡ true }
+{
+    let settings = ledger.settings();
+    let who = ledger.who();
+    let journal = ledger.journal();
+    let events = journal.events();
+    match reply_of(
+        rt.alloc(),
+        settings,
+        who,
+        journal,
+        &ask.command,
+        ask.at,
+        *found,
+    ) {
+        Ok(reply) => assert!(rt; is_reply(&reply, told), "{ask:?}"),
+        Err(fault) => assert!(rt; is_refused(fault, told), "{ask:?}"),
+    }
+    match handle_command(
+        rt.alloc(),
+        settings,
+        who,
+        events,
+        &ask.command,
+        ask.at,
+        *found,
+    ) {
+        Ok(handled) => assert!(rt; is_handled(&handled, told, wanted), "{ask:?}"),
+        Err(fault) => assert!(rt; is_refused(fault, told), "{ask:?}"),
+    }
+    Ok(())
+}
+
+/// Compares the lines that a walk over the events gives, where a statement is asked for.
+fn by_a_walk(
+    rt: &(impl Abort + AllocGlobal),
+    ledger: &Ledger,
+    asks: &Asks,
+    told: &Told,
+) -> Result<(), Fail> {
+    if let (Asks::Statement(skip, count), Told::Lines(wanted)) = (asks, told) {
+        let _ = ledger.settings();
+        let lines = statement(rt.alloc(), ledger.journal(), *skip, *count)?;
+        assert!(rt; are_lines(lines.as_slice(), wanted), "{lines:?}");
+    }
+    Ok(())
+}
+
+/// Compares what the ledger and the plain functions answer, and keeps what is to be kept.
+fn by_the_ledger(
+    rt: &(impl Abort + AllocGlobal),
+    ledger: &mut Ledger,
+    ask: &Ask,
+    found: &Option<Outcome>,
+    told: &Told,
+) -> Result<(), Fail>
+    requires { command_fits ledger.old.book.settings ask.now.command ≡ true }
+{
+    match ledger.handle(rt.alloc(), &ask.command, ask.at, *found) {
+        Ok(Handled { reply, kept }) => {
+            assert!(rt; is_reply(&reply, told), "{ask:?}");
+            plainly(rt, ledger, ask, found, told, &kept)?;
+            if let Some(event) = kept {
+                ledger.keep(event)?;
+            }
+        }
+        Err(fault) => {
+            assert!(rt; is_refused(fault, told), "{ask:?}");
+            plainly(rt, ledger, ask, found, told, &None)?;
+        }
+    }
+    Ok(())
+}
+
+fn answer(rt: &(impl Abort + AllocGlobal), ledger: &mut Ledger, row: &Row) -> Result<(), Fail> {
+    let (asks, at, end, told) = row;
+    let found = match end {
+        None => None,
+        Some(end) => Some(outcome(end)?),
+    };
+    let ask = Ask {
+        who: ledger.who(),
+        command: command(asks)?,
+        at: Moment::new(0, *at)?,
+    };
+    assert!(rt; ask.fits(ledger.settings()));
+    by_a_walk(rt, ledger, asks, told)?;
+    by_the_ledger(rt, ledger, &ask, &found, told)
+}
+
+/// Answers the rows in order.
+pub(crate) fn answers(
+    rt: &(impl Abort + AllocGlobal),
+    ledger: &mut Ledger,
+    rows: &[Row],
+) -> Result<(), Fail> {
+    for row in rows {
+        answer(rt, ledger, row)?;
+    }
+    Ok(())
+}
+
+/// So many events were kept.
+pub(crate) fn keeps(rt: &impl Abort, ledger: &Ledger, count: usize) {
+    assert_eq!(rt; ledger.journal().events().len(), count);
+}
+
+/// The ledger of the participant `who` after these rows, which are its first.
+pub(crate) fn answered(
+    rt: &(impl Abort + AllocGlobal),
+    who: u8,
+    rows: &[Row],
+) -> Result<Ledger, Fail> {
+    let settings = settings(rt.alloc())?;
+    let mut ledger = Ledger::open(rt.alloc(), &settings, who)?;
+    answers(rt, &mut ledger, rows)?;
+    Ok(ledger)
+}
+
+/// Whether the history is short enough to be opened once more.
+fn is_short(journal: &Journal) -> bool
+    ensures { result ≡ true → openings journal.now.events < 500 }
+{
+    journal.events().len() < 500
+}
+
+/// A ledger that opens from the books of this one.
+pub(crate) fn opened_again(
+    rt: &(impl Abort + AllocGlobal),
+    ledger: &Ledger,
+) -> Result<Ledger, Fail> {
+    let journal = ledger.journal();
+    assert!(rt; is_short(journal));
+    Ok(Ledger::open_from(rt.alloc(), ledger.settings(), ledger.who(), journal)?)
+}

@@ -1,0 +1,73 @@
+//! What is asked, by short texts and plain numbers.
+use inst_base::{Cents, Fault, Ident, Moment, Reason};
+use inst_command::{Command, Outcome, Submission};
+
+/// A command.
+#[derive(Clone, Copy)]
+pub(crate) enum Asks {
+    Fund(&'static str, u64),
+    Defund(&'static str, u64),
+    /// The identifier, the beneficiary, the cents and the stamp.
+    Submit(&'static str, u8, u64, u64),
+    Confirm(u8, &'static str),
+    Reject(u8, &'static str, &'static str),
+    Investigate(&'static str),
+    Fetch(u32),
+    Position,
+    /// The lines that are skipped, and how many are asked for.
+    Statement(u64, u32),
+}
+
+/// What became of a transfer.
+#[derive(Clone, Copy)]
+pub(crate) enum End {
+    Accepted,
+    Rejected(&'static str),
+    TimedOut,
+}
+
+fn submit(id: &str, to: u8, cents: u64, stamp: u64) -> Result<Command, Fault> {
+    Ok(Command::Submit(Submission {
+        id: Ident::new(id)?,
+        to,
+        cents: Cents::new(cents)?,
+        stamp: Moment::new(0, stamp)?,
+    }))
+}
+
+pub(crate) fn command(asks: &Asks) -> Result<Command, Fault> {
+    Ok(match *asks {
+        Asks::Fund(reference, cents) => Command::Fund {
+            reference: Ident::new(reference)?,
+            cents: Cents::new(cents)?,
+        },
+        Asks::Defund(reference, cents) => Command::Defund {
+            reference: Ident::new(reference)?,
+            cents: Cents::new(cents)?,
+        },
+        Asks::Submit(id, to, cents, stamp) => submit(id, to, cents, stamp)?,
+        Asks::Confirm(from, id) => Command::Confirm {
+            from,
+            id: Ident::new(id)?,
+        },
+        Asks::Reject(from, id, reason) => Command::Reject {
+            from,
+            id: Ident::new(id)?,
+            reason: Reason::new(reason)?,
+        },
+        Asks::Investigate(id) => Command::Investigate {
+            id: Ident::new(id)?,
+        },
+        Asks::Fetch(max) => Command::Fetch { max },
+        Asks::Position => Command::Position,
+        Asks::Statement(skip, count) => Command::Statement { skip, count },
+    })
+}
+
+pub(crate) fn outcome(end: &End) -> Result<Outcome, Fault> {
+    Ok(match *end {
+        End::Accepted => Outcome::Accepted,
+        End::Rejected(reason) => Outcome::Rejected(Reason::new(reason)?),
+        End::TimedOut => Outcome::TimedOut,
+    })
+}

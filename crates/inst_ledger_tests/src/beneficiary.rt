@@ -1,0 +1,216 @@
+//! What a participant is answered to which transfers were forwarded.
+ghost use Rattle.std.specs.Prelude.{◌≤◌};
+ghost use Rattle.inst_settings.specs.Settings.{participants};
+ghost use Rattle.inst_settings.specs.Lawful.{IsSettings};
+
+use crate::answering::{Row, answers, keeps};
+use crate::asked::{Asks, End};
+use crate::told::Told;
+use inst_base::{Cents, Fault, Ident, Moment};
+use inst_command::LineKind;
+use inst_journal::Event;
+use inst_ledger::Ledger;
+use inst_rows::settings;
+use inst_settings::Settings;
+use std::alloc::Global;
+use std::process::Abort;
+use std::test::Fail;
+
+/// A ledger of participant 1 to which a transfer of each of two originators was forwarded, of one identifier.
+fn opened(
+    alloc: Global,
+    settings: &Settings,
+    id: Ident,
+    amounts: [Cents; 2],
+    deadline: Moment,
+) -> Result<Ledger, Fault>
+    requires lawful { IsSettings settings.now }
+    requires three { 3 ≤ participants settings.now }
+{
+    let [first, second] = amounts;
+    let mut ledger = Ledger::open(alloc, settings, 1)?;
+    ledger.keep(Event::Forwarded {
+        from: 0,
+        id,
+        cents: first,
+        deadline,
+    })?;
+    ledger.keep(Event::Forwarded {
+        from: 2,
+        id,
+        cents: second,
+        deadline,
+    })?;
+    Ok(ledger)
+}
+
+/// A ledger of participant 1 to which T1 over so many cents was forwarded from participant 0, and another T1 from
+/// participant 2.
+pub(crate) fn forwarded(
+    rt: &(impl Abort + AllocGlobal),
+    first: u64,
+    second: u64,
+) -> Result<Ledger, Fail> {
+    let settings = settings(rt.alloc())?;
+    assert!(rt; settings.participants() >= 3);
+    let amounts = [Cents::new(first)?, Cents::new(second)?];
+    Ok(opened(
+        rt.alloc(),
+        &settings,
+        Ident::new("T1")?,
+        amounts,
+        Moment::new(0, 11_000)?,
+    )?)
+}
+
+const FETCHES: &[Row] = &[
+    (
+        Asks::Fetch(1),
+        1000,
+        None,
+        Told::Inbox(&[(0, "T1", 20_000, 11_000)]),
+    ),
+    (
+        Asks::Fetch(9),
+        1000,
+        None,
+        Told::Inbox(&[(2, "T1", 20_000, 11_000)]),
+    ),
+    (Asks::Fetch(1), 1000, None, Told::Inbox(&[])),
+];
+
+const UNKNOWN: &[Row] = &[
+    (
+        Asks::Confirm(0, "D2"),
+        2000,
+        Some(End::Accepted),
+        Told::Refused(Fault::UnknownTransfer),
+    ),
+    (
+        Asks::Confirm(1, "T1"),
+        2000,
+        Some(End::Accepted),
+        Told::Refused(Fault::UnknownTransfer),
+    ),
+    (
+        Asks::Confirm(0, "T1"),
+        2000,
+        None,
+        Told::Refused(Fault::Expired),
+    ),
+    (
+        Asks::Reject(2, "T1", "AC04"),
+        2000,
+        None,
+        Told::Pending(2, "T1"),
+    ),
+    (Asks::Position, 2000, None, Told::Position(0, 0, 0)),
+];
+
+const CONFIRMS_AND_REJECTS: &[Row] = &[
+    (
+        Asks::Confirm(0, "T1"),
+        2000,
+        Some(End::Accepted),
+        Told::Decided(0, "T1", End::Accepted),
+    ),
+    (
+        Asks::Confirm(0, "T1"),
+        11_000,
+        Some(End::TimedOut),
+        Told::Decided(0, "T1", End::Accepted),
+    ),
+    (
+        Asks::Confirm(0, "T1"),
+        11_000,
+        None,
+        Told::Decided(0, "T1", End::Accepted),
+    ),
+    (
+        Asks::Reject(2, "T1", "AC04"),
+        2000,
+        Some(End::Rejected("AC04")),
+        Told::Decided(2, "T1", End::Rejected("AC04")),
+    ),
+    (
+        Asks::Reject(2, "T1", "AC04"),
+        2100,
+        None,
+        Told::Decided(2, "T1", End::Rejected("AC04")),
+    ),
+    (
+        Asks::Confirm(2, "T1"),
+        2200,
+        Some(End::Accepted),
+        Told::Decided(2, "T1", End::Rejected("AC04")),
+    ),
+    (
+        Asks::Position,
+        2200,
+        None,
+        Told::Position(20_000, 0, 20_000),
+    ),
+    (Asks::Defund("D2", 20_000), 3000, None, Told::Done("D2")),
+    (Asks::Position, 3000, None, Told::Position(0, 0, 0)),
+    (
+        Asks::Statement(0, 10),
+        3000,
+        None,
+        Told::Lines(&[
+            (1, LineKind::Received, Some(0), "T1", 20_000, 20_000),
+            (2, LineKind::Defunded, None, "D2", 20_000, 0),
+        ]),
+    ),
+];
+
+/// The credits were defunded, and T1 came from participant 0 and from nobody of the number 1.
+fn defunds_its_credits(rt: &impl Abort, ledger: &Ledger) -> Result<(), Fail> {
+    assert_eq!(rt; ledger.journal().net(), -20_000);
+    assert_eq!(rt; ledger.journal().credits(), 20_000);
+    let id = Ident::new("T1")?;
+    assert!(rt; ledger.is_forwarded(0, &id) && !ledger.is_forwarded(1, &id));
+    Ok(())
+}
+
+/// A beneficiary fetches, confirms and rejects, defunds what came, and reads its statement.
+#[test]
+fn fetches_confirms_and_rejects(rt: HostRuntime) -> Result<(), Fail> {
+    let mut ledger = forwarded(&rt, 20_000, 20_000)?;
+    answers(&rt, &mut ledger, FETCHES)?;
+    keeps(&rt, &ledger, 4);
+    answers(&rt, &mut ledger, UNKNOWN)?;
+    answers(&rt, &mut ledger, CONFIRMS_AND_REJECTS)?;
+    keeps(&rt, &ledger, 7);
+    defunds_its_credits(&rt, &ledger)
+}
+
+const RECEIVES_BOTH: &[Row] = &[
+    (
+        Asks::Confirm(2, "T1"),
+        1000,
+        Some(End::Accepted),
+        Told::Decided(2, "T1", End::Accepted),
+    ),
+    (
+        Asks::Confirm(0, "T1"),
+        1000,
+        Some(End::Accepted),
+        Told::Decided(0, "T1", End::Accepted),
+    ),
+    (
+        Asks::Statement(0, 10),
+        1000,
+        None,
+        Told::Lines(&[
+            (1, LineKind::Received, Some(2), "T1", 300, 300),
+            (2, LineKind::Received, Some(0), "T1", 100, 400),
+        ]),
+    ),
+];
+
+/// Two transfers of one name, of two originators, are received: each line has its own amount.
+#[test]
+fn receives_two_of_one_name(rt: HostRuntime) -> Result<(), Fail> {
+    let mut ledger = forwarded(&rt, 100, 300)?;
+    answers(&rt, &mut ledger, RECEIVES_BOTH)
+}

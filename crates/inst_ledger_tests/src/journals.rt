@@ -1,0 +1,90 @@
+//! Journals by themselves.
+use inst_base::{Cents, Fault, Ident, Moment};
+use inst_command::Outcome;
+use inst_journal::{Event, Journal};
+use std::alloc::Global;
+use std::process::Abort;
+use std::test::Fail;
+
+#[test]
+fn reserves_and_pushes(rt: HostRuntime) -> Result<(), Fail> {
+    let mut journal = Journal::new(rt.alloc());
+    assert!(rt; journal.events().is_empty());
+    journal.reserve()?;
+    assert!(rt; journal.events().is_empty());
+    let funded = Event::Funded {
+        reference: Ident::new("F1")?,
+        cents: Cents::new(50_000)?,
+    };
+    journal.push(funded)?;
+    assert_eq!(rt; journal.events(), [funded].as_slice());
+    assert_eq!(rt; journal.copy()?.events(), [funded].as_slice());
+    Ok(())
+}
+
+/// The event that takes a transfer over 100 cents to participant 1.
+fn taken(id: Ident) -> Result<Event, Fault> {
+    Ok(Event::Taken {
+        id,
+        to: 1,
+        cents: Cents::new(100)?,
+        stamp: Moment::new(0, 1000)?,
+    })
+}
+
+/// Participant 0 has its first transfer settled before the hub is opened again, and its third taken after it. One of
+/// the first one's name comes from participant 2.
+fn opened(alloc: Global, ids: [Ident; 3]) -> Result<Journal, Fault> {
+    let [first, second, third] = ids;
+    let events = [
+        taken(first)?,
+        taken(second)?,
+        Event::Booked {
+            from: 0,
+            id: first,
+            outcome: Outcome::Accepted,
+        },
+        Event::Opened,
+        taken(third)?,
+        Event::Forwarded {
+            from: 2,
+            id: first,
+            cents: Cents::new(100)?,
+            deadline: Moment::new(0, 1000)?,
+        },
+    ];
+    let mut journal = Journal::new(alloc);
+    for event in events.as_slice() {
+        journal.push(*event)?;
+    }
+    Ok(journal)
+}
+
+/// The live transfers are T2 at the first place and T3 at the second.
+fn has_two_live(rt: &impl Abort, journal: &Journal, ids: [Ident; 3]) -> Result<(), Fail> {
+    let [first, second, third] = ids;
+    assert_eq!(rt; journal.live_submissions(0), 2);
+    let places = [&first, &second, &third].map(|id| journal.place_of(0, id));
+    assert_eq!(rt; places, [None, Some(0), Some(1)]);
+    let events = [0, 1, 2].map(|place| journal.taken_at(0, place));
+    assert_eq!(rt; events, [Some(taken(second)?), Some(taken(third)?), None]);
+    Ok(())
+}
+
+/// T1 of participant 0 is booked, and that of participant 2 was forwarded.
+fn has_two_of_one_name(rt: &impl Abort, journal: &Journal, id: &Ident) {
+    assert_eq!(rt; journal.booked(0, id), Some(Outcome::Accepted));
+    assert_eq!(rt; journal.booked(2, id), None);
+    assert!(rt; journal.is_forwarded(2, id) && !journal.is_forwarded(0, id));
+}
+
+/// T1 is settled before the hub is opened again, T2 goes on at the first place, T3 comes to the second.
+#[test]
+fn tells_where_live_transfers_lie(rt: HostRuntime) -> Result<(), Fail> {
+    let first = Ident::new("T1")?;
+    let ids = [first, Ident::new("T2")?, Ident::new("T3")?];
+    let journal = opened(rt.alloc(), ids)?;
+    has_two_live(&rt, &journal, ids)?;
+    has_two_of_one_name(&rt, &journal, &first);
+    Ok(())
+}

@@ -1,0 +1,10 @@
+pub mod LinesLemmas
+pub mod AnswersLemmas
+pub mod ProgressLemmas
+pub mod BufferLemmas
+pub mod WriteLemmas
+pub mod SessionLemmas
+pub mod RunLemmas
+pub mod Writing
+pub mod AnsweringLemmas
+pub mod RunBehind

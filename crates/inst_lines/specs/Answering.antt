@@ -1,0 +1,146 @@
+-- How a hub answers lines. In a run a line is a command: its ask is answered, and then all transfers are followed up. In a
+-- play a line is one step, and nothing else happens. That a line refused in reading changes nothing, and all of this, is
+-- this hub's own choice.
+use Rattle.std.specs.Prelude.{◌≡◌, ℕ, Bool, true, false, if◌then◌else◌, List, [], ◌∷◌, ◌++◌, Result, Ok, Err}
+use Rattle.serde_json.specs.Written.{compact_text}
+use Rattle.inst_base.specs.declared.fault.Fault.{Fault}
+use Rattle.inst_base.specs.declared.fault.Fault.TheVariants.{LineTooLong}
+use Rattle.inst_settings.specs.Settings.{HubSettings}
+use Rattle.inst_command.specs.declared.ask.Ask.{Ask as AskValue}
+use Rattle.inst_command.specs.declared.reply.Reply.TheVariants.{Done, Taken, State, Inbox, Position, Statement, Refused}
+use Rattle.inst_command.specs.declared.reply.Answer.{Answer}
+use Rattle.inst_command.specs.declared.reply.Answer.TheVariants.{Reply, New}
+use Rattle.inst_command.specs.declared.step.Step.{Step}
+use Rattle.inst_command.specs.declared.step.Step.TheVariants.{Ask}
+use Rattle.inst_json.specs.Lines.{command_of_line, step_of_line}
+use Rattle.inst_json.specs.Replies.{answer_data, answer_can_be_written, refused_data}
+use Rattle.inst_model.specs.Opening.{Opening}
+use Rattle.inst_model.specs.Opening.Opening.{First}
+use Rattle.inst_model.specs.Trace.{answer}
+use Rattle.inst_lines.specs.declared.mode.Mode.{Mode}
+use Rattle.inst_lines.specs.declared.mode.Mode.TheVariants.{Run, Play}
+use Rattle.inst_agenda.specs.declared.runner.Runner.{Runner}
+use Rattle.inst_lines.specs.Answers.{Answerer, is_too_long, IsFront}
+use Rattle.inst_agenda.specs.FollowUps.{followed_up}
+use Rattle.inst_world.specs.HasRun.{Hub, settings_of, HasRun}
+use Rattle.inst_agenda.specs.Watching.{Watches}
+
+-- what a hub has gone through: how it was opened, and all steps since, the newest in front
+pub record Past : Type 0 where
+  pub settings : HubSettings
+  pub opening : Opening
+  pub steps : List Step
+
+-- of a hub that opens for the first time
+abbrev pub opened : HubSettings → Past
+opened s = record { settings = s; opening = First; steps = [] }
+
+-- the world has gone through this
+pub record IsPastOf (past : Past) (hub : Hub) : Type 0 where
+  pub settings_are : settings_of hub ≡ past.settings
+  pub ran : HasRun past.opening past.steps hub
+
+-- so has a run's, and its agenda says what is left to do
+pub record IsRunOf (past : Past) (runner : Runner) : Type 0 where
+  pub settings_are : settings_of runner.world ≡ past.settings
+  pub watches : Watches past.opening past.steps runner.world runner.agenda
+
+-- what a runner has gone through, by what its lines stand for
+abbrev pub Keeps : Mode → Past → Runner → Type 0
+Keeps Run past runner = IsRunOf past runner
+Keeps Play past runner = IsPastOf past runner.world
+
+abbrev pub step_answer : Past → Step → Answer
+step_answer past step = answer past.settings past.opening past.steps step
+
+abbrev pub after_step : Past → Step → Past
+after_step past step = record past { steps = step ∷ past.steps }
+
+abbrev pub after_follow_ups : Past → ℕ → Past
+after_follow_ups past at = record past { steps = followed_up past.settings past.opening past.steps at }
+
+-- what a command line is answered, by what it was read as
+abbrev pub command_answer : Past → Result AskValue Fault → Answer
+command_answer past (Ok ask) = step_answer past (Ask ask)
+command_answer past (Err fault) = Reply (Refused fault)
+
+-- what it leaves; a refusal by a slot is an answer like any other
+abbrev pub after_command : Past → Result AskValue Fault → Past
+after_command past (Ok ask) = after_follow_ups (after_step past (Ask ask)) ask.at
+after_command past (Err fault) = past
+
+-- what a line of a script of steps is answered, by what it was read as
+abbrev pub script_answer : Past → Result Step Fault → Answer
+script_answer past (Ok step) = step_answer past step
+script_answer past (Err fault) = Reply (Refused fault)
+
+abbrev pub after_script : Past → Result Step Fault → Past
+after_script past (Ok step) = after_step past step
+after_script past (Err fault) = past
+
+-- what a line is answered
+unfoldable pub line_answer : Mode → Past → List ℕ → Answer
+line_answer Run past line = command_answer past (command_of_line past.settings line)
+line_answer Play past line = script_answer past (step_of_line past.settings line)
+
+-- what it leaves
+unfoldable pub after_line : Mode → Past → List ℕ → Past
+after_line Run past line = after_command past (command_of_line past.settings line)
+after_line Play past line = after_script past (step_of_line past.settings line)
+
+abbrev pub is_refusal : Answer → Bool
+is_refusal (New new) = false
+is_refusal (Reply (Done reference)) = false
+is_refusal (Reply (Taken id deadline)) = false
+is_refusal (Reply (State from id state)) = false
+is_refusal (Reply (Inbox entries)) = false
+is_refusal (Reply (Position position reserved available)) = false
+is_refusal (Reply (Statement lines)) = false
+is_refusal (Reply (Refused fault)) = true
+
+-- the line of an answer
+unfoldable pub answer_text : HubSettings → Answer → List ℕ
+answer_text s answer = compact_text (answer_data s answer)
+
+-- the line of the refusal of a line that is too long
+unfoldable pub too_long_text : List ℕ
+too_long_text = compact_text (refused_data LineTooLong)
+
+-- how a hub answers lines
+abbrev pub answering : Mode → Answerer Past
+answering mode = record {
+  reply = λ past line. answer_text past.settings (line_answer mode past line);
+  next = after_line mode;
+  is_refusal = λ past line. is_refusal (line_answer mode past line);
+  too_long = too_long_text;
+}
+
+abbrev pub running : Answerer Past
+running = answering Run
+
+abbrev pub playing : Answerer Past
+playing = answering Play
+
+-- what a line of any length is answered
+abbrev pub any_line_answer : Mode → Past → List ℕ → Answer
+any_line_answer mode past line = if is_too_long line then Reply (Refused LineTooLong) else line_answer mode past line
+
+-- what it leaves
+abbrev pub after_any_line : Mode → Past → List ℕ → Past
+after_any_line mode past line = if is_too_long line then past else after_line mode past line
+
+-- a line is answered, of which this part is held and any front of it was let go
+pub record RepliesToLine (mode : Mode) (is_long : Bool) (part : List ℕ) (old new : Runner) (answer : Answer) : Type 0 where
+  pub told : (past : Past) → Keeps mode past old → (front : List ℕ) → IsFront is_long front →
+      answer ≡ any_line_answer mode past (front ++ part)
+  pub after : (past : Past) → Keeps mode past old → (front : List ℕ) → IsFront is_long front →
+      Keeps mode (after_any_line mode past (front ++ part)) new
+  pub same_settings : settings_of new.world ≡ settings_of old.world
+  pub can_be_written : answer_can_be_written (settings_of old.world) answer ≡ true
+
+-- a line that was read is answered so and leaves this, whatever the runner has gone through
+pub record RepliesToRead (mode : Mode) (old new : Runner) (answer : Answer) (answered : Past → Answer) (left : Past → Past) : Type 0 where
+  pub told : (past : Past) → Keeps mode past old → answer ≡ answered past
+  pub after : (past : Past) → Keeps mode past old → Keeps mode (left past) new
+  pub same_settings : settings_of new.world ≡ settings_of old.world
+  pub can_be_written : answer_can_be_written (settings_of old.world) answer ≡ true

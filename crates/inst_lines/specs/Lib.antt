@@ -1,0 +1,9 @@
+pub mod Limits
+pub mod Lines
+pub mod Answers
+pub mod Answering
+pub mod LineBuffer
+pub mod Replies
+pub mod Progress
+pub mod Session
+pub mod Headline

@@ -1,0 +1,123 @@
+//! The answer to one line: all that a session knows of the world.
+ghost use Rattle.std.specs.Prelude.{◌≡◌, ◌≢◌, ◌≤◌, ◌++◌, ◌∷◌, [], true, length, take, IfOk, OnErr, OnOk, IsErrOf, IsOkUnless};
+ghost use Rattle.serde_json.specs.Written.{compact_text};
+ghost use Rattle.inst_json.specs.Replies.{answer_data, answer_can_be_written};
+ghost use Rattle.inst_json.specs.Lines.{command_of_line, step_of_line};
+ghost use Rattle.inst_lines.specs.LineBuffer.{held};
+ghost use Rattle.inst_lines.specs.Lines.{newline};
+ghost use Rattle.inst_lines.specs.Answers.{AnswersLine};
+ghost use Rattle.inst_lines.specs.Answering.{Keeps, Past, is_refusal, answering, RepliesToLine, RepliesToRead};
+ghost use Rattle.inst_lines.specs.Answering.{command_answer, after_command, script_answer, after_script, line_answer, after_line};
+
+use crate::line_buffer::LineBuffer;
+use crate::mode::Mode;
+use inst_agenda::{Runner, follow_up};
+use inst_base::Fault;
+use inst_command::{Answer, Reply};
+use inst_json::LineReader;
+use inst_settings::Settings;
+
+/// Appends the answer to the line that ends by this many of the bytes that are held, and a newline, to
+/// `out`, and says whether it is a refusal. `Memory` comes where there is no room.
+pub(crate) fn answer(
+    reader: &mut LineReader,
+    mode: Mode,
+    runner: &mut Runner,
+    input: &LineBuffer,
+    len: usize,
+    out: &mut Vec<u8>,
+) -> Result<bool, Fault>
+    requires { len ≤ length (held input.now) }
+    ensures ok { IfOk result (λ refused. AnswersLine (answering mode) (Keeps mode) input.now.is_long (take len (held input.now))
+        runner.old runner.new out.old.items out.new.items refused) }
+    ensures fault { OnErr result (IsErrOf result Fault.Memory) }
+{
+    let answer = answer_to(reader, mode, runner, input, len)?;
+    append_answer(runner.settings(), &answer, out)
+}
+
+/// The answer to a line as it is held. The only error is `Memory`.
+fn answer_to(
+    reader: &mut LineReader,
+    mode: Mode,
+    runner: &mut Runner,
+    input: &LineBuffer,
+    len: usize,
+) -> Result<Answer, Fault>
+    requires { len ≤ length (held input.now) }
+    ensures ok { IfOk result (λ answer. RepliesToLine mode input.now.is_long (take len (held input.now)) runner.old runner.new answer) }
+    ensures only { IsOkUnless result Fault.Memory }
+{
+    if input.is_too_long(len) {
+        return Ok(Answer::Reply(Reply::Refused(Fault::LineTooLong)));
+    }
+    let line = &input.as_slice()[..len];
+    match mode {
+        Mode::Run => answer_command(reader, runner, line),
+        Mode::Play => answer_step(reader, runner, line),
+    }
+}
+
+/// Appends the text of an answer, and a newline, to `out`, and says whether it is a refusal.
+fn append_answer(settings: &Settings, answer: &Answer, out: &mut Vec<u8>) -> Result<bool, Fault>
+    requires { answer_can_be_written settings.now answer.now ≡ true }
+    ensures ok { OnOk result (out.new.items ≡ out.old.items ++ (compact_text (answer_data settings.now answer.now) ++ newline ∷ [])) }
+    ensures refusal { IfOk result (λ refused. refused ≡ is_refusal answer.now) }
+    ensures fault { OnErr result (IsErrOf result Fault.Memory) }
+{
+    match answer {
+        Answer::Reply(reply) => inst_json::append_reply(settings, reply, out)?,
+        Answer::New(_) => {
+            let text = inst_json::write_answer(*out.allocator(), settings, answer)?;
+            out.extend_from_slice(&text)?;
+        }
+    }
+    out.push(b'\n')?;
+    Ok(matches!(answer, Answer::Reply(Reply::Refused(_))))
+}
+
+/// The answer to a command, after which all transfers are followed up. The only error is `Memory`.
+fn answer_command(
+    reader: &mut LineReader,
+    runner: &mut Runner,
+    line: &[u8],
+) -> Result<Answer, Fault>
+    ensures ok { IfOk result (λ answer. RepliesToRead Mode.Run runner.old runner.new answer
+        (λ past. command_answer past (command_of_line runner.old.world.board.settings line.now))
+        (λ past. after_command past (command_of_line runner.old.world.board.settings line.now))) }
+    ensures only { IsOkUnless result Fault.Memory }
+{
+    match reader.read_command(runner.settings(), line) {
+        Ok(ask) => {
+            let at = ask.at;
+            let answer = runner.ask(ask)?;
+            follow_up(runner, at)?;
+            Ok(answer)
+        }
+        Err(fault) => refused(fault),
+    }
+}
+
+/// The answer to a step. The only error is `Memory`.
+fn answer_step(reader: &mut LineReader, runner: &mut Runner, line: &[u8]) -> Result<Answer, Fault>
+    ensures ok { IfOk result (λ answer. RepliesToRead Mode.Play runner.old runner.new answer
+        (λ past. script_answer past (step_of_line runner.old.world.board.settings line.now))
+        (λ past. after_script past (step_of_line runner.old.world.board.settings line.now))) }
+    ensures only { IsOkUnless result Fault.Memory }
+{
+    match reader.read_step(runner.settings(), line) {
+        Ok(step) => runner.step(&step),
+        Err(fault) => refused(fault),
+    }
+}
+
+/// What a line is answered that is refused in reading.
+fn refused(fault: Fault) -> Result<Answer, Fault>
+    ensures ok { IfOk result (λ answer. (answer ≡ Answer.Reply (Reply.Refused fault)) × (fault ≢ Fault.Memory)) }
+    ensures only { IsOkUnless result Fault.Memory }
+{
+    match fault {
+        Fault::Memory => Err(Fault::Memory),
+        fault => Ok(Answer::Reply(Reply::Refused(fault))),
+    }
+}

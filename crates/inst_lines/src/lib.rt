@@ -1,0 +1,14 @@
+//! Whole runs of lines at a hub in one thread: each line of the input is answered by one line.
+#![tactic(auto)]
+
+mod answer;
+mod limits;
+mod line_buffer;
+mod mode;
+mod replies;
+mod run;
+mod session;
+
+pub use limits::{MOST_BYTES, MOST_LINE_BYTES, MOST_LINES};
+pub use run::{play_lines, run_lines};
+pub use session::Counts;

@@ -1,0 +1,143 @@
+// The part of the input that is held, and where its lines end.
+ghost use Rattle.std.specs.Prelude.{◌≡◌, ◌≤◌, ◌<◌, ◌+◌, [], ◌++◌, ◌||◌, nat_lt, MatchOption, OnOk, IfOk, IsErrOf};
+ghost use Rattle.std.specs.Prelude.{OnErr, false, length, drop, vec_len};
+ghost use Rattle.std.specs.Io.{ReadsAtMost};
+ghost use Rattle.std.specs.Io.KnownBytes.{ReadConsumes};
+ghost use Rattle.inst_lines.specs.Limits.{most_bytes, buffer_bytes};
+ghost use Rattle.inst_lines.specs.Lines.{NoNewline, BreaksAt};
+
+use crate::limits::{BUFFER_BYTES, MOST_BYTES, MOST_LINE_BYTES};
+use inst_base::Fault;
+use memchr::memchr;
+use std::alloc::{AllocError, Global};
+use std::io::Read;
+
+/// The bytes that were read and not answered. Of a line that is too long nothing is held but what
+/// the last read gave.
+#[derive(Drop)]
+pub struct LineBuffer {
+    bytes: Vec<u8>,
+    start: usize,
+    end: usize,
+    is_long: bool,
+    taken: u64,
+    ghost ordered: { start ≤ end },
+    ghost within: { end ≤ buffer_bytes },
+    ghost size: { vec_len bytes ≡ buffer_bytes },
+    ghost limit: { taken ≤ most_bytes },
+}
+
+impl LineBuffer {
+    ghost use Rattle.inst_lines.specs.Answers.{MakesRoom};
+    ghost use Rattle.inst_lines.specs.Limits.{most_line_bytes};
+    ghost use Rattle.inst_lines.specs.LineBuffer.{held, Fills, FillFails};
+
+    /// An empty buffer.
+    pub fn new(alloc: Global) -> Result<LineBuffer, AllocError>
+        ensures held { IfOk result (λ input. held input ≡ []) }
+        ensures start { IfOk result (λ input. (input.is_long ≡ false) × (input.taken ≡ 0) × (input.end ≡ 0)) }
+    {
+        let bytes = vec![in alloc; 0; BUFFER_BYTES]?;
+        Ok(LineBuffer {
+            bytes,
+            start: 0,
+            end: 0,
+            is_long: false,
+            taken: 0,
+        })
+    }
+
+    /// Reads further bytes, and says how many: 0 at the end of the input. `ReadFault` comes where the
+    /// read fails, and where the input goes on after `MOST_BYTES`.
+    pub fn fill<R: Read>(&mut self, reader: &mut R) -> Result<usize, Fault>
+        requires { self.old.end < buffer_bytes }
+        ensures ok { IfOk result (λ n. Fills self.old self.new n (R.remaining reader.old) (R.remaining reader.new)) }
+        ensures err { OnErr result (FillFails self.old (R.remaining reader.old) (R.remaining reader.new)) }
+        ensures fault { OnErr result (IsErrOf result Fault.ReadFault) }
+    {
+        let left = MOST_BYTES - self.taken;
+        let room = left.max(1).min((BUFFER_BYTES - self.end) as u64) as usize;
+        let start = self.end;
+        let count = read_bytes(reader, &mut self.bytes[start..start + room])?;
+        if count as u64 > left {
+            return Err(Fault::ReadFault);
+        }
+        self.end += count;
+        self.taken += count as u64;
+        Ok(count)
+    }
+
+    /// The bytes that are held.
+    pub fn as_slice(&self) -> &[u8]
+        ensures { result.now ≡ held self.now }
+    {
+        &self.bytes[self.start..self.end]
+    }
+
+    /// How many bytes are held.
+    pub fn len(&self) -> usize
+        ensures { result ≡ length (held self.now) }
+    {
+        self.end - self.start
+    }
+
+    /// Whether part of a line is held, or was let go.
+    pub fn is_in_line(&self) -> bool
+        ensures { result ≡ (self.now.is_long || nat_lt 0 (length (held self.now))) }
+    {
+        self.is_long || self.start < self.end
+    }
+
+    /// Whether a line is too long that ends by this many of the bytes that are held.
+    pub fn is_too_long(&self, len: usize) -> bool
+        ensures { result ≡ (self.now.is_long || nat_lt most_line_bytes len) }
+    {
+        self.is_long || len > MOST_LINE_BYTES
+    }
+
+    /// Lets go of a line of which this many bytes are held, and of its newline.
+    pub fn drop_line(&mut self, len: usize)
+        requires { len ≤ length (held self.old) }
+        ensures held { held self.new ≡ drop (len + 1) (held self.old) }
+        ensures is_long { self.new.is_long ≡ false }
+        ensures taken { self.new.taken ≡ self.old.taken }
+    {
+        self.start = (self.start + len + 1).min(self.end);
+        self.is_long = false;
+    }
+
+    /// Makes room for a read, where no newline is held: what is held goes to the front, or is let go
+    /// if the line is too long already.
+    pub fn make_room(&mut self)
+        requires { NoNewline (held self.old) }
+        ensures kept { MakesRoom self.old.is_long (held self.old) self.new.is_long (held self.new) }
+        ensures room { self.new.end ≤ most_line_bytes }
+        ensures taken { self.new.taken ≡ self.old.taken }
+    {
+        if self.is_too_long(self.len()) {
+            self.is_long = true;
+            self.start = 0;
+            self.end = 0;
+        } else {
+            self.bytes.copy_within(self.start..self.end, 0);
+            self.end -= self.start;
+            self.start = 0;
+        }
+    }
+}
+
+/// Reads into `buf`, and says how many bytes: `ReadFault` comes where the read fails.
+fn read_bytes<R: Read>(reader: &mut R, buf: &mut [u8]) -> Result<usize, Fault>
+    ensures bound { ReadsAtMost result buf.new }
+    ensures bytes { ReadConsumes (R.remaining reader.old) (R.remaining reader.new) result buf.new }
+    ensures fault { OnErr result (IsErrOf result Fault.ReadFault) }
+{
+    reader.read(buf).map_err(|_| Fault::ReadFault)
+}
+
+/// Where the first newline stands.
+pub fn find_newline(bytes: &[u8]) -> Option<usize>
+    ensures { MatchOption result (NoNewline bytes.now) (λ n. BreaksAt bytes.now n) }
+{
+    memchr(b'\n', bytes)
+}

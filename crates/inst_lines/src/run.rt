@@ -1,0 +1,124 @@
+// Runs: each line that a reader gives is answered by one line to a writer.
+ghost use Rattle.std.specs.Prelude.{◌≡◌, OnOk, IfOk, IfErr, IfSome, length};
+ghost use Rattle.std.specs.Io.KnownBytes.{Appends, IsAtEnd};
+ghost use Rattle.inst_lines.specs.Lines.{lines_of, IsWithinLimits};
+ghost use Rattle.inst_lines.specs.Answers.{output, refusals, state_after};
+ghost use Rattle.inst_lines.specs.Answering.{Past, Keeps, opened, answering, running, playing};
+ghost use Rattle.inst_lines.specs.Session.{FailsAfter};
+ghost use Rattle.inst_lines.specs.Headline.{LinesKeepTheHeadline};
+
+use crate::mode::Mode;
+use crate::session::{Counts, Session};
+use inst_agenda::Runner;
+use inst_base::Fault;
+use inst_settings::Settings;
+use std::alloc::Global;
+use std::io::{Read, Write};
+
+/// Answers each line that the reader gives by one line to the writer, and says how many there were. A
+/// line is a command; after each that is read without refusal all transfers taken so far are followed up
+/// at its reading.
+///
+/// ```text
+/// let counts = run_lines(alloc, &settings, &mut input.as_bytes(), &mut output)?;
+/// counts.lines // as many lines as `input` has
+/// ```
+///
+/// A line ends by a newline, and the last one may lack it; a line of more than 4,096 bytes is answered
+/// `LineTooLong`. Whatever was answered is written and flushed before each read and at the end.
+///
+/// `ReadFault` comes where a read fails in any way, and where the input goes on after `MOST_LINES`
+/// lines, each with its newline, or after `MOST_BYTES` bytes: what was read up to there is answered.
+/// `WriteFault` comes where a write or a flush fails, or a write takes no byte, and `Memory` where
+/// there is none: then a front of the replies is written.
+pub fn run_lines<R: Read, W: Write>(
+    alloc: Global,
+    settings: &Settings,
+    reader: &mut R,
+    writer: &mut W,
+) -> Result<Counts, Fault>
+    // All that the reader has left is read and answered, where its bytes are known.
+    ensures end { OnOk result (IsAtEnd (R.remaining reader.new)) }
+    ensures output { OnOk result (IfSome (R.remaining reader.old) (λ bytes.
+        Appends (W.contents writer.old) (W.contents writer.new)
+        (output running (opened settings.now) (lines_of bytes)))) }
+    // The run that these lines stand for keeps the headline.
+    ensures headline { OnOk result (IfSome (R.remaining reader.old) (λ bytes.
+        LinesKeepTheHeadline running settings.now (lines_of bytes))) }
+    ensures lines { IfOk result (λ counts. IfSome (R.remaining reader.old) (λ bytes.
+        counts.lines ≡ length (lines_of bytes))) }
+    ensures refused { IfOk result (λ counts. IfSome (R.remaining reader.old) (λ bytes.
+        counts.refused ≡ refusals running (opened settings.now) (lines_of bytes))) }
+    ensures limits { OnOk result (IfSome (R.remaining reader.old) IsWithinLimits) }
+
+    // Some bytes were read: at `ReadFault` each line whose newline stands within the limits is
+    // answered, and at another fault a front of the replies is written.
+    ensures err { IfErr result (FailsAfter running (opened settings.now)
+        (W.contents writer.old) (W.contents writer.new)
+        (R.remaining reader.old) (R.remaining reader.new)) }
+{
+    let mut runner = Runner::open(alloc, settings)?;
+    answer_lines(alloc, Mode::Run, &mut runner, reader, writer)
+}
+
+/// Answers each line that the reader gives by one line to the writer, as `run_lines` does. Here a line is
+/// one step, or a command, which is one step too, and nothing else happens: what a run does by itself is
+/// played by hand.
+///
+/// ```text
+/// let counts = play_lines(alloc, &settings, &mut script.as_bytes(), &mut output)?;
+/// ```
+///
+/// `ReadFault`, `WriteFault` and `Memory` come as from `run_lines`.
+pub fn play_lines<R: Read, W: Write>(
+    alloc: Global,
+    settings: &Settings,
+    reader: &mut R,
+    writer: &mut W,
+) -> Result<Counts, Fault>
+    ensures end { OnOk result (IsAtEnd (R.remaining reader.new)) }
+    ensures output { OnOk result (IfSome (R.remaining reader.old) (λ bytes.
+        Appends (W.contents writer.old) (W.contents writer.new)
+        (output playing (opened settings.now) (lines_of bytes)))) }
+    ensures headline { OnOk result (IfSome (R.remaining reader.old) (λ bytes.
+        LinesKeepTheHeadline playing settings.now (lines_of bytes))) }
+    ensures lines { IfOk result (λ counts. IfSome (R.remaining reader.old) (λ bytes.
+        counts.lines ≡ length (lines_of bytes))) }
+    ensures refused { IfOk result (λ counts. IfSome (R.remaining reader.old) (λ bytes.
+        counts.refused ≡ refusals playing (opened settings.now) (lines_of bytes))) }
+    ensures limits { OnOk result (IfSome (R.remaining reader.old) IsWithinLimits) }
+    ensures err { IfErr result (FailsAfter playing (opened settings.now)
+        (W.contents writer.old) (W.contents writer.new)
+        (R.remaining reader.old) (R.remaining reader.new)) }
+{
+    let mut runner = Runner::open(alloc, settings)?;
+    answer_lines(alloc, Mode::Play, &mut runner, reader, writer)
+}
+
+/// Answers lines at a hub that is there, whatever it has gone through.
+pub(crate) fn answer_lines<R: Read, W: Write>(
+    alloc: Global,
+    mode: Mode,
+    runner: &mut Runner,
+    reader: &mut R,
+    writer: &mut W,
+) -> Result<Counts, Fault>
+    ensures end { OnOk result (IsAtEnd (R.remaining reader.new)) }
+    ensures output { (past : Past) → Keeps mode past runner.old → OnOk result (IfSome (R.remaining reader.old) (λ bytes.
+        Appends (W.contents writer.old) (W.contents writer.new)
+        (output (answering mode) past (lines_of bytes)))) }
+    ensures runner { (past : Past) → Keeps mode past runner.old → OnOk result (IfSome (R.remaining reader.old) (λ bytes.
+        Keeps mode (state_after (answering mode) past (lines_of bytes)) runner.new)) }
+    ensures lines { (past : Past) → Keeps mode past runner.old → IfOk result (λ counts. IfSome (R.remaining reader.old) (λ bytes.
+        counts.lines ≡ length (lines_of bytes))) }
+    ensures refused { (past : Past) → Keeps mode past runner.old → IfOk result (λ counts. IfSome (R.remaining reader.old) (λ bytes.
+        counts.refused ≡ refusals (answering mode) past (lines_of bytes))) }
+    ensures limits { (past : Past) → Keeps mode past runner.old → OnOk result (IfSome (R.remaining reader.old) IsWithinLimits) }
+    ensures err { (past : Past) → Keeps mode past runner.old → IfErr result (FailsAfter (answering mode) past
+        (W.contents writer.old) (W.contents writer.new)
+        (R.remaining reader.old) (R.remaining reader.new)) }
+{
+    let mut session = Session::new(alloc)?;
+    while session.turn(mode, runner, reader, writer)? {}
+    Ok(session.counts)
+}

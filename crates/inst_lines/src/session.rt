@@ -1,0 +1,177 @@
+// What a run holds between its reads, and one turn of it: a read, and the answers to what it gave.
+ghost use Rattle.inst_lines.specs.Limits.{most_lines};
+ghost use Rattle.std.specs.Prelude.{◌≡◌, ◌≤◌, ◌<◌, ◌⊎◌, [], OnOk, IfOk, OnErr, IfErr, IsErrOf, MatchBool, false, length};
+
+use crate::answer::answer;
+use crate::limits::MOST_LINES;
+use crate::line_buffer::{LineBuffer, find_newline};
+use crate::mode::Mode;
+use crate::replies::ReplyBuffer;
+use inst_agenda::Runner;
+use inst_base::Fault;
+use inst_json::LineReader;
+use std::alloc::Global;
+use std::io::{Read, Write};
+
+/// How many lines were answered.
+#[derive(Clone, Copy, Debug, PartialEq, Eq)]
+pub struct Counts {
+    /// All the lines.
+    pub lines: u64,
+    /// Those that were answered by a refusal.
+    pub refused: u64,
+}
+
+/// What a run holds between its reads.
+#[derive(Drop)]
+pub struct Session {
+    pub reader: LineReader,
+    pub input: LineBuffer,
+    pub replies: ReplyBuffer,
+    pub counts: Counts,
+    ghost limit: { counts.lines ≤ most_lines },
+    ghost fewer: { counts.refused ≤ counts.lines },
+}
+
+impl Session {
+    ghost use Rattle.inst_lines.specs.Lines.{NoNewline};
+    ghost use Rattle.inst_lines.specs.Limits.{most_lines};
+    ghost use Rattle.inst_lines.specs.Answering.{answering, Keeps};
+    ghost use Rattle.inst_lines.specs.LineBuffer.{held};
+    ghost use Rattle.inst_lines.specs.Session.{IsAnswered, IsReady, TakesLine, AnswersLast, IsNoReadFault, stage};
+    ghost use Rattle.inst_lines.specs.Session.{MovesOn, HasStopped, HasFinished, HasTurned, HasEnded, HasFailed};
+
+    /// A session that has read nothing.
+    pub fn new(alloc: Global) -> Result<Session, Fault>
+        ensures ready { IfOk result (λ session. IsReady session) }
+        ensures input { IfOk result (λ session. held session.input ≡ []) }
+        ensures is_long { IfOk result (λ session. session.input.is_long ≡ false) }
+        ensures taken { IfOk result (λ session. session.input.taken ≡ 0) }
+        ensures lines { IfOk result (λ session. session.counts.lines ≡ 0) }
+        ensures refused { IfOk result (λ session. session.counts.refused ≡ 0) }
+        ensures fault { OnErr result (IsErrOf result Fault.Memory) }
+    {
+        let input = LineBuffer::new(alloc).map_err(|_| Fault::Memory)?;
+        Ok(Session {
+            reader: LineReader::new(alloc),
+            input,
+            replies: ReplyBuffer::new(alloc),
+            counts: Counts {
+                lines: 0,
+                refused: 0,
+            },
+        })
+    }
+
+    /// Answers the rest of a line, of which this many bytes are held, and lets go of it and of its
+    /// newline. `Memory` comes where there is no room for the reply.
+    fn answer_line(&mut self, mode: Mode, runner: &mut Runner, len: usize) -> Result<(), Fault>
+        requires within { len ≤ length (held self.old.input) }
+        requires room { self.old.counts.lines < most_lines }
+        ensures ok { OnOk result (TakesLine (answering mode) (Keeps mode) len self.old self.new runner.old runner.new) }
+        ensures fault { OnErr result (IsErrOf result Fault.Memory) }
+    {
+        let is_refused = answer(
+            &mut self.reader,
+            mode,
+            runner,
+            &self.input,
+            len,
+            &mut self.replies.bytes,
+        )?;
+        self.input.drop_line(len);
+        self.counts.lines += 1;
+        self.counts.refused += u64::from(is_refused);
+        Ok(())
+    }
+
+    /// Answers the lines that are held whole, up to `MOST_LINES` in all. `Memory` comes as from
+    /// `answer_line`, and `WriteFault` as from `write_if_full`.
+    fn answer_held<W: Write>(
+        &mut self,
+        mode: Mode,
+        runner: &mut Runner,
+        writer: &mut W,
+    ) -> Result<(), Fault>
+        ensures ok { OnOk result (MovesOn (answering mode) (Keeps mode) (stage self.old runner.old (W.contents writer.old))
+            (stage self.new runner.new (W.contents writer.new))) }
+        ensures done { OnOk result (NoNewline (held self.new.input) ⊎ (self.new.counts.lines ≡ most_lines)) }
+        ensures taken { OnOk result (self.new.input.taken ≡ self.old.input.taken) }
+        ensures err { OnErr result (HasStopped (answering mode) (Keeps mode) (stage self.old runner.old (W.contents writer.old))
+            (W.contents writer.new)) }
+        ensures fault { IfErr result IsNoReadFault }
+    {
+        while self.counts.lines < MOST_LINES {
+            let Some(len) = find_newline(self.input.as_slice()) else {
+                return Ok(());
+            };
+            self.answer_line(mode, runner, len)?;
+            self.replies.write_if_full(writer)?;
+        }
+        Ok(())
+    }
+
+    /// Answers a last line with no newline, if there is one. `Memory` comes as from `answer_line`.
+    fn answer_last(&mut self, mode: Mode, runner: &mut Runner) -> Result<(), Fault>
+        requires { IsAnswered self.old }
+        ensures ok { OnOk result (AnswersLast (answering mode) (Keeps mode) self.old self.new runner.old runner.new) }
+        ensures fault { OnErr result (IsErrOf result Fault.Memory) }
+    {
+        if !self.input.is_in_line() {
+            return Ok(());
+        }
+        let len = self.input.len();
+        self.answer_line(mode, runner, len)
+    }
+
+    /// Answers a last line with no newline, and delivers what is left. `Memory` and `WriteFault`
+    /// come as from `answer_last` and `deliver`.
+    fn finish<W: Write>(
+        &mut self,
+        mode: Mode,
+        runner: &mut Runner,
+        writer: &mut W,
+    ) -> Result<(), Fault>
+        requires { IsAnswered self.old }
+        ensures ok { OnOk result (HasFinished (answering mode) (Keeps mode) (stage self.old runner.old (W.contents writer.old))
+            (stage self.new runner.new (W.contents writer.new))) }
+        ensures err { OnErr result (HasStopped (answering mode) (Keeps mode) (stage self.old runner.old (W.contents writer.old))
+            (W.contents writer.new)) }
+        ensures fault { IfErr result IsNoReadFault }
+    {
+        self.answer_last(mode, runner)?;
+        self.replies.deliver(writer)
+    }
+
+    /// Reads once, and answers each line that ends there; at the end of the input, the last line
+    /// too. Says whether the input may go on.
+    pub fn turn<R: Read, W: Write>(
+        &mut self,
+        mode: Mode,
+        runner: &mut Runner,
+        reader: &mut R,
+        writer: &mut W,
+    ) -> Result<bool, Fault>
+        requires { IsReady self.old }
+        ensures ok { let before = stage self.old runner.old (W.contents writer.old) in
+            let after = stage self.new runner.new (W.contents writer.new) in
+            IfOk result (λ more. MatchBool more
+            (HasTurned (answering mode) (Keeps mode) before after (R.remaining reader.old) (R.remaining reader.new))
+            (HasEnded (answering mode) (Keeps mode) before after (R.remaining reader.old) (R.remaining reader.new))) }
+        ensures err { let before = stage self.old runner.old (W.contents writer.old) in
+            IfErr result (HasFailed (answering mode) (Keeps mode) before (W.contents writer.new)
+            (R.remaining reader.old) (R.remaining reader.new)) }
+    {
+        if self.input.fill(reader)? == 0 {
+            self.finish(mode, runner, writer)?;
+            return Ok(false);
+        }
+        self.answer_held(mode, runner, writer)?;
+        self.replies.deliver(writer)?;
+        if self.counts.lines == MOST_LINES && self.input.is_in_line() {
+            return Err(Fault::ReadFault);
+        }
+        self.input.make_room();
+        Ok(true)
+    }
+}

@@ -1,0 +1,9 @@
+pub mod Sameness
+pub mod Once
+pub mod Answering
+pub mod Replying
+pub mod Ticketing
+pub mod Later
+pub mod Serving
+pub mod Sweeping
+pub mod Due

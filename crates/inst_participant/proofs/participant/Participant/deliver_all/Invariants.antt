@@ -1,0 +1,5 @@
+use Rattle.inst_participant.proofs.Sweeping.{On, LeftOfOwners}
+use Rattle.inst_participant.proofs.participant.Participant.deliver_all.Given as goal
+
+abbrev pub invariant-loop-owner : goal.invariant-loop-owner
+invariant-loop-owner l = On l.fn.self l.self × LeftOfOwners l.owner l.owner-end l.fn.self l.self

@@ -1,0 +1,7 @@
+pub mod Behind
+pub mod Answers
+pub mod Telling
+pub mod Following
+pub mod Serving
+pub mod Told
+pub mod Sweeping

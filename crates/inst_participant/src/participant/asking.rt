@@ -1,0 +1,111 @@
+//! What a participant is asked under its lock.
+ghost use Rattle.std.specs.Prelude.{◌≡◌, true, IfOk, OnErr, IsOkUnless, Ok, Err};
+ghost use Rattle.inst_command.specs.Ask.{ask_fits};
+ghost use Rattle.inst_journal.specs.Sound.{IsSound};
+ghost use Rattle.inst_board.specs.Learning.{KnowTheSame};
+ghost use Rattle.inst_cell.specs.Held.{AtOneTable, knows};
+ghost use Rattle.inst_cell.specs.Seen.{board_of, sees};
+ghost use Rattle.inst_participant.specs.Behind.{IsReady, IsLater, HistoryGrows};
+ghost use Rattle.inst_participant.specs.Telling.{SeesMore, IsToldOf, IsToldBy};
+ghost use Rattle.inst_participant.specs.Answers.{Answered, IsTicket};
+ghost use Rattle.inst_participant.specs.Serving.{Serves};
+
+use super::Participant;
+use inst_base::{Fault, Ident};
+use inst_cell::{Teller, Ticket};
+use inst_command::{Ask, Outcome, Reply};
+
+impl Participant {
+    /// What a command of the participant is answered, a refusal too, and a ticket where it tells of a live transfer.
+    /// The only error is `Memory`, and then its history is as it was.
+    pub fn serve(
+        &mut self,
+        teller: &mut Teller,
+        ask: &Ask,
+    ) -> Result<(Reply, Option<Ticket>), Fault>
+        requires ready { IsReady self.old }
+        requires own { ask.now.who ≡ self.old.slot.who }
+        requires fits { ask_fits self.old.slot.settings ask.now ≡ true }
+        requires one { AtOneTable self.old.board (board_of teller.old) }
+        ensures ready { IsReady self.new }
+        ensures later { IsLater self.old self.new }
+        ensures grows { HistoryGrows self.old self.new }
+        ensures sees { SeesMore teller.old teller.new }
+        ensures sound { IsSound self.old.slot.settings self.old.slot.who self.old.slot.events }
+        ensures serves { IfOk result (λ answer. Serves self.old ask.now (Ok answer.0) self.new) }
+        ensures answered { IfOk result (λ answer. Answered self.old.slot.settings self.old.slot.who self.old.slot.events ask.now answer.0 self.new.slot.events) }
+        ensures ticket { IfOk result (λ answer. IsTicket (sees teller.new) self.old.slot.settings self.old.slot.who ask.now.command self.new.slot.events answer.0 answer.1) }
+        ensures left { OnErr result (Serves self.old ask.now (Err Fault.Memory) self.new) }
+        ensures err { OnErr result (self.new.slot ≡ self.old.slot) }
+        ensures only { IsOkUnless result Fault.Memory }
+    {
+        let reply = self.answer(ask)?;
+        let ticket = self.ticket(teller, ask.who, &reply);
+        Ok((reply, ticket))
+    }
+
+    /// What a command of the participant is answered, a refusal too.
+    fn answer(&mut self, ask: &Ask) -> Result<Reply, Fault>
+        requires ready { IsReady self.old }
+        requires own { ask.now.who ≡ self.old.slot.who }
+        requires fits { ask_fits self.old.slot.settings ask.now ≡ true }
+        ensures ready { IsReady self.new }
+        ensures later { IsLater self.old self.new }
+        ensures grows { HistoryGrows self.old self.new }
+        ensures sound { IsSound self.old.slot.settings self.old.slot.who self.old.slot.events × IsSound self.new.slot.settings self.new.slot.who self.new.slot.events }
+        ensures serves { Serves self.old ask.now result self.new }
+        ensures answered { IfOk result (λ reply. Answered self.old.slot.settings self.old.slot.who self.old.slot.events ask.now reply self.new.slot.events) }
+        ensures err { OnErr result (self.new.slot ≡ self.old.slot) }
+        ensures only { IsOkUnless result Fault.Memory }
+    {
+        // The check is told that a history is sound only by a call.
+        let _ = self.slot.journal();
+        let answer = self.slot.apply(&mut self.board, ask);
+        let _ = self.slot.journal();
+        match answer {
+            Ok(reply) => Ok(reply),
+            Err(fault) => {
+                if fault == Fault::Memory {
+                    return Err(fault);
+                }
+                Ok(Reply::Refused(fault))
+            }
+        }
+    }
+
+    /// Tells the teller of the transfer that the reply tells of.
+    fn ticket(&mut self, teller: &mut Teller, who: u8, reply: &Reply) -> Option<Ticket>
+        requires ready { IsReady self.old }
+        requires one { AtOneTable self.old.board (board_of teller.old) }
+        ensures ready { IsReady self.new }
+        ensures later { IsLater self.old self.new }
+        ensures same { self.new.slot ≡ self.old.slot }
+        ensures knows { KnowTheSame knows self.old.board self.new.board }
+        ensures sees { SeesMore teller.old teller.new }
+        ensures told { IsToldBy self.old who reply.now teller.new result }
+    {
+        match reply {
+            Reply::Taken { id, .. } => self.tell(teller, who, id),
+            Reply::State { from, id, .. } => self.tell(teller, *from, id),
+            _ => None,
+        }
+    }
+
+    /// Tells the teller all that the participant's board knows, where this transfer is live; the ticket names its
+    /// place.
+    fn tell(&mut self, teller: &mut Teller, from: u8, id: &Ident) -> Option<Ticket>
+        requires ready { IsReady self.old }
+        requires one { AtOneTable self.old.board (board_of teller.old) }
+        ensures ready { IsReady self.new }
+        ensures later { IsLater self.old self.new }
+        ensures same { self.new.slot ≡ self.old.slot }
+        ensures knows { KnowTheSame knows self.old.board self.new.board }
+        ensures sees { SeesMore teller.old teller.new }
+        ensures told { IsToldOf self.old from id.now teller.new result }
+    {
+        // The check is told of a type of another crate inside a fact only where a function names it.
+        let _: Option<Outcome> = None;
+        let place = self.slot.place_of(from, id)?;
+        Some(self.board.tell(teller, place))
+    }
+}

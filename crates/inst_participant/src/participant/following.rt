@@ -1,0 +1,75 @@
+//! What follows from a command under the other side's lock.
+ghost use Rattle.std.specs.Prelude.{◌≡◌, true, IfSome, IsOkUnless};
+ghost use Rattle.inst_settings.specs.Settings.{is_participant};
+ghost use Rattle.inst_command.specs.Ask.{command_fits};
+ghost use Rattle.inst_participant.specs.Behind.{IsReady, IsLater};
+ghost use Rattle.inst_participant.specs.Following.{follow_up_after, Does, Shows};
+ghost use Rattle.inst_participant.specs.Told.{IsToldMore};
+
+use super::Participant;
+use crate::follow_up::{Act, FollowUp};
+use inst_base::Fault;
+use inst_board::{Board, Look, Place};
+use inst_cell::Ticket;
+use inst_command::{Command, Reply, State};
+
+impl Participant {
+    /// What the other side has to do once the command was answered so: nothing where there is no ticket, and nothing
+    /// where an investigation found its transfer pending.
+    pub fn follow_up(
+        &self,
+        command: &Command,
+        answer: &Result<(Reply, Option<Ticket>), Fault>,
+    ) -> Option<FollowUp>
+        requires fits { command_fits self.now.slot.settings command.now ≡ true }
+        ensures follows { result ≡ follow_up_after self.now.slot.events command.now answer.now }
+        ensures participant { IfSome result (λ f. is_participant self.now.slot.settings f.who ≡ true) }
+    {
+        let Ok((reply, Some(ticket))) = answer else {
+            return None
+        };
+        let place = ticket.place();
+        let (who, act) = match (command, reply) {
+            (Command::Submit(submission), _) => (submission.to, Act::Deliver),
+            (Command::Confirm { from, .. } | Command::Reject { from, .. }, _) => (
+                *from,
+                Act::Learn,
+            ),
+            (
+                Command::Investigate { id },
+                Reply::State {
+                    state: State::Decided(_),
+                    ..
+                },
+            ) => (self.slot.beneficiary_of(id)?, Act::Learn),
+            _ => return None,
+        };
+        Some(FollowUp { who, act, place })
+    }
+
+    /// What the place shows.
+    pub(super) fn look(&mut self, place: Place) -> Look
+        requires ready { IsReady self.old }
+        ensures ready { IsReady self.new }
+        ensures later { IsLater self.old self.new }
+        ensures same { self.new.slot ≡ self.old.slot }
+        ensures shows { Shows self.old.board place result self.new.board }
+    {
+        self.board.look(place)
+    }
+
+    /// Does this with the place: `true` where it brought something new. After `Memory` the history is as it was.
+    pub fn follow(&mut self, act: Act, place: Place) -> Result<bool, Fault>
+        requires ready { IsReady self.old }
+        ensures ready { IsReady self.new }
+        ensures later { IsLater self.old self.new }
+        ensures does { Does act self.old place result self.new }
+        ensures told { IsToldMore self.old.slot.events self.new.slot.events }
+        ensures only { IsOkUnless result Fault.Memory }
+    {
+        match act {
+            Act::Deliver => self.slot.deliver(&mut self.board, place),
+            Act::Learn => self.slot.learn(&mut self.board, place),
+        }
+    }
+}

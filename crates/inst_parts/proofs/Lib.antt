@@ -1,0 +1,3 @@
+pub mod PlaceByPlace
+pub mod Parted
+pub mod Joining

@@ -1,0 +1,4 @@
+pub mod Settling
+pub mod Parts
+pub mod Apart
+pub mod Uniting

@@ -1,0 +1,85 @@
+ghost use Rattle.std.specs.Prelude.{◌≡◌, ℕ, ◌<◌, length, IfOk, IsOkUnless};
+ghost use Rattle.inst_board.specs.declared.about.About.TheVariants.{Opened};
+ghost use Rattle.inst_board.specs.declared.place.Place.{Place};
+ghost use Rattle.inst_board.specs.Standing.{about};
+ghost use Rattle.inst_cell.specs.Held.{knows};
+ghost use Rattle.inst_model.specs.Closing.{AreClosed};
+ghost use Rattle.inst_model.specs.Opening.{Opening};
+ghost use Rattle.inst_settings.specs.Settings.{participants};
+ghost use Rattle.inst_together.specs.Together.{histories};
+ghost use Rattle.inst_together.specs.Told.{IsInTheBooks};
+ghost use Rattle.inst_parts.specs.Apart.{IsPartsOf, AreLater};
+ghost use Rattle.inst_parts.specs.Parts.{IsSettledAt};
+
+use crate::settled::{settle_each, settle_one};
+use inst_base::Fault;
+use inst_cell::SharedBoard;
+use inst_settings::Settings;
+use inst_slot::Slot;
+
+/// What a hub is taken apart into: the slots of its participants, by number, and one board with the roles of all of them.
+#[derive(Drop)]
+pub struct Parts {
+    pub(crate) settings: Settings,
+    pub(crate) slots: Vec<Slot>,
+    pub(crate) board: SharedBoard,
+}
+
+impl Parts {
+    /// These slots over this board.
+    pub fn of(settings: Settings, slots: Vec<Slot>, board: SharedBoard) -> Parts
+        ensures settings { result.settings ≡ settings }
+        ensures slots { result.slots.items ≡ slots.items }
+        ensures board { result.board ≡ board }
+    {
+        Parts {
+            settings,
+            slots,
+            board,
+        }
+    }
+
+    /// The settings of the hub.
+    pub fn settings(&self) -> &Settings
+        ensures { result.now ≡ self.now.settings }
+    {
+        &self.settings
+    }
+
+    /// Books what is decided of the transfers in the book of `who`, its own by place and then those that came in order of
+    /// arrival, and gets what is pending for it, by originator and place. `Memory` ends it, and what was done before
+    /// stands.
+    pub fn settle(&mut self, who: u8) -> Result<(), Fault>
+        requires parts { (O : Opening) × IsPartsOf O self.old }
+        requires participant { who < participants self.old.settings }
+        ensures later { AreLater self.old self.new }
+        ensures settled { IfOk result (λ _. IsSettledAt knows self.new.board who self.new.slots.items) }
+        ensures only { IsOkUnless result Fault.Memory }
+    {
+        settle_one(&mut self.slots, &mut self.board, who)
+    }
+
+    /// Settles each participant by number: then the books are closed, and all that the board knew is in them.
+    pub fn settle_all(&mut self) -> Result<(), Fault>
+        requires parts { (O : Opening) × IsPartsOf O self.old }
+        ensures later { AreLater self.old self.new }
+        ensures closed { IfOk result (λ _. AreClosed self.old.settings (histories self.new.slots.items)) }
+        ensures told { IfOk result (λ _. (k : Place) → knows self.old.board (about k Opened) → IsInTheBooks knows self.old.board (histories self.new.slots.items) k) }
+        ensures only { IsOkUnless result Fault.Memory }
+    {
+        settle_each(&self.settings, &mut self.slots, &mut self.board)
+    }
+
+    /// The settings and the slots. The board is dropped.
+    pub fn into_slots(self) -> (Settings, Vec<Slot>)
+        ensures settings { result.0 ≡ self.settings }
+        ensures slots { result.1.items ≡ self.slots.items }
+    {
+        let Parts {
+            settings,
+            slots,
+            ..
+        } = self;
+        (settings, slots)
+    }
+}

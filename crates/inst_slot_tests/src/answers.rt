@@ -1,0 +1,91 @@
+//! What is answered, by short texts and plain numbers.
+use inst_base::Fault;
+use inst_command::{Answer, Entry, Line, LineKind, Outcome, Reply, State};
+
+/// What became of a transfer.
+#[derive(Clone, Copy)]
+pub(crate) enum End {
+    Accepted,
+    Rejected(&'static str),
+    TimedOut,
+}
+
+/// What is told: of entries the identifiers, and of statement lines their numbers, what they show and the
+/// positions after them.
+#[derive(Clone, Copy)]
+pub(crate) enum Told {
+    Done,
+    Taken(u64),
+    Pending,
+    Decided(End),
+    Position(u64, u64, u64),
+    Inbox(&'static [&'static str]),
+    Lines(&'static [(u32, LineKind, u64)]),
+    New(bool),
+    Refused(Fault),
+}
+
+pub(crate) fn is_end(outcome: &Outcome, end: &End) -> bool {
+    match (outcome, end) {
+        (Outcome::Accepted, End::Accepted) => true,
+        (Outcome::TimedOut, End::TimedOut) => true,
+        (Outcome::Rejected(reason), End::Rejected(wanted)) => reason.text() == *wanted,
+        _ => false,
+    }
+}
+
+fn is_state(state: &State, told: &Told) -> bool {
+    match (state, told) {
+        (State::Pending, Told::Pending) => true,
+        (State::Decided(outcome), Told::Decided(end)) => is_end(outcome, end),
+        _ => false,
+    }
+}
+
+fn are_entries(entries: &[Entry], ids: &[&str]) -> bool {
+    for (entry, id) in entries.iter().zip(ids) {
+        if entry.id.text() != *id {
+            return false;
+        }
+    }
+    entries.len() == ids.len()
+}
+
+fn are_lines(lines: &[Line], wanted: &[(u32, LineKind, u64)]) -> bool {
+    for (line, (number, kind, position)) in lines.iter().zip(wanted) {
+        if line.number != *number || line.kind != *kind || line.position != *position {
+            return false;
+        }
+    }
+    lines.len() == wanted.len()
+}
+
+/// Whether the reply is what is told.
+fn is_reply(reply: &Reply, told: &Told) -> bool {
+    match (reply, told) {
+        (Reply::Done { .. }, Told::Done) => true,
+        (Reply::Taken { deadline, .. }, Told::Taken(end)) => deadline.past_base() == *end,
+        (Reply::State { state, .. }, told) => is_state(state, told),
+        (
+            Reply::Position {
+                position,
+                reserved,
+                available,
+            },
+            Told::Position(all, held, free),
+        ) => position == all && reserved == held && available == free,
+        (Reply::Inbox { entries }, Told::Inbox(ids)) => are_entries(entries.as_slice(), ids),
+        (Reply::Statement { lines }, Told::Lines(wanted)) => are_lines(lines.as_slice(), wanted),
+        _ => false,
+    }
+}
+
+/// Whether the answer is what is told.
+pub(crate) fn tells(answer: &Result<Answer, Fault>, told: &Told) -> bool {
+    match (answer, told) {
+        (Ok(Answer::Reply(reply)), told) => is_reply(reply, told),
+        (Ok(Answer::New(is_new)), Told::New(wanted)) => is_new == wanted,
+        (Err(fault), Told::Refused(wanted)) => fault == wanted,
+        _ => false,
+    }
+}

@@ -1,0 +1,3 @@
+pub mod Together
+pub mod Wider
+pub mod Told

@@ -1,0 +1,131 @@
+// The plain board: each wish about a deadline, and what a look shows then.
+ghost use Rattle.std.specs.Prelude.{◌≡◌, IfOk};
+ghost use Rattle.inst_settings.specs.Settings.{participants};
+ghost use Rattle.inst_board.specs.declared.place.Place.{Place};
+ghost use Rattle.inst_board.specs.declared.plain.Kept.TheVariants.{Unused as KeptUnused};
+ghost use Rattle.inst_board.specs.declared.about.About.TheVariants.{Opened};
+ghost use Rattle.inst_board.specs.Standing.{IsPlace, about};
+ghost use Rattle.inst_board.specs.Plain.{kept_at, plain_knows};
+
+use inst_base::{Cents, Code, Fault, Ident, Moment, Reason};
+use inst_board::laws::decide_plain_twice;
+use inst_board::{Board, Look, Place, PlainBoard, Wish};
+use inst_command::Outcome;
+use inst_settings::Settings;
+use inst_terms::Terms;
+use std::alloc::Global;
+
+const DEADLINE: u64 = 1000;
+
+fn moment(ms: u64) -> Result<Moment, Fault> {
+    Moment::new(0, ms)
+}
+
+fn terms() -> Result<Terms, Fault> {
+    Ok(Terms {
+        to: 1,
+        cents: Cents::new(50_000)?,
+        id: Ident::new("T1")?,
+    })
+}
+
+/// Two participants with three places each, and a margin of 200 ms.
+fn settings(alloc: Global) -> Result<Settings, Fault>
+    ensures { IfOk result (λ s. (participants s ≡ 2) × (s.places ≡ 3)) }
+{
+    let codes = vec![in alloc; Code::new("AAAADEFF")?, Code::new("BBBBFRPP")?]?;
+    Settings::check(codes, 3, 3, 1000, 200, 1000, 1000, 0)
+}
+
+/// A board on which the last place of the first participant is pending.
+fn opened(alloc: Global, place: Place) -> Result<PlainBoard, Fault>
+    requires { (place.owner ≡ 0) × (place.index ≡ 2) }
+    ensures { IfOk result (λ b. plain_knows b (about place Opened)) }
+{
+    let settings = settings(alloc)?;
+    let mut board = PlainBoard::new(alloc, &settings)?;
+    let deadline = Moment::new(0, DEADLINE)?;
+    board.write_terms(place, &terms()?);
+    board.open(place, deadline);
+    Ok(board)
+}
+
+/// What a wish answers, and what a look shows afterwards.
+fn decided(alloc: Global, wish: Wish, at: u64) -> Result<(Option<Outcome>, Look), Fault> {
+    let place = Place { owner: 0, index: 2 };
+    let mut board = opened(alloc, place)?;
+    let found = board.decide(place, wish, moment(at)?);
+    Ok((found, board.look(place)))
+}
+
+fn decided_twice(
+    alloc: Global,
+    first: (Wish, u64),
+    second: (Wish, u64),
+) -> Result<(Option<Outcome>, Option<Outcome>), Fault> {
+    let place = Place { owner: 0, index: 2 };
+    let mut board = opened(alloc, place)?;
+    let at = moment(first.1)?;
+    let later = moment(second.1)?;
+    Ok(decide_plain_twice(&mut board, place, first.0, at, second.0, later))
+}
+
+#[test]
+fn each_wish_about_the_deadline(rt: HostRuntime) -> Result<(), Fault> {
+    let reason = Reason::new("AC04")?;
+    let rejected = Outcome::Rejected(reason);
+    let pending = Look::Pending(terms()?, moment(DEADLINE)?);
+    for (wish, at, want) in [
+        (Wish::Accept, 799, Some(Outcome::Accepted)),
+        (Wish::Accept, 800, None),
+        (Wish::Accept, 999, None),
+        (Wish::Accept, 1000, Some(Outcome::TimedOut)),
+        (Wish::Accept, 1001, Some(Outcome::TimedOut)),
+        (Wish::Reject(reason), 999, Some(rejected)),
+        (Wish::Reject(reason), 1000, Some(Outcome::TimedOut)),
+        (Wish::Reject(reason), 1001, Some(Outcome::TimedOut)),
+        (Wish::Expire, 999, None),
+        (Wish::Expire, 1000, Some(Outcome::TimedOut)),
+        (Wish::Expire, 1001, Some(Outcome::TimedOut)),
+    ] {
+        let (found, look) = decided(rt.alloc(), wish, at)?;
+        assert_eq!(rt; found, want, "{wish:?} at {at}");
+        let shown = match want {
+            Some(outcome) => Look::Decided(terms()?, outcome),
+            None => pending,
+        };
+        assert_eq!(rt; look, shown, "{wish:?} at {at}");
+    }
+    Ok(())
+}
+
+#[test]
+fn a_second_wish_changes_nothing(rt: HostRuntime) -> Result<(), Fault> {
+    let reason = Reason::new("AC04")?;
+    let rejected = Outcome::Rejected(reason);
+    for (first, second, want) in [
+        ((Wish::Accept, 1), (Wish::Expire, 2000), Outcome::Accepted),
+        (
+            (Wish::Accept, 1),
+            (Wish::Reject(reason), 2),
+            Outcome::Accepted,
+        ),
+        ((Wish::Reject(reason), 1), (Wish::Accept, 2), rejected),
+        ((Wish::Expire, 2000), (Wish::Accept, 1), Outcome::TimedOut),
+        ((Wish::Expire, 1), (Wish::Accept, 2), Outcome::Accepted),
+    ] {
+        let (_, found) = decided_twice(rt.alloc(), first, second)?;
+        assert_eq!(rt; found, Some(want));
+    }
+    Ok(())
+}
+
+#[test]
+fn what_was_not_opened_is_unused(rt: HostRuntime) -> Result<(), Fault> {
+    let settings = settings(rt.alloc())?;
+    let mut board = PlainBoard::new(rt.alloc(), &settings)?;
+    for (owner, index) in [(0, 0), (1, 2), (0, 3), (2, 0), (255, 65_535)] {
+        assert_eq!(rt; board.look(Place { owner, index }), Look::Unused);
+    }
+    Ok(())
+}

@@ -1,0 +1,218 @@
+// Settings to their bounds, and how participants are found by their codes.
+use inst_base::{Code, Fault};
+use inst_settings::Settings;
+use std::alloc::Global;
+use std::test::Fail;
+
+/// The numbers of a setting: places, fundings, limit, margin, ahead, ceiling
+/// and base.
+#[derive(Clone, Copy, Debug, PartialEq, Eq)]
+struct Numbers {
+    places: u16,
+    fundings: u16,
+    limit: u32,
+    margin: u32,
+    ahead: u32,
+    ceiling: u64,
+    base: u64,
+}
+
+const LEAST: Numbers = Numbers {
+    places: 1,
+    fundings: 1,
+    limit: 1,
+    margin: 0,
+    ahead: 0,
+    ceiling: 1,
+    base: 0,
+};
+
+const MOST: Numbers = Numbers {
+    places: 1024,
+    fundings: 1024,
+    limit: 3_600_000,
+    margin: 3_599_999,
+    ahead: 60_000,
+    ceiling: 99_999_999_999,
+    base: 4_611_686_018_427_387_904,
+};
+
+fn check(codes: Vec<Code>, numbers: &Numbers) -> Result<Settings, Fault> {
+    Settings::check(
+        codes,
+        numbers.places,
+        numbers.fundings,
+        numbers.limit,
+        numbers.margin,
+        numbers.ahead,
+        numbers.ceiling,
+        numbers.base,
+    )
+}
+
+/// What the readers tell.
+fn told(settings: &Settings) -> Numbers {
+    Numbers {
+        places: settings.places(),
+        fundings: settings.fundings(),
+        limit: settings.limit(),
+        margin: settings.margin(),
+        ahead: settings.ahead(),
+        ceiling: settings.ceiling(),
+        base: settings.base(),
+    }
+}
+
+/// So many codes: `AAAAD100`, `AAAAD101` and so on.
+fn codes(alloc: Global, count: u32) -> Result<Vec<Code>, Fail> {
+    let mut codes = Vec::new(alloc);
+    for index in 0..count {
+        let number = u64::from(index) + 100;
+        let text = format!(in alloc; "AAAAD{number}")?;
+        codes.push(Code::new(text.as_str())?)?;
+    }
+    Ok(codes)
+}
+
+#[test]
+fn numbers_to_their_bounds(rt: HostRuntime) -> Result<(), Fail> {
+    let alloc = rt.alloc();
+    for numbers in [LEAST, MOST] {
+        let settings = check(codes(alloc, 1)?, &numbers)?;
+        assert_eq!(rt; told(&settings), numbers);
+    }
+    for numbers in [
+        Numbers { places: 0, ..LEAST },
+        Numbers {
+            fundings: 0,
+            ..LEAST
+        },
+        Numbers { limit: 0, ..LEAST },
+        Numbers {
+            ceiling: 0,
+            ..LEAST
+        },
+        Numbers {
+            places: 1025,
+            ..MOST
+        },
+        Numbers {
+            fundings: 1025,
+            ..MOST
+        },
+        Numbers {
+            limit: 3_600_001,
+            ..MOST
+        },
+        Numbers { margin: 1, ..LEAST },
+        Numbers {
+            margin: 3_600_000,
+            ..MOST
+        },
+        Numbers {
+            ahead: 60_001,
+            ..MOST
+        },
+        Numbers {
+            ceiling: 100_000_000_000,
+            ..MOST
+        },
+        Numbers {
+            base: 4_611_686_018_427_387_905,
+            ..MOST
+        },
+    ] {
+        let refusal = check(codes(alloc, 1)?, &numbers).err();
+        assert_eq!(rt; refusal, Some(Fault::BadSettings), "{numbers:?}");
+    }
+    Ok(())
+}
+
+#[test]
+fn participants_to_their_bounds(rt: HostRuntime) -> Result<(), Fail> {
+    let alloc = rt.alloc();
+    for (count, fault) in [
+        (0, Some(Fault::BadSettings)),
+        (1, None),
+        (256, None),
+        (257, Some(Fault::BadSettings)),
+    ] {
+        let refusal = check(codes(alloc, count)?, &MOST).err();
+        assert_eq!(rt; refusal, fault, "{count}");
+    }
+    let settings = check(codes(alloc, 256)?, &MOST)?;
+    assert_eq!(rt; settings.participants(), 256);
+    let last = Code::new("AAAAD355")?;
+    assert_eq!(rt; settings.code(255), Some(&last));
+    assert_eq!(rt; settings.index_of(&last), Some(255));
+    assert_eq!(rt; settings.index_of(&Code::new("AAAAD356")?), None);
+    Ok(())
+}
+
+#[test]
+fn codes_are_numbered_as_given(rt: HostRuntime) -> Result<(), Fail> {
+    let alloc = rt.alloc();
+    let first = Code::new("CCCCITMM")?;
+    let second = Code::new("AAAADEFF")?;
+    let longer = Code::new("AAAADEFF123")?;
+    let other = Code::new("DDDDESMM")?;
+    let settings = check([first, second, longer].to_vec(alloc)?, &LEAST)?;
+    let copy = settings.copy()?;
+    for settings in [&settings, &copy] {
+        assert_eq!(rt; told(settings), LEAST);
+        assert_eq!(rt; settings.participants(), 3);
+        for (index, code) in [(0, first), (1, second), (2, longer)] {
+            assert_eq!(rt; settings.code(index).copied(), Some(code));
+            assert_eq!(rt; settings.index_of(&code), Some(index));
+        }
+        assert_eq!(rt; settings.code(3).copied(), None);
+        assert_eq!(rt; settings.index_of(&other), None);
+    }
+    for twice in [
+        [first, first, second],
+        [first, second, first],
+        [first, second, second],
+    ] {
+        let refusal = check(twice.to_vec(alloc)?, &LEAST).err();
+        assert_eq!(rt; refusal, Some(Fault::BadSettings), "{twice:?}");
+    }
+    Ok(())
+}
+
+/// So many codes as banks have them, every third with a branch: other banks, the same bank in other
+/// countries and places, and other branches of one bank.
+fn bank_codes(alloc: Global, count: u32) -> Result<Vec<Code>, Fail> {
+    let countries = ["DE", "FR", "IT", "ES", "NL", "BE", "AT", "IE"];
+    let banks = [
+        "LERC", "MEIS", "NEUN", "PIRO", "RABE", "SPEC", "TAUB", "UHUX",
+    ];
+    let mut codes = Vec::new(alloc);
+    for index in 0..count {
+        let bank = banks[(index % 8) as usize];
+        let country = countries[(index / 8 % 8) as usize];
+        let place = 10 + index / 64;
+        let branch = 100 + u64::from(index);
+        let text = if index % 3 == 0 {
+            format!(in alloc; "{bank}{country}{place}{branch}")?
+        } else {
+            format!(in alloc; "{bank}{country}{place}")?
+        };
+        codes.push(Code::new(text.as_str())?)?;
+    }
+    Ok(codes)
+}
+
+#[test]
+fn every_code_of_a_bank_has_its_number(rt: HostRuntime) -> Result<(), Fail> {
+    let alloc = rt.alloc();
+    let settings = check(bank_codes(alloc, 64)?, &MOST)?;
+    for (number, code) in bank_codes(alloc, 128)?.iter().enumerate() {
+        let wanted = if number < 64 { Some(number) } else { None };
+        assert_eq!(rt;
+            settings.index_of(code).map(usize::from),
+            wanted,
+            "{code:?}"
+        );
+    }
+    Ok(())
+}

@@ -1,0 +1,84 @@
+// Statement lines as texts.
+ghost use Rattle.std.specs.Prelude.{◌≡◌, true, IfOk};
+ghost use Rattle.inst_settings.specs.Settings.{participants};
+ghost use Rattle.inst_command.specs.LineText.{line_fits};
+
+use inst_base::{Cents, Code, Ident};
+use inst_command::{Line, LineKind, line_text};
+use inst_settings::Settings;
+use std::alloc::Global;
+use std::process::Abort;
+use std::test::Fail;
+
+fn hub(alloc: Global) -> Result<Settings, Fail>
+    ensures { IfOk result (λ s. participants s ≡ 2) }
+{
+    let codes = [Code::new("AAAADEFF")?, Code::new("BBBBFRPP123")?];
+    Ok(Settings::check(codes.to_vec(alloc)?, 1, 1, 1, 0, 0, 1, 0)?)
+}
+
+fn assert_text(
+    rt: &impl Abort,
+    alloc: Global,
+    settings: &Settings,
+    line: &Line,
+    wanted: &str,
+) -> Result<(), Fail>
+    requires { line_fits settings.now line.now ≡ true }
+{
+    let text = line_text(alloc, settings, line)?;
+    assert_eq!(rt; text.len(), 91);
+    assert_eq!(rt; text.as_str(), wanted);
+    Ok(())
+}
+
+#[test]
+fn lays_out_lines(rt: HostRuntime) -> Result<(), Fail> {
+    let alloc = rt.alloc();
+    let hub = hub(alloc)?;
+    let funded = Line {
+        number: 1,
+        kind: LineKind::Funded,
+        other: None,
+        id: Ident::new("F1")?,
+        cents: Cents::new(50_000)?,
+        position: 50_000,
+    };
+    let text =
+        "     1 FND             F1                                        50000                50000";
+    assert_text(&rt, alloc, &hub, &funded, text)?;
+    let paid = Line {
+        number: 2,
+        kind: LineKind::Paid,
+        other: Some(0),
+        id: Ident::new("T1")?,
+        cents: Cents::new(20_000)?,
+        position: 30_000,
+    };
+    let text =
+        "     2 OUT AAAADEFF    T1                                        20000                30000";
+    assert_text(&rt, alloc, &hub, &paid, text)?;
+    let defunded = Line {
+        number: 3,
+        kind: LineKind::Defunded,
+        other: None,
+        id: Ident::new("D1")?,
+        cents: Cents::new(5000)?,
+        position: 25_000,
+    };
+    let text =
+        "     3 DFD             D1                                         5000                25000";
+    assert_text(&rt, alloc, &hub, &defunded, text)?;
+    let widest = Line {
+        number: 999_999,
+        kind: LineKind::Received,
+        other: Some(1),
+        id: Ident::new("INV/2026-07 O'Brien (final) part 01")?,
+        cents: Cents::new(99_999_999_999)?,
+        position: u64::MAX,
+    };
+    let text =
+        "999999 IN  BBBBFRPP123 INV/2026-07 O'Brien (final) part 01 99999999999 18446744073709551615";
+    assert_text(&rt, alloc, &hub, &widest, text)?;
+    Ok(())
+}

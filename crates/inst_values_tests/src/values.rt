@@ -1,0 +1,207 @@
+// Amounts, moments, codes, identifiers and faults, at their bounds.
+use inst_base::{Cents, Code, Fault, Ident, Moment, Reason};
+use std::test::Fail;
+
+const BASE: u64 = 4_611_686_018_427_387_904;
+
+const PAST_BASE: u64 = 2_199_023_255_551;
+
+#[test]
+fn amounts_to_their_bounds(rt: HostRuntime) {
+    for (cents, wanted) in [
+        (0, Err(Fault::BadAmount)),
+        (1, Ok(1)),
+        (99_999_999_999, Ok(99_999_999_999)),
+        (100_000_000_000, Err(Fault::BadAmount)),
+        (u64::MAX, Err(Fault::BadAmount)),
+    ] {
+        assert_eq!(rt;
+            Cents::new(cents).map(|amount| amount.get()),
+            wanted,
+            "{cents}"
+        );
+    }
+}
+
+#[test]
+fn moments_to_their_bounds(rt: HostRuntime) -> Result<(), Fail> {
+    for (base, ms, wanted) in [
+        (0, 0, Ok(0)),
+        (0, PAST_BASE, Ok(PAST_BASE)),
+        (0, PAST_BASE + 1, Err(Fault::BadMoment)),
+        (BASE, 0, Err(Fault::BadMoment)),
+        (BASE, BASE - 1, Err(Fault::BadMoment)),
+        (BASE, BASE, Ok(0)),
+        (BASE, BASE + PAST_BASE, Ok(PAST_BASE)),
+        (BASE, BASE + PAST_BASE + 1, Err(Fault::BadMoment)),
+        (BASE, u64::MAX, Err(Fault::BadMoment)),
+    ] {
+        let past_base = Moment::new(base, ms).map(|moment| moment.past_base());
+        assert_eq!(rt; past_base, wanted, "{ms} from {base}");
+    }
+    let last = Moment::new(BASE, BASE + PAST_BASE)?;
+    assert_eq!(rt; last.millis(BASE), 4_611_688_217_450_643_455);
+    assert_eq!(rt; last.millis(0), 2_199_023_255_551);
+    Ok(())
+}
+
+#[test]
+fn deadlines_to_the_last_moment(rt: HostRuntime) -> Result<(), Fail> {
+    for (ms, limit, wanted) in [
+        (0, 0, Some(0)),
+        (1000, 10_000, Some(11_000)),
+        (0, u32::MAX, Some(4_294_967_295)),
+        (PAST_BASE, 0, Some(PAST_BASE)),
+        (PAST_BASE, 1, None),
+        (PAST_BASE - 10_000, 10_000, Some(PAST_BASE)),
+        (PAST_BASE - 10_000, 10_001, None),
+    ] {
+        let stamp = Moment::new(0, ms)?;
+        let deadline = if stamp.has_deadline(limit) {
+            Some(stamp.deadline(limit).past_base())
+        } else {
+            None
+        };
+        assert_eq!(rt; deadline, wanted, "{limit} after {ms}");
+    }
+    Ok(())
+}
+
+/// Whether a reading is in time, in time for a confirmation with a margin of 2 seconds, and due.
+#[test]
+fn readings_on_either_side_of_a_deadline(rt: HostRuntime) -> Result<(), Fail> {
+    let deadline = Moment::new(0, 11_000)?;
+    for (ms, in_time, to_accept, due) in [
+        (0, true, true, false),
+        (8_999, true, true, false),
+        (9_000, true, false, false),
+        (10_999, true, false, false),
+        (11_000, false, false, true),
+        (11_001, false, false, true),
+    ] {
+        let at = Moment::new(0, ms)?;
+        assert_eq!(rt; at.is_in_time(deadline), in_time, "{ms}");
+        assert_eq!(rt; at.is_in_time_to_accept(2000, deadline), to_accept, "{ms}");
+        assert_eq!(rt; at.is_in_time_to_accept(0, deadline), in_time, "{ms}");
+        assert_eq!(rt; at.is_due(deadline), due, "{ms}");
+    }
+    Ok(())
+}
+
+#[test]
+fn stamps_on_either_side_of_what_is_ahead(rt: HostRuntime) -> Result<(), Fail> {
+    let at = Moment::new(0, 1000)?;
+    for (ms, is_ahead) in [(0, false), (1000, false), (2000, false), (2001, true)] {
+        assert_eq!(rt; Moment::new(0, ms)?.is_ahead(1000, at), is_ahead, "{ms}");
+    }
+    Ok(())
+}
+
+#[test]
+fn codes_and_reasons_by_length_and_set(rt: HostRuntime) -> Result<(), Fail> {
+    for text in ["AAAADEFF", "DDDDESMM123", "AZ09AZ09", "00000000000"] {
+        assert_eq!(rt; Code::new(text)?.text(), text);
+    }
+    for text in [
+        "",
+        "AAAADEF",
+        "AAAADEFF1",
+        "AAAADEFF12",
+        "AAAADEFF1234",
+        "AAAADEFf",
+        "aAAADEFF",
+        "AAAA EFF",
+        "AAAADE/F",
+        "AAAADE:F",
+        "AAAADE@F",
+        "AAAADE[F",
+        "AAAADEÉ",
+    ] {
+        assert_eq!(rt; Code::new(text), Err(Fault::BadField), "{text}");
+    }
+    for text in ["AC04", "AZ09", "0000"] {
+        assert_eq!(rt; Reason::new(text)?.text(), text);
+    }
+    for text in [
+        "", "AC0", "AC045", "ac04", "AC0z", "AC 4", "A/04", "A:04", "A@04", "A[04", "ACÉ",
+    ] {
+        assert_eq!(rt; Reason::new(text), Err(Fault::BadField), "{text}");
+    }
+    Ok(())
+}
+
+#[test]
+fn identifiers_by_length_and_set(rt: HostRuntime) -> Result<(), Fail> {
+    for text in [
+        "a",
+        " ",
+        "azAZ09/-?:().,'+ ",
+        "INV/2026-07 O'Brien (final) part 01",
+    ] {
+        assert_eq!(rt; Ident::new(text)?.text(), text);
+    }
+    for text in [
+        "",
+        "INV/2026-07 O'Brien (final) part 012",
+        "`",
+        "{",
+        "@",
+        "[",
+        ";",
+        ">",
+        "*",
+        "&",
+        "!",
+        "\"",
+        "\u{1f}",
+        "\n",
+        "=",
+        "_",
+        "é",
+        "T1\0",
+    ] {
+        assert_eq!(rt; Ident::new(text), Err(Fault::BadIdentifier), "{text}");
+    }
+    Ok(())
+}
+
+#[test]
+fn faults_as_people_read_them(rt: HostRuntime) -> Result<(), Fail> {
+    for (fault, sentence) in [
+        (Fault::NotJson, "the line is no JSON text"),
+        (Fault::Expired, "the reading is too late"),
+        (Fault::Shortage, "the amount is above what is available"),
+        (Fault::WriteFault, "the output failed, or took no byte"),
+    ] {
+        assert_eq!(rt; format!(in rt.alloc(); "{fault}")?.as_str(), sentence);
+    }
+    Ok(())
+}
+
+#[test]
+fn faults_by_number_and_name(rt: HostRuntime) -> Result<(), Fail> {
+    for (fault, number, name) in [
+        (Fault::NotJson, 1, "NotJson"),
+        (Fault::BadField, 2, "BadField"),
+        (Fault::BadIdentifier, 3, "BadIdentifier"),
+        (Fault::BadAmount, 4, "BadAmount"),
+        (Fault::BadMoment, 5, "BadMoment"),
+        (Fault::UnknownParticipant, 6, "UnknownParticipant"),
+        (Fault::SelfTransfer, 7, "SelfTransfer"),
+        (Fault::UnknownTransfer, 8, "UnknownTransfer"),
+        (Fault::Duplicate, 9, "Duplicate"),
+        (Fault::StampAhead, 10, "StampAhead"),
+        (Fault::Expired, 11, "Expired"),
+        (Fault::Full, 12, "Full"),
+        (Fault::Shortage, 13, "Shortage"),
+        (Fault::Memory, 14, "Memory"),
+        (Fault::BadSettings, 15, "BadSettings"),
+        (Fault::LineTooLong, 16, "LineTooLong"),
+        (Fault::ReadFault, 17, "ReadFault"),
+        (Fault::WriteFault, 18, "WriteFault"),
+    ] {
+        assert_eq!(rt; fault.number(), number, "{name}");
+        assert_eq!(rt; fault.name(), name);
+    }
+    Ok(())
+}

@@ -1,9 +1,0 @@
-use Rattle.std.proofs.Common.{length}
-use Rattle.inst_world.specs.Agenda.{Moves}
-use Rattle.inst_world.proofs.agenda.Agenda.move_due.Given as goal
-
-abbrev pub invariant-loop-place : goal.invariant-loop-place
-invariant-loop-place l = Moves l.initial.self l.self
-
-abbrev pub decreases-loop-place : goal.decreases-loop-place
-decreases-loop-place l = length l.self.waiting

@@ -1,0 +1,16 @@
+//! Tests of the hub in one thread: worked rows as scripts of lines, worlds step by step, openings, and what readers and
+//! writers do to a run.
+#![tactic(auto)]
+
+#[cfg(test)]
+mod next_openings;
+#[cfg(test)]
+mod readers_and_writers;
+#[cfg(test)]
+mod rows;
+#[cfg(test)]
+mod script_rows;
+#[cfg(test)]
+mod two_runs;
+#[cfg(test)]
+mod worlds;

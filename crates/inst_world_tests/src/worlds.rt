@@ -1,0 +1,188 @@
+// Worlds, step by step and line by line, over three participants with 2 places and 4 fundings each.
+use inst_agenda::{Runner, follow_up};
+use inst_base::{Cents, Fault, Ident, Moment, Reason};
+use inst_board::Place;
+use inst_command::{Answer, Ask, Command, Outcome, Reply, Step, Submission};
+use inst_journal::Event;
+use inst_json::LineReader;
+use inst_rows::{confirm, fund, settings, submit};
+use inst_world::World;
+use std::process::Abort;
+use std::test::Fail;
+
+fn forwarded(from: u8, id: &str, cents: u64, deadline: u64) -> Result<Event, Fault> {
+    // The check is told of a type of another crate inside an event only where a function names it.
+    let _: Option<Outcome> = None;
+    Ok(Event::Forwarded {
+        from,
+        id: Ident::new(id)?,
+        cents: Cents::new(cents)?,
+        deadline: Moment::new(0, deadline)?,
+    })
+}
+
+fn booked(from: u8, id: &str, outcome: Outcome) -> Result<Event, Fault> {
+    Ok(Event::Booked {
+        from,
+        id: Ident::new(id)?,
+        outcome,
+    })
+}
+
+/// Compares the history of a participant.
+fn journal_is(rt: &impl Abort, world: &World, who: u8, events: &[Event]) -> Result<(), Fail> {
+    let _: Option<Outcome> = None;
+    assert!(rt; world.settings().has_participant(who));
+    assert_eq!(rt; world.journal(who).events(), events);
+    Ok(())
+}
+
+/// Compares the money of the three participants: position, and what of it is reserved.
+fn money_is(rt: &impl Abort, world: &World, money: [(u64, u64); 3]) -> Result<(), Fail> {
+    for (who, (position, reserved)) in money.iter().enumerate() {
+        let who = who as u8;
+        assert!(rt; world.settings().has_participant(who));
+        let journal = world.journal(who);
+        assert_eq!(rt; journal.position(), u128::from(*position));
+        assert_eq!(rt; journal.reserved(), u128::from(*reserved));
+    }
+    Ok(())
+}
+
+/// Whether the step is answered so.
+fn steps_to(rt: &impl Abort, world: &mut World, step: &Step, is_new: bool) -> Result<(), Fail> {
+    assert!(rt; step.fits(world.settings()));
+    let answer = world.step(step)?;
+    assert!(rt; matches!(&answer, Answer::New(new) if *new == is_new));
+    Ok(())
+}
+
+/// Whether the step is answered by a reply that is no refusal.
+fn asks(rt: &impl Abort, world: &mut World, step: &Step) -> Result<(), Fail> {
+    assert!(rt; step.fits(world.settings()));
+    let answer = world.step(step)?;
+    assert!(rt; matches!(&answer, Answer::Reply(reply) if !matches!(reply, Reply::Refused(_))));
+    Ok(())
+}
+
+/// The transfer of the first participant to the second lies at its first place, and is pending until 11,000.
+fn lies_at_the_first_place(rt: &impl Abort, world: &mut World, id: &Ident) -> Result<(), Fail> {
+    let place = Place { owner: 0, index: 0 };
+    assert_eq!(rt; world.beneficiary_at(place), Some(1));
+    assert_eq!(rt; world.pending_until(place), Some(Moment::new(0, 11_000)?));
+    assert!(rt; world.settings().has_participant(0));
+    assert_eq!(rt; world.place_of(0, id), Some(place));
+    Ok(())
+}
+
+#[test]
+fn a_world_goes_step_by_step(rt: HostRuntime) -> Result<(), Fail> {
+    // The check is told of a type of another crate inside a step only where a function names it.
+    let _: Option<(Ask, Command, Submission)> = None;
+    let settings = settings(rt.alloc())?;
+    let mut world = World::open(rt.alloc(), &settings)?;
+    assert_eq!(rt; world.settings().participants(), 3);
+    let funding = fund(0, "F1", 500, 0)?;
+    asks(&rt, &mut world, &funding)?;
+    let submission = submit(0, "T1", 1, 200, 1000, 1000)?;
+    asks(&rt, &mut world, &submission)?;
+    lies_at_the_first_place(&rt, &mut world, &Ident::new("T1")?)?;
+    let deliver = Step::Deliver {
+        from: 0,
+        place: 0,
+        to: 1,
+    };
+    steps_to(&rt, &mut world, &deliver, true)?;
+    steps_to(&rt, &mut world, &deliver, false)?;
+    let confirmation = confirm(1, 0, "T1", 2000)?;
+    asks(&rt, &mut world, &confirmation)?;
+    money_is(&rt, &world, [(500, 200), (200, 0), (0, 0)])?;
+    let learn = Step::Learn {
+        who: 0,
+        from: 0,
+        place: 0,
+    };
+    steps_to(&rt, &mut world, &learn, true)?;
+    steps_to(&rt, &mut world, &learn, false)?;
+    let expire = Step::Expire {
+        who: 0,
+        place: 0,
+        at: Moment::new(0, 20_000)?,
+    };
+    steps_to(&rt, &mut world, &expire, false)?;
+    money_is(&rt, &world, [(300, 0), (200, 0), (0, 0)])
+}
+
+/// Runs the line as a run does, and goes over what it names and what is due; it must not be refused.
+fn run_line(
+    rt: &impl Abort,
+    reader: &mut LineReader,
+    runner: &mut Runner,
+    line: &str,
+) -> Result<(), Fail> {
+    let ask = reader.read_command(runner.settings(), line.as_bytes())?;
+    let at = ask.at;
+    let answer = runner.ask(ask)?;
+    assert!(rt; !matches!(&answer, Answer::Reply(Reply::Refused(_))));
+    follow_up(runner, at)?;
+    Ok(())
+}
+
+/// Answers these lines at a hub of its own.
+fn run_after(rt: &(impl Abort + AllocGlobal), lines: &str) -> Result<Runner, Fail> {
+    let settings = settings(rt.alloc())?;
+    let mut runner = Runner::open(rt.alloc(), &settings)?;
+    let mut reader = LineReader::new(rt.alloc());
+    for line in lines.lines() {
+        run_line(rt, &mut reader, &mut runner, line)?;
+    }
+    Ok(runner)
+}
+
+/// Both beneficiaries have booked how theirs ended: the one rejected it, the other one let it time out.
+fn both_are_told(rt: &impl Abort, world: &World) -> Result<(), Fail> {
+    let at_second = [
+        forwarded(0, "T1", 20_000, 11_000)?,
+        booked(0, "T1", Outcome::Rejected(Reason::new("AC04")?))?,
+    ];
+    journal_is(rt, world, 1, &at_second)?;
+    let at_third = [
+        forwarded(0, "T2", 5000, 11_000)?,
+        booked(0, "T2", Outcome::TimedOut)?,
+    ];
+    journal_is(rt, world, 2, &at_third)
+}
+
+/// The histories show what the replies of a run don't: that each side books each outcome, the originator
+/// before its transfer may expire.
+#[test]
+fn a_run_tells_both_sides(rt: HostRuntime) -> Result<(), Fail> {
+    let runner = run_after(
+        &rt,
+        r#"{"at":0,"cents":50000,"cmd":"fund","ref":"F1","who":"AAAADEFF"}
+{"at":1000,"cents":20000,"cmd":"submit","id":"T1","stamp":1000,"to":"BBBBFRPP","who":"AAAADEFF"}
+{"at":1000,"cents":5000,"cmd":"submit","id":"T2","stamp":1000,"to":"CCCCITMM","who":"AAAADEFF"}
+{"at":2000,"cmd":"reject","from":"AAAADEFF","id":"T1","reason":"AC04","who":"BBBBFRPP"}
+{"at":11000,"cmd":"position","who":"BBBBFRPP"}
+"#,
+    )?;
+    both_are_told(&rt, &runner.world)?;
+    money_is(&rt, &runner.world, [(50_000, 0), (0, 0), (0, 0)])
+}
+
+#[test]
+fn a_run_moves_money(rt: HostRuntime) -> Result<(), Fail> {
+    let runner = run_after(
+        &rt,
+        r#"{"at":0,"cents":50000,"cmd":"fund","ref":"F1","who":"AAAADEFF"}
+{"at":0,"cents":700,"cmd":"fund","ref":"F2","who":"CCCCITMM"}
+{"at":1000,"cents":20000,"cmd":"submit","id":"T1","stamp":1000,"to":"BBBBFRPP","who":"AAAADEFF"}
+{"at":1000,"cents":300,"cmd":"submit","id":"T1","stamp":1000,"to":"AAAADEFF","who":"CCCCITMM"}
+{"at":2000,"cmd":"confirm","from":"AAAADEFF","id":"T1","who":"BBBBFRPP"}
+{"at":2500,"cmd":"investigate","id":"T1","who":"CCCCITMM"}
+{"at":3000,"cents":5000,"cmd":"submit","id":"T2","stamp":3000,"to":"CCCCITMM","who":"BBBBFRPP"}
+{"at":11000,"cmd":"investigate","id":"T1","who":"CCCCITMM"}
+"#,
+    )?;
+    money_is(&rt, &runner.world, [(30_000, 0), (20_000, 5000), (700, 0)])
+}
