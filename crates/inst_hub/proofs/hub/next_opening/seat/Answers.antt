@@ -1,3 +1,4 @@
+use Rattle.std.proofs.Common.{rules}
 use Rattle.std.specs.Vec.Iter.{into_iter_items}
 use Rattle.inst_hub.proofs.Reopening.{one_pair, one_less}
 use Rattle.inst_hub.specs.NextOpening.{pairs, seated}
@@ -16,3 +17,6 @@ loop-slot-preserved c =
       one_pair c.loop-slot.all.items c.push.new.self.items c.in_ok-new.field-0 c.in-Some.slot c.in-Some-next.board slots slots_left boards boards_left (pairs seated c.args.slots.items c.args.boards.items)
           c.in_ok-new.ensures.ok c.in_ok-push.ensures.items c.in-Some.ensures.steps.0 c.in-Some-next.ensures.items i.3,
     )
+
+pub loop-slot-init : goal.loop-slot-init
+loop-slot-init c = search rules
