@@ -13,7 +13,9 @@ use Rattle.inst_world.specs.NextOpening.{kept_by, books_of, CanOpenFrom}
 use Rattle.inst_world.proofs.Journals.{can_open_from}
 use Rattle.inst_together.specs.Together.{events_of, histories}
 use Rattle.inst_close.specs.ClosedHub.{IsClosed}
-use Rattle.inst_close.specs.NextOpening.{AreCopies}
+use Rattle.inst_together.specs.Wider.{widened}
+use Rattle.inst_together.proofs.Wider.{closed_wider}
+use Rattle.inst_close.specs.NextOpening.{AreCopies, AreCopiesAnd}
 
 -- the first n are copied
 pub record CopiedBelow (books : List Book) (journals : List History) (n : ℕ) : Type 0 where
@@ -80,7 +82,28 @@ all_few books n most so p = elim (cases_Bool (nat_lt p n)) [
     none_opened : openings [] < 500
     none_opened = omega arith
 
-pub can_open : (s : HubSettings) (books : List Book) (journals : List History) → IsClosed s books → ((p : ℕ) → openings (histories books p) < 500) → AreCopies books journals → CanOpenFrom s journals
-can_open s books journals closed few copies =
-    can_open_from s (histories books) journals (record { sound = closed.closed.sound; closed = closed.closed.closed; few = few })
-    (record { one_each = copies.one_each ∙ closed.one_each; same = λ p number. copies.same p })
+-- one empty journal more
+pub and_empty : (journals : List History) (j : History) (p : ℕ) → j.events ≡ [] → books_of (journals ++ j ∷ []) p ≡ books_of journals p
+and_empty [] j zero none = none
+and_empty [] j (suc p) none = refl
+and_empty (k ∷ journals) j zero none = refl
+and_empty (k ∷ journals) j (suc p) none = and_empty journals j p none
+
+pub one_more_empty : (books : List Book) (journals more : List History) (n : ℕ) (j : History) → j.events ≡ [] → more ≡ journals ++ j ∷ [] → AreCopiesAnd books n journals → AreCopiesAnd books (n + 1) more
+one_more_empty books journals more n j none pushed so = record {
+  one_each = ap length pushed ∙ (length-append journals (j ∷ []) ∙ (ap (λ (k : ℕ). k + 1) so.one_each ∙ omega arith));
+  same = λ p. ap (λ (l : List History). books_of l p) pushed ∙ (and_empty journals j p none ∙ so.same p);
+}
+
+-- one that was opened from too often
+pub not_few : (books : List Book) (n : ℕ) (book : Book) → n < length books → book ≡ get_or books n book → 500 ≤ openings book.events → ¬ ((p : ℕ) → openings (histories books p) < 500)
+not_few books n book below here many few =
+    let found : slice_get books n ≡ Some book = slice_get-get_or books n book below ∙ ap (λ (b : Book). Some b) (sym here) in
+    let less : openings book.events < 500 = subst (λ (J : List Event). openings J < 500) (ap events_of found) (few n) in
+    absurd (omega (arith, many, less))
+
+pub can_open_wider : (s : HubSettings) (codes : List (List ℕ)) (books : List Book) (journals : List History) → IsClosed s books → ((p : ℕ) → openings (histories books p) < 500) → AreCopiesAnd books (length codes) journals → CanOpenFrom (widened s codes) journals
+can_open_wider s codes books journals closed few copies =
+    let wider = closed_wider s codes (histories books) closed.closed in
+    can_open_from (widened s codes) (histories books) journals (record { sound = wider.sound; closed = wider.closed; few = few })
+    (record { one_each = copies.one_each ∙ (ap (λ (n : ℕ). n + length codes) closed.one_each ∙ sym (length-append s.codes codes)); same = λ p number. copies.same p })

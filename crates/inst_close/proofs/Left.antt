@@ -1,6 +1,6 @@
--- What is left of a hub that closes goes on from what its tellers have seen, and tells what they knew.
-use Rattle.std.proofs.Common.{◌≡◌, ◌++◌, append_assoc, sym, ap, ◌∙◌, ℕ, List, Some}
-use Rattle.std.specs.Prelude.{slice_get}
+-- What is left of a hub that closes goes on from what its tellers have seen, and tells what they knew: its books too.
+use Rattle.std.proofs.Common.{◌≡◌, ◌++◌, append_assoc, sym, ap, ◌∙◌, subst, ℕ, List, Some}
+use Rattle.std.specs.Prelude.{slice_get, Result, Ok, Err, IfOk, IfErr}
 use mathlib.Core.List.{IsPrefix}
 use Rattle.inst_settings.specs.Settings.{participants}
 use Rattle.inst_board.specs.declared.place.Place.{Place}
@@ -10,13 +10,18 @@ use Rattle.inst_board.specs.Standing.{about}
 use Rattle.inst_cell.specs.Held.{knows}
 use Rattle.inst_journal.specs.declared.event.Event.{Event}
 use Rattle.inst_model.specs.Closing.{OnlyTold}
+use Rattle.inst_together.specs.Together.{histories}
 use Rattle.inst_together.specs.Told.{IsInTheBooks}
 use Rattle.inst_parts.specs.declared.parts.Parts.{Parts}
-use Rattle.inst_parts.specs.Apart.{AreLater, histories_of, board_of}
+use Rattle.inst_parts.specs.Apart.{AreLater, histories_of, board_of, hub_of}
 use Rattle.inst_hub.specs.declared.hub.Hub.{Hub}
 use Rattle.inst_hub.specs.declared.teller.Teller.{Teller}
 use Rattle.inst_hub.specs.Calls.{knows_of}
-use Rattle.inst_close.specs.Closing.{GoOnFrom, TellAll, AreOfHub}
+use Rattle.inst_close.specs.declared.closing.Rest.{Rest}
+use Rattle.inst_close.specs.declared.closing.Rest.TheVariants.{Whole, Apart}
+use Rattle.inst_close.specs.declared.closing.CloseFault.{CloseFault}
+use Rattle.inst_close.specs.ClosedHub.{ClosedHub}
+use Rattle.inst_close.specs.Closing.{GoOnFrom, TellAll, AreOfHub, IsLeftOf, IsPartly, IsClosedFrom, rest_of}
 
 pub further : (H J K : List Event) → IsPrefix H J → OnlyTold J K → IsPrefix H K
 further H J K front told = (front.0 ++ told.events, sym (append_assoc H front.0 told.events) ∙ (ap (λ l. l ++ told.events) front.1 ∙ sym told.appended))
@@ -42,3 +47,40 @@ still_of h tellers p q of later = record {
   goes_on = go_on tellers (participants h.settings) (histories_of p) (histories_of q) of.goes_on later.books.told;
   knows = λ i t f at has. (later.books.known f).1 (of.knows i t f at has);
 }
+
+pub left_partly : (h : Hub) (tellers : List Teller) (p : Parts) (rest : Rest) → AreOfHub h tellers p → IsPartly p rest → IsLeftOf h tellers rest
+left_partly h tellers p (Whole hub handed) of later = absurd later
+left_partly h tellers p (Apart parts) of later = still_of h tellers p parts of later
+
+-- where memory was refused to the parts
+pub left_then : (h : Hub) (tellers : List Teller) (p : Parts) (r : Result ClosedHub CloseFault) → AreOfHub h tellers p → IfErr r (λ e. IsPartly p (rest_of e)) → IfErr r (λ e. IsLeftOf h tellers (rest_of e))
+left_then h tellers p (Ok books) of later = tt
+left_then h tellers p (Err e) of later = left_partly h tellers p (rest_of e) of later
+
+-- and where it was not
+pub books_of_parts : (p : Parts) (r : Result ClosedHub CloseFault) → IfOk r (λ books. books.settings ≡ hub_of p) → IfOk r (λ books. (q : ℕ) → OnlyTold (histories_of p q) (histories books.books q))
+    → IfOk r (λ books. (k : Place) → knows (board_of p) (about k Opened) → IsInTheBooks knows (board_of p) (histories books.books) k)
+    → IfOk r (λ books. (h : Hub) (tellers : List Teller) → AreOfHub h tellers p → IsClosedFrom h tellers books)
+books_of_parts p (Ok books) same further told = λ h tellers of. record {
+  settings = same ∙ of.settings;
+  goes_on = go_on tellers (participants h.settings) (histories_of p) (histories books.books) of.goes_on further;
+  told = tell_all tellers p (histories books.books) of.knows told;
+}
+books_of_parts p (Err e) same further told = tt
+
+-- the books that a hub's closing gives, of what is left of the hub where that is the hub
+pub books_of_whole : (hub : Hub) (handed : List Teller) (r : Result ClosedHub CloseFault) → IfOk r (λ books. books.settings ≡ hub.settings) → IfOk r (λ books. GoOnFrom handed (participants hub.settings) (histories books.books))
+    → IfOk r (λ books. TellAll handed (histories books.books))
+    → IfOk r (λ books. (h : Hub) (tellers : List Teller) → (hub ≡ h) × (handed ≡ tellers) → IsClosedFrom h tellers books)
+books_of_whole hub handed (Ok books) same on told = λ h tellers left.
+    subst (λ (l : List Teller). IsClosedFrom h l books) left.1
+    (subst (λ (x : Hub). IsClosedFrom x handed books) left.0 record { settings = same; goes_on = on; told = told })
+books_of_whole hub handed (Err e) same on told = tt
+
+pub if_ok : {A E : Type 0} (r : Result A E) (P Q : A → Type 0) → ((v : A) → P v → Q v) → IfOk r P → IfOk r Q
+if_ok (Ok v) P Q f h = f v h
+if_ok (Err e) P Q f h = tt
+
+pub if_err : {A E : Type 0} (r : Result A E) (P Q : E → Type 0) → ((e : E) → P e → Q e) → IfErr r P → IfErr r Q
+if_err (Ok v) P Q f h = tt
+if_err (Err e) P Q f h = f e h

@@ -1,3 +1,5 @@
 pub mod AtPlace
 pub mod Copying
 pub mod Left
+pub mod CodesCopied
+pub mod Reopened

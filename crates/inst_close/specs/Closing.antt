@@ -2,7 +2,6 @@
 -- that they knew. This hub's own choice.
 use Rattle.std.specs.Prelude.{◌≡◌, ◌≢◌, ℕ, ◌<◌, List, slice_get, Some}
 use mathlib.Core.List.{IsPrefix}
-use Rattle.inst_base.specs.declared.fault.Fault.TheVariants.{Memory}
 use Rattle.inst_settings.specs.Settings.{participants}
 use Rattle.inst_command.specs.declared.outcome.Outcome.{Outcome}
 use Rattle.inst_command.specs.declared.outcome.State.TheVariants.{Unused, Decided}
@@ -19,13 +18,17 @@ use Rattle.inst_together.specs.Together.{histories}
 use Rattle.inst_row.specs.Seated.{HasSeen}
 use Rattle.inst_together.specs.Told.{told, IsTakenWith}
 use Rattle.inst_parts.specs.declared.parts.Parts.{Parts}
-use Rattle.inst_parts.specs.Apart.{IsPartsOf, histories_of, board_of, hub_of}
+use Rattle.inst_parts.specs.Apart.{IsPartsOf, AreLater, histories_of, board_of, hub_of}
 use Rattle.inst_hub.specs.declared.hub.Hub.{Hub}
 use Rattle.inst_hub.specs.declared.teller.Teller.{Teller}
-use Rattle.inst_hub.specs.Calls.{knows_of}
+use Rattle.inst_hub.specs.Calls.{knows_of, AreOf}
+use Rattle.inst_hub.specs.Opening.{parts_of}
 use Rattle.inst_hub.specs.Founding.{HasOpened}
-use Rattle.inst_close.specs.declared.closing.HubFault.{HubFault}
-use Rattle.inst_close.specs.declared.closing.HubFault.TheVariants.{Whole, Apart}
+use Rattle.inst_close.specs.declared.closing.Rest.{Rest}
+use Rattle.inst_close.specs.declared.closing.Rest.TheVariants.{Whole, Apart}
+use Rattle.inst_close.specs.declared.closing.CloseFault.{CloseFault}
+use Rattle.inst_close.specs.declared.closing.CloseFault.TheVariants.{Memory}
+use Rattle.inst_close.specs.ClosedHub.{ClosedHub}
 
 -- the hub was opened in this way, from books that can be opened from
 abbrev pub IsOpenedSo : Opening → Hub → Type 0
@@ -53,10 +56,29 @@ pub record AreOfHub (h : Hub) (tellers : List Teller) (parts : Parts) : Type 0 w
   pub goes_on : GoOnFrom tellers (participants h.settings) (histories_of parts)
   pub knows : (i : ℕ) (t : Teller) (f : Fact) → slice_get tellers i ≡ Some t → knows_of t f → knows (board_of parts) f
 
--- what is left where memory is refused: the hub and its tellers, or its parts
-abbrev pub IsLeftOf : Hub → List Teller → HubFault → Type 0
-IsLeftOf h tellers (Whole fault) = (fault.fault ≡ Memory) × (fault.hub ≡ h) × (fault.tellers.items ≡ tellers)
-IsLeftOf h tellers (Apart fault) = (fault.fault ≡ Memory) × AreOfHub h tellers fault.rest.parts
+-- what is left of the hub with these tellers: they as they were, or its parts
+abbrev pub IsLeftOf : Hub → List Teller → Rest → Type 0
+IsLeftOf h tellers (Whole hub handed) = (hub ≡ h) × (handed.items ≡ tellers)
+IsLeftOf h tellers (Apart parts) = AreOfHub h tellers parts
+
+-- what is left can be closed: these are all the tellers of a hub that was opened, or the parts of one
+abbrev pub MayClose : Rest → Type 0
+MayClose (Whole hub handed) = AreOf hub handed.items × (parts_of handed.items ≡ 16) × ((O : Opening) × IsOpenedSo O hub)
+MayClose (Apart parts) = (O : Opening) × IsPartsOf O parts
+
+-- what is left is the same parts later
+abbrev pub IsPartly : Parts → Rest → Type 0
+IsPartly p (Whole hub handed) = ⊥
+IsPartly p (Apart parts) = AreLater p parts
+
+abbrev pub rest_of : CloseFault → Rest
+rest_of (Memory rest) = rest
+
+-- the books are those of the hub with these tellers
+pub record IsClosedFrom (h : Hub) (tellers : List Teller) (books : ClosedHub) : Type 0 where
+  pub settings : books.settings ≡ h.settings
+  pub goes_on : GoOnFrom tellers (participants h.settings) (histories books.books)
+  pub told : TellAll tellers (histories books.books)
 
 -- the hub was opened from these books
 pub record IsNextOf (books : List Book) (h : Hub) : Type 0 where

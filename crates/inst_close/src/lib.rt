@@ -4,6 +4,7 @@
 mod books;
 mod closing;
 mod next_opening;
+mod widening;
 
 pub use books::Books;
-pub use closing::{CloseFault, HubFault, Rest, close};
+pub use closing::{CloseFault, Rest, close};

@@ -1,17 +1,19 @@
 //! The hub of the next opening.
-ghost use Rattle.std.specs.Prelude.{◌≡◌, ◌⊎◌, ◌↔◌, ◌<◌, ◌++◌, ◌∷◌, [], ℕ, true, length, IfOk, IfErr, IsOkUnless, Err};
+ghost use Rattle.std.specs.Prelude.{◌≡◌, ◌⊎◌, ◌↔◌, ◌<◌, ◌++◌, ◌∷◌, [], ℕ, true, false, length, IfOk, IfErr, IsOkUnless, Err};
 ghost use Rattle.inst_settings.specs.Settings.{participants};
 ghost use Rattle.inst_journal.specs.Opened.{openings};
 ghost use Rattle.inst_world.specs.NextOpening.{CanOpenFrom};
 ghost use Rattle.inst_together.specs.Together.{histories};
+ghost use Rattle.inst_together.specs.Wider.{widened};
 ghost use Rattle.inst_hub.specs.Calls.{AreOf};
 ghost use Rattle.inst_hub.specs.Opening.{parts_of};
 ghost use Rattle.inst_close.specs.ClosedHub.{ClosedHub};
-ghost use Rattle.inst_close.specs.NextOpening.{AreCopies};
+ghost use Rattle.inst_close.specs.NextOpening.{AreCopies, AreCopiesAnd, MayOpenWider};
 ghost use Rattle.inst_close.specs.Closing.{IsNextOf};
 
 use crate::Books;
-use inst_base::Fault;
+use crate::widening::widened;
+use inst_base::{Code, Fault};
 use inst_command::Outcome;
 use inst_hub::{Hub, Teller};
 use inst_journal::{Event, Journal};
@@ -45,9 +47,22 @@ impl Books {
         Ok(journals)
     }
 
-    /// Whether each book can be opened from once more.
+    /// Copies of the books, by number, and so many empty ones behind them.
+    fn copies_and(&self, alloc: Global, more: usize) -> Result<Vec<Journal>, Fault>
+        ensures ok { IfOk result (λ journals. AreCopiesAnd self.now.books more journals.items) }
+        ensures only { IsOkUnless result Fault.Memory }
+    {
+        let mut journals = self.copies(alloc)?;
+        for _ in 0..more {
+            journals.push(Journal::new(alloc))?;
+        }
+        Ok(journals)
+    }
+
+    /// Whether each book can be opened from once more: it was opened from fewer than 500 times.
     pub fn may_open(&self) -> bool
-        ensures { result ≡ true → (p : ℕ) → openings (histories self.now.books p) < 500 }
+        ensures few { result ≡ true → (p : ℕ) → openings (histories self.now.books p) < 500 }
+        ensures many { result ≡ false → ¬ ((p : ℕ) → openings (histories self.now.books p) < 500) }
     {
         for slot in self.slots.as_slice() {
             if openings(slot.journal()) >= MOST_OPENINGS {
@@ -66,13 +81,36 @@ impl Books {
         ensures of { IfOk result (λ r. AreOf r.0 r.1.items) }
         ensures parts { IfOk result (λ r. parts_of r.1.items ≡ 16) }
         ensures opened { IfOk result (λ r. IsNextOf self.now.books r.0) }
+        ensures may { IfOk result (λ r. MayOpenWider self.now [] tellers) }
+        ensures bad { result ≡ Err Fault.BadSettings → ¬ MayOpenWider self.now [] tellers }
+        ensures only { IfErr result (λ e. (e ≡ Fault.Memory) ⊎ (e ≡ Fault.BadSettings)) }
+    {
+        self.open_wider(alloc, Vec::new(alloc), tellers)
+    }
+
+    /// The hub of the next opening as `open_next` gives it, which participants of these codes join: they have the numbers
+    /// behind the others, and empty books. `BadSettings` also where a code stands twice or there are more than 256
+    /// participants then.
+    pub fn open_wider(
+        &self,
+        alloc: Global,
+        codes: Vec<Code>,
+        tellers: u8,
+    ) -> Result<(Hub, Vec<Teller>), Fault>
+        ensures settings { IfOk result (λ r. r.0.settings ≡ widened self.now.settings codes.items) }
+        ensures enough { IfOk result (λ r. length r.1.items ≡ tellers) }
+        ensures of { IfOk result (λ r. AreOf r.0 r.1.items) }
+        ensures parts { IfOk result (λ r. parts_of r.1.items ≡ 16) }
+        ensures opened { IfOk result (λ r. IsNextOf self.now.books r.0) }
+        ensures may { IfOk result (λ r. MayOpenWider self.now codes.items tellers) }
+        ensures bad { result ≡ Err Fault.BadSettings → ¬ MayOpenWider self.now codes.items tellers }
         ensures only { IfErr result (λ e. (e ≡ Fault.Memory) ⊎ (e ≡ Fault.BadSettings)) }
     {
         if !self.may_open() {
             return Err(Fault::BadSettings);
         }
-        let settings = self.settings().copy()?;
-        let journals = self.copies(alloc)?;
+        let settings = widened(alloc, self.settings(), &codes)?;
+        let journals = self.copies_and(alloc, codes.len())?;
         Hub::open_from(alloc, settings, &journals, tellers)
     }
 }

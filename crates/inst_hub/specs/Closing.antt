@@ -12,6 +12,9 @@ use Rattle.inst_row.specs.Seated.{IsOn, IsFree, GoesOn}
 use Rattle.inst_slot.specs.Book.{Book}
 use Rattle.inst_participant.specs.declared.participant.Participant.{Participant}
 use Rattle.inst_hub.specs.declared.teller.Teller.{Teller}
+use Rattle.inst_hub.specs.declared.hub.Hub.{Hub}
+use Rattle.inst_hub.specs.declared.hub.closing.TakeFault.{TakeFault}
+use Rattle.inst_hub.specs.declared.hub.closing.TakeFault.TheVariants.{Memory}
 use Rattle.inst_hub.specs.Founding.{IsSince}
 use Rattle.inst_hub.specs.NextOpening.{seated}
 
@@ -33,3 +36,7 @@ pub record IsTakenOut (key : Outset) (seat : RowSeat (Box Participant) Event Out
 pub record AreTakenOut (key : Outset) (n : ℕ) (seat : RowSeat (Box Participant) Event Outset) (slots : List Book) (boards : List SharedBoard) : Type 0 where
   pub enough : (length slots ≡ n) × (length boards ≡ n)
   pub each : (p : ℕ) (x : Book) (b : SharedBoard) → slice_get slots p ≡ Some x → slice_get boards p ≡ Some b → IsTakenOut key seat p x b
+
+-- the hub and its tellers, as they were
+abbrev pub HandsBack : Hub → List Teller → TakeFault → Type 0
+HandsBack h tellers (Memory hub handed) = (hub ≡ h) × (handed.items ≡ tellers)

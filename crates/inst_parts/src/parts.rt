@@ -6,9 +6,10 @@ ghost use Rattle.inst_cell.specs.Held.{knows};
 ghost use Rattle.inst_model.specs.Closing.{AreClosed};
 ghost use Rattle.inst_model.specs.Opening.{Opening};
 ghost use Rattle.inst_settings.specs.Settings.{participants};
+ghost use Rattle.inst_participant.specs.Sweeping.{new_events};
 ghost use Rattle.inst_together.specs.Together.{histories};
 ghost use Rattle.inst_together.specs.Told.{IsInTheBooks};
-ghost use Rattle.inst_parts.specs.Apart.{IsPartsOf, AreLater};
+ghost use Rattle.inst_parts.specs.Apart.{IsPartsOf, AreLater, histories_of};
 ghost use Rattle.inst_parts.specs.Parts.{IsSettledAt};
 
 use crate::settled::{settle_each, settle_one};
@@ -47,13 +48,14 @@ impl Parts {
     }
 
     /// Books what is decided of the transfers in the book of `who`, its own by place and then those that came in order of
-    /// arrival, and gets what is pending for it, by originator and place. `Memory` ends it, and what was done before
-    /// stands.
-    pub fn settle(&mut self, who: u8) -> Result<(), Fault>
+    /// arrival, and gets what is pending for it, by originator and place. How many of these were new. `Memory` ends it,
+    /// and what was done before stands.
+    pub fn settle(&mut self, who: u8) -> Result<u32, Fault>
         requires parts { (O : Opening) × IsPartsOf O self.old }
         requires participant { who < participants self.old.settings }
         ensures later { AreLater self.old self.new }
         ensures settled { IfOk result (λ _. IsSettledAt knows self.new.board who self.new.slots.items) }
+        ensures count { IfOk result (λ count. count ≡ new_events (histories_of self.old who) (histories_of self.new who)) }
         ensures only { IsOkUnless result Fault.Memory }
     {
         settle_one(&mut self.slots, &mut self.board, who)

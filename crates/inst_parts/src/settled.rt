@@ -6,6 +6,7 @@ ghost use Rattle.inst_board.specs.declared.place.Place.{Place};
 ghost use Rattle.inst_board.specs.Standing.{about};
 ghost use Rattle.inst_model.specs.Closing.{AreClosed};
 ghost use Rattle.inst_model.specs.Opening.{Opening};
+ghost use Rattle.inst_participant.specs.Sweeping.{new_events};
 ghost use Rattle.inst_together.specs.Together.{histories};
 ghost use Rattle.inst_together.specs.Told.{IsInTheBooks};
 ghost use Rattle.inst_parts.specs.Parts.{AreParts, IsSettledAt, AreLaterParts};
@@ -16,12 +17,13 @@ use inst_board::Board;
 use inst_settings::Settings;
 use inst_slot::Slot;
 
-/// Settles the participant `who`.
-pub fn settle_one<B: Board>(slots: &mut Vec<Slot>, board: &mut B, who: u8) -> Result<(), Fault>
+/// Settles the participant `who`, and says how much of it was new.
+pub fn settle_one<B: Board>(slots: &mut Vec<Slot>, board: &mut B, who: u8) -> Result<u32, Fault>
     requires parts { (O : Opening) × AreParts B.settings B.knows B.has_role board.old O slots.old.items }
     requires participant { who < participants (B.settings board.old) }
     ensures later { AreLaterParts B.settings B.knows B.has_role B.stays board.old slots.old.items board.new slots.new.items }
     ensures settled { IfOk result (λ _. IsSettledAt B.knows board.new who slots.new.items) }
+    ensures count { IfOk result (λ count. count ≡ new_events (histories slots.old.items who) (histories slots.new.items who)) }
     ensures kept { (p : ℕ) → p ≢ who → IsSettledAt B.knows board.old p slots.old.items → IsSettledAt B.knows board.new p slots.new.items }
     ensures only { IsOkUnless result Fault.Memory }
 {

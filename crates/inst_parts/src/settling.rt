@@ -2,6 +2,7 @@
 ghost use Rattle.std.specs.Prelude.{◌≡◌, ◌≢◌, ℕ, ◌<◌, IfOk, IsOkUnless};
 ghost use Rattle.inst_settings.specs.Settings.{participants};
 ghost use Rattle.inst_journal.specs.Sound.{IsSound};
+ghost use Rattle.inst_participant.specs.Sweeping.{new_events};
 ghost use Rattle.inst_together.specs.Together.{IsSettled};
 ghost use Rattle.inst_parts.specs.Settling.{IsReady, IsLater, IsBookedAt, HasCome, OwnAreBooked, ArrivedAreBooked, HaveCome};
 
@@ -10,20 +11,22 @@ use inst_board::{Board, Place};
 use inst_slot::Slot;
 
 /// Books what is decided of the participant's live transfers, its own by place and then those that came in order of
-/// arrival, and then gets what is pending for it from each other originator, by number and place. `Memory` ends it, and
-/// what was done before stands.
-pub fn settle<B: Board>(slot: &mut Slot, board: &mut B) -> Result<(), Fault>
+/// arrival, and then gets what is pending for it from each other originator, by number and place. How many of these were
+/// new. `Memory` ends it, and what was done before stands.
+pub fn settle<B: Board>(slot: &mut Slot, board: &mut B) -> Result<u32, Fault>
     requires ready { IsReady B.settings B.knows B.has_role board.old slot.old }
     ensures ready { IsReady B.settings B.knows B.has_role board.new slot.new }
     ensures later { IsLater B.settings B.knows B.has_role B.stays board.old slot.old board.new slot.new }
     ensures settled { IfOk result (λ _. IsSettled B.knows board.new slot.new) }
+    ensures count { IfOk result (λ count. count ≡ new_events slot.old.events slot.new.events) }
     ensures sound { IsSound slot.new.settings slot.new.who slot.new.events }
     ensures only { IsOkUnless result Fault.Memory }
 {
+    let before = slot.journal().events().len();
     let done = settle_all(slot, board);
-    // The check is told that a history is sound only by a call.
-    let _ = slot.journal();
-    done
+    let after = slot.journal().events().len();
+    done?;
+    Ok(u32::try_from(after - before).unwrap_or(u32::MAX))
 }
 
 fn settle_all<B: Board>(slot: &mut Slot, board: &mut B) -> Result<(), Fault>

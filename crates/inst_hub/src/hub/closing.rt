@@ -13,13 +13,12 @@ ghost use Rattle.inst_hub.specs.Calls.{AreOf, knows_of};
 ghost use Rattle.inst_hub.specs.Opening.{parts_of};
 ghost use Rattle.inst_settings.specs.Settings.{participants};
 ghost use Rattle.inst_hub.specs.Founding.{HasOpened};
-ghost use Rattle.inst_hub.specs.Closing.{AreSeated, AreTakenOut};
+ghost use Rattle.inst_hub.specs.Closing.{AreSeated, AreTakenOut, HandsBack};
 
 use super::Hub;
 use crate::behind::Behind;
 use crate::outset::Outset;
 use crate::teller::Teller;
-use inst_base::Fault;
 use inst_cell::SharedBoard;
 use inst_command::Outcome;
 use inst_journal::Event;
@@ -28,17 +27,26 @@ use inst_parts::Parts;
 use inst_row::{LockRow, RowSeat};
 use inst_slot::Slot;
 use std::alloc::{AllocError, Global};
+use std::fmt;
+use thiserror::Error;
 
 type Row = LockRow<Box<Participant>, Event, Outset, Behind>;
 
 type Seat = RowSeat<Box<Participant>, Event, Outset>;
 
-/// Why a hub wasn't taken apart, with the hub and its tellers as they were.
-#[derive(Drop)]
-pub struct TakeFault {
-    pub fault: Fault,
-    pub hub: Hub,
-    pub tellers: Vec<Teller>,
+/// Why a hub wasn't taken apart.
+#[derive(Drop, Error)]
+pub enum TakeFault {
+    /// A growth was refused. The hub and its tellers are as they were.
+    #[error("no memory to take the hub apart, which is as it was")]
+    Memory { hub: Hub, tellers: Vec<Teller> },
+}
+
+/// It shows which fault, and nothing of the hub.
+impl fmt::Debug for TakeFault {
+    fn fmt<W: fmt::Write>(&self, f: &mut fmt::Formatter<W>) -> fmt::Result {
+        f.write_str("Memory { .. }")
+    }
 }
 
 /// One seat with the parts of all tellers' seats, which has seen what each of them had; what the tellers see with goes
@@ -103,16 +111,12 @@ impl Hub {
         ensures parts { IfOk result (λ parts. (O : Opening) → IsOpening self.settings O → HasOpened O self → IsPartsOf O parts) }
         ensures goes_on { IfOk result (λ parts. (i : ℕ) (t : Teller) (p : ℕ) (h : List Event) → slice_get tellers.items i ≡ Some t → p < participants self.settings → HasSeen p h t.seat → IsPrefix h (histories_of parts p)) }
         ensures knows { IfOk result (λ parts. (i : ℕ) (t : Teller) (f : Fact) → slice_get tellers.items i ≡ Some t → knows_of t f → knows (board_of parts) f) }
-        ensures err { IfErr result (λ e. (e.fault ≡ Fault.Memory) × (e.hub ≡ self) × (e.tellers.items ≡ tellers.items)) }
+        ensures err { IfErr result (HandsBack self tellers.items) }
     {
         let locks = self.row.len();
         let rooms = rooms(alloc, locks, tellers.as_slice().len());
         let Ok((mut slots, mut boards, mut sights)) = rooms else {
-            return Err(TakeFault {
-                fault: Fault::Memory,
-                hub: self,
-                tellers,
-            });
+            return Err(TakeFault::Memory { hub: self, tellers });
         };
         // The check is told that there are participants only by a call.
         let _ = self.settings.participants();

@@ -1,24 +1,41 @@
+use Rattle.std.proofs.Common.{List}
+use Rattle.inst_hub.specs.declared.teller.Teller.{Teller}
 use Rattle.inst_settings.specs.Settings.{participants}
 use Rattle.inst_together.specs.Together.{histories}
 use Rattle.inst_parts.specs.Apart.{histories_of}
-use Rattle.inst_close.specs.Closing.{AreOfHub}
-use Rattle.inst_close.proofs.Left.{go_on, tell_all, still_of}
+use Rattle.inst_close.specs.ClosedHub.{ClosedHub}
+use Rattle.inst_close.specs.Closing.{GoOnFrom, TellAll, AreOfHub, IsClosedFrom}
+use Rattle.inst_close.proofs.Left.{if_ok, books_of_parts, left_then}
 use Rattle.inst_close.proofs.closing.close.Goals as goal
 
-pub returns-in-Ok-close-clause-goes_on : goal.returns-in-Ok-close-clause-goes_on
-returns-in-Ok-close-clause-goes_on c =
-    go_on c.args.tellers.items (participants c.args.hub.settings) (histories_of c.in-Ok.parts) (histories c.in-Ok-close.books.books) c.in-Ok.ensures.goes_on c.in-Ok-close.ensures.histories
-
-pub returns-in-Ok-close-clause-told : goal.returns-in-Ok-close-clause-told
-returns-in-Ok-close-clause-told c =
-    tell_all c.args.tellers.items c.in-Ok.parts (histories c.in-Ok-close.books.books) c.in-Ok.ensures.knows c.in-Ok-close.ensures.told
-
-pub returns-in-Err-close-clause-err : goal.returns-in-Err-close-clause-err
-returns-in-Err-close-clause-err c =
+pub returns-in-Ok-clause-goes_on : goal.returns-in-Ok-clause-goes_on
+returns-in-Ok-clause-goes_on c =
     let of : AreOfHub c.args.hub c.args.tellers.items c.in-Ok.parts = record {
       settings = c.in-Ok.ensures.settings;
       opened = λ O o. c.in-Ok.ensures.parts O o.0 o.1;
       goes_on = c.in-Ok.ensures.goes_on;
       knows = c.in-Ok.ensures.knows;
     } in
-    (c.in-Err-close.ensures.err.0, still_of c.args.hub c.args.tellers.items c.in-Ok.parts c.in-Err-close.fault.rest.parts of c.in-Err-close.ensures.err.1)
+    if_ok c.close_parts.result _ (λ books. GoOnFrom c.args.tellers.items (participants c.args.hub.settings) (histories books.books)) (λ books closed. (closed c.args.hub c.args.tellers.items of).goes_on)
+    (books_of_parts c.in-Ok.parts c.close_parts.result c.close_parts.ensures.settings c.close_parts.ensures.histories c.close_parts.ensures.told)
+
+pub returns-in-Ok-clause-told : goal.returns-in-Ok-clause-told
+returns-in-Ok-clause-told c =
+    let of : AreOfHub c.args.hub c.args.tellers.items c.in-Ok.parts = record {
+      settings = c.in-Ok.ensures.settings;
+      opened = λ O o. c.in-Ok.ensures.parts O o.0 o.1;
+      goes_on = c.in-Ok.ensures.goes_on;
+      knows = c.in-Ok.ensures.knows;
+    } in
+    if_ok c.close_parts.result _ (λ books. TellAll c.args.tellers.items (histories books.books)) (λ books closed. (closed c.args.hub c.args.tellers.items of).told)
+    (books_of_parts c.in-Ok.parts c.close_parts.result c.close_parts.ensures.settings c.close_parts.ensures.histories c.close_parts.ensures.told)
+
+pub returns-in-Ok-clause-left : goal.returns-in-Ok-clause-left
+returns-in-Ok-clause-left c =
+    let of : AreOfHub c.args.hub c.args.tellers.items c.in-Ok.parts = record {
+      settings = c.in-Ok.ensures.settings;
+      opened = λ O o. c.in-Ok.ensures.parts O o.0 o.1;
+      goes_on = c.in-Ok.ensures.goes_on;
+      knows = c.in-Ok.ensures.knows;
+    } in
+    left_then c.args.hub c.args.tellers.items c.in-Ok.parts c.close_parts.result of c.close_parts.ensures.left

@@ -16,8 +16,8 @@ loop-slot-preserved c =
     let few : openings c.slot-item.result.events < 500 = subst (λ (J : List Event). openings J < 500) c.journal.ensures.events (subst (λ (n : ℕ). n < 500) c.openings.ensures c.if-openings-ge-MOST_OPENINGS.false) in
     one_more_few books i c.slot-item.result 0 below here few c.loop-slot.invariant
 
-pub returns : goal.returns
-returns c = λ yes.
+pub returns-clause-few : goal.returns-clause-few
+returns-clause-few c = λ yes.
     let books : List Book = c.args.self.now.books in
     let whole : c.as_slice-slot-items.result.now ≡ books = c.as_slice-slot-items.ensures.value ∙ ap (λ (h : ClosedHub). h.books) c.self.view_is in
     all_few books c.loop-slot.slot-index (omega (arith, c.loop-slot-test.false, ap (λ (l : List Book). length l) whole)) c.loop-slot.invariant

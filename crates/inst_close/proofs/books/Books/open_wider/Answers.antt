@@ -1,0 +1,53 @@
+use Rattle.std.proofs.Common.{◌≡◌, ◌∙◌, ℕ, length, sym, ap, subst, List}
+use Rattle.inst_base.specs.declared.code.Code.{Code}
+use Rattle.inst_settings.specs.Settings.{HubSettings}
+use Rattle.inst_settings.specs.Lawful.{IsSettings}
+use Rattle.inst_cell.specs.Opening.{MayOpen}
+use Rattle.inst_journal.specs.History.{History}
+use Rattle.inst_world.specs.NextOpening.{CanOpenFrom, books_of}
+use Rattle.inst_together.specs.Together.{histories}
+use Rattle.inst_together.specs.Wider.{widened}
+use Rattle.inst_close.specs.Closing.{IsNextOf}
+use Rattle.inst_close.specs.NextOpening.{MayOpenWider}
+use Rattle.inst_close.proofs.Left.{if_ok}
+use Rattle.inst_close.proofs.Reopened.{if_both, widened_as, can_open_as, next_is, seats_if_ok}
+use Rattle.inst_close.proofs.books.Books.open_wider.Goals as goal
+
+pub open_from-requires : goal.open_from-requires
+open_from-requires c =
+    let closed = c.args.self.now in
+    let codes = c.args.codes.items in
+    let wide = widened_as closed codes c.deref.result.now c.settings.result.now c.in_ok-settings.settings c.settings.ensures.settings c.deref.ensures.value c.in_ok-settings.ensures.ok.0 in
+    let many : c.len.result ≡ length codes = c.len.ensures ∙ (sym c.deref.ensures.len ∙ ap (λ (l : List Code). length l) c.deref.ensures.value) in
+    record {
+      journals = can_open_as closed codes c.in_ok-settings.settings c.len.result c.deref-2.result.now c.in_ok-journals.journals.items wide many c.deref-2.ensures.value
+          (record { one_each = c.settings.ensures.one_each; closed = c.settings.ensures.closed }) (c.may_open.ensures.few c.if-not-may_open.false) c.in_ok-journals.ensures.ok;
+    }
+
+pub returns-clause-opened : goal.returns-clause-opened
+returns-clause-opened c =
+    let closed = c.args.self.now in
+    let codes = c.args.codes.items in
+    let journals = c.deref-2.result.now in
+    let wide = widened_as closed codes c.deref.result.now c.settings.result.now c.in_ok-settings.settings c.settings.ensures.settings c.deref.ensures.value c.in_ok-settings.ensures.ok.0 in
+    let many : c.len.result ≡ length codes = c.len.ensures ∙ (sym c.deref.ensures.len ∙ ap (λ (l : List Code). length l) c.deref.ensures.value) in
+    let can : CanOpenFrom c.in_ok-settings.settings journals =
+    can_open_as closed codes c.in_ok-settings.settings c.len.result journals c.in_ok-journals.journals.items wide many c.deref-2.ensures.value
+    (record { one_each = c.settings.ensures.one_each; closed = c.settings.ensures.closed }) (c.may_open.ensures.few c.if-not-may_open.false) c.in_ok-journals.ensures.ok in
+    let same : (p : ℕ) → books_of journals p ≡ histories closed.books p = λ p. ap (λ (l : List History). books_of l p) c.deref-2.ensures.value ∙ c.in_ok-journals.ensures.ok.same p in
+    if_both c.open_from.result _ _ (λ r. IsNextOf closed.books r.0)
+    (λ r settings_are opened. next_is closed.books journals c.in_ok-settings.settings r.0 can same settings_are opened)
+    c.open_from.ensures.settings c.open_from.ensures.opened
+
+pub returns-clause-may : goal.returns-clause-may
+returns-clause-may c =
+    let closed = c.args.self.now in
+    let codes = c.args.codes.items in
+    let wide = widened_as closed codes c.deref.result.now c.settings.result.now c.in_ok-settings.settings c.settings.ensures.settings c.deref.ensures.value c.in_ok-settings.ensures.ok.0 in
+    if_ok c.open_from.result (λ r. MayOpen c.args.tellers) (λ r. MayOpenWider closed codes c.args.tellers)
+    (λ r seats. record {
+      few = c.may_open.ensures.few c.if-not-may_open.false;
+      settings = subst (λ (s : HubSettings). IsSettings s) wide c.in_ok-settings.ensures.ok.1;
+      seats = seats;
+    })
+    (seats_if_ok c.open_from.result c.args.tellers c.open_from.ensures.bad.1)

@@ -1,0 +1,42 @@
+//! The settings of a hub that participants join.
+ghost use Rattle.std.specs.Prelude.{◌≡◌, ◌⊎◌, ◌++◌, Err, IfOk, IfErr};
+ghost use Rattle.inst_settings.specs.Lawful.{IsSettings};
+ghost use Rattle.inst_together.specs.Wider.{widened};
+
+use inst_base::{Code, Fault};
+use inst_settings::Settings;
+use std::alloc::{AllocError, Global};
+
+/// The codes of the participants, and then these.
+fn codes_with(alloc: Global, settings: &Settings, more: &[Code]) -> Result<Vec<Code>, AllocError>
+    ensures { IfOk result (λ codes. codes.items ≡ settings.now.codes ++ more.now) }
+{
+    let mut codes = Vec::new(alloc);
+    for number in 0..settings.participants() {
+        let Some(code) = settings.code(number as u8) else {
+            unreachable!()
+        };
+        codes.push(*code)?;
+    }
+    codes.extend_from_slice(more)?;
+    Ok(codes)
+}
+
+/// The settings with these codes behind the others. `BadSettings` where there are more than 256 then or one stands twice,
+/// `Memory` where there is no room.
+pub(crate) fn widened(alloc: Global, settings: &Settings, more: &[Code]) -> Result<Settings, Fault>
+    ensures ok { IfOk result (λ s. (s ≡ widened settings.now more.now) × IsSettings s) }
+    ensures bad { result ≡ Err Fault.BadSettings → ¬ IsSettings (widened settings.now more.now) }
+    ensures only { IfErr result (λ e. (e ≡ Fault.Memory) ⊎ (e ≡ Fault.BadSettings)) }
+{
+    Settings::check(
+        codes_with(alloc, settings, more)?,
+        settings.places(),
+        settings.fundings(),
+        settings.limit(),
+        settings.margin(),
+        settings.ahead(),
+        settings.ceiling(),
+        settings.base(),
+    )
+}
