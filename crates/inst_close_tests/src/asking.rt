@@ -130,3 +130,32 @@ pub(crate) fn one_confirmed<R: Wait>(
     confirm(rt, hub, tellers, 1, "T1")?;
     Ok((first, second))
 }
+
+/// The position, what of it is reserved and what is available, if the reply tells them.
+fn money_of(reply: &Reply) -> Option<(u64, u64, u64)> {
+    match reply {
+        Reply::Position {
+            position,
+            reserved,
+            available,
+        } => Some((*position, *reserved, *available)),
+        _ => None,
+    }
+}
+
+/// What participant `who` is told of its money through the first teller: its position, what of it is reserved and what is
+/// available.
+pub(crate) fn position<R: Wait>(
+    rt: &R,
+    hub: &Hub,
+    tellers: &mut Vec<Teller>,
+    who: u8,
+) -> Result<Option<(u64, u64, u64)>, Fault>
+    requires of { AreOf hub.now tellers.old.items }
+    requires parts { parts_of tellers.old.items ≡ 16 }
+    ensures of { AreOf hub.now tellers.new.items }
+    ensures parts { parts_of tellers.new.items ≡ 16 }
+{
+    let (reply, _) = ask(rt, hub, tellers, 0, &fitting(hub, who, Command::Position, 1_002)?)?;
+    Ok(money_of(&reply))
+}

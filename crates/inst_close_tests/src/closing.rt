@@ -5,15 +5,16 @@ ghost use Rattle.inst_hub.specs.Calls.{AreOf};
 ghost use Rattle.inst_hub.specs.Opening.{parts_of};
 ghost use Rattle.inst_close.specs.Closing.{IsOpenedSo};
 
-use crate::asking::{confirm, one_confirmed};
+use crate::asking::{confirm, one_confirmed, position};
 use crate::reading::{Sums, sums_of, told};
-use inst_base::Fault;
+use inst_base::{Code, Fault};
 use inst_close::{Books, close};
 use inst_command::{Outcome, State};
 use inst_hub::{Hub, Teller, Ticket};
 use inst_rows::settings;
 use std::alloc::Global;
 use std::sync::Wait;
+use std::test::Fail;
 
 /// The hub of the first opening, with two tellers.
 fn opened(alloc: Global) -> Result<(Hub, Vec<Teller>), Fault>
@@ -91,5 +92,50 @@ fn opens_again_from_its_books(rt: HostRuntime) -> Result<(), Fault> {
         net: 50_000,
     };
     assert_eq!(rt; sums_of(&next)?, expected);
+    Ok(())
+}
+
+/// The hub of the next opening, which `DDDDESMM` joins, with one teller.
+fn joined(alloc: Global, books: &Books) -> Result<(Hub, Vec<Teller>), Fault>
+    ensures of { IfOk result (λ r. AreOf r.0 r.1.items) }
+    ensures parts { IfOk result (λ r. parts_of r.1.items ≡ 16) }
+{
+    let codes = vec![in alloc; Code::new("DDDDESMM")?]?;
+    books.open_wider(alloc, codes, 1)
+}
+
+/// The money of the first participant and of the one that joined: position, reserved and available.
+fn money<R: Wait>(
+    rt: &R,
+    alloc: Global,
+    books: &Books,
+) -> Result<(Option<(u64, u64, u64)>, Option<(u64, u64, u64)>), Fault> {
+    let (hub, mut tellers) = joined(alloc, books)?;
+    let first = position(rt, &hub, &mut tellers, 0)?;
+    Ok((first, position(rt, &hub, &mut tellers, 3)?))
+}
+
+#[test]
+fn one_joins_between_openings(rt: HostRuntime) -> Result<(), Fail> {
+    let alloc = rt.alloc();
+    let (books, _) = first_books(&rt, alloc)?;
+    let expected = (Some((30_000, 5_000, 25_000)), Some((0, 0, 0)));
+    assert_eq!(rt; money(&rt, alloc, &books)?, expected);
+    Ok(())
+}
+
+/// The fault where `AAAADEFF` joins once more.
+fn joined_twice(alloc: Global, books: &Books) -> Result<(), Fault> {
+    let codes = vec![in alloc; Code::new("AAAADEFF")?]?;
+    books.open_wider(alloc, codes, 1)?;
+    Ok(())
+}
+
+#[test]
+fn no_code_joins_twice(rt: HostRuntime) -> Result<(), Fail> {
+    let alloc = rt.alloc();
+    let (books, _) = first_books(&rt, alloc)?;
+    assert_eq!(rt; joined_twice(alloc, &books), Err(Fault::BadSettings));
+    assert_eq!(rt; books.open_next(alloc, 17).err(), Some(Fault::BadSettings));
     Ok(())
 }
