@@ -3,3 +3,4 @@ pub mod Copying
 pub mod Left
 pub mod CodesCopied
 pub mod Reopened
+pub mod Summing

@@ -2,6 +2,7 @@
 -- choice.
 use Rattle.std.specs.Prelude.{◌≡◌, ℕ, List, length, Some}
 use Rattle.inst_settings.specs.Settings.{HubSettings, participants}
+use Rattle.inst_settings.specs.Lawful.{IsSettings}
 use Rattle.inst_command.specs.declared.outcome.State.{State}
 use Rattle.inst_journal.specs.declared.event.Event.{Event}
 use Rattle.inst_model.specs.Closing.{AreClosed}
@@ -13,8 +14,9 @@ pub record ClosedHub : Type 0 where
   pub settings : HubSettings
   pub books : List Book
 
--- there is a book for each participant, and they are closed
+-- there is a book for each participant of a hub of lawful settings, and they are closed
 pub record IsClosed (s : HubSettings) (books : List Book) : Type 0 where
+  pub lawful : IsSettings s
   pub one_each : length books ≡ participants s
   pub closed : AreClosed s (histories books)
 

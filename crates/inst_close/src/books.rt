@@ -1,4 +1,5 @@
 ghost use Rattle.std.specs.Prelude.{◌≡◌, ◌<◌, length};
+ghost use Rattle.inst_settings.specs.Lawful.{IsSettings};
 ghost use Rattle.inst_settings.specs.Settings.{participants};
 ghost use Rattle.inst_journal.specs.Sound.{IsSound};
 ghost use Rattle.inst_model.specs.Closing.{AreClosed};
@@ -46,6 +47,7 @@ impl Books {
     /// The settings of the hub. Its books are closed.
     pub fn settings(&self) -> &Settings
         ensures settings { result.now ≡ self.now.settings }
+        ensures lawful { IsSettings self.now.settings }
         ensures one_each { length self.now.books ≡ participants self.now.settings }
         ensures closed { AreClosed self.now.settings (histories self.now.books) }
     {

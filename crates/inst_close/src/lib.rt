@@ -4,6 +4,7 @@
 mod books;
 mod closing;
 mod next_opening;
+mod sums;
 mod widening;
 
 pub use books::Books;

@@ -62,6 +62,7 @@ fn closes_and_tells(rt: HostRuntime) -> Result<(), Fault> {
         first: 30_000,
         second: 20_000,
         third: 0,
+        sum: 50_000,
         net: 50_000,
     };
     assert_eq!(rt; sums_of(&books)?, expected);
@@ -89,6 +90,7 @@ fn opens_again_from_its_books(rt: HostRuntime) -> Result<(), Fault> {
         first: 25_000,
         second: 25_000,
         third: 0,
+        sum: 50_000,
         net: 50_000,
     };
     assert_eq!(rt; sums_of(&next)?, expected);

@@ -4,13 +4,14 @@ use inst_close::Books;
 use inst_command::State;
 use inst_hub::Ticket;
 
-/// The positions by number, and the net of the first, in cents.
+/// The positions by number, and what all sum to, in cents.
 #[derive(Clone, Copy, Debug, PartialEq, Eq)]
 pub(crate) struct Sums {
     pub(crate) first: u128,
     pub(crate) second: u128,
     pub(crate) third: u128,
-    pub(crate) net: i128,
+    pub(crate) sum: u128,
+    pub(crate) net: u128,
 }
 
 pub(crate) fn sums_of(books: &Books) -> Result<Sums, Fault> {
@@ -21,7 +22,8 @@ pub(crate) fn sums_of(books: &Books) -> Result<Sums, Fault> {
         first: books.book(0).position(),
         second: books.book(1).position(),
         third: books.book(2).position(),
-        net: books.book(0).net(),
+        sum: books.sum(),
+        net: books.net(),
     })
 }
 

@@ -1,10 +1,6 @@
-use Rattle.std.proofs.Common.{List}
-use Rattle.inst_hub.specs.declared.teller.Teller.{Teller}
 use Rattle.inst_settings.specs.Settings.{participants}
 use Rattle.inst_together.specs.Together.{histories}
-use Rattle.inst_parts.specs.Apart.{histories_of}
-use Rattle.inst_close.specs.ClosedHub.{ClosedHub}
-use Rattle.inst_close.specs.Closing.{GoOnFrom, TellAll, AreOfHub, IsClosedFrom}
+use Rattle.inst_close.specs.Closing.{GoOnFrom, TellAll, AreOfHub}
 use Rattle.inst_close.proofs.Left.{if_ok, books_of_parts, left_then}
 use Rattle.inst_close.proofs.closing.close.Goals as goal
 

@@ -6,7 +6,6 @@ use Rattle.inst_cell.specs.Opening.{MayOpen}
 use Rattle.inst_journal.specs.History.{History}
 use Rattle.inst_world.specs.NextOpening.{CanOpenFrom, books_of}
 use Rattle.inst_together.specs.Together.{histories}
-use Rattle.inst_together.specs.Wider.{widened}
 use Rattle.inst_close.specs.Closing.{IsNextOf}
 use Rattle.inst_close.specs.NextOpening.{MayOpenWider}
 use Rattle.inst_close.proofs.Left.{if_ok}
@@ -21,7 +20,7 @@ open_from-requires c =
     let many : c.len.result ≡ length codes = c.len.ensures ∙ (sym c.deref.ensures.len ∙ ap (λ (l : List Code). length l) c.deref.ensures.value) in
     record {
       journals = can_open_as closed codes c.in_ok-settings.settings c.len.result c.deref-2.result.now c.in_ok-journals.journals.items wide many c.deref-2.ensures.value
-          (record { one_each = c.settings.ensures.one_each; closed = c.settings.ensures.closed }) (c.may_open.ensures.few c.if-not-may_open.false) c.in_ok-journals.ensures.ok;
+          (record { lawful = c.settings.ensures.lawful; one_each = c.settings.ensures.one_each; closed = c.settings.ensures.closed }) (c.may_open.ensures.few c.if-not-may_open.false) c.in_ok-journals.ensures.ok;
     }
 
 pub returns-clause-opened : goal.returns-clause-opened
@@ -33,7 +32,7 @@ returns-clause-opened c =
     let many : c.len.result ≡ length codes = c.len.ensures ∙ (sym c.deref.ensures.len ∙ ap (λ (l : List Code). length l) c.deref.ensures.value) in
     let can : CanOpenFrom c.in_ok-settings.settings journals =
     can_open_as closed codes c.in_ok-settings.settings c.len.result journals c.in_ok-journals.journals.items wide many c.deref-2.ensures.value
-    (record { one_each = c.settings.ensures.one_each; closed = c.settings.ensures.closed }) (c.may_open.ensures.few c.if-not-may_open.false) c.in_ok-journals.ensures.ok in
+    (record { lawful = c.settings.ensures.lawful; one_each = c.settings.ensures.one_each; closed = c.settings.ensures.closed }) (c.may_open.ensures.few c.if-not-may_open.false) c.in_ok-journals.ensures.ok in
     let same : (p : ℕ) → books_of journals p ≡ histories closed.books p = λ p. ap (λ (l : List History). books_of l p) c.deref-2.ensures.value ∙ c.in_ok-journals.ensures.ok.same p in
     if_both c.open_from.result _ _ (λ r. IsNextOf closed.books r.0)
     (λ r settings_are opened. next_is closed.books journals c.in_ok-settings.settings r.0 can same settings_are opened)

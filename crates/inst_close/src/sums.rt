@@ -1,0 +1,35 @@
+//! What all books sum to.
+ghost use Rattle.std.specs.Prelude.{◌≡◌, pos};
+ghost use Rattle.inst_journal.specs.Money.{position};
+ghost use Rattle.inst_journal.specs.Sums.{net};
+ghost use Rattle.inst_model.specs.Untold.{total, signed_total};
+ghost use Rattle.inst_together.specs.Together.{histories};
+
+use crate::Books;
+
+impl Books {
+    /// The net funding of all participants, in cents: what was funded less what was defunded, over all openings. It costs
+    /// the events of all books.
+    pub fn net(&self) -> u128
+        ensures { pos result ≡ signed_total self.now.settings (λ p. net (histories self.now.books p)) }
+    {
+        let mut total = 0;
+        for slot in self.slots.as_slice() {
+            total += slot.journal().net();
+        }
+        total.unsigned_abs()
+    }
+
+    /// All positions, in cents. They are the net funding of all, since the books are closed. It costs the events of all
+    /// books, and for each of them those of its book.
+    pub fn sum(&self) -> u128
+        ensures sum { result ≡ total self.now.settings (λ p. position (histories self.now.books p)) }
+        ensures net { pos result ≡ signed_total self.now.settings (λ p. net (histories self.now.books p)) }
+    {
+        let mut total = 0;
+        for slot in self.slots.as_slice() {
+            total += slot.journal().position();
+        }
+        total
+    }
+}
