@@ -46,15 +46,21 @@ fn ask<R: Wait>(
 }
 
 /// Participant 0 is funded through the first teller.
-fn fund<R: Wait>(rt: &R, hub: &Hub, tellers: &mut Vec<Teller>) -> Result<(), Fault>
+fn fund<R: Wait>(
+    rt: &R,
+    hub: &Hub,
+    tellers: &mut Vec<Teller>,
+    reference: &str,
+    cents: u64,
+) -> Result<(), Fault>
     requires of { AreOf hub.now tellers.old.items }
     requires parts { parts_of tellers.old.items ≡ 16 }
     ensures of { AreOf hub.now tellers.new.items }
     ensures parts { parts_of tellers.new.items ≡ 16 }
 {
     let command = Command::Fund {
-        reference: Ident::new("F1")?,
-        cents: Cents::new(50_000)?,
+        reference: Ident::new(reference)?,
+        cents: Cents::new(cents)?,
     };
     ask(rt, hub, tellers, 0, &fitting(hub, 0, command, 0)?)?;
     Ok(())
@@ -124,7 +130,7 @@ pub(crate) fn one_confirmed<R: Wait>(
     ensures of { AreOf hub.now tellers.new.items }
     ensures parts { parts_of tellers.new.items ≡ 16 }
 {
-    fund(rt, hub, tellers)?;
+    fund(rt, hub, tellers, "F1", 50_000)?;
     let first = submit(rt, hub, tellers, "T1", 20_000)?;
     let second = submit(rt, hub, tellers, "T2", 5_000)?;
     confirm(rt, hub, tellers, 1, "T1")?;
@@ -156,6 +162,49 @@ pub(crate) fn position<R: Wait>(
     ensures of { AreOf hub.now tellers.new.items }
     ensures parts { parts_of tellers.new.items ≡ 16 }
 {
-    let (reply, _) = ask(rt, hub, tellers, 0, &fitting(hub, who, Command::Position, 1_002)?)?;
+    let (reply, _) = ask(
+        rt,
+        hub,
+        tellers,
+        0,
+        &fitting(hub, who, Command::Position, 1_002)?,
+    )?;
     Ok(money_of(&reply))
+}
+
+/// Participant 0 gets 1,000 cents and pays 300 of them to participant 1, through the first teller.
+pub(crate) fn one_paid<R: Wait>(
+    rt: &R,
+    hub: &Hub,
+    tellers: &mut Vec<Teller>,
+    id: &str,
+) -> Result<(), Fault>
+    requires of { AreOf hub.now tellers.old.items }
+    requires parts { parts_of tellers.old.items ≡ 16 }
+    ensures of { AreOf hub.now tellers.new.items }
+    ensures parts { parts_of tellers.new.items ≡ 16 }
+{
+    fund(rt, hub, tellers, id, 1_000)?;
+    submit(rt, hub, tellers, id, 300)?;
+    confirm(rt, hub, tellers, 0, id)?;
+    Ok(())
+}
+
+/// The state that participant 0 is told of its transfer, if any, and whether with a ticket, through the first teller.
+pub(crate) fn investigated<R: Wait>(
+    rt: &R,
+    hub: &Hub,
+    tellers: &mut Vec<Teller>,
+    id: &str,
+) -> Result<(Option<State>, bool), Fault>
+    requires of { AreOf hub.now tellers.old.items }
+    requires parts { parts_of tellers.old.items ≡ 16 }
+    ensures of { AreOf hub.now tellers.new.items }
+    ensures parts { parts_of tellers.new.items ≡ 16 }
+{
+    let command = Command::Investigate {
+        id: Ident::new(id)?,
+    };
+    let (reply, ticket) = ask(rt, hub, tellers, 0, &fitting(hub, 0, command, 2_000)?)?;
+    Ok((state_of(&reply), ticket.is_some()))
 }

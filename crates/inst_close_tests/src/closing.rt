@@ -17,7 +17,7 @@ use std::sync::Wait;
 use std::test::Fail;
 
 /// The hub of the first opening, with two tellers.
-fn opened(alloc: Global) -> Result<(Hub, Vec<Teller>), Fault>
+pub(crate) fn opened(alloc: Global) -> Result<(Hub, Vec<Teller>), Fault>
     ensures of { IfOk result (λ r. AreOf r.0 r.1.items) }
     ensures parts { IfOk result (λ r. parts_of r.1.items ≡ 16) }
     ensures opened { IfOk result (λ r. (O : Opening) × IsOpenedSo O r.0) }
@@ -26,7 +26,7 @@ fn opened(alloc: Global) -> Result<(Hub, Vec<Teller>), Fault>
 }
 
 /// The hub of the next opening, with one teller.
-fn opened_again(alloc: Global, books: &Books) -> Result<(Hub, Vec<Teller>), Fault>
+pub(crate) fn opened_again(alloc: Global, books: &Books) -> Result<(Hub, Vec<Teller>), Fault>
     ensures of { IfOk result (λ r. AreOf r.0 r.1.items) }
     ensures parts { IfOk result (λ r. parts_of r.1.items ≡ 16) }
     ensures opened { IfOk result (λ r. (O : Opening) × IsOpenedSo O r.0) }
@@ -35,7 +35,7 @@ fn opened_again(alloc: Global, books: &Books) -> Result<(Hub, Vec<Teller>), Faul
 }
 
 /// The books of the hub; `Memory` where there was no room.
-fn closed(alloc: Global, hub: Hub, tellers: Vec<Teller>) -> Result<Books, Fault>
+pub(crate) fn closed(alloc: Global, hub: Hub, tellers: Vec<Teller>) -> Result<Books, Fault>
     requires of { AreOf hub tellers.items }
     requires parts { parts_of tellers.items ≡ 16 }
     requires opened { (O : Opening) × IsOpenedSo O hub }

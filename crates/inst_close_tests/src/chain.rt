@@ -1,0 +1,111 @@
+// Ten openings, each from the books of the one before: no key, no outcome and no cent is lost.
+use crate::asking::{investigated, one_paid};
+use crate::closing::{closed, opened, opened_again};
+use inst_base::Fault;
+use inst_close::Books;
+use inst_command::{Outcome, State};
+use inst_journal::{Event, Journal};
+use std::alloc::Global;
+use std::sync::Wait;
+use std::test::Fail;
+
+/// What is paid in the openings, one after the other.
+const IDS: [&str; 10] = ["T1", "T2", "T3", "T4", "T5", "T6", "T7", "T8", "T9", "T10"];
+
+/// The books of the next opening, in which this is paid.
+fn next_books<R: Wait>(rt: &R, alloc: Global, books: &Books, id: &str) -> Result<Books, Fault> {
+    let (hub, mut tellers) = opened_again(alloc, books)?;
+    one_paid(rt, &hub, &mut tellers, id)?;
+    closed(alloc, hub, tellers)
+}
+
+/// The books of ten openings.
+fn ten_openings<R: Wait>(rt: &R, alloc: Global) -> Result<Books, Fault> {
+    let (hub, mut tellers) = opened(alloc)?;
+    one_paid(rt, &hub, &mut tellers, IDS[0])?;
+    let mut books = closed(alloc, hub, tellers)?;
+    for id in &IDS[1..] {
+        books = next_books(rt, alloc, &books, id)?;
+    }
+    Ok(books)
+}
+
+/// The events of a book, counted, and the cents that were funded.
+#[derive(Clone, Copy, Debug, PartialEq, Eq)]
+struct Kept {
+    opened: u32,
+    funded: u64,
+    taken: u32,
+    forwarded: u32,
+    accepted: u32,
+}
+
+fn counted(journal: &Journal) -> Kept {
+    let mut counted = Kept {
+        opened: 0,
+        funded: 0,
+        taken: 0,
+        forwarded: 0,
+        accepted: 0,
+    };
+    for event in journal.events() {
+        match event {
+            Event::Opened => counted.opened = counted.opened.saturating_add(1),
+            Event::Funded { cents, .. } => {
+                counted.funded = counted.funded.saturating_add(cents.get());
+            }
+            Event::Taken { .. } => counted.taken = counted.taken.saturating_add(1),
+            Event::Forwarded { .. } => counted.forwarded = counted.forwarded.saturating_add(1),
+            Event::Booked {
+                outcome: Outcome::Accepted,
+                ..
+            } => counted.accepted = counted.accepted.saturating_add(1),
+            _ => {}
+        }
+    }
+    counted
+}
+
+/// What the books of the first two participants have.
+fn both_counted(books: &Books) -> Result<(Kept, Kept), Fault> {
+    if books.settings().participants() < 2 {
+        return Err(Fault::BadSettings);
+    }
+    Ok((counted(books.book(0)), counted(books.book(1))))
+}
+
+/// What the originator is told, once more, of the first and the last that it paid.
+fn first_and_last<R: Wait>(
+    rt: &R,
+    alloc: Global,
+    books: &Books,
+) -> Result<[(Option<State>, bool); 2], Fault> {
+    let (hub, mut tellers) = opened_again(alloc, books)?;
+    let first = investigated(rt, &hub, &mut tellers, IDS[0])?;
+    Ok([first, investigated(rt, &hub, &mut tellers, IDS[9])?])
+}
+
+#[test]
+fn ten_openings_lose_nothing(rt: HostRuntime) -> Result<(), Fail> {
+    let alloc = rt.alloc();
+    let books = ten_openings(&rt, alloc)?;
+    let originator = Kept {
+        opened: 9,
+        funded: 10_000,
+        taken: 10,
+        forwarded: 0,
+        accepted: 10,
+    };
+    let beneficiary = Kept {
+        opened: 9,
+        funded: 0,
+        taken: 0,
+        forwarded: 10,
+        accepted: 10,
+    };
+    assert_eq!(rt; both_counted(&books)?, (originator, beneficiary));
+    assert_eq!(rt; (books.net(), books.sum()), (10_000, 10_000));
+    let accepted = (Some(State::Decided(Outcome::Accepted)), false);
+    assert_eq!(rt; first_and_last(&rt, alloc, &books)?, [accepted, accepted]);
+    Ok(())
+}
