@@ -27,7 +27,7 @@ use Rattle.inst_row.specs.Seated.{view_of, Has, HasSeen, GoesOn, Sees}
 use Rattle.inst_participant.specs.declared.participant.Participant.{Participant}
 use Rattle.inst_hub.specs.declared.hub.Hub.{Hub}
 use Rattle.inst_hub.specs.declared.teller.Teller.{Teller}
-use Rattle.inst_participant.specs.Behind.{IsReady, IsBehind, IsLater}
+use Rattle.inst_participant.specs.Behind.{IsBehind, IsLater}
 use Rattle.inst_participant.specs.Answers.{Answered, IsSubmitted, IsTicket}
 use Rattle.inst_participant.specs.declared.follow_up.FollowUp.{FollowUp}
 use Rattle.inst_participant.specs.Following.{follow_up_of, Does}

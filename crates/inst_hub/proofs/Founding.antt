@@ -1,10 +1,10 @@
 -- What a history carries stays what it was: no call of a participant leaves an opening.
-use Rattle.std.proofs.Common.{◌+◌, arith, ◌≡◌, ℕ, ◌<◌, List, [], ◌∷◌, ◌++◌, append-nil, append_assoc, length, refl, sym, ap, ◌∙◌, subst, ⊎_elim, Option, Some, None, false}
+use Rattle.std.proofs.Common.{arith, ◌≡◌, ℕ, ◌<◌, List, [], ◌∷◌, ◌++◌, append-nil, append_assoc, length, refl, sym, ap, ◌∙◌, subst, ⊎_elim, Option, Some, false}
 use Rattle.std.specs.Prelude.{Contains, Result, Ok, Err, IfOk, OnErr, slice_get}
 use Rattle.std.proofs.lemmas.List.Elements.{Contains-append_right}
 use Rattle.std.specs.Global.{Box}
 use Rattle.inst_base.specs.declared.fault.Fault.{Fault}
-use Rattle.inst_settings.specs.Settings.{HubSettings, participants}
+use Rattle.inst_settings.specs.Settings.{HubSettings}
 use Rattle.inst_command.specs.declared.ask.Ask.{Ask}
 use Rattle.inst_command.specs.declared.command.Command.{Command}
 use Rattle.inst_command.specs.declared.outcome.Outcome.{Outcome}

@@ -1,17 +1,16 @@
 -- The seats of all tellers are joined to one, and what lay behind the locks is taken out, one after the other.
-use Rattle.std.proofs.Common.{◌≡◌, ◌≢◌, ℕ, zero, suc, ◌+◌, ◌<◌, ◌≤◌, arith, Bool, true, false, List, [], ◌∷◌, ◌++◌, length, length-append, append_assoc, append-nil, get_or, set, inl, inr, ◌⊎◌, ⊎_elim, refl, sym, ap, ◌∙◌, subst, Option, Some, None}
-use Rattle.std.specs.Prelude.{slice_get, map, ◌↔◌}
+use Rattle.std.proofs.Common.{◌≡◌, ℕ, zero, suc, ◌+◌, ◌<◌, arith, List, [], ◌∷◌, ◌++◌, length, length-append, append_assoc, append-nil, inl, inr, ◌⊎◌, ⊎_elim, refl, sym, ap, ◌∙◌, subst, Some, None}
+use Rattle.std.specs.Prelude.{slice_get, map}
 use Rattle.std.specs.Global.{Box}
 use Rattle.std.proofs.lemmas.List.{map-append}
 use Rattle.std.proofs.lemmas.Option.{slice_get_within}
-use Rattle.std.proofs.lemmas.Bool.{cases_eq}
 use Rattle.atomic_table.specs.Seated.{TableId}
 use Rattle.inst_hub.specs.declared.outset.Outset.{Outset}
 use Rattle.inst_cell.specs.declared.shared_board.SharedBoard.{SharedBoard}
 use Rattle.inst_cell.specs.declared.teller.Teller.{Teller as Sight}
 use Rattle.inst_journal.specs.declared.event.Event.{Event}
 use Rattle.inst_row.specs.declared.seat.RowSeat.{RowSeat}
-use Rattle.inst_row.specs.Seated.{IsOn, IsIdle, IsFree, HasAll, HasSeen, SeesBoth, view_of}
+use Rattle.inst_row.specs.Seated.{IsOn, IsIdle, HasAll, HasSeen, SeesBoth, view_of}
 use Rattle.inst_slot.specs.Book.{Book}
 use Rattle.inst_slot.proofs.Growing.{snoc_cases}
 use Rattle.inst_participant.specs.declared.participant.Participant.{Participant}

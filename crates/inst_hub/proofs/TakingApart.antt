@@ -1,28 +1,26 @@
 -- What was taken out of the locks of a hub makes its parts.
-use Rattle.std.proofs.Common.{◌≡◌, ℕ, zero, suc, ◌<◌, arith, List, [], ◌∷◌, length, refl, sym, ap, ◌∙◌, subst, Option, Some, None}
+use Rattle.std.proofs.Common.{◌≡◌, ℕ, zero, suc, ◌<◌, arith, List, [], ◌∷◌, length, refl, sym, ap, ◌∙◌, subst, Some}
 use Rattle.std.specs.Prelude.{slice_get, map}
-use Rattle.std.specs.Global.{Box}
 use Rattle.std.proofs.lemmas.Option.{slice_get_within}
 use mathlib.Core.List.{IsPrefix}
 use Rattle.inst_settings.specs.Settings.{HubSettings, participants}
 use Rattle.inst_cell.specs.declared.shared_board.SharedBoard.{SharedBoard}
 use Rattle.inst_cell.specs.declared.teller.Teller.{Teller as Sight}
-use Rattle.inst_cell.specs.Held.{settings_of, AtOneTable}
+use Rattle.inst_cell.specs.Held.{AtOneTable}
 use Rattle.inst_cell.specs.Seen.{board_of}
 use Rattle.inst_journal.specs.declared.event.Event.{Event}
-use Rattle.inst_journal.specs.Opened.{carried}
 use Rattle.inst_journal.specs.Sound.{IsSound}
-use Rattle.inst_model.specs.Opening.{Opening, IsOpening, beginning}
+use Rattle.inst_model.specs.Opening.{Opening, IsOpening}
 use Rattle.inst_row.specs.Row.{key_of, size}
 use Rattle.inst_row.specs.Seated.{HasSeen}
 use Rattle.inst_slot.specs.Book.{Book}
 use Rattle.inst_slot.proofs.Growing.{slice_get_at}
 use Rattle.inst_together.specs.Together.{events_of, histories}
-use Rattle.inst_parts.specs.Uniting.{IsSeparate, AreSeparate, AreAtOne, AreSights}
+use Rattle.inst_parts.specs.Uniting.{AreSeparate, AreAtOne, AreSights}
 use Rattle.inst_hub.specs.declared.hub.Hub.{Hub}
 use Rattle.inst_hub.specs.declared.teller.Teller.{Teller}
 use Rattle.inst_hub.specs.Calls.{AreOf}
-use Rattle.inst_hub.specs.Closing.{IsTakenOut, AreTakenOut}
+use Rattle.inst_hub.specs.Closing.{AreTakenOut}
 use Rattle.inst_hub.specs.Founding.{HasOpened}
 use Rattle.inst_hub.proofs.Gathering.{Seat, sight_of}
 

@@ -1,6 +1,6 @@
 -- A hub that is taken apart: its tellers are seated on its row, and what was taken out of the locks is what lay behind
 -- them. This hub's own choice.
-use Rattle.std.specs.Prelude.{◌≡◌, ℕ, ◌<◌, List, length, slice_get, Some}
+use Rattle.std.specs.Prelude.{◌≡◌, ℕ, List, length, slice_get, Some}
 use Rattle.atomic_table.specs.Seated.{TableId}
 use Rattle.inst_hub.specs.declared.outset.Outset.{Outset}
 use Rattle.inst_cell.specs.declared.shared_board.SharedBoard.{SharedBoard}
