@@ -9,6 +9,7 @@ use Rattle.inst_journal.specs.declared.event.Event.{Event}
 use Rattle.inst_journal.specs.History.{History}
 use Rattle.inst_journal.specs.Opened.{openings}
 use Rattle.inst_slot.specs.Book.{Book}
+use Rattle.inst_slot.proofs.Indexed.{last_at}
 use Rattle.inst_world.specs.NextOpening.{kept_by, books_of, CanOpenFrom}
 use Rattle.inst_world.proofs.Journals.{can_open_from}
 use Rattle.inst_together.specs.Together.{events_of, histories}
@@ -22,10 +23,6 @@ pub record CopiedBelow (books : List Book) (journals : List History) (n : ℕ) :
   pub many : length journals ≡ n
   pub same : (p : ℕ) → p < n → books_of journals p ≡ histories books p
 
-got_snoc : {A : Type 0} (xs : List A) (y : A) → slice_get (xs ++ y ∷ []) (length xs) ≡ Some y
-got_snoc [] y = refl
-got_snoc (x ∷ xs) y = got_snoc xs y
-
 got_left : {A : Type 0} (xs : List A) (y : A) (p : ℕ) → p < length xs → slice_get (xs ++ y ∷ []) p ≡ slice_get xs p
 got_left [] y p below = absurd (omega arith)
 got_left (x ∷ xs) y zero below = refl
@@ -37,7 +34,7 @@ one_copied books journals more n book j below here same pushed so = record {
   same = λ p small. elim (cases_eq p n) [
     | inl at ↦
         let found : slice_get books n ≡ Some book = slice_get-get_or books n book below ∙ ap (λ (b : Book). Some b) (sym here) in
-        let got : slice_get more n ≡ Some j = ap (λ (l : List History). slice_get l n) pushed ∙ (ap (slice_get (journals ++ j ∷ [])) (sym so.many) ∙ got_snoc journals j) in
+        let got : slice_get more n ≡ Some j = ap (λ (l : List History). slice_get l n) pushed ∙ (ap (slice_get (journals ++ j ∷ [])) (sym so.many) ∙ last_at journals j) in
         ap (λ (q : ℕ). kept_by (slice_get more q)) at ∙ (ap kept_by got ∙ (same ∙ (sym (ap events_of found) ∙ ap (λ (q : ℕ). events_of (slice_get books q)) (sym at))))
     | inr other ↦
         let less : p < n = omega (arith, small, other) in

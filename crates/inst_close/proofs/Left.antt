@@ -77,10 +77,6 @@ books_of_whole hub handed (Ok books) same on told = λ h tellers left.
     (subst (λ (x : Hub). IsClosedFrom x handed books) left.0 record { settings = same; goes_on = on; told = told })
 books_of_whole hub handed (Err e) same on told = tt
 
-pub if_ok : {A E : Type 0} (r : Result A E) (P Q : A → Type 0) → ((v : A) → P v → Q v) → IfOk r P → IfOk r Q
-if_ok (Ok v) P Q f h = f v h
-if_ok (Err e) P Q f h = tt
-
 pub if_err : {A E : Type 0} (r : Result A E) (P Q : E → Type 0) → ((e : E) → P e → Q e) → IfErr r P → IfErr r Q
 if_err (Ok v) P Q f h = tt
 if_err (Err e) P Q f h = f e h

@@ -1,7 +1,8 @@
 use Rattle.inst_settings.specs.Settings.{participants}
 use Rattle.inst_together.specs.Together.{histories}
+use Rattle.inst_parts.proofs.Parted.{if_ok}
 use Rattle.inst_close.specs.Closing.{GoOnFrom, TellAll, AreOfHub}
-use Rattle.inst_close.proofs.Left.{if_ok, books_of_parts, left_then}
+use Rattle.inst_close.proofs.Left.{books_of_parts, left_then}
 use Rattle.inst_close.proofs.closing.close.Goals as goal
 
 pub returns-in-Ok-clause-goes_on : goal.returns-in-Ok-clause-goes_on

@@ -6,9 +6,9 @@ use Rattle.inst_cell.specs.Opening.{MayOpen}
 use Rattle.inst_journal.specs.History.{History}
 use Rattle.inst_world.specs.NextOpening.{CanOpenFrom, books_of}
 use Rattle.inst_together.specs.Together.{histories}
+use Rattle.inst_parts.proofs.Parted.{if_ok}
 use Rattle.inst_close.specs.Closing.{IsNextOf}
 use Rattle.inst_close.specs.NextOpening.{MayOpenWider}
-use Rattle.inst_close.proofs.Left.{if_ok}
 use Rattle.inst_close.proofs.Reopened.{if_both, widened_as, can_open_as, next_is, seats_if_ok}
 use Rattle.inst_close.proofs.books.Books.open_wider.Goals as goal
 

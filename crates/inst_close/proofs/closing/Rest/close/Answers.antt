@@ -1,9 +1,10 @@
 use Rattle.std.proofs.Common.{List, subst}
 use Rattle.inst_hub.specs.declared.teller.Teller.{Teller}
 use Rattle.inst_hub.specs.declared.hub.Hub.{Hub}
+use Rattle.inst_parts.proofs.Parted.{if_ok}
 use Rattle.inst_close.specs.declared.closing.Rest.{Rest}
 use Rattle.inst_close.specs.Closing.{IsLeftOf, IsClosedFrom, IsPartly, rest_of}
-use Rattle.inst_close.proofs.Left.{if_ok, if_err, books_of_parts, books_of_whole, left_partly}
+use Rattle.inst_close.proofs.Left.{if_err, books_of_parts, books_of_whole, left_partly}
 use Rattle.inst_close.proofs.closing.Rest.close.Goals as goal
 
 pub returns-in-Whole-clause-books : goal.returns-in-Whole-clause-books
