@@ -4,35 +4,27 @@ use Rattle.inst_parts.proofs.Parted.{if_ok}
 use Rattle.inst_close.specs.Closing.{GoOnFrom, TellAll, AreOfHub}
 use Rattle.inst_close.proofs.Left.{books_of_parts, left_then}
 use Rattle.inst_close.proofs.closing.close.Goals as goal
+use Rattle.inst_close.proofs.closing.close.Goals.{In-Ok}
+
+-- the parts are those of the hub with these tellers
+of_hub : (c : In-Ok) → AreOfHub c.args.hub c.args.tellers.items c.in-Ok.parts
+of_hub c = record {
+  settings = c.in-Ok.ensures.settings;
+  opened = λ O o. c.in-Ok.ensures.parts O o.0 o.1;
+  goes_on = c.in-Ok.ensures.goes_on;
+  knows = c.in-Ok.ensures.knows;
+}
 
 pub returns-in-Ok-clause-goes_on : goal.returns-in-Ok-clause-goes_on
 returns-in-Ok-clause-goes_on c =
-    let of : AreOfHub c.args.hub c.args.tellers.items c.in-Ok.parts = record {
-      settings = c.in-Ok.ensures.settings;
-      opened = λ O o. c.in-Ok.ensures.parts O o.0 o.1;
-      goes_on = c.in-Ok.ensures.goes_on;
-      knows = c.in-Ok.ensures.knows;
-    } in
-    if_ok c.close_parts.result _ (λ books. GoOnFrom c.args.tellers.items (participants c.args.hub.settings) (histories books.books)) (λ books closed. (closed c.args.hub c.args.tellers.items of).goes_on)
+    if_ok c.close_parts.result _ (λ books. GoOnFrom c.args.tellers.items (participants c.args.hub.settings) (histories books.books)) (λ books closed. (closed c.args.hub c.args.tellers.items (of_hub (goal.at.returns-in-Ok-clause-goes_on c).In-Ok)).goes_on)
     (books_of_parts c.in-Ok.parts c.close_parts.result c.close_parts.ensures.settings c.close_parts.ensures.histories c.close_parts.ensures.told)
 
 pub returns-in-Ok-clause-told : goal.returns-in-Ok-clause-told
 returns-in-Ok-clause-told c =
-    let of : AreOfHub c.args.hub c.args.tellers.items c.in-Ok.parts = record {
-      settings = c.in-Ok.ensures.settings;
-      opened = λ O o. c.in-Ok.ensures.parts O o.0 o.1;
-      goes_on = c.in-Ok.ensures.goes_on;
-      knows = c.in-Ok.ensures.knows;
-    } in
-    if_ok c.close_parts.result _ (λ books. TellAll c.args.tellers.items (histories books.books)) (λ books closed. (closed c.args.hub c.args.tellers.items of).told)
+    if_ok c.close_parts.result _ (λ books. TellAll c.args.tellers.items (histories books.books)) (λ books closed. (closed c.args.hub c.args.tellers.items (of_hub (goal.at.returns-in-Ok-clause-told c).In-Ok)).told)
     (books_of_parts c.in-Ok.parts c.close_parts.result c.close_parts.ensures.settings c.close_parts.ensures.histories c.close_parts.ensures.told)
 
 pub returns-in-Ok-clause-left : goal.returns-in-Ok-clause-left
 returns-in-Ok-clause-left c =
-    let of : AreOfHub c.args.hub c.args.tellers.items c.in-Ok.parts = record {
-      settings = c.in-Ok.ensures.settings;
-      opened = λ O o. c.in-Ok.ensures.parts O o.0 o.1;
-      goes_on = c.in-Ok.ensures.goes_on;
-      knows = c.in-Ok.ensures.knows;
-    } in
-    left_then c.args.hub c.args.tellers.items c.in-Ok.parts c.close_parts.result of c.close_parts.ensures.left
+    left_then c.args.hub c.args.tellers.items c.in-Ok.parts c.close_parts.result (of_hub (goal.at.returns-in-Ok-clause-left c).In-Ok) c.close_parts.ensures.left
