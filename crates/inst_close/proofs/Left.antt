@@ -21,7 +21,9 @@ use Rattle.inst_close.specs.declared.closing.Rest.{Rest}
 use Rattle.inst_close.specs.declared.closing.Rest.TheVariants.{Whole, Apart}
 use Rattle.inst_close.specs.declared.closing.CloseFault.{CloseFault}
 use Rattle.inst_close.specs.ClosedHub.{ClosedHub}
-use Rattle.inst_close.specs.Closing.{GoOnFrom, TellAll, AreOfHub, IsLeftOf, IsPartly, IsClosedFrom, rest_of}
+use Rattle.inst_close.proofs.Since.{have_opened}
+use Rattle.inst_model.specs.Opening.{Opening}
+use Rattle.inst_close.specs.Closing.{IsOpenedSo, HaveOpened, GoOnFrom, TellAll, AreOfHub, IsLeftOf, IsPartly, IsClosedFrom, rest_of}
 
 pub further : (H J K : List Event) → IsPrefix H J → OnlyTold J K → IsPrefix H K
 further H J K front told = (front.0 ++ told.events, sym (append_assoc H front.0 told.events) ∙ (ap (λ l. l ++ told.events) front.1 ∙ sym told.appended))
@@ -63,19 +65,21 @@ pub books_of_parts : (p : Parts) (r : Result ClosedHub CloseFault) → IfOk r (�
     → IfOk r (λ books. (h : Hub) (tellers : List Teller) → AreOfHub h tellers p → IsClosedFrom h tellers books)
 books_of_parts p (Ok books) same further told = λ h tellers of. record {
   settings = same ∙ of.settings;
+  opened = λ O so. have_opened h tellers p books O of (same ∙ of.settings) further so;
   goes_on = go_on tellers (participants h.settings) (histories_of p) (histories books.books) of.goes_on further;
   told = tell_all tellers p (histories books.books) of.knows told;
 }
 books_of_parts p (Err e) same further told = tt
 
 -- the books that a hub's closing gives, of what is left of the hub where that is the hub
-pub books_of_whole : (hub : Hub) (handed : List Teller) (r : Result ClosedHub CloseFault) → IfOk r (λ books. books.settings ≡ hub.settings) → IfOk r (λ books. GoOnFrom handed (participants hub.settings) (histories books.books))
+pub books_of_whole : (hub : Hub) (handed : List Teller) (r : Result ClosedHub CloseFault) → IfOk r (λ books. books.settings ≡ hub.settings)
+    → IfOk r (λ books. (O : Opening) → IsOpenedSo O hub → HaveOpened O books) → IfOk r (λ books. GoOnFrom handed (participants hub.settings) (histories books.books))
     → IfOk r (λ books. TellAll handed (histories books.books))
     → IfOk r (λ books. (h : Hub) (tellers : List Teller) → (hub ≡ h) × (handed ≡ tellers) → IsClosedFrom h tellers books)
-books_of_whole hub handed (Ok books) same on told = λ h tellers left.
+books_of_whole hub handed (Ok books) same began on told = λ h tellers left.
     subst (λ (l : List Teller). IsClosedFrom h l books) left.1
-    (subst (λ (x : Hub). IsClosedFrom x handed books) left.0 record { settings = same; goes_on = on; told = told })
-books_of_whole hub handed (Err e) same on told = tt
+    (subst (λ (x : Hub). IsClosedFrom x handed books) left.0 record { settings = same; opened = began; goes_on = on; told = told })
+books_of_whole hub handed (Err e) same began on told = tt
 
 pub if_err : {A E : Type 0} (r : Result A E) (P Q : E → Type 0) → ((e : E) → P e → Q e) → IfErr r P → IfErr r Q
 if_err (Ok v) P Q f h = tt

@@ -1,5 +1,6 @@
 pub mod AtPlace
 pub mod Copying
+pub mod Since
 pub mod Left
 pub mod CodesCopied
 pub mod Reopened

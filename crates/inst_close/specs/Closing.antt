@@ -12,7 +12,8 @@ use Rattle.inst_board.specs.declared.about.Fact.{Fact}
 use Rattle.inst_board.specs.Standing.{about}
 use Rattle.inst_cell.specs.Held.{knows}
 use Rattle.inst_journal.specs.declared.event.Event.{Event}
-use Rattle.inst_model.specs.Opening.{Opening, FromBooks, IsOpening}
+use Rattle.inst_journal.specs.Opened.{carried}
+use Rattle.inst_model.specs.Opening.{Opening, FromBooks, IsOpening, beginning}
 use Rattle.inst_slot.specs.Book.{Book}
 use Rattle.inst_together.specs.Together.{histories}
 use Rattle.inst_row.specs.Seated.{HasSeen}
@@ -33,6 +34,10 @@ use Rattle.inst_close.specs.ClosedHub.{ClosedHub}
 -- the hub was opened in this way, from books that can be opened from
 abbrev pub IsOpenedSo : Opening → Hub → Type 0
 IsOpenedSo O h = IsOpening h.settings O × HasOpened O h
+
+-- the books were opened in this way, and not since
+abbrev pub HaveOpened : Opening → ClosedHub → Type 0
+HaveOpened O closed = (p : ℕ) → p < participants closed.settings → carried (histories closed.books p) ≡ beginning O p
 
 -- the histories of n participants go on from all that the tellers have seen of them
 abbrev pub GoOnFrom : List Teller → ℕ → (ℕ → List Event) → Type 0
@@ -77,6 +82,7 @@ rest_of (Memory rest) = rest
 -- the books are those of the hub with these tellers
 pub record IsClosedFrom (h : Hub) (tellers : List Teller) (books : ClosedHub) : Type 0 where
   pub settings : books.settings ≡ h.settings
+  pub opened : (O : Opening) → IsOpenedSo O h → HaveOpened O books
   pub goes_on : GoOnFrom tellers (participants h.settings) (histories books.books)
   pub told : TellAll tellers (histories books.books)
 

@@ -14,7 +14,7 @@ ghost use Rattle.inst_hub.specs.declared.teller.Teller.{Teller};
 ghost use Rattle.inst_hub.specs.Calls.{AreOf};
 ghost use Rattle.inst_hub.specs.Opening.{parts_of};
 ghost use Rattle.inst_parts.specs.Apart.{IsPartsOf, AreLater, histories_of, board_of, hub_of};
-ghost use Rattle.inst_close.specs.Closing.{IsOpenedSo, GoOnFrom, TellAll, IsLeftOf, MayClose, IsClosedFrom, IsPartly, rest_of};
+ghost use Rattle.inst_close.specs.Closing.{IsOpenedSo, HaveOpened, GoOnFrom, TellAll, IsLeftOf, MayClose, IsClosedFrom, IsPartly, rest_of};
 
 use crate::Books;
 use inst_hub::{Hub, TakeFault, Teller};
@@ -47,7 +47,7 @@ impl fmt::Debug for CloseFault {
     }
 }
 
-/// The books of the hub, once each participant has booked and got what there is for it. They go on from all that the
+/// The books of the hub, once each participant has booked and got what there is for it. They were opened as the hub was, go on from all that the
 /// tellers have seen, and tell all that these knew. It waits for no lock, since nobody else has the hub. `Memory` hands
 /// back what is left of the hub.
 pub fn close(alloc: Global, hub: Hub, tellers: Vec<Teller>) -> Result<Books, CloseFault>
@@ -55,6 +55,7 @@ pub fn close(alloc: Global, hub: Hub, tellers: Vec<Teller>) -> Result<Books, Clo
     requires parts { parts_of tellers.items ≡ 16 }
     requires opened { (O : Opening) × IsOpenedSo O hub }
     ensures settings { IfOk result (λ books. books.settings ≡ hub.settings) }
+    ensures opened { IfOk result (λ books. (O : Opening) → IsOpenedSo O hub → HaveOpened O books) }
     ensures goes_on { IfOk result (λ books. GoOnFrom tellers.items (participants hub.settings) (histories books.books)) }
     ensures told { IfOk result (λ books. TellAll tellers.items (histories books.books)) }
     ensures left { IfErr result (λ e. IsLeftOf hub tellers.items (rest_of e)) }

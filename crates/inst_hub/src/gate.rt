@@ -5,8 +5,9 @@ pub trait Gate {
 }
 
 /// A gate that does nothing.
-pub(crate) struct Open;
+#[derive(Clone, Copy, Debug)]
+pub struct Ungated;
 
-impl Gate for Open {
+impl Gate for Ungated {
     fn pass(&self, _who: u8) {}
 }

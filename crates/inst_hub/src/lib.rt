@@ -9,7 +9,7 @@ mod outset;
 mod teller;
 
 pub use behind::Behind;
-pub use gate::Gate;
+pub use gate::{Gate, Ungated};
 pub use hub::{Hub, TakeFault};
 pub use inst_cell::Ticket;
 pub use inst_participant::{Act, FollowUp, Participant};

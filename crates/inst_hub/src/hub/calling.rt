@@ -5,7 +5,7 @@ ghost use Rattle.inst_hub.specs.Calls.{IsOf, KnowsMore, Follows, Calls, Asks, Is
 ghost use Rattle.inst_row.specs.Row.{size};
 
 use super::Hub;
-use crate::gate::{Gate, Open};
+use crate::gate::{Gate, Ungated};
 use crate::teller::Teller;
 use inst_base::Fault;
 use inst_cell::Ticket;
@@ -32,7 +32,7 @@ impl Hub {
         ensures left { OnErr result (IsLeft self.now teller.old ask.now teller.new) }
         ensures only { IsOkUnless result Fault.Memory }
     {
-        self.call_with(rt, teller, ask, &Open)
+        self.call_with(rt, teller, ask, &Ungated)
     }
 
     /// The same with a gate, which is passed once, after the event of the asker and before its lock is given back.

@@ -1,7 +1,8 @@
 use Rattle.inst_settings.specs.Settings.{participants}
 use Rattle.inst_together.specs.Together.{histories}
 use Rattle.inst_parts.proofs.Parted.{if_ok}
-use Rattle.inst_close.specs.Closing.{GoOnFrom, TellAll, AreOfHub}
+use Rattle.inst_model.specs.Opening.{Opening}
+use Rattle.inst_close.specs.Closing.{IsOpenedSo, HaveOpened, GoOnFrom, TellAll, AreOfHub}
 use Rattle.inst_close.proofs.Left.{books_of_parts, left_then}
 use Rattle.inst_close.proofs.closing.close.Goals as goal
 use Rattle.inst_close.proofs.closing.close.Goals.{In-Ok}
@@ -14,6 +15,11 @@ of_hub c = record {
   goes_on = c.in-Ok.ensures.goes_on;
   knows = c.in-Ok.ensures.knows;
 }
+
+pub returns-in-Ok-clause-opened : goal.returns-in-Ok-clause-opened
+returns-in-Ok-clause-opened c =
+    if_ok c.close_parts.result _ (λ books. (O : Opening) → IsOpenedSo O c.args.hub → HaveOpened O books) (λ books closed. (closed c.args.hub c.args.tellers.items (of_hub (goal.at.returns-in-Ok-clause-opened c).In-Ok)).opened)
+    (books_of_parts c.in-Ok.parts c.close_parts.result c.close_parts.ensures.settings c.close_parts.ensures.histories c.close_parts.ensures.told)
 
 pub returns-in-Ok-clause-goes_on : goal.returns-in-Ok-clause-goes_on
 returns-in-Ok-clause-goes_on c =

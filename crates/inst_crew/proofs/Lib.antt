@@ -1,0 +1,6 @@
+pub mod Seeing
+pub mod Working
+pub mod Pairing
+pub mod Gathered
+pub mod Together
+pub mod LastHand

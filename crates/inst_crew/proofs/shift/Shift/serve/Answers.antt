@@ -1,0 +1,18 @@
+use Rattle.inst_hub.proofs.Calling.{knows_twice}
+use Rattle.inst_crew.proofs.Seeing.{all_seen_more, call_opened}
+use Rattle.inst_crew.proofs.shift.Shift.serve.Goals as goal
+
+pub note-requires-clause-opened : goal.note-requires-clause-opened
+note-requires-clause-opened g c = call_opened _ _ _ _ _ _ c.in_ok-ticket.ensures.call c.in-Some.is
+
+pub note-requires-clause-seen : goal.note-requires-clause-seen
+note-requires-clause-seen g c = all_seen_more _ _ _ c.call_with.ensures.knows c.requires.seen
+
+pub returns-in-Some-clause-of : goal.returns-in-Some-clause-of
+returns-in-Some-clause-of g c = c.note.ensures.of _ c.call_with.ensures.of
+
+pub returns-in-Some-clause-knows : goal.returns-in-Some-clause-knows
+returns-in-Some-clause-knows g c = knows_twice _ _ _ c.call_with.ensures.knows c.note.ensures.knows
+
+pub returns-in-None-clause-seen : goal.returns-in-None-clause-seen
+returns-in-None-clause-seen g c = all_seen_more _ _ _ c.call_with.ensures.knows c.requires.seen

@@ -1,0 +1,4 @@
+pub mod Later
+pub mod Seen
+pub mod Crew
+pub mod Workers

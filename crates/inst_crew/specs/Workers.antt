@@ -1,0 +1,65 @@
+-- What the threads of a crew begin with and do, one by one. This hub's own choice.
+use Rattle.std.specs.Prelude.{◌≡◌, ℕ, ◌-◌, ◌^◌, min, List, [], ◌∷◌, ◌++◌, map, length, sum_by, slice_get, Some, Result, Ok, Err}
+use Rattle.inst_base.specs.declared.fault.Fault.{Fault}
+use Rattle.inst_base.specs.declared.fault.Fault.TheVariants.{Memory}
+use Rattle.inst_board.specs.declared.place.Place.{Place}
+use Rattle.inst_command.specs.declared.outcome.State.{State}
+use Rattle.inst_desk.specs.declared.desk.Desk.{Desk}
+use Rattle.inst_desk.specs.declared.hand.Hand.{Hand}
+use Rattle.inst_desk.specs.Desk.{IsHandOf, taken_of}
+use Rattle.inst_hub.specs.declared.hub.Hub.{Hub}
+use Rattle.inst_hub.specs.declared.teller.Teller.{Teller}
+use Rattle.inst_hub.specs.Calls.{IsOf}
+use Rattle.inst_crew.specs.declared.crew.Crew.{Crew}
+use Rattle.inst_crew.specs.declared.shift.Shift.{Shift}
+use Rattle.inst_crew.specs.declared.worker.Worker.{Worker}
+use Rattle.inst_crew.specs.Crew.{fitting}
+use Rattle.inst_crew.specs.Later.{IsLaterHand, IsLaterTeller}
+use Rattle.inst_crew.specs.Seen.{AreSeen}
+
+abbrev pub hands_of : List Worker → List Hand
+hands_of workers = map (λ w. w.hand) workers
+
+abbrev pub tellers_of : List Worker → List Teller
+tellers_of workers = map (λ w. w.teller) workers
+
+-- the worker has a hand of the desk and a teller of the hub
+pub record IsReady (hub : Hub) (d : Desk) (w : Worker) : Type 0 where
+  pub hand : IsHandOf d w.hand
+  pub teller : IsOf hub w.teller
+
+abbrev pub AreReady : Hub → Desk → List Worker → Type 0
+AreReady hub d workers = (i : ℕ) (w : Worker) → slice_get workers i ≡ Some w → IsReady hub d w
+
+-- from this worker on, this was done: the jobs that its hand took more and that fit are answered, and what it saw is known
+pub record Works (hub : Hub) (d : Desk) (w : Worker) (s : Shift) : Type 0 where
+  pub hand : IsLaterHand d w.hand s.hand
+  pub teller : IsLaterTeller hub w.teller s.teller
+  pub answered : s.answered ≡ min (fitting hub.settings (taken_of s.hand) - fitting hub.settings (taken_of w.hand)) (2 ^ 64 - 1)
+  pub sights : AreSeen s.teller s.sights.items
+
+-- each worker did so, or memory was refused
+abbrev pub Ends : Hub → Desk → Worker → Result Shift Fault → Type 0
+Ends hub d w (Ok s) = Works hub d w s
+Ends hub d w (Err e) = e ≡ Memory
+
+-- each of these worked, in order
+pub record AllWork (hub : Hub) (d : Desk) (workers : List Worker) (results : List (Result Shift Fault)) : Type 0 where
+  pub enough : length results ≡ length workers
+  pub each : (i : ℕ) (w : Worker) (r : Result Shift Fault) → slice_get workers i ≡ Some w → slice_get results i ≡ Some r → Ends hub d w r
+
+-- where one failed, memory was refused to it
+abbrev pub FailForMemory : List (Result Shift Fault) → Type 0
+FailForMemory results = (i : ℕ) (e : Fault) → slice_get results i ≡ Some (Err e) → e ≡ Memory
+
+-- the sights of all of these
+abbrev pub sights_of : List Shift → List (Place × State)
+sights_of [] = []
+sights_of (s ∷ ss) = s.sights.items ++ sights_of ss
+
+-- the crew is what these did together
+pub record IsGathered (shifts : List Shift) (crew : Crew) : Type 0 where
+  pub answered : crew.answered ≡ min (sum_by (λ s. s.answered) shifts) (2 ^ 64 - 1)
+  pub sights : crew.sights.items ≡ sights_of shifts
+  pub hands : crew.hands.items ≡ map (λ s. s.hand) shifts
+  pub tellers : crew.tellers.items ≡ map (λ s. s.teller) shifts

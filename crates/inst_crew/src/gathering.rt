@@ -1,0 +1,36 @@
+//! What all workers of a crew did.
+ghost use Rattle.std.specs.Prelude.{◌≡◌, IfOk, IsOkUnless, List, map, Ok};
+ghost use Rattle.inst_crew.specs.declared.shift.Shift.{Shift};
+ghost use Rattle.inst_crew.specs.Workers.{FailForMemory, IsGathered};
+
+use crate::crew::Crew;
+use crate::shift::Shift;
+use inst_base::Fault;
+use std::alloc::Global;
+
+/// All that the workers hand back, or the first want of memory.
+pub(crate) fn gather(alloc: Global, results: Vec<Result<Shift, Fault>>) -> Result<Crew, Fault>
+    requires { FailForMemory results.items }
+    ensures all { IfOk result (λ crew. (shifts : List Shift) × (results.items ≡ map Ok shifts) × IsGathered shifts crew) }
+    ensures only { IsOkUnless result Fault.Memory }
+{
+    let mut crew = Crew {
+        answered: 0,
+        sights: Vec::new(alloc),
+        hands: Vec::new(alloc),
+        tellers: Vec::new(alloc),
+    };
+    for result in results {
+        let Shift {
+            hand,
+            teller,
+            answered,
+            sights,
+        } = result?;
+        crew.answered = crew.answered.saturating_add(answered);
+        crew.sights.extend_from_slice(sights.as_slice())?;
+        crew.hands.push(hand)?;
+        crew.tellers.push(teller)?;
+    }
+    Ok(crew)
+}

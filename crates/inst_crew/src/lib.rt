@@ -1,0 +1,14 @@
+//! Workers over a hub: each thread takes jobs from a desk and puts their asks to the hub until the desk is empty, while
+//! another may sweep a participant.
+#![tactic(auto)]
+
+mod crew;
+mod gathering;
+mod running;
+mod shift;
+mod sweep;
+mod worker;
+
+pub use crew::Crew;
+pub use running::run_crew;
+pub use sweep::Sweep;

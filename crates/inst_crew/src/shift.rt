@@ -1,0 +1,133 @@
+//! What a worker of a crew does.
+ghost use Rattle.std.specs.Prelude.{◌≡◌, ◌+◌, ◌^◌, ◌-◌, min, true, [], IfOk, OnOk, IsOkUnless};
+ghost use Rattle.inst_command.specs.Ask.{ask_fits};
+ghost use Rattle.inst_board.specs.declared.about.About.TheVariants.{Opened};
+ghost use Rattle.inst_board.specs.Standing.{about};
+ghost use Rattle.inst_desk.specs.Desk.{IsHandOf};
+ghost use Rattle.inst_hub.specs.Calls.{IsOf, KnowsMore, knows_of};
+ghost use Rattle.inst_crew.specs.declared.worker.Worker.{Worker};
+ghost use Rattle.inst_crew.specs.Seen.{AreSeen};
+ghost use Rattle.inst_crew.specs.Workers.{IsReady, Works};
+
+use crate::worker::Worker;
+use inst_base::Fault;
+use inst_command::{Ask, Outcome, State};
+use inst_desk::{Desk, Hand};
+use inst_hub::{Gate, Hub, Teller, Ticket};
+use std::alloc::Global;
+use std::sync::Wait;
+
+/// A worker's hand and teller, with what they did so far.
+#[derive(Drop)]
+pub(crate) struct Shift {
+    pub(crate) hand: Hand,
+    pub(crate) teller: Teller,
+    pub(crate) answered: u64,
+    pub(crate) sights: Vec<(Ticket, State)>,
+}
+
+impl Shift {
+    /// Nothing was done yet.
+    fn begin(alloc: Global, worker: Worker) -> Shift
+        ensures hand { result.hand ≡ worker.hand }
+        ensures teller { result.teller ≡ worker.teller }
+        ensures answered { result.answered ≡ 0 }
+        ensures sights { result.sights.items ≡ [] }
+    {
+        let Worker { hand, teller } = worker;
+        Shift {
+            hand,
+            teller,
+            answered: 0,
+            sights: Vec::new(alloc),
+        }
+    }
+
+    /// Peeks at the ticket's transfer and keeps what it sees.
+    fn note(&mut self, ticket: Ticket) -> Result<(), Fault>
+        requires opened { knows_of self.old.teller (about ticket Opened) }
+        requires seen { AreSeen self.old.teller self.old.sights.items }
+        ensures hand { self.new.hand ≡ self.old.hand }
+        ensures of { (hub : Hub) → IsOf hub self.old.teller → IsOf hub self.new.teller }
+        ensures knows { KnowsMore self.old.teller self.new.teller }
+        ensures answered { self.new.answered ≡ self.old.answered }
+        ensures seen { OnOk result (AreSeen self.new.teller self.new.sights.items) }
+        ensures only { IsOkUnless result Fault.Memory }
+    {
+        // The check is told of a type of another crate inside a state only where a function names it.
+        let _: Option<Outcome> = None;
+        let state = self.teller.peek(&ticket);
+        Ok(self.sights.push((ticket, state))?)
+    }
+
+    /// Puts an ask to the hub, and peeks where there is a ticket.
+    fn serve<R: Wait, G: Gate>(
+        &mut self,
+        rt: &R,
+        hub: &Hub,
+        ask: &Ask,
+        gate: &G,
+    ) -> Result<(), Fault>
+        requires of { IsOf hub.now self.old.teller }
+        requires fits { ask_fits hub.now.settings ask.now ≡ true }
+        requires seen { AreSeen self.old.teller self.old.sights.items }
+        ensures hand { self.new.hand ≡ self.old.hand }
+        ensures of { IsOf hub.now self.new.teller }
+        ensures knows { KnowsMore self.old.teller self.new.teller }
+        ensures answered { OnOk result (self.new.answered ≡ min (self.old.answered + 1) (2 ^ 64 - 1)) }
+        ensures seen { OnOk result (AreSeen self.new.teller self.new.sights.items) }
+        ensures only { IsOkUnless result Fault.Memory }
+    {
+        let (_, ticket) = hub.call_with(rt, &mut self.teller, ask, gate)?;
+        self.answered = self.answered.saturating_add(1);
+        match ticket {
+            Some(ticket) => self.note(ticket),
+            None => Ok(()),
+        }
+    }
+
+    /// Takes a job, if there is one, and puts it to the hub, if its ask fits: whether there was one.
+    fn turn<R: Wait, G: Gate>(
+        &mut self,
+        rt: &R,
+        hub: &Hub,
+        desk: &Desk,
+        gate: &G,
+    ) -> Result<bool, Fault>
+        requires hand { IsHandOf desk.now self.old.hand }
+        requires teller { IsOf hub.now self.old.teller }
+        requires seen { AreSeen self.old.teller self.old.sights.items }
+        ensures works { OnOk result ((w : Worker) → Works hub.now desk.now w self.old → Works hub.now desk.now w self.new) }
+        ensures only { IsOkUnless result Fault.Memory }
+    {
+        let Some(job) = desk.take(rt, &mut self.hand) else {
+            return Ok(false);
+        };
+        if job.ask.fits(hub.settings()) {
+            self.serve(rt, hub, &job.ask, gate)?;
+        }
+        Ok(true)
+    }
+}
+
+/// Takes jobs and puts them to the hub until the desk is empty. A job whose ask doesn't fit the hub is not put to it.
+pub(crate) fn work<R: Wait, G: Gate>(
+    rt: &R,
+    alloc: Global,
+    hub: &Hub,
+    desk: &Desk,
+    gate: &G,
+    worker: Worker,
+) -> Result<Shift, Fault>
+    requires { IsReady hub.now desk.now worker }
+    ensures works { IfOk result (Works hub.now desk.now worker) }
+    ensures only { IsOkUnless result Fault.Memory }
+{
+    let mut shift = Shift::begin(alloc, worker);
+    for _ in rt.forever() {
+        if !shift.turn(rt, hub, desk, gate)? {
+            return Ok(shift);
+        }
+    }
+    unreachable!()
+}

@@ -1,0 +1,9 @@
+use Rattle.std.proofs.Common.{List, ◌∷◌, [], ◌∙◌, ap}
+use Rattle.std.specs.Prelude.{slice_get}
+use Rattle.inst_hub.specs.declared.teller.Teller.{Teller}
+use Rattle.inst_crew.proofs.LastHand.{at_front}
+use Rattle.inst_crew_tests.proofs.setting.last.Goals as goal
+
+pub returns-in-Some-clause-rest : goal.returns-in-Some-clause-rest
+returns-in-Some-clause-rest c = λ i t e.
+    c.requires i t (ap (λ (l : List Teller). slice_get l i) c.in-Some.ensures.items ∙ at_front c.pop.new.self.items (c.in-Some.teller ∷ []) i t e)

@@ -1,0 +1,115 @@
+// A hub of three participants, and a desk with jobs for it.
+ghost use Rattle.std.specs.Prelude.{◌≡◌, ◌+◌, IfOk, length};
+ghost use Rattle.inst_desk.specs.Desk.{IsHandOf, AreHandsOf};
+ghost use Rattle.inst_hub.specs.Calls.{IsOf, AreOf};
+
+use inst_base::{Cents, Code, Fault, Ident, Moment};
+use inst_command::{Ask, Command, Submission};
+use inst_desk::{Desk, Hand, Job};
+use inst_hub::{Hub, Teller};
+use inst_settings::Settings;
+use std::alloc::Global;
+use std::sync::Wait;
+
+pub(crate) fn settings(alloc: Global) -> Result<Settings, Fault> {
+    let codes = [
+        Code::new("AAAADEFF")?,
+        Code::new("BBBBFRPP")?,
+        Code::new("CCCCITMM")?,
+    ];
+    Settings::check(
+        codes.to_vec(alloc)?,
+        2,
+        4,
+        10_000,
+        0,
+        1_000,
+        99_999_999_999,
+        0,
+    )
+}
+
+pub(crate) fn ask(who: u8, command: Command, at: u64) -> Result<Ask, Fault> {
+    Ok(Ask {
+        who,
+        command,
+        at: Moment::new(0, at)?,
+    })
+}
+
+/// Participant 0 is funded with 50000 cents.
+pub(crate) fn fund<R: Wait>(rt: &R, hub: &Hub, teller: &mut Teller) -> Result<(), Fault>
+    requires { IsOf hub.now teller.old }
+    ensures { IsOf hub.now teller.new }
+{
+    let command = Command::Fund {
+        reference: Ident::new("F1")?,
+        cents: Cents::new(50_000)?,
+    };
+    let ask = ask(0, command, 0)?;
+    if !ask.fits(hub.settings()) {
+        return Err(Fault::BadField);
+    }
+    hub.call(rt, teller, &ask)?;
+    Ok(())
+}
+
+/// Participant 0 submits a transfer of 20000 cents to participant 1, with the time stamp 1000.
+pub(crate) fn submission() -> Result<Ask, Fault> {
+    let command = Command::Submit(Submission {
+        id: Ident::new("T1")?,
+        to: 1,
+        cents: Cents::new(20_000)?,
+        stamp: Moment::new(0, 1_000)?,
+    });
+    ask(0, command, 1_000)
+}
+
+/// Puts a job for each ask, where there is room.
+fn put_all<R: Wait>(rt: &R, desk: &Desk, hand: &mut Hand, asks: &[Ask])
+    requires { IsHandOf desk.now hand.old }
+    ensures { IsHandOf desk.now hand.new }
+{
+    for ask in asks {
+        let _ = desk.put(
+            rt,
+            hand,
+            Job {
+                number: 0,
+                ask: *ask,
+            },
+        );
+    }
+}
+
+/// A desk of two with a job for each ask, and so many hands.
+pub(crate) fn desk<R: Wait>(
+    rt: &R,
+    alloc: Global,
+    asks: &[Ask],
+    hands: u8,
+) -> Result<(Desk, Vec<Hand>), Fault>
+    ensures of { IfOk result (λ r. AreHandsOf r.0 r.1.items) }
+    ensures enough { IfOk result (λ r. length r.1.items ≡ hands) }
+{
+    let (desk, mut all) = Desk::open(alloc, 2, hands)?;
+    let Some(mut hand) = all.pop() else {
+        return Err(Fault::BadSettings);
+    };
+    put_all(rt, &desk, &mut hand, asks);
+    all.push(hand)?;
+    Ok((desk, all))
+}
+
+/// The last teller of these.
+pub(crate) fn last(hub: &Hub, tellers: &mut Vec<Teller>) -> Result<Teller, Fault>
+    requires { AreOf hub.now tellers.old.items }
+    ensures last { IfOk result (λ teller. IsOf hub.now teller) }
+    ensures rest { AreOf hub.now tellers.new.items }
+    ensures one_less { IfOk result (λ teller. length tellers.new.items + 1 ≡ length tellers.old.items) }
+{
+    match tellers.pop() {
+        Some(teller) => Ok(teller),
+        None => Err(Fault::BadSettings),
+    }
+}

@@ -1,0 +1,61 @@
+-- What a hand did at its desk, and what that says of the jobs that lie there. Jobs, hands and their parts of a desk are this
+-- hub's own choice.
+use Rattle.std.specs.Prelude.{◌≡◌, ℕ, ◌+◌, ◌-◌, ◌^◌, min, List, [], ◌∷◌, ◌++◌, length, sum_by}
+use Rattle.inst_desk.specs.declared.account.Account.{Account}
+use Rattle.inst_desk.specs.declared.job.Job.{Job}
+
+-- The two lists have the same jobs, each as often, in any order: they weigh the same, however jobs are weighed. By a weight
+-- that is 1 for one job and 0 for all others this counts that job.
+abbrev pub EachAsOften : List Job → List Job → Type 0
+EachAsOften xs ys = (weight : Job → ℕ) → sum_by weight xs ≡ sum_by weight ys
+
+-- the jobs of all of these
+abbrev pub all_of : {X : Type 0} → (X → List Job) → List X → List Job
+all_of f [] = []
+all_of f (x ∷ xs) = f x ++ all_of f xs
+
+-- so many, as far as a count can say
+abbrev pub counted : List Job → ℕ
+counted jobs = min (length jobs) (2 ^ 64 - 1)
+
+abbrev pub account : ℕ → List Job → List Job → Account
+account parts put taken = record { parts = parts; put = put; taken = taken }
+
+abbrev pub with_put : Account → Job → Account
+with_put v job = account v.parts (v.put ++ job ∷ []) v.taken
+
+abbrev pub with_taken : Account → Job → Account
+with_taken v job = account v.parts v.put (v.taken ++ job ∷ [])
+
+-- the first hand has all parts
+abbrev pub first_account : Account
+first_account = account 16 [] []
+
+-- a new hand beside this one
+abbrev pub one_part : Account → Account
+one_part v = account 1 [] []
+
+-- this one, once there is a new hand beside it
+abbrev pub less_one_part : Account → Account
+less_one_part v = account (v.parts - 1) v.put v.taken
+
+-- what two hands did
+abbrev pub together : Account → Account → Account
+together v w = account (v.parts + w.parts) (v.put ++ w.put) (v.taken ++ w.taken)
+
+-- a hand that was joined away
+abbrev pub no_account : Account
+no_account = account 0 [] []
+
+-- These jobs may lie on the desk at a moment, by what this hand did until then
+-- others: what all other hands did until then
+-- alone: beside a hand with all parts no other did anything
+-- even: the jobs put are the jobs taken and these, each as often
+pub record MayLie (v : Account) (jobs : List Job) : Type 0 where
+  pub others : Account
+  pub alone : v.parts ≡ 16 → (others.put ≡ []) × (others.taken ≡ [])
+  pub even : EachAsOften (v.put ++ others.put) ((v.taken ++ others.taken) ++ jobs)
+
+-- the job lay on the desk at a moment, before all others there
+abbrev pub LiesFirst : Account → Job → Type 0
+LiesFirst v job = (rest : List Job) × MayLie v (job ∷ rest)

@@ -1,0 +1,3 @@
+pub mod Account
+pub mod Rule
+pub mod Desk

@@ -1,0 +1,72 @@
+//! How a desk opens, with its hands.
+ghost use Rattle.std.specs.Prelude.{◌≡◌, ◌⊎◌, ◌↔◌, ◌<◌, ◌≤◌, [], Err, IfOk, IfErr, IsOkUnless, All, length};
+ghost use Rattle.crossbeam_queue.specs.Passes.{view, IsPassOf};
+ghost use Rattle.inst_desk.specs.Account.{first_account};
+ghost use Rattle.inst_desk.specs.Desk.{capacity_of, AreAllHandsOf, IsNewHand, MayOpen};
+
+use super::Desk;
+use crate::hand::Hand;
+use crate::rule::{Dealing, Queue, Seat};
+use inst_base::Fault;
+use std::alloc::Global;
+
+/// How many jobs a desk holds at most.
+const MOST_ROOM: u16 = 4_096;
+
+/// How many hands a desk has at most.
+const MOST_HANDS: u8 = 16;
+
+/// A hand that neither put nor took.
+fn new_hand(seat: Seat) -> Hand
+    requires { ((view seat).put ≡ []) × ((view seat).taken ≡ []) }
+    ensures { result.seat ≡ seat }
+{
+    Hand {
+        seat,
+        puts: 0,
+        takes: 0,
+    }
+}
+
+impl Desk {
+    /// So many hands, the first with this seat; together they have all its parts.
+    fn hands(&self, alloc: Global, seat: Seat, hands: u8) -> Result<Vec<Hand>, Fault>
+        requires on { IsPassOf self.now.queue seat }
+        requires first { view seat ≡ first_account }
+        requires hands { (0 < hands) × (hands ≤ 16) }
+        ensures enough { IfOk result (λ all. length all.items ≡ hands) }
+        ensures all { IfOk result (λ all. AreAllHandsOf self.now all.items) }
+        ensures new { IfOk result (λ all. All IsNewHand all.items) }
+        ensures only { IsOkUnless result Fault.Memory }
+    {
+        let mut seat = seat;
+        let mut all = Vec::new(alloc);
+        for _number in 1..hands {
+            let new = self.queue.another::<Dealing>(&mut seat);
+            all.push(new_hand(new))?;
+        }
+        all.push(new_hand(seat))?;
+        Ok(all)
+    }
+
+    /// A desk with room for so many jobs, 1 to 4,096, and so many hands, 1 to 16. `BadSettings` where they are not,
+    /// `Memory` where there is no room; no other call of a desk takes memory.
+    pub fn open(alloc: Global, capacity: u16, hands: u8) -> Result<(Desk, Vec<Hand>), Fault>
+        ensures capacity { IfOk result (λ r. capacity_of r.0 ≡ capacity) }
+        ensures enough { IfOk result (λ r. length r.1.items ≡ hands) }
+        ensures all { IfOk result (λ r. AreAllHandsOf r.0 r.1.items) }
+        ensures new { IfOk result (λ r. All IsNewHand r.1.items) }
+        ensures bad { (result ≡ Err Fault.BadSettings) ↔ ¬ MayOpen capacity hands }
+        ensures only { IfErr result (λ e. (e ≡ Fault.Memory) ⊎ (e ≡ Fault.BadSettings)) }
+    {
+        if capacity == 0 || capacity > MOST_ROOM || hands == 0 || hands > MOST_HANDS {
+            return Err(Fault::BadSettings);
+        }
+        let room = usize::from(capacity);
+        let left = Vec::with_capacity(alloc, room)?;
+        let (queue, seat) = Queue::ruled(alloc, room)?;
+        let desk = Desk { queue, left };
+        let all = desk.hands(alloc, seat, hands)?;
+        Ok((desk, all))
+    }
+}

@@ -1,0 +1,9 @@
+use inst_command::Ask;
+
+/// An ask that is to be put to a hub.
+#[derive(Clone, Copy, Debug, PartialEq, Eq)]
+pub struct Job {
+    /// What who put it calls it by. The desk doesn't read it.
+    pub number: u32,
+    pub ask: Ask,
+}

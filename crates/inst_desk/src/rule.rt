@@ -1,0 +1,78 @@
+//! The rule of a desk, and what each step tells the hand that takes it.
+use crate::account::Account;
+use crate::job::Job;
+use crossbeam_queue::protocol::{Join, Lesson, Outcome, Protocol, Split};
+use crossbeam_queue::{Pass, RuledArrayQueue};
+use std::alloc::Global;
+
+/// No job is lost, and none is taken twice.
+pub struct Tallied;
+
+impl Protocol<Job, Account> for Tallied {
+    ghost use Rattle.inst_desk.specs.Account.{first_account};
+    ghost use Rattle.inst_desk.specs.Rule.{IsTallied};
+
+    ghost holds = { IsTallied };
+
+    ghost first = { first_account };
+}
+
+/// The queue that the jobs lie in.
+pub(crate) type Queue = RuledArrayQueue<Job, Account, Tallied, Global>;
+
+/// What a hand has of it.
+pub(crate) type Seat = Pass<Job, Account>;
+
+/// A job is put.
+pub(crate) struct Putting;
+
+impl Outcome<Job, Account> for Putting {
+    ghost use Rattle.std.specs.Prelude.{◌≡◌};
+    ghost use Rattle.inst_desk.specs.Account.{with_put};
+
+    ghost then = { λ v job w. w ≡ with_put v job };
+}
+
+impl Lesson<Job, Account> for Putting {
+    ghost use Rattle.inst_desk.specs.Account.{MayLie};
+
+    ghost fact = { MayLie };
+}
+
+/// A job is taken.
+pub(crate) struct Taking;
+
+impl Outcome<Job, Account> for Taking {
+    ghost use Rattle.std.specs.Prelude.{◌≡◌};
+    ghost use Rattle.inst_desk.specs.Account.{with_taken, LiesFirst};
+
+    ghost then = { λ v job w. (w ≡ with_taken v job) × LiesFirst v job };
+}
+
+impl Lesson<Job, Account> for Taking {
+    ghost use Rattle.inst_desk.specs.Account.{MayLie};
+
+    ghost fact = { MayLie };
+}
+
+/// A new hand gets one part.
+pub(crate) struct Dealing;
+
+impl Split<Account> for Dealing {
+    ghost use Rattle.inst_desk.specs.Account.{less_one_part, one_part};
+
+    ghost left = { less_one_part };
+
+    ghost right = { one_part };
+}
+
+/// One hand did what two hands did, with the parts of both.
+pub(crate) struct Gathering;
+
+impl Join<Account> for Gathering {
+    ghost use Rattle.inst_desk.specs.Account.{together, no_account};
+
+    ghost both = { together };
+
+    ghost spent = { no_account };
+}

@@ -1,0 +1,12 @@
+use crate::job::Job;
+
+/// What was done at a desk until it was ended.
+#[derive(Debug, Drop)]
+pub struct Tally {
+    /// How many jobs were put, at most the largest number.
+    pub put: u64,
+    /// How many jobs were taken, at most the largest number.
+    pub taken: u64,
+    /// The jobs that nobody took, the oldest first.
+    pub left: Vec<Job>,
+}

@@ -1,0 +1,92 @@
+-- How often books were opened from, as they go through openings.
+use Rattle.std.proofs.Common.{◌≡◌, ℕ, ◌+◌, ◌<◌, ◌≤◌, zero, suc, Bool, true, false, ◌||◌, cond, if◌then◌else◌, List, [], ◌∷◌, length, refl, sym, ap, ◌∙◌, subst, arith, append-nil, inl, inr}
+use Rattle.std.specs.Prelude.{nat_lt}
+use Rattle.std.proofs.lemmas.Bool.{cases_Bool, ltb-true}
+use Rattle.std.proofs.lemmas.Bool.Decides.{nat_tests}
+use Rattle.std.proofs.lemmas.List.Sums.{sum_by-cons}
+use Rattle.std.proofs.lemmas.Option.{slice_get_past}
+use Rattle.inst_settings.specs.Settings.{HubSettings, participants}
+use Rattle.inst_journal.specs.declared.event.Event.{Event}
+use Rattle.inst_journal.specs.declared.event.Event.TheVariants.{Opened}
+use Rattle.inst_journal.specs.Opened.{is_opening, has_opening, openings, carried}
+use Rattle.inst_journal.proofs.Counting.{count_push}
+use Rattle.inst_model.specs.Opening.{Opening, First, FromBooks}
+use Rattle.inst_together.specs.Together.{events_of, histories}
+use Rattle.inst_close.specs.ClosedHub.{ClosedHub, IsClosed}
+use Rattle.inst_settings.specs.Lawful.{IsSettings}
+use Rattle.inst_hub.specs.declared.hub.Hub.{Hub}
+use Rattle.inst_close.specs.NextOpening.{MayOpenWider}
+use Rattle.inst_close.specs.Closing.{IsOpenedSo, HaveOpened, IsNextOf}
+use Rattle.inst_drill.specs.Chain.{IsOpenedAt, IsAfter}
+
+either_false : (a b : Bool) → (a || b) ≡ false → (a ≡ false) × (b ≡ false)
+either_false true b e = absurd (let no : ⊥ = cc in no)
+either_false false b e = (refl, e)
+
+one_more : (x : Event) (J : List Event) → openings (x ∷ J) ≡ cond (is_opening x) 1 0 + openings J
+one_more x J = sum_by-cons (λ e. cond (is_opening e) 1 0) x J
+
+none_opened : (J : List Event) → has_opening J ≡ false → openings J ≡ 0
+none_opened [] e = refl
+none_opened (x ∷ xs) e =
+    let none = either_false (is_opening x) (has_opening xs) e in
+    let first : cond (is_opening x) 1 0 ≡ zero = ap (λ b. cond b 1 0) none.0 in
+    omega (arith, one_more x xs, first, none_opened xs none.1)
+
+-- the events after the last Opened don't count
+pub openings_carried : (J : List Event) → openings J ≡ openings (carried J)
+openings_carried [] = refl
+openings_carried (x ∷ xs) = elim (cases_Bool (has_opening (x ∷ xs))) [
+  | inl some ↦
+      one_more x xs ∙ (ap (λ n. cond (is_opening x) 1 0 + n) (openings_carried xs)
+      ∙ (sym (one_more x (carried xs)) ∙ sym (ap (λ b. openings (if b then x ∷ carried xs else [])) some)))
+  | inr none ↦ none_opened (x ∷ xs) none ∙ sym (ap (λ b. openings (if b then x ∷ carried xs else [])) none)
+]
+
+-- what a hub leaves was opened from as often as the hub
+pub after_opening : (s : HubSettings) (n : ℕ) (hub : Hub) (closed : ClosedHub) → IsOpenedAt n hub → hub.settings ≡ s → closed.settings ≡ hub.settings
+    → ((O : Opening) → IsOpenedSo O hub → HaveOpened O closed) → IsAfter s n closed
+after_opening s n hub closed at settings same opened =
+    let all : closed.settings ≡ s = same ∙ settings in
+    record {
+      settings = all;
+      few = λ p small.
+          subst (λ (k : ℕ). k < n) (sym (openings_carried (histories closed.books p) ∙ ap openings (opened at.opening at.opened p (subst (λ (t : HubSettings). p < participants t) (sym all) small))))
+          (at.few p (subst (λ (t : HubSettings). p < participants t) (sym settings) small));
+    }
+
+few_of_all : (n : ℕ) (closed : ClosedHub) (s : HubSettings) → IsClosed closed.settings closed.books → IsAfter s n closed → n ≤ 10 → (p : ℕ) → openings (histories closed.books p) < 500
+few_of_all n closed s is so most p = elim (cases_Bool (nat_lt p (participants s))) [
+  | inl below ↦ let few = so.few p (ltb-true p (participants s) below) in omega (arith, few, most)
+  | inr past ↦
+      let far : participants s ≤ p = not_below p (participants s) past in
+      let long : length closed.books ≡ participants s = is.one_each ∙ ap participants so.settings in
+      subst (λ (J : List Event). openings J < 500) (sym (ap events_of (slice_get_past closed.books p (omega (arith, far, long))))) (omega arith)
+]
+  where
+    not_below : (p n : ℕ) → nat_lt p n ≡ false → n ≤ p
+    not_below p n e = grind (arith, nat_tests)
+
+-- the books of a few openings can be opened from
+pub may_open : (n : ℕ) (closed : ClosedHub) (s : HubSettings) (tellers : ℕ) → IsClosed closed.settings closed.books → IsAfter s n closed → n ≤ 10 → tellers ≡ 3 → MayOpenWider closed [] tellers
+may_open n closed s tellers is so most three = record {
+  few = few_of_all n closed s is so most;
+  settings = subst (λ (codes : List (List ℕ)). IsSettings (record closed.settings { codes = codes })) (sym (append-nil closed.settings.codes)) is.lawful;
+  seats = (omega (arith, three), omega (arith, three));
+}
+
+-- the first opening
+pub first_opening : (n : ℕ) (hub : Hub) → IsOpenedSo First hub → IsOpenedAt (suc n) hub
+first_opening n hub opened = record { opening = First; opened = opened; few = λ p small. omega arith }
+
+-- and the next one
+pub next_opening : (n : ℕ) (s : HubSettings) (closed : ClosedHub) (hub : Hub) → IsAfter s n closed → hub.settings ≡ closed.settings → IsNextOf closed.books hub → IsOpenedAt (suc n) hub
+next_opening n s closed hub so same next = record {
+  opening = FromBooks next.from;
+  opened = next.opened;
+  few = λ p small.
+      let before = so.few p (subst (λ (t : HubSettings). p < participants t) (same ∙ so.settings) small) in
+      let one = count_push is_opening (next.from p) Opened in
+      let from = ap openings (next.same p) in
+      omega (arith, before, one, from);
+}

@@ -1,0 +1,5 @@
+pub mod Naming
+pub mod Counted
+pub mod Seen
+pub mod Staffed
+pub mod Drilled

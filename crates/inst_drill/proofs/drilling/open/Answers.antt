@@ -1,0 +1,26 @@
+use Rattle.std.proofs.Common.{ℕ, suc, refl, subst}
+use Rattle.std.specs.Prelude.{Option}
+use Rattle.inst_close.specs.ClosedHub.{ClosedHub, IsClosed}
+use Rattle.inst_drill.specs.Chain.{AreAfter, IsAfter, IsOpenedAt}
+use Rattle.inst_close.proofs.Reopened.{if_both}
+use Rattle.inst_drill.proofs.Counted.{next_opening, may_open}
+use Rattle.inst_drill.proofs.Staffed.{only_memory}
+use Rattle.inst_drill.proofs.drilling.open.Goals as goal
+use Rattle.inst_drill.proofs.drilling.open.Goals.{In-Some}
+
+after : (c : In-Some) (n : ℕ) → AreAfter c.args.settings.now n c.args.books.now → IsAfter c.args.settings.now n c.in-Some.books
+after c n so = subst (λ (b : Option ClosedHub). AreAfter c.args.settings.now n b) c.in-Some.is so
+
+pub returns-in-Some-clause-opened : goal.returns-in-Some-clause-opened
+returns-in-Some-clause-opened c =
+    if_both c.open_next.result _ _ (λ r. (n : ℕ) → AreAfter c.args.settings.now n c.args.books.now → IsOpenedAt (suc n) r.0)
+    (λ r same next n so. next_opening n c.args.settings.now c.in-Some.books r.0 (after (goal.at.returns-in-Some-clause-opened c).In-Some n so) same next)
+    c.open_next.ensures.settings c.open_next.ensures.opened
+
+pub returns-in-Some-clause-only : goal.returns-in-Some-clause-only
+returns-in-Some-clause-only c =
+    let closed : IsClosed c.in-Some.books.settings c.in-Some.books.books =
+    record { lawful = c.settings-settings.ensures.lawful; one_each = c.settings-settings.ensures.one_each; closed = c.settings-settings.ensures.closed } in
+    let so = after (goal.at.returns-in-Some-clause-only c).In-Some c.requires.0 c.requires.2 in
+    only_memory c.open_next.result c.open_next.ensures.only
+    (λ bad. c.open_next.ensures.bad bad (may_open c.requires.0 c.in-Some.books c.args.settings.now 3 closed so c.requires.1 refl))

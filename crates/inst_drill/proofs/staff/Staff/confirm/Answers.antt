@@ -1,0 +1,27 @@
+use Rattle.std.proofs.Common.{sym, subst, ap, ◌∙◌, arith, length, ◌≡◌, List}
+use Rattle.inst_hub.specs.declared.teller.Teller.{Teller}
+use Rattle.inst_hub.specs.Opening.{parts_of}
+use Rattle.inst_crew.specs.Seen.{AreSeenByOne}
+use Rattle.inst_drill.proofs.Staffed.{tellers_apart}
+use Rattle.inst_drill.proofs.staff.Staff.confirm.Goals as goal
+
+pub returns-clause-staff : goal.returns-clause-staff
+returns-clause-staff g c =
+    let crew = c.in_ok-crew.ensures in
+    let before = c.requires.staff in
+    let three : length c.in_ok-crew.crew.tellers.items ≡ 3 = (let many = crew.enough.1 in let two = before.each in omega (arith, many, two)) in
+    let tellers = tellers_apart c.args.hub.now c.in_ok-crew.crew.tellers.items c.pop.new.self.items c.in-Some.sweeper c.in-Some.ensures.items crew.of.1 three in
+    record {
+      feeder = c.in_ok-feed.ensures.0;
+      hands = crew.of.0;
+      two = crew.enough.0 ∙ before.two;
+      dealt = (let same = crew.parts in let own = c.in_ok-feed.ensures.1 in let all = before.dealt in omega (arith, same, own, all));
+      sweeper = tellers.0;
+      tellers = tellers.1.0;
+      each = tellers.1.1;
+      parts = ap parts_of (sym c.in-Some.ensures.items) ∙ (crew.row ∙ before.parts);
+    }
+
+pub returns-clause-sights : goal.returns-clause-sights
+returns-clause-sights g c =
+    subst (λ (l : List Teller). AreSeenByOne l c.in_ok-crew.crew.sights.items) c.in-Some.ensures.items c.in_ok-crew.ensures.sights

@@ -1,0 +1,25 @@
+-- A hub that is opened again and again, each time from the books that it left. That a drill does so is this hub's own
+-- choice.
+use Rattle.std.specs.Prelude.{◌≡◌, ℕ, ◌<◌, Option, Some, None}
+use Rattle.inst_settings.specs.Settings.{HubSettings, participants}
+use Rattle.inst_journal.specs.Opened.{openings}
+use Rattle.inst_model.specs.Opening.{Opening, beginning}
+use Rattle.inst_together.specs.Together.{histories}
+use Rattle.inst_hub.specs.declared.hub.Hub.{Hub}
+use Rattle.inst_close.specs.ClosedHub.{ClosedHub}
+use Rattle.inst_close.specs.Closing.{IsOpenedSo}
+
+-- the hub was opened in some way, from books that were opened from fewer than n - 1 times
+pub record IsOpenedAt (n : ℕ) (hub : Hub) : Type 0 where
+  pub opening : Opening
+  pub opened : IsOpenedSo opening hub
+  pub few : (p : ℕ) → p < participants hub.settings → openings (beginning opening p) < n
+
+-- the books of a hub of these settings, which were opened from fewer than n times
+pub record IsAfter (s : HubSettings) (n : ℕ) (closed : ClosedHub) : Type 0 where
+  pub settings : closed.settings ≡ s
+  pub few : (p : ℕ) → p < participants s → openings (histories closed.books p) < n
+
+abbrev pub AreAfter : HubSettings → ℕ → Option ClosedHub → Type 0
+AreAfter s n None = Unit {0}
+AreAfter s n (Some closed) = IsAfter s n closed

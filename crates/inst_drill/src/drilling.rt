@@ -1,0 +1,97 @@
+//! All openings of a drill, one after the other.
+ghost use Rattle.std.specs.Prelude.{◌≡◌, ◌⊎◌, ◌↔◌, ◌≤◌, ℕ, suc, List, length, All, OnOk, IfOk, IfErr, IsOkUnless, Err};
+ghost use Rattle.std.specs.Io.KnownBytes.{Appends};
+ghost use Rattle.inst_hub.specs.Calls.{AreOf};
+ghost use Rattle.inst_hub.specs.Opening.{parts_of};
+ghost use Rattle.inst_drill.specs.declared.report.Report.{Report as SomeReport};
+ghost use Rattle.inst_drill.specs.Chain.{AreAfter, IsOpenedAt};
+ghost use Rattle.inst_drill.specs.Plan.{MayDrill};
+ghost use Rattle.inst_drill.specs.Report.{IsUnited, report_text, reports_text};
+
+use crate::opening::run_opening;
+use crate::plan::Plan;
+use crate::report::Report;
+use crate::staff::STAFF;
+use inst_base::Fault;
+use inst_close::Books;
+use inst_hub::{Gate, Hub, Teller};
+use inst_settings::Settings;
+use std::alloc::Global;
+use std::io::Write;
+use std::sync::Wait;
+use std::thread::Threads;
+
+/// The hub of the next opening from these books, or of the first one where there are none. `Memory` is the only fault.
+fn open(
+    alloc: Global,
+    settings: &Settings,
+    books: &Option<Books>,
+) -> Result<(Hub, Vec<Teller>), Fault>
+    requires { (n : ℕ) × (n ≤ 10) × AreAfter settings.now n books.now }
+    ensures settings { IfOk result (λ r. r.0.settings ≡ settings.now) }
+    ensures enough { IfOk result (λ r. length r.1.items ≡ 3) }
+    ensures of { IfOk result (λ r. AreOf r.0 r.1.items) }
+    ensures parts { IfOk result (λ r. parts_of r.1.items ≡ 16) }
+    ensures opened { IfOk result (λ r. (n : ℕ) → AreAfter settings.now n books.now → IsOpenedAt (suc n) r.0) }
+    ensures only { IsOkUnless result Fault.Memory }
+{
+    match books {
+        Some(books) => {
+            // No effect: that books can be opened from rests on what they are.
+            let _settings = books.settings();
+            books.open_next(alloc, STAFF)
+        }
+        None => Hub::open(alloc, settings.copy()?, STAFF),
+    }
+}
+
+/// Writes what was done in an opening.
+fn tell<W: Write>(alloc: Global, report: &Report, writer: &mut W) -> Result<(), Fault>
+    ensures ok { OnOk result (Appends (W.contents writer.old) (W.contents writer.new) (report_text report.now)) }
+    ensures only { IfErr result (λ e. (e ≡ Fault.Memory) ⊎ (e ≡ Fault.WriteFault)) }
+{
+    let text = report.text(alloc)?;
+    writer
+        .write_all(text.as_bytes())
+        .map_err(|_| Fault::WriteFault)?;
+    writer.flush().map_err(|_| Fault::WriteFault)
+}
+
+/// Opens a hub so often, 1 to 10 times, the first time with nothing and then from the books of the opening before. In
+/// each opening participant 0 is funded and submits so many transfers of 100 cents to participant 1 by two threads; two
+/// threads confirm them at the last moment, while a third one sweeps at their deadline, so that each ends in one of two
+/// ways; the hub is closed, and `writer` gets the four lines of a `Report`. Where `is_watched`, `progress` is told of
+/// each opening; what it doesn't take is lost. `BadSettings` where there are fewer than two participants, no transfer or
+/// more of them than places, or more cents than the ceiling, and where the openings are not 1 to 10; `Memory` and
+/// `WriteFault` leave the lines of the openings before.
+pub fn drill<R: Threads + Wait + Sync, G: Gate + Sync, W: Write, P: Write>(
+    rt: &R,
+    alloc: Global,
+    settings: Settings,
+    transfers: u16,
+    openings: u8,
+    gate: &G,
+    writer: &mut W,
+    progress: &mut P,
+    is_watched: bool,
+) -> Result<(), Fault>
+    ensures bad { (result ≡ Err Fault.BadSettings) ↔ ¬ MayDrill settings transfers openings }
+    ensures ok { OnOk result ((reports : List SomeReport) × (length reports ≡ openings) × All IsUnited reports
+        × Appends (W.contents writer.old) (W.contents writer.new) (reports_text reports)) }
+    ensures only { IfErr result (λ e. (e ≡ Fault.BadSettings) ⊎ ((e ≡ Fault.Memory) ⊎ (e ≡ Fault.WriteFault))) }
+    ensures untouched { result ≡ Err Fault.BadSettings → writer.new ≡ writer.old }
+{
+    let plan = Plan::of(&settings, transfers, openings)?;
+    let mut books = None;
+    for done in 0..openings {
+        let opening = done + 1;
+        if is_watched {
+            let _ = writeln!(progress, "opening {opening} of {openings}");
+        }
+        let (hub, tellers) = open(alloc, &settings, &books)?;
+        let (report, closed) = run_opening(rt, alloc, hub, tellers, &plan, opening, gate)?;
+        tell(alloc, &report, writer)?;
+        books = Some(closed);
+    }
+    Ok(())
+}

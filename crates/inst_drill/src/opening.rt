@@ -1,0 +1,114 @@
+//! One opening of a drill, from its first command to its books.
+ghost use Rattle.std.specs.Prelude.{◌≡◌, length, IfOk, IsOkUnless};
+ghost use Rattle.inst_model.specs.Opening.{Opening};
+ghost use Rattle.inst_hub.specs.Calls.{AreOf};
+ghost use Rattle.inst_hub.specs.Opening.{parts_of};
+ghost use Rattle.inst_crew.specs.Seen.{AreSeenByOne};
+ghost use Rattle.inst_close.specs.Closing.{IsOpenedSo, HaveOpened};
+ghost use Rattle.inst_drill.specs.Plan.{IsPlan};
+ghost use Rattle.inst_drill.specs.Report.{IsUnited};
+
+use crate::counting::{contradicted, decided};
+use crate::plan::Plan;
+use crate::report::Report;
+use crate::staff::{STAFF, Staff};
+use inst_base::Fault;
+use inst_close::{Books, close};
+use inst_command::State;
+use inst_desk::Desk;
+use inst_hub::{Gate, Hub, Teller, Ticket};
+use std::alloc::Global;
+use std::sync::Wait;
+use std::thread::Threads;
+
+/// What the crews of an opening did, with all tellers of its hub.
+#[derive(Drop)]
+struct Worked {
+    tellers: Vec<Teller>,
+    /// How many jobs were put on the desk.
+    jobs: u64,
+    /// How many of them were answered.
+    answered: u64,
+    /// What was seen of the transfers as they were submitted.
+    submitted: Vec<(Ticket, State)>,
+    /// And as they were confirmed.
+    confirmed: Vec<(Ticket, State)>,
+}
+
+/// Participant 0 is funded and submits, participant 1 confirms beside the sweeper, and both are swept.
+fn work<R: Threads + Wait + Sync, G: Gate + Sync>(
+    rt: &R,
+    alloc: Global,
+    hub: &Hub,
+    tellers: Vec<Teller>,
+    plan: &Plan,
+    opening: u8,
+    gate: &G,
+) -> Result<Worked, Fault>
+    requires tellers { AreOf hub.now tellers.items × (length tellers.items ≡ 3) }
+    requires parts { parts_of tellers.items ≡ 16 }
+    requires plan { IsPlan hub.now.settings plan.now }
+    ensures of { IfOk result (λ worked. AreOf hub.now worked.tellers.items) }
+    ensures parts { IfOk result (λ worked. parts_of worked.tellers.items ≡ 16) }
+    ensures submitted { IfOk result (λ worked. AreSeenByOne worked.tellers.items worked.submitted.items) }
+    ensures confirmed { IfOk result (λ worked. AreSeenByOne worked.tellers.items worked.confirmed.items) }
+    ensures only { IsOkUnless result Fault.Memory }
+{
+    let (desk, hands) = Desk::open(alloc, plan.transfers, STAFF)?;
+    let mut staff = Staff::of(hub, &desk, hands, tellers);
+    staff.fund(rt, alloc, hub, plan, opening)?;
+    let submitted = staff.submit(rt, alloc, hub, &desk, plan, opening, gate)?;
+    let confirmed = submitted
+        .staff
+        .confirm(rt, alloc, hub, &desk, plan, opening, gate)?;
+    let mut staff = confirmed.staff;
+    staff.sweep(rt, hub, plan)?;
+    let (hands, tellers) = staff.dismiss()?;
+    Ok(Worked {
+        tellers,
+        jobs: desk.finish(rt, hands).put,
+        answered: submitted.answered.saturating_add(confirmed.answered),
+        submitted: submitted.sights,
+        confirmed: confirmed.sights,
+    })
+}
+
+/// What was done in an opening, and its books once the hub is closed. `Memory` is the only fault.
+pub(crate) fn run_opening<R: Threads + Wait + Sync, G: Gate + Sync>(
+    rt: &R,
+    alloc: Global,
+    hub: Hub,
+    tellers: Vec<Teller>,
+    plan: &Plan,
+    opening: u8,
+    gate: &G,
+) -> Result<(Report, Books), Fault>
+    requires tellers { AreOf hub tellers.items × (length tellers.items ≡ 3) }
+    requires parts { parts_of tellers.items ≡ 16 }
+    requires opened { (O : Opening) × IsOpenedSo O hub }
+    requires plan { IsPlan hub.settings plan.now }
+    ensures report { IfOk result (λ r. IsUnited r.0) }
+    ensures settings { IfOk result (λ r. r.1.settings ≡ hub.settings) }
+    ensures opened { IfOk result (λ r. (O : Opening) → IsOpenedSo O hub → HaveOpened O r.1) }
+    ensures only { IsOkUnless result Fault.Memory }
+{
+    let Worked {
+        tellers,
+        jobs,
+        answered,
+        submitted,
+        confirmed,
+    } = work(rt, alloc, &hub, tellers, plan, opening, gate)?;
+    let Ok(books) = close(alloc, hub, tellers) else {
+        return Err(Fault::Memory);
+    };
+    let report = Report {
+        jobs,
+        answered,
+        decided: decided(&books, &submitted),
+        disagree: contradicted(&books, &submitted).saturating_add(contradicted(&books, &confirmed)),
+        net: books.net(),
+        sum: books.sum(),
+    };
+    Ok((report, books))
+}

@@ -1,0 +1,137 @@
+//! What a drill asks of a hub: participant 0 is funded and submits transfers to participant 1, which confirms them.
+ghost use Rattle.std.specs.Prelude.{◌≡◌, ◌↔◌, ◌≤◌, ◌+◌, ◌-◌, ◌*◌, true, length, IfOk, IsOkUnless, Err};
+ghost use Rattle.std.specs.List.{list_all};
+ghost use Rattle.inst_base.specs.Text.{is_latin};
+ghost use Rattle.inst_base.specs.declared.cents.TheConstants.{MOST_CENTS};
+ghost use Rattle.inst_base.specs.declared.moment.TheConstants.{LAST};
+ghost use Rattle.inst_settings.specs.Settings.{HubSettings};
+ghost use Rattle.inst_command.specs.Ask.{ask_fits};
+ghost use Rattle.inst_drill.specs.Plan.{MayDrill, IsPlan};
+
+use inst_base::{Cents, Fault, Ident, Moment};
+use inst_command::{Ask, Command, Submission};
+use inst_settings::Settings;
+use std::alloc::{AllocError, Global};
+
+/// What each transfer is over, in cents.
+const CENTS: u64 = 100;
+
+/// How often a drill opens its hub at most.
+const MOST_OPENINGS: u8 = 10;
+
+/// What a drill does in each opening.
+#[derive(Clone, Copy, Debug, PartialEq, Eq)]
+pub(crate) struct Plan {
+    /// How many transfers there are.
+    pub(crate) transfers: u16,
+    /// What all of them are over.
+    pub(crate) funding: Cents,
+    /// When they are confirmed: the last moment that is in time.
+    pub(crate) last: Moment,
+    /// When they are due.
+    pub(crate) deadline: Moment,
+}
+
+fn cents(amount: u64) -> Cents
+    requires { (1 ≤ amount) × (amount ≤ MOST_CENTS) }
+    ensures { result ≡ amount }
+{
+    let Ok(cents) = Cents::new(amount) else {
+        unreachable!()
+    };
+    cents
+}
+
+fn moment(past_base: u64) -> Moment
+    requires { past_base ≤ LAST }
+    ensures { result ≡ past_base }
+{
+    let Ok(moment) = Moment::new(0, past_base) else {
+        unreachable!()
+    };
+    moment
+}
+
+/// The letter and the number.
+fn name(alloc: Global, letter: &str, number: u32) -> Result<Ident, AllocError>
+    requires { (length letter.now ≡ 1) × (list_all is_latin letter.now ≡ true) }
+{
+    let digits = number.to_string(alloc)?;
+    let text = format!(in alloc; "{letter}{digits}")?;
+    let Ok(name) = Ident::new(text.as_str()) else {
+        unreachable!()
+    };
+    Ok(name)
+}
+
+impl Plan {
+    /// The plan of so many transfers in each of so many openings. `BadSettings` where a hub of these settings can't do it.
+    pub(crate) fn of(settings: &Settings, transfers: u16, openings: u8) -> Result<Plan, Fault>
+        ensures ok { IfOk result (λ plan. IsPlan settings.now plan × (plan.transfers ≡ transfers)) }
+        ensures may { IfOk result (λ plan. MayDrill settings.now transfers openings) }
+        ensures bad { result ≡ Err Fault.BadSettings → ¬ MayDrill settings.now transfers openings }
+        ensures only { IsOkUnless result Fault.BadSettings }
+    {
+        let all = CENTS * u64::from(transfers);
+        if settings.participants() < 2
+            || transfers == 0
+            || transfers > settings.places()
+            || all > settings.ceiling()
+            || openings == 0
+            || openings > MOST_OPENINGS
+        {
+            return Err(Fault::BadSettings);
+        }
+        let limit = u64::from(settings.limit());
+        let margin = u64::from(settings.margin());
+        Ok(Plan {
+            transfers,
+            funding: cents(all),
+            last: moment(limit - margin - 1),
+            deadline: moment(limit),
+        })
+    }
+
+    /// Participant 0 funds its position for all transfers of this opening.
+    pub(crate) fn funding(&self, alloc: Global, opening: u8) -> Result<Ask, AllocError>
+        ensures { IfOk result (λ ask. (s : HubSettings) → IsPlan s self.now → ask_fits s ask ≡ true) }
+    {
+        let command = Command::Fund {
+            reference: name(alloc, "F", u32::from(opening))?,
+            cents: self.funding,
+        };
+        Ok(Ask {
+            who: 0,
+            command,
+            at: moment(0),
+        })
+    }
+
+    /// Participant 0 submits the transfer of this number.
+    pub(crate) fn submission(&self, alloc: Global, number: u32) -> Result<Ask, AllocError> {
+        let submission = Submission {
+            id: name(alloc, "D", number)?,
+            to: 1,
+            cents: cents(CENTS),
+            stamp: moment(0),
+        };
+        Ok(Ask {
+            who: 0,
+            command: Command::Submit(submission),
+            at: moment(0),
+        })
+    }
+
+    /// Participant 1 confirms it.
+    pub(crate) fn confirmation(&self, alloc: Global, number: u32) -> Result<Ask, AllocError> {
+        let command = Command::Confirm {
+            from: 0,
+            id: name(alloc, "D", number)?,
+        };
+        Ok(Ask {
+            who: 1,
+            command,
+            at: self.last,
+        })
+    }
+}

@@ -1,0 +1,58 @@
+ghost use Rattle.std.specs.Prelude.{◌≡◌, IfOk, string_bytes};
+ghost use Rattle.inst_drill.specs.Report.{calls_text, outcomes_text, money_text, report_text};
+
+use std::alloc::{AllocError, Global};
+
+/// What was done in an opening.
+#[derive(Clone, Copy, Debug, PartialEq, Eq)]
+pub struct Report {
+    /// How many jobs were put on the desk.
+    pub jobs: u64,
+    /// How many calls of the workers were answered.
+    pub answered: u64,
+    /// Of how many submitted transfers the books tell an outcome.
+    pub decided: u64,
+    /// How many outcomes were seen that the books don't tell.
+    pub disagree: u64,
+    /// The net funding of all participants, in cents.
+    pub net: u128,
+    /// All positions, in cents.
+    pub sum: u128,
+}
+
+impl Report {
+    /// Four lines: `jobs J answered R`, `decided D`, `disagree X` and `net N sum S`.
+    pub(crate) fn text(&self, alloc: Global) -> Result<String, AllocError>
+        ensures { IfOk result (λ text. string_bytes text ≡ report_text self.now) }
+    {
+        let calls = self.calls(alloc)?;
+        let outcomes = self.outcomes(alloc)?;
+        let money = self.money(alloc)?;
+        Ok(format!(in alloc; "{calls}{outcomes}{money}")?)
+    }
+
+    fn calls(&self, alloc: Global) -> Result<String, AllocError>
+        ensures { IfOk result (λ text. string_bytes text ≡ calls_text self.now) }
+    {
+        let Report { jobs, answered, .. } = *self;
+        Ok(format!(in alloc; "jobs {jobs} answered {answered}\n")?)
+    }
+
+    fn outcomes(&self, alloc: Global) -> Result<String, AllocError>
+        ensures { IfOk result (λ text. string_bytes text ≡ outcomes_text self.now) }
+    {
+        let Report {
+            decided,
+            disagree,
+            ..
+        } = *self;
+        Ok(format!(in alloc; "decided {decided}\ndisagree {disagree}\n")?)
+    }
+
+    fn money(&self, alloc: Global) -> Result<String, AllocError>
+        ensures { IfOk result (λ text. string_bytes text ≡ money_text self.now) }
+    {
+        let Report { net, sum, .. } = *self;
+        Ok(format!(in alloc; "net {net} sum {sum}\n")?)
+    }
+}

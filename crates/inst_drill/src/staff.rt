@@ -1,0 +1,223 @@
+//! Who works in an opening: two hands with a teller each, one hand that puts the jobs, and one teller that sweeps.
+ghost use Rattle.std.specs.Prelude.{◌≡◌, true, length, IfOk, OnOk, IsOkUnless};
+ghost use Rattle.inst_command.specs.Ask.{ask_fits};
+ghost use Rattle.inst_desk.specs.Desk.{AreAllHandsOf};
+ghost use Rattle.inst_hub.specs.Calls.{AreOf};
+ghost use Rattle.inst_hub.specs.Opening.{parts_of};
+ghost use Rattle.inst_crew.specs.Later.{Pairs, IsLaterTeller};
+ghost use Rattle.inst_crew.specs.Seen.{AreSeenByOne};
+ghost use Rattle.inst_drill.specs.Plan.{IsPlan};
+ghost use Rattle.inst_drill.specs.Staff.{IsStaffOf, tellers_of};
+
+use crate::feeding::{Phase, feed};
+use crate::plan::Plan;
+use inst_base::Fault;
+use inst_command::{Outcome, State};
+use inst_crew::{Sweep, run_crew};
+use inst_desk::{Desk, Hand};
+use inst_hub::{Gate, Hub, Teller, Ticket};
+use std::alloc::{AllocError, Global};
+use std::sync::Wait;
+use std::thread::Threads;
+
+/// How many hands a desk and tellers a hub of a drill has.
+pub(crate) const STAFF: u8 = 3;
+
+/// How often participant 0 is swept while its transfers are confirmed.
+const ROUNDS: u32 = 64;
+
+/// Who works in an opening.
+#[derive(Drop)]
+pub(crate) struct Staff {
+    /// Puts the jobs.
+    feeder: Hand,
+    /// Take them, one in each thread.
+    hands: Vec<Hand>,
+    /// Sweeps participant 0.
+    sweeper: Teller,
+    /// One for each of the hands.
+    tellers: Vec<Teller>,
+}
+
+/// What was done in a phase of an opening.
+#[derive(Drop)]
+pub(crate) struct Work {
+    pub(crate) staff: Staff,
+    /// How many jobs were answered.
+    pub(crate) answered: u64,
+    /// What was seen of the transfer of each ticket.
+    pub(crate) sights: Vec<(Ticket, State)>,
+}
+
+impl Staff {
+    /// The last hand feeds, the last teller sweeps, and the others work.
+    pub(crate) fn of(hub: &Hub, desk: &Desk, hands: Vec<Hand>, tellers: Vec<Teller>) -> Staff
+        requires hands { AreAllHandsOf desk.now hands.items × (length hands.items ≡ 3) }
+        requires tellers { AreOf hub.now tellers.items × (length tellers.items ≡ 3) }
+        requires parts { parts_of tellers.items ≡ 16 }
+        ensures { IsStaffOf hub.now desk.now result }
+    {
+        let mut hands = hands;
+        let mut tellers = tellers;
+        let Some(feeder) = hands.pop() else {
+            unreachable!()
+        };
+        let Some(sweeper) = tellers.pop() else {
+            unreachable!()
+        };
+        Staff {
+            feeder,
+            hands,
+            sweeper,
+            tellers,
+        }
+    }
+
+    /// Funds participant 0 for all transfers of the opening.
+    pub(crate) fn fund<R: Wait>(
+        &mut self,
+        rt: &R,
+        alloc: Global,
+        hub: &Hub,
+        plan: &Plan,
+        opening: u8,
+    ) -> Result<(), Fault>
+        requires staff { (desk : Desk) × IsStaffOf hub.now desk self.old }
+        requires plan { IsPlan hub.now.settings plan.now }
+        ensures staff { (desk : Desk) → IsStaffOf hub.now desk self.old → IsStaffOf hub.now desk self.new }
+        ensures only { IsOkUnless result Fault.Memory }
+    {
+        let ask = plan.funding(alloc, opening)?;
+        hub.call(rt, &mut self.sweeper, &ask)?;
+        Ok(())
+    }
+
+    /// All transfers of the opening are submitted by two threads.
+    pub(crate) fn submit<R: Threads + Wait + Sync, G: Gate + Sync>(
+        self,
+        rt: &R,
+        alloc: Global,
+        hub: &Hub,
+        desk: &Desk,
+        plan: &Plan,
+        opening: u8,
+        gate: &G,
+    ) -> Result<Work, Fault>
+        requires { IsStaffOf hub.now desk.now self }
+        ensures staff { IfOk result (λ work. IsStaffOf hub.now desk.now work.staff) }
+        ensures sights { IfOk result (λ work. AreSeenByOne (tellers_of work.staff) work.sights.items) }
+        ensures only { IsOkUnless result Fault.Memory }
+    {
+        let Staff {
+            mut feeder,
+            hands,
+            sweeper,
+            tellers,
+        } = self;
+        feed(
+            rt,
+            alloc,
+            desk,
+            &mut feeder,
+            plan,
+            Phase::Submitting,
+            opening,
+        )?;
+        let crew = run_crew(rt, alloc, hub, desk, hands, tellers, gate, None)?;
+        Ok(Work {
+            staff: Staff {
+                feeder,
+                hands: crew.hands,
+                sweeper,
+                tellers: crew.tellers,
+            },
+            answered: crew.answered,
+            sights: crew.sights,
+        })
+    }
+
+    /// All of them are confirmed by two threads, while a third one sweeps participant 0 at their deadline.
+    pub(crate) fn confirm<R: Threads + Wait + Sync, G: Gate + Sync>(
+        self,
+        rt: &R,
+        alloc: Global,
+        hub: &Hub,
+        desk: &Desk,
+        plan: &Plan,
+        opening: u8,
+        gate: &G,
+    ) -> Result<Work, Fault>
+        requires staff { IsStaffOf hub.now desk.now self }
+        requires plan { IsPlan hub.now.settings plan.now }
+        ensures staff { IfOk result (λ work. IsStaffOf hub.now desk.now work.staff) }
+        ensures later { IfOk result (λ work. Pairs (IsLaterTeller hub.now) (tellers_of self) (tellers_of work.staff)) }
+        ensures sights { IfOk result (λ work. AreSeenByOne (tellers_of work.staff) work.sights.items) }
+        ensures only { IsOkUnless result Fault.Memory }
+    {
+        let Staff {
+            mut feeder,
+            hands,
+            sweeper,
+            tellers,
+        } = self;
+        feed(
+            rt,
+            alloc,
+            desk,
+            &mut feeder,
+            plan,
+            Phase::Confirming,
+            opening,
+        )?;
+        let sweep = Sweep {
+            teller: sweeper,
+            who: 0,
+            at: plan.deadline,
+            rounds: ROUNDS,
+        };
+        let crew = run_crew(rt, alloc, hub, desk, hands, tellers, gate, Some(sweep))?;
+        let mut tellers = crew.tellers;
+        let Some(sweeper) = tellers.pop() else {
+            unreachable!()
+        };
+        Ok(Work {
+            staff: Staff {
+                feeder,
+                hands: crew.hands,
+                sweeper,
+                tellers,
+            },
+            answered: crew.answered,
+            sights: crew.sights,
+        })
+    }
+
+    /// Both participants are swept once at the deadline of the transfers.
+    pub(crate) fn sweep<R: Wait>(&mut self, rt: &R, hub: &Hub, plan: &Plan) -> Result<(), Fault>
+        requires staff { (desk : Desk) × IsStaffOf hub.now desk self.old }
+        requires plan { IsPlan hub.now.settings plan.now }
+        ensures staff { (desk : Desk) → IsStaffOf hub.now desk self.old → IsStaffOf hub.now desk self.new }
+        ensures later { OnOk result (Pairs (IsLaterTeller hub.now) (tellers_of self.old) (tellers_of self.new)) }
+        ensures only { IsOkUnless result Fault.Memory }
+    {
+        hub.sweep(rt, &mut self.sweeper, 0, plan.deadline)?;
+        hub.sweep(rt, &mut self.sweeper, 1, plan.deadline)?;
+        Ok(())
+    }
+
+    /// All hands of the desk, and all tellers of the hub.
+    pub(crate) fn dismiss(self) -> Result<(Vec<Hand>, Vec<Teller>), AllocError>
+        ensures hands { IfOk result (λ r. (hub : Hub) (desk : Desk) → IsStaffOf hub desk self → AreAllHandsOf desk r.0.items) }
+        ensures tellers { IfOk result (λ r. r.1.items ≡ tellers_of self) }
+    {
+        let Staff {
+            feeder,
+            mut hands,
+            sweeper,
+            mut tellers,
+        } = self;
+        hands.push(feeder)?;
+        tellers.push(sweeper)?;
+        Ok((hands, tellers))
+    }
+}
