@@ -9,12 +9,14 @@ use Rattle.clap.specs.Words.{Row, subcommand_of}
 use Rattle.inst_base.specs.Text.{is_code}
 use Rattle.inst_base.specs.declared.fault.Fault.{Fault}
 use Rattle.inst_base.specs.declared.fault.Fault.TheVariants.{BadSettings}
-use Rattle.inst_settings.specs.Settings.{HubSettings}
+use Rattle.inst_settings.specs.Settings.{HubSettings, same_text}
 use Rattle.inst_settings.specs.Lawful.{IsSettings, are_different}
-use Rattle.inst_main.specs.Options.{AreChosen, AreGood, AreWhole, ChooseNone, Chooses, Gives, GivesNoneBelow, command_line, parts_of}
+use Rattle.inst_drill.specs.Plan.{MayDrill}
+use Rattle.inst_main.specs.Options.{AreChosen, AreGood, AreRefused, AreWhole, AskForNone, ChooseNone, Chooses, Gives, GivesNoneBelow, IsTask, MayDo, command_line, parts_of}
 use Rattle.inst_main.specs.Program.{IsRefusal, IsUnbegun}
 use Rattle.inst_main.specs.declared.program.Ending.TheVariants as ending
 use Rattle.inst_main.specs.declared.task.Task.{Task}
+use Rattle.inst_main.specs.declared.task.Task.TheVariants.{Run, Play, Drill}
 
 -- the number of an option is one
 pub given_one : (rows : List Row) (name : List ℕ) (n m : ℕ) → Gives rows name n → Gives rows name m → n ≡ m
@@ -22,11 +24,16 @@ given_one rows name n m (text, at, numeral, is) (text', at', numeral', is') =
     let same : text ≡ text' = cc in
     is ∙ ap (λ (t : List ℕ). digits_value 10 (without_leading_plus t)) same ∙ sym is'
 
+-- and so are the codes
+codes_one : (rows : List Row) (s t : HubSettings) → Chooses rows s → Chooses rows t → s.codes ≡ t.codes
+codes_one rows s t a b =
+    let text : a.participants.0 ≡ b.participants.0 = cc (a.participants.1, b.participants.1) in
+    a.participants.2 ∙ ap parts_of text ∙ sym b.participants.2
+
 -- and so are the settings that options choose: what one is in range of, the other is too
 pub chosen_one : (rows : List Row) (s t : HubSettings) → Chooses rows s → Chooses rows t → IsSettings s → IsSettings t
 chosen_one rows s t a b is =
-    let text : a.participants.0 ≡ b.participants.0 = cc (a.participants.1, b.participants.1) in
-    let codes_same : s.codes ≡ t.codes = a.participants.2 ∙ ap parts_of text ∙ sym b.participants.2 in
+    let codes_same = codes_one rows s t a b in
     let places = given_one rows (codes "places") s.places t.places a.places b.places in
     let fundings = given_one rows (codes "fundings") s.fundings t.fundings a.fundings b.fundings in
     let limit = given_one rows (codes "limit") s.limit t.limit a.limit b.limit in
@@ -113,16 +120,78 @@ pub refused_by : {A : Type 0} (P Q : Type 0) (r : Result A Fault) → IsOkUnless
 refused_by P Q (Ok x) bad weaker q = tt
 refused_by P Q (Err e) bad weaker q = inr (bad, weaker q)
 
--- words whose options choose none are refused
-pub unsettled : (words : List (List ℕ)) (name : List ℕ) (rows : List Row) (fault : Fault) → AreWhole words → subcommand_of command_line words ≡ Some (name, rows) →
-    IsRefusal (ChooseNone rows) fault → IsUnbegun words (ending.Fault fault)
-unsettled words name rows fault whole at (inl memory) = inl memory
-unsettled words name rows fault whole at (inr bad) = inr (bad.0, record { whole = whole; none = none }) where
-  none : (task : Task) (s : HubSettings) → AreChosen words task s → ¬ (AreGood s)
-  none task s chosen =
+pub passed_more : {A : Type 0} (P Q : Type 0) (r : Result A Fault) (fault : Fault) → IsErrAnd r (λ e. e ≡ fault) → (Q → P) → IsRefusal Q fault → IfErr r (IsRefusal P)
+passed_more P Q (Ok x) fault is weaker q = tt
+passed_more P Q (Err e) fault is weaker (inl memory) = inl (is ∙ memory)
+passed_more P Q (Err e) fault is weaker (inr bad) = inr (is ∙ bad.0, weaker bad.1)
+
+-- options that choose no settings do so for each task
+pub none_of_all : (name : List ℕ) (rows : List Row) → ChooseNone rows → AskForNone name rows
+none_of_all name rows none task s is chosen good = none s chosen good.0
+
+-- a number of a drill that is too large for its type is too large for any hub
+no_transfers : (name : List ℕ) (rows : List Row) → same_text name (codes "play") ≡ false → same_text name (codes "drill") ≡ true →
+    GivesNoneBelow (2 ^ 16) rows (codes "transfers") → AskForNone name rows
+no_transfers name rows other drill none Run s is chosen good = let no : ⊥ = cc (is.1, drill) in absurd no
+no_transfers name rows other drill none Play s is chosen good = let no : ⊥ = cc (is, other) in absurd no
+no_transfers name rows other drill none (Drill transfers openings) s is chosen good =
+    let least = none transfers is.2 in
+    let within = good.1.places in
+    let most = good.0.lawful.places_most in
+    omega arith
+
+no_openings : (name : List ℕ) (rows : List Row) → same_text name (codes "play") ≡ false → same_text name (codes "drill") ≡ true →
+    GivesNoneBelow (2 ^ 8) rows (codes "openings") → AskForNone name rows
+no_openings name rows other drill none Run s is chosen good = let no : ⊥ = cc (is.1, drill) in absurd no
+no_openings name rows other drill none Play s is chosen good = let no : ⊥ = cc (is, other) in absurd no
+no_openings name rows other drill none (Drill transfers openings) s is chosen good =
+    let least = none openings is.3 in
+    let most = good.1.most_openings in
+    omega arith
+
+pub no_numbers : {A : Type 0} (name : List ℕ) (rows : List Row) (r : Result A Fault) → same_text name (codes "play") ≡ false → same_text name (codes "drill") ≡ true →
+    OnErr r (GivesNoneBelow (2 ^ 16) rows (codes "transfers") ⊎ GivesNoneBelow (2 ^ 8) rows (codes "openings")) → OnErr r (AskForNone name rows)
+no_numbers name rows (Ok x) other drill none = tt
+no_numbers name rows (Err e) other drill (inl none) = no_transfers name rows other drill none
+no_numbers name rows (Err e) other drill (inr none) = no_openings name rows other drill none
+
+-- a drill that the chosen hub can't do is refused: the words choose no other one
+pub undrillable : (name : List ℕ) (rows : List Row) (s : HubSettings) (transfers openings : ℕ) → IsTask name rows (Drill transfers openings) → Chooses rows s →
+    ¬ (MayDrill s transfers openings) → AskForNone name rows
+undrillable name rows s transfers openings drill chosen unfit Run t is chosen' good = let other : ⊥ = cc (is.1, drill.1) in absurd other
+undrillable name rows s transfers openings drill chosen unfit Play t is chosen' good = let other : ⊥ = cc (is, drill.0) in absurd other
+undrillable name rows s transfers openings drill chosen unfit (Drill transfers' openings') t is chosen' good =
+    let may = good.1 in
+    let codes_same = codes_one rows t s chosen' chosen in
+    let places = given_one rows (codes "places") t.places s.places chosen'.places chosen.places in
+    let ceiling = given_one rows (codes "ceiling") t.ceiling s.ceiling chosen'.ceiling chosen.ceiling in
+    let transfers_same = given_one rows (codes "transfers") transfers' transfers is.2 drill.2 in
+    let openings_same = given_one rows (codes "openings") openings' openings is.3 drill.3 in
+    unfit (record {
+      two = subst (λ (all : List (List ℕ)). 2 ≤ length all) codes_same may.two;
+      some_transfer = subst (λ (n : ℕ). 0 < n) transfers_same may.some_transfer;
+      places = omega (arith, may.places, transfers_same, places);
+      funding = omega (arith, may.funding, transfers_same, ceiling);
+      some_opening = subst (λ (n : ℕ). 0 < n) openings_same may.some_opening;
+      most_openings = subst (λ (n : ℕ). n ≤ 10) openings_same may.most_openings;
+    })
+
+-- words whose subcommand and options ask for nothing that a hub can do are refused
+pub refused : (words : List (List ℕ)) (name : List ℕ) (rows : List Row) → AreWhole words → subcommand_of command_line words ≡ Some (name, rows) →
+    AskForNone name rows → AreRefused words
+refused words name rows whole at none = record { whole = whole; none = none_chosen } where
+  none_chosen : (task : Task) (s : HubSettings) → AreChosen words task s → ¬ (AreGood s × MayDo s task)
+  none_chosen task s chosen =
       let e : Some (chosen.0, chosen.1) ≡ Some (name, rows) = sym chosen.2 ∙ at in
+      let same_name : chosen.0 ≡ name = ap (λ (o : Option (List ℕ × List Row)). elim o [ None ↦ name | Some p ↦ p.0 ]) e in
       let same : chosen.1 ≡ rows = ap (λ (o : Option (List ℕ × List Row)). elim o [ None ↦ rows | Some p ↦ p.1 ]) e in
-      bad.1 s (subst (λ (r : List Row). Chooses r s) same chosen.4)
+      let is = subst (λ (n : List ℕ). IsTask n rows task) same_name (subst (λ (r : List Row). IsTask chosen.0 r task) same chosen.3) in
+      none task s is (subst (λ (r : List Row). Chooses r s) same chosen.4)
+
+pub unsettled : (words : List (List ℕ)) (name : List ℕ) (rows : List Row) (fault : Fault) → AreWhole words → subcommand_of command_line words ≡ Some (name, rows) →
+    IsRefusal (AskForNone name rows) fault → IsUnbegun words (ending.Fault fault)
+unsettled words name rows fault whole at (inl memory) = inl memory
+unsettled words name rows fault whole at (inr bad) = inr (bad.0, refused words name rows whole at bad.1)
 
 -- the name and the rows of a subcommand, found one by one
 pub both_of : {B : Type 0} (X : Option B) (n : B → List ℕ) (r : B → List Row) (name : List ℕ) (rows : List Row) → Some name ≡ option_map n X

@@ -1,5 +1,5 @@
 -- The options of the program's command line, and the settings that their values choose. They are this hub's own choice.
-use Rattle.std.specs.Prelude.{◌≢◌, ◌⊎◌, ◌≡◌, ◌==◌, ◌≤◌, ◌-◌, ◌^◌, ℕ, true, false, if◌then◌else◌, List, ◌∷◌, [], Some, codes}
+use Rattle.std.specs.Prelude.{◌≢◌, ◌⊎◌, ◌≡◌, ◌==◌, ◌≤◌, ◌-◌, ◌^◌, ℕ, true, false, List, ◌∷◌, [], Some, codes}
 use Rattle.std.specs.List.{list_all, slice_split}
 use Rattle.std.specs.Str.Parse.{IsNumeral, digits_value, without_leading_plus}
 use Rattle.clap.specs.Words.{App, IsAmong, Kinds, fault_of, Row, Rule, Text, first_of, one_of, new_app, new_rule}
@@ -14,8 +14,9 @@ use Rattle.clap.specs.declared.builder.value_parser.ValueParser.TheVariants.{Uns
 use Rattle.inst_base.specs.Text.{is_code}
 use Rattle.inst_settings.specs.Settings.{HubSettings, same_text}
 use Rattle.inst_settings.specs.Lawful.{IsSettings}
+use Rattle.inst_drill.specs.Plan.{MayDrill}
 use Rattle.inst_main.specs.declared.task.Task.{Task}
-use Rattle.inst_main.specs.declared.task.Task.TheVariants.{Run, Play}
+use Rattle.inst_main.specs.declared.task.Task.TheVariants.{Run, Play, Drill}
 
 -- the participants' codes, which must be given
 abbrev pub participants_rule : Rule
@@ -46,14 +47,20 @@ IsLocal command = (out-Command command).has_globals ≡ false
 abbrev pub bare_command_line : App
 bare_command_line = on_top (λ top. record top { has_version = true; subcommand_required = true }) (new_app (codes "inst_main"))
 
--- the whole command line: `run` and `play`, with the same options
+-- the subcommand `drill`: the options of a hub, and how many transfers and openings
+abbrev pub drill_command : App
+drill_command =
+    with_rule (with_rule (hub_command (codes "drill"))
+    (number_rule (codes "transfers") (codes "200")))
+    (number_rule (codes "openings") (codes "1"))
+
+-- the whole command line: `run` and `play`, with the same options, and `drill`
 abbrev pub command_line : App
 command_line =
-    with_subcommand (with_subcommand bare_command_line (hub_command (codes "run")).top) (hub_command (codes "play")).top
-
--- what the subcommand of this name does; the one that isn't `play` is `run`
-abbrev pub task_named : List ℕ → Task
-task_named name = if same_text name (codes "play") then Play else Run
+    with_subcommand (with_subcommand (with_subcommand bare_command_line
+    (hub_command (codes "run")).top)
+    (hub_command (codes "play")).top)
+    drill_command.top
 
 -- the option of this name has a text that is the number in digits, which may follow a plus
 abbrev pub Gives : List Row → List ℕ → ℕ → Type 0
@@ -64,6 +71,21 @@ Gives rows name n =
 -- the option of this name has no text that is a number below this one
 abbrev pub GivesNoneBelow : ℕ → List Row → List ℕ → Type 0
 GivesNoneBelow bound rows name = (n : ℕ) → Gives rows name n → bound ≤ n
+
+-- the options give a drill's numbers
+abbrev pub IsDrill : List Row → Task → Type 0
+IsDrill rows Run = ⊥
+IsDrill rows Play = ⊥
+IsDrill rows (Drill transfers openings) =
+    Gives rows (codes "transfers") transfers × Gives rows (codes "openings") openings
+
+-- what the subcommand of this name does, with these options; the one that is neither `play` nor `drill` is `run`
+abbrev pub IsTask : List ℕ → List Row → Task → Type 0
+IsTask name rows Run = (same_text name (codes "play") ≡ false) × (same_text name (codes "drill") ≡ false)
+IsTask name rows Play = same_text name (codes "play") ≡ true
+IsTask name rows (Drill transfers openings) =
+    (same_text name (codes "play") ≡ false) × (same_text name (codes "drill") ≡ true)
+    × Gives rows (codes "transfers") transfers × Gives rows (codes "openings") openings
 
 -- the texts between commas
 abbrev pub parts_of : List ℕ → List (List ℕ)
@@ -89,6 +111,17 @@ pub record AreGood (s : HubSettings) : Type 0 where
 abbrev pub ChooseNone : List Row → Type 0
 ChooseNone rows = (s : HubSettings) → Chooses rows s → ¬ (AreGood s)
 
+-- a hub of these settings can do the task: lines it always answers
+abbrev pub MayDo : HubSettings → Task → Type 0
+MayDo s Run = Unit {0}
+MayDo s Play = Unit {0}
+MayDo s (Drill transfers openings) = MayDrill s transfers openings
+
+-- the options of the subcommand of this name choose no settings that a hub can have and do the task with
+abbrev pub AskForNone : List ℕ → List Row → Type 0
+AskForNone name rows =
+    (task : Task) (s : HubSettings) → IsTask name rows task → Chooses rows s → ¬ (AreGood s × MayDo s task)
+
 -- what is wrong with the words, where they are no whole command line, or that they ask for a help text
 abbrev pub faults_of : List (List ℕ) → Kinds
 faults_of = fault_of command_line
@@ -108,9 +141,18 @@ AreWhole words = faults_of words ≡ []
 -- the words name this task, and choose these settings, as the options of the subcommand that they name
 abbrev pub AreChosen : List (List ℕ) → Task → HubSettings → Type 0
 AreChosen words task s = (name : List ℕ) × (rows : List Row) × (subcommand_of command_line words ≡ Some (name, rows))
-    × (task ≡ task_named name) × Chooses rows s
+    × IsTask name rows task × Chooses rows s
 
--- the words are a whole command line and choose no settings that a hub can have
+-- the words are a whole command line, and ask for a drill at a hub
+pub record AskForADrill (words : List (List ℕ)) : Type 0 where
+  pub settings : HubSettings
+  pub lawful : IsSettings settings
+  pub whole : AreWhole words
+  pub transfers : ℕ
+  pub openings : ℕ
+  pub chosen : AreChosen words (Drill transfers openings) settings
+
+-- the words are a whole command line and choose no settings that a hub can have and do the task with
 pub record AreRefused (words : List (List ℕ)) : Type 0 where
   pub whole : AreWhole words
-  pub none : (task : Task) (s : HubSettings) → AreChosen words task s → ¬ (AreGood s)
+  pub none : (task : Task) (s : HubSettings) → AreChosen words task s → ¬ (AreGood s × MayDo s task)

@@ -1,4 +1,4 @@
-//! The program: lines on standard input, one answer for each on standard output.
+//! The program: lines on standard input, one answer for each on standard output; or a drill, which reads nothing.
 #![tactic(auto)]
 
 mod options;
@@ -9,6 +9,7 @@ mod texts;
 
 use program::program;
 use std::env;
+use std::io::IsTerminal;
 use std::process::ExitCode;
 
 fn main(rt: HostRuntime) -> ExitCode {
@@ -20,5 +21,14 @@ fn main(rt: HostRuntime) -> ExitCode {
     };
     let mut reader = rt.stdin();
     let mut writer = rt.stdout();
-    ExitCode::from(program(alloc, words, &mut reader, &mut writer, &mut errors))
+    let is_watched = errors.is_terminal();
+    ExitCode::from(program(
+        &rt,
+        alloc,
+        words,
+        &mut reader,
+        &mut writer,
+        &mut errors,
+        is_watched,
+    ))
 }

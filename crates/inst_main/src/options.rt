@@ -1,12 +1,15 @@
-ghost use Rattle.std.specs.Prelude.{◌≡◌, ◌^◌, OkIff, true, IfOk, IfErr, OnErr, IsOkUnless, Some, None, false, map};
+ghost use Rattle.std.specs.Prelude.{◌≡◌, ◌^◌, ◌⊎◌, OkIff, true, IfOk, IfErr, OnErr, IsOkUnless, Some, None, false};
+ghost use Rattle.std.specs.Prelude.{map, codes};
 ghost use Rattle.std.specs.List.{list_all};
 ghost use Rattle.inst_base.specs.Text.{is_code};
 ghost use Rattle.clap.specs.Words.{app_of, first_of, found_of, rows_of, rule_of};
-ghost use Rattle.inst_main.specs.Options.{participants_rule, number_rule, hub_command, IsLocal, command_line as the_command_line, parts_of};
-ghost use Rattle.inst_main.specs.Options.{Gives, GivesNoneBelow, Chooses, ChooseNone};
+ghost use Rattle.inst_main.specs.Options.{participants_rule, number_rule, hub_command, drill_command, IsLocal};
+ghost use Rattle.inst_main.specs.Options.{command_line as the_command_line, parts_of};
+ghost use Rattle.inst_main.specs.Options.{Gives, GivesNoneBelow, Chooses, ChooseNone, IsTask, IsDrill, AskForNone};
 ghost use Rattle.inst_main.specs.Program.{IsRefusal};
 ghost use Rattle.inst_settings.specs.Lawful.{IsSettings};
 
+use crate::task::Task;
 use crate::texts;
 use clap::{Arg, ArgAction, ArgMatches, Command};
 use inst_base::{Code, Fault};
@@ -38,7 +41,35 @@ pub(crate) fn command_line<'a>(alloc: Global) -> Result<Command<'a>, AllocError>
         .after_help(texts::PROGRAM)
         .subcommand_required(true)
         .subcommand(run)?
-        .subcommand(play)
+        .subcommand(play)?
+        .subcommand(drill_command(alloc)?)
+}
+
+/// The subcommand `drill`: the options of a hub, and two of its own.
+fn drill_command<'a>(alloc: Global) -> Result<Command<'a>, AllocError>
+    ensures shape { IfOk result (λ command. app_of command ≡ drill_command) }
+    ensures local { IfOk result (λ command. IsLocal command) }
+{
+    let hub = hub_command(
+        alloc,
+        "drill",
+        "Drills a hub by threads that race at a deadline, and tells by four lines how each opening ended",
+        texts::DRILL,
+    )?;
+    hub.arg(number(
+        alloc,
+        "transfers",
+        "COUNT",
+        "200",
+        "Transfers in each opening, 1 to 1024 and at most the places",
+    ))?
+    .arg(number(
+        alloc,
+        "openings",
+        "COUNT",
+        "1",
+        "Openings, each from the books of the one before, 1 to 10",
+    ))
 }
 
 /// A subcommand with the options of a hub.
@@ -132,9 +163,56 @@ fn number<'a>(alloc: Global, name: &'a str, unit: &'a str, value: &'a str, help:
         .help(help)
 }
 
+/// What the subcommand of this name and its options ask for, and the settings of its hub. `BadSettings` as from
+/// `settings`, and then where a number of a drill is too large for any hub.
+pub(crate) fn task_and_settings(
+    alloc: Global,
+    name: &str,
+    options: &ArgMatches<'_>,
+) -> Result<(Task, Settings), Fault>
+    ensures lawful { IfOk result (λ r. IsSettings r.1) }
+    ensures task { IfOk result (λ r. IsTask name.now (rows_of (found_of options.now)) r.0) }
+    ensures chosen { IfOk result (λ r. Chooses (rows_of (found_of options.now)) r.1) }
+    ensures fault { IfErr result (IsRefusal (AskForNone name.now (rows_of (found_of options.now)))) }
+{
+    let settings = settings(alloc, options)?;
+    let task = task(name, options)?;
+    Ok((task, settings))
+}
+
+/// What the subcommand of this name does. The one that is neither `play` nor `drill` is `run`.
+fn task(name: &str, options: &ArgMatches<'_>) -> Result<Task, Fault>
+    ensures task { IfOk result (IsTask name.now (rows_of (found_of options.now))) }
+    ensures none { OnErr result (AskForNone name.now (rows_of (found_of options.now))) }
+    ensures fault { IsOkUnless result Fault.BadSettings }
+{
+    if name == "play" {
+        return Ok(Task::Play);
+    }
+    if name == "drill" {
+        return drill_task(options);
+    }
+    Ok(Task::Run)
+}
+
+/// The drill of so many transfers and openings as the options say.
+fn drill_task(options: &ArgMatches<'_>) -> Result<Task, Fault>
+    ensures drill { IfOk result (IsDrill (rows_of (found_of options.now))) }
+    ensures none { OnErr result (GivesNoneBelow (2 ^ 16) (rows_of (found_of options.now)) (codes "transfers")
+        ⊎ GivesNoneBelow (2 ^ 8) (rows_of (found_of options.now)) (codes "openings")) }
+    ensures fault { IsOkUnless result Fault.BadSettings }
+{
+    let transfers = small(options, "transfers")?;
+    let openings = tiny(options, "openings")?;
+    Ok(Task::Drill {
+        transfers,
+        openings,
+    })
+}
+
 /// The settings that the options give. `BadSettings` where a code has the wrong form or a number is
 /// outside its range, the codes first.
-pub(crate) fn settings(alloc: Global, options: &ArgMatches<'_>) -> Result<Settings, Fault>
+fn settings(alloc: Global, options: &ArgMatches<'_>) -> Result<Settings, Fault>
     ensures lawful { IfOk result (λ settings. IsSettings settings) }
     ensures fault { IfErr result (IsRefusal (ChooseNone (rows_of (found_of options.now)))) }
     ensures chosen { IfOk result (λ settings. Chooses (rows_of (found_of options.now)) settings) }
@@ -210,4 +288,12 @@ fn small(options: &ArgMatches<'_>, name: &str) -> Result<u16, Fault>
     ensures fault { IsOkUnless result Fault.BadSettings }
 {
     u16::try_from(whole(options, name)?).map_err(|_| Fault::BadSettings)
+}
+
+fn tiny(options: &ArgMatches<'_>, name: &str) -> Result<u8, Fault>
+    ensures number { IfOk result (Gives (rows_of (found_of options.now)) name.now) }
+    ensures none { OnErr result (GivesNoneBelow (2 ^ 8) (rows_of (found_of options.now)) name.now) }
+    ensures fault { IsOkUnless result Fault.BadSettings }
+{
+    u8::try_from(whole(options, name)?).map_err(|_| Fault::BadSettings)
 }

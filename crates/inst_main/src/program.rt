@@ -1,26 +1,24 @@
-ghost use Rattle.std.specs.Prelude.{◌≡◌, ◌≢◌, ◌⊎◌, map, string_bytes, OnOk, IfOk, IfErr, IfSome};
-ghost use Rattle.std.specs.Io.KnownBytes.{Appends, IsAtEnd};
+ghost use Rattle.std.specs.Prelude.{◌≡◌, ◌≢◌, ◌⊎◌, map, string_bytes, OnOk, IfOk, IfErr};
 ghost use Rattle.std.specs.IoError.{error_kind};
 ghost use Rattle.clap.specs.Words.{kind_of};
 ghost use Rattle.inst_base.specs.declared.fault.Fault.{Fault as SomeFault};
 ghost use Rattle.inst_settings.specs.Lawful.{IsSettings};
-ghost use Rattle.inst_main.specs.Options.{AreChosen, AreRefused, AreWhole, AskForHelp, AreWrong};
-ghost use Rattle.inst_lines.specs.Answering.{opened};
-ghost use Rattle.inst_lines.specs.Answers.{output};
-ghost use Rattle.inst_lines.specs.Headline.{LinesKeepTheHeadline};
-ghost use Rattle.inst_lines.specs.Lines.{lines_of};
-ghost use Rattle.inst_lines.specs.Session.{FailsAfter};
-ghost use Rattle.inst_main.specs.Program.{answerer, status_of, Serves, Fails, IsEnding, IsUnbegun, IsOfKind};
+ghost use Rattle.inst_main.specs.Options.{AreChosen, AreRefused, AreWhole, AskForADrill, AskForHelp, AreWrong};
+ghost use Rattle.inst_main.specs.Program.{status_of, Serves, Fails, HasDrilled, IsDone, IsUndone};
+ghost use Rattle.inst_main.specs.Program.{IsEnding, IsUnbegun, IsOfKind};
 
-use crate::options::{command_line, settings};
+use crate::options::{command_line, task_and_settings};
 use crate::task::Task;
 use clap::Error;
 use clap::error::ErrorKind;
 use inst_base::Fault;
-use inst_lines::{Counts, play_lines, run_lines};
+use inst_drill::{Ungated, drill};
+use inst_lines::{play_lines, run_lines};
 use inst_settings::Settings;
 use std::alloc::{AllocError, Global};
 use std::io::{self, ErrorKind as IoErrorKind, Read, Write};
+use std::sync::Wait;
+use std::thread::Threads;
 
 /// Why the program ends without having served its input.
 #[derive(Drop)]
@@ -55,35 +53,41 @@ impl From<AllocError> for Ending {
 /// Does what the words of the command line say, the program's name first. `run` answers each line of
 /// `reader`, a command, by one line to `writer`, and follows up all transfers after it; `play` does the
 /// same for a script, where each line is one step and nothing happens by itself. They have the same options.
-/// Answers the exit status: 0 at the end of the input and after
+/// `drill` has two more, reads nothing, and drills a hub of these settings by threads: `writer` gets what each
+/// opening came to, and `errors` how far it is, where `is_watched`.
+/// Answers the exit status: 0 at the end of the input or of the drill and after
 /// `--help`, 2 for a command line that is wrong, with a text on `errors`, and for bad settings, 3
-/// for a run that failed and where memory was wanting before it began. A fault is one line
+/// for a run or a drill that failed and where memory was wanting before it began. A fault is one line
 /// `fault <number> <name>` on `errors`. What `errors` doesn't take is lost. It reads line by line: its time
 /// is in the bytes of the input.
-pub fn program<R: Read, W: Write, E: Write>(
+pub fn program<H: Threads + Wait + Sync, R: Read, W: Write, E: Write>(
+    rt: &H,
     alloc: Global,
     words: Vec<String>,
     reader: &mut R,
     writer: &mut W,
     errors: &mut E,
+    is_watched: bool,
 ) -> u8
     ensures status { (result ≡ 0) ⊎ ((result ≡ 2) ⊎ (result ≡ 3)) }
 
-    // All the input is answered, or the words ask for a help text.
+    // All the input is answered, or none is read: the words ask for a help text, or for a drill, and it is done.
     ensures served { result ≡ 0 → Serves (map string_bytes words.items)
         (R.remaining reader.old) (R.remaining reader.new) (W.contents writer.old) (W.contents writer.new)
-        ⊎ ((reader.new ≡ reader.old) × AskForHelp (map string_bytes words.items)) }
+        ⊎ ((reader.new ≡ reader.old) × (AskForHelp (map string_bytes words.items)
+        ⊎ HasDrilled (map string_bytes words.items) (W.contents writer.old) (W.contents writer.new))) }
 
-    // The words are wrong, or they are whole and choose no settings that a hub can have.
+    // The words are wrong, or they are whole and choose no settings that a hub can have and do the task with.
     ensures refused { result ≡ 2 → (reader.new ≡ reader.old) × (writer.new ≡ writer.old)
         × (AreWrong (map string_bytes words.items) ⊎ AreRefused (map string_bytes words.items)) }
 
-    // Memory was wanting before a run, or a run has failed.
+    // Memory was wanting before a run, or a run has failed, or a drill, which has read nothing.
     ensures failed { result ≡ 3 → ((reader.new ≡ reader.old) × (writer.new ≡ writer.old))
-        ⊎ ((fault : SomeFault) × Fails (map string_bytes words.items)
-        (R.remaining reader.old) (R.remaining reader.new) (W.contents writer.old) (W.contents writer.new) fault) }
+        ⊎ (((fault : SomeFault) × Fails (map string_bytes words.items)
+        (R.remaining reader.old) (R.remaining reader.new) (W.contents writer.old) (W.contents writer.new) fault)
+        ⊎ ((reader.new ≡ reader.old) × AskForADrill (map string_bytes words.items))) }
 {
-    match serve(alloc, &words, reader, writer) {
+    match serve(rt, alloc, &words, reader, writer, errors, is_watched) {
         Ok(()) => 0,
         Err(Ending::Words(error)) => match error.kind() {
             ErrorKind::DisplayHelp | ErrorKind::DisplayVersion => {
@@ -122,44 +126,64 @@ fn tell<E: Write>(fault: Fault, errors: &mut E) -> u8
     if fault == Fault::BadSettings { 2 } else { 3 }
 }
 
-fn serve<R: Read, W: Write>(
+/// Does what the words ask for, where they ask for a task.
+fn serve<H: Threads + Wait + Sync, R: Read, W: Write, E: Write>(
+    rt: &H,
     alloc: Global,
     words: &[String],
     reader: &mut R,
     writer: &mut W,
+    errors: &mut E,
+    is_watched: bool,
 ) -> Result<(), Ending>
     ensures ok { OnOk result (Serves (map string_bytes words.now)
-        (R.remaining reader.old) (R.remaining reader.new) (W.contents writer.old) (W.contents writer.new)) }
+        (R.remaining reader.old) (R.remaining reader.new) (W.contents writer.old) (W.contents writer.new)
+        ⊎ ((reader.new ≡ reader.old)
+        × HasDrilled (map string_bytes words.now) (W.contents writer.old) (W.contents writer.new))) }
     ensures err { IfErr result (IsEnding (map string_bytes words.now)
         ((reader.new ≡ reader.old) × (writer.new ≡ writer.old))
-        (Fails (map string_bytes words.now) (R.remaining reader.old) (R.remaining reader.new) (W.contents writer.old) (W.contents writer.new))) }
+        (Fails (map string_bytes words.now) (R.remaining reader.old) (R.remaining reader.new)
+        (W.contents writer.old) (W.contents writer.new))
+        ((reader.new ≡ reader.old) × AskForADrill (map string_bytes words.now))) }
 {
     let (task, settings) = chosen(alloc, words)?;
-    answer(alloc, task, &settings, reader, writer)?;
+    perform(
+        rt, alloc, task, settings, reader, writer, errors, is_watched,
+    )?;
     Ok(())
 }
 
-/// Answers the input as the task asks for.
-fn answer<R: Read, W: Write>(
+/// Does the task at a hub of these settings.
+fn perform<H: Threads + Wait + Sync, R: Read, W: Write, E: Write>(
+    rt: &H,
     alloc: Global,
     task: Task,
-    settings: &Settings,
+    settings: Settings,
     reader: &mut R,
     writer: &mut W,
-) -> Result<Counts, Fault>
-    ensures end { OnOk result (IsAtEnd (R.remaining reader.new)) }
-    ensures answered { OnOk result (IfSome (R.remaining reader.old) (λ bytes.
-        Appends (W.contents writer.old) (W.contents writer.new)
-        (output (answerer task) (opened settings.now) (lines_of bytes)))) }
-    ensures headline { OnOk result (IfSome (R.remaining reader.old) (λ bytes.
-        LinesKeepTheHeadline (answerer task) settings.now (lines_of bytes))) }
-    ensures err { IfErr result (FailsAfter (answerer task) (opened settings.now)
-        (W.contents writer.old) (W.contents writer.new)
-        (R.remaining reader.old) (R.remaining reader.new)) }
+    errors: &mut E,
+    is_watched: bool,
+) -> Result<(), Fault>
+    ensures ok { OnOk result (IsDone task settings (reader.new ≡ reader.old)
+        (R.remaining reader.old) (R.remaining reader.new) (W.contents writer.old) (W.contents writer.new)) }
+    ensures err { IfErr result (IsUndone task settings (reader.new ≡ reader.old) (writer.new ≡ writer.old)
+        (R.remaining reader.old) (R.remaining reader.new) (W.contents writer.old) (W.contents writer.new)) }
 {
     match task {
-        Task::Run => run_lines(alloc, settings, reader, writer),
-        Task::Play => play_lines(alloc, settings, reader, writer),
+        Task::Run => {
+            run_lines(alloc, &settings, reader, writer)?;
+            Ok(())
+        }
+        Task::Play => {
+            play_lines(alloc, &settings, reader, writer)?;
+            Ok(())
+        }
+        Task::Drill {
+            transfers,
+            openings,
+        } => drill(
+            rt, alloc, settings, transfers, openings, &Ungated, writer, errors, is_watched,
+        ),
     }
 }
 
@@ -176,7 +200,7 @@ fn chosen(alloc: Global, words: &[String]) -> Result<(Task, Settings), Ending>
         Err(error) => return Err(ending_of(error)),
     };
     match matches.subcommand() {
-        Some((name, options)) => Ok((Task::named(name), settings(alloc, options)?)),
+        Some((name, options)) => Ok(task_and_settings(alloc, name, options)?),
         // A whole command line has a subcommand: this is never reached.
         None => Err(Ending::Fault(Fault::BadSettings)),
     }

@@ -1,6 +1,3 @@
-ghost use Rattle.std.specs.Prelude.{◌≡◌};
-ghost use Rattle.inst_main.specs.Options.{task_named};
-
 /// What a command line asks for.
 #[derive(Clone, Copy, Debug, PartialEq, Eq)]
 pub(crate) enum Task {
@@ -8,17 +5,6 @@ pub(crate) enum Task {
     Run,
     /// A script of steps.
     Play,
-}
-
-impl Task {
-    /// What the subcommand of this name does. There are two.
-    pub(crate) fn named(name: &str) -> Task
-        ensures { result ≡ task_named name.now }
-    {
-        if name == "play" {
-            Task::Play
-        } else {
-            Task::Run
-        }
-    }
+    /// So many transfers in each of so many openings.
+    Drill { transfers: u16, openings: u8 },
 }

@@ -34,8 +34,8 @@ returns-in-Some-clause-chosen c =
       sym rows ∙ both_of (out-ArgMatches c.in-Ok.matches).subcommand (λ b. (out-SubCommand (box_value b)).name.now) (λ b. rows_of (found_of (out-SubCommand (box_value b)).matches)) name own
           (sym (ap (option_map (λ p. p.0.now)) c.in-Some.is) ∙ c.subcommand.ensures.name)
           (sym (ap (option_map (λ p. rows_of (found_of p.1.now))) c.in-Some.is) ∙ c.subcommand.ensures.rows),
-      c.named.ensures,
-      c.in_ok-settings-in-Some.ensures.chosen,
+      c.in_ok-task_and_settings-in-Some.ensures.task,
+      c.in_ok-task_and_settings-in-Some.ensures.chosen,
     )
 
 pub returns-in-Some-clause-whole : goal.returns-in-Some-clause-whole
@@ -43,8 +43,8 @@ returns-in-Some-clause-whole c =
     let words = map string_bytes c.args.words.now in
     (subst (λ app. is_simple_and_free app ≡ true → fault_of app words ≡ []) c.in_ok-command.ensures c.in-Ok.ensures.kinds) free
 
-pub returns-in_err-settings-in-Some-clause-err : goal.returns-in_err-settings-in-Some-clause-err
-returns-in_err-settings-in-Some-clause-err c =
+pub returns-in_err-task_and_settings-in-Some-clause-err : goal.returns-in_err-task_and_settings-in-Some-clause-err
+returns-in_err-task_and_settings-in-Some-clause-err c =
     let words = map string_bytes c.args.words.now in
     let whole : AreWhole words = (subst (λ app. is_simple_and_free app ≡ true → fault_of app words ≡ []) c.in_ok-command.ensures c.in-Ok.ensures.kinds) free in
     let found : HasMatchesOf command_line words c.in-Ok.matches = subst (λ app. HasMatchesOf app words c.in-Ok.matches) c.in_ok-command.ensures c.in-Ok.ensures.matches in
@@ -54,5 +54,5 @@ returns-in_err-settings-in-Some-clause-err c =
     let at = sym rows ∙ both_of (out-ArgMatches c.in-Ok.matches).subcommand (λ b. (out-SubCommand (box_value b)).name.now) (λ b. rows_of (found_of (out-SubCommand (box_value b)).matches)) name own
     (sym (ap (option_map (λ p. p.0.now)) c.in-Some.is) ∙ c.subcommand.ensures.name)
     (sym (ap (option_map (λ p. rows_of (found_of p.1.now))) c.in-Some.is) ∙ c.subcommand.ensures.rows) in
-    failed words c.from_residual-in_err-settings-in-Some.result c.in_err-settings-in-Some.field-0.0 c.from_residual-in_err-settings-in-Some.ensures.1
-    (unsettled words name own _ whole at c.in_err-settings-in-Some.ensures.fault)
+    failed words c.from_residual-in_err-task_and_settings-in-Some.result c.in_err-task_and_settings-in-Some.field-0.0 c.from_residual-in_err-task_and_settings-in-Some.ensures.1
+    (unsettled words name own _ whole at c.in_err-task_and_settings-in-Some.ensures.fault)

@@ -5,7 +5,7 @@ use Rattle.inst_main.proofs.rows.no_hub.Goals as goal
 
 row : NoHub
 unfolding clap_on_literals
-row = record { participants = refl; script = refl; subcommand = refl; help = refl; version = refl }
+row = record { participants = refl; script = refl; drill = refl; subcommand = refl; help = refl; version = refl }
 
 pub returns : goal.returns
 returns c = row

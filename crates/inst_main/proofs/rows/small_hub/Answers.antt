@@ -1,9 +1,9 @@
 use Rattle.std.proofs.Common.{rules, [], option_map, refl, unwrap_or, codes, arith}
 use Rattle.clap.specs.Words.{subcommand_of}
 use Rattle.clap.proofs.OnLiterals.{clap_on_literals}
-use Rattle.inst_main.specs.Options.{AreChosen, AreGood, AreWhole, command_line}
-use Rattle.inst_main.specs.Rows.{small_hub, small_script, small_settings}
-use Rattle.inst_main.specs.declared.task.Task.TheVariants.{Run, Play}
+use Rattle.inst_main.specs.Options.{AreChosen, AreGood, AreWhole, MayDo, command_line}
+use Rattle.inst_main.specs.Rows.{small_drill, small_hub, small_script, small_settings}
+use Rattle.inst_main.specs.declared.task.Task.TheVariants.{Run, Play, Drill}
 use Rattle.inst_main.proofs.rows.small_hub.Goals as goal
 
 whole : AreWhole small_hub
@@ -16,7 +16,7 @@ chosen = (
   codes "run",
   unwrap_or (option_map (λ p. p.1) (subcommand_of command_line small_hub)) [],
   refl,
-  refl,
+  (refl, refl),
   record {
     participants = (codes "AAAADEFF,BBBBFRPP", refl, refl);
     places = (codes "2", refl, search rules, refl);
@@ -52,6 +52,29 @@ script_chosen = (
   },
 )
 
+drill_whole : AreWhole small_drill
+unfolding clap_on_literals
+drill_whole = refl
+
+drill_chosen : AreChosen small_drill (Drill 2 1) small_settings
+unfolding clap_on_literals
+drill_chosen = (
+  codes "drill",
+  unwrap_or (option_map (λ p. p.1) (subcommand_of command_line small_drill)) [],
+  refl,
+  (refl, refl, (codes "2", refl, search rules, refl), (codes "1", refl, search rules, refl)),
+  record {
+    participants = (codes "AAAADEFF,BBBBFRPP", refl, refl);
+    places = (codes "2", refl, search rules, refl);
+    fundings = (codes "256", refl, search rules, refl);
+    limit = (codes "10000", refl, search rules, refl);
+    margin = (codes "0", refl, search rules, refl);
+    ahead = (codes "1000", refl, search rules, refl);
+    ceiling = (codes "99999999999", refl, search rules, refl);
+    base = (codes "0", refl, search rules, refl);
+  },
+)
+
 good : AreGood small_settings
 good = record {
   lawful = record {
@@ -73,5 +96,24 @@ good = record {
   codes_formed = refl;
 }
 
+can_drill : MayDo small_settings (Drill 2 1)
+can_drill = record {
+  two = omega arith;
+  some_transfer = omega arith;
+  places = omega arith;
+  funding = omega arith;
+  some_opening = omega arith;
+  most_openings = omega arith;
+}
+
 pub returns : goal.returns
-returns c = record { whole = whole; chosen = chosen; script_whole = script_whole; script_chosen = script_chosen; good = good }
+returns c = record {
+  whole = whole;
+  chosen = chosen;
+  script_whole = script_whole;
+  script_chosen = script_chosen;
+  drill_whole = drill_whole;
+  drill_chosen = drill_chosen;
+  good = good;
+  can_drill = can_drill;
+}
