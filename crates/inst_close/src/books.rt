@@ -5,12 +5,12 @@ ghost use Rattle.inst_journal.specs.Sound.{IsSound};
 ghost use Rattle.inst_model.specs.Closing.{AreClosed};
 ghost use Rattle.inst_together.specs.Together.{histories};
 ghost use Rattle.inst_together.specs.Told.{told};
-ghost use Rattle.inst_close.specs.ClosedHub.{taken_state};
+ghost use Rattle.inst_close.specs.ClosedHub.{AreNumbered};
 
 use inst_board::Place;
 use inst_cell::Ticket;
-use inst_command::{Outcome, State};
-use inst_journal::{Event, Journal};
+use inst_command::State;
+use inst_journal::Journal;
 use inst_settings::Settings;
 use inst_slot::Slot;
 use std::marker::Model;
@@ -37,6 +37,7 @@ impl Books {
     /// The books that these slots have.
     pub(crate) fn of(settings: Settings, slots: Vec<Slot>) -> Books
         requires one_each { length slots.items ≡ participants settings }
+        requires numbered { AreNumbered slots.items }
         requires closed { AreClosed settings (histories slots.items) }
         ensures settings { result.settings ≡ settings }
         ensures books { result.books ≡ slots.items }
@@ -49,6 +50,7 @@ impl Books {
         ensures settings { result.now ≡ self.now.settings }
         ensures lawful { IsSettings self.now.settings }
         ensures one_each { length self.now.books ≡ participants self.now.settings }
+        ensures numbered { AreNumbered self.now.books }
         ensures closed { AreClosed self.now.settings (histories self.now.books) }
     {
         &self.settings
@@ -68,27 +70,9 @@ impl Books {
         ensures { result ≡ told (histories self.now.books) ticket.now }
     {
         let Place { owner, index } = ticket.place();
-        if usize::from(owner) >= self.slots.len() {
-            return State::Unused;
+        match self.slots.get(usize::from(owner)) {
+            Some(slot) => slot.own_state(index),
+            None => State::Unused,
         }
-        let journal = self.slots[usize::from(owner)].journal();
-        let Some(event) = journal.taken_at(owner, usize::from(index)) else {
-            return State::Unused
-        };
-        state(journal, owner, &event)
-    }
-}
-
-/// The state of what the event took.
-fn state(journal: &Journal, owner: u8, event: &Event) -> State
-    ensures { result ≡ taken_state owner journal.now.events event.now }
-{
-    let _: Option<Outcome> = None;
-    match event {
-        Event::Taken { id, .. } => match journal.booked(owner, id) {
-            Some(outcome) => State::Decided(outcome),
-            None => State::Pending,
-        },
-        _ => State::Unused,
     }
 }

@@ -20,15 +20,14 @@ impl Books {
         total.unsigned_abs()
     }
 
-    /// All positions, in cents. They are the net funding of all, since the books are closed. It costs the events of all
-    /// books, and for each of them those of its book.
+    /// All positions, in cents. They are the net funding of all, since the books are closed.
     pub fn sum(&self) -> u128
         ensures sum { result ≡ total self.now.settings (λ p. position (histories self.now.books p)) }
         ensures net { pos result ≡ signed_total self.now.settings (λ p. net (histories self.now.books p)) }
     {
         let mut total = 0;
         for slot in self.slots.as_slice() {
-            total += slot.journal().position();
+            total += slot.position();
         }
         total
     }

@@ -61,7 +61,7 @@ fn tell<W: Write>(alloc: Global, report: &Report, writer: &mut W) -> Result<(), 
 /// each opening participant 0 is funded and submits so many transfers of 100 cents to participant 1 by two threads; two
 /// threads confirm them at the last moment, while a third one sweeps at their deadline, so that each ends in one of two
 /// ways; the hub is closed, and `writer` gets the four lines of a `Report`. Where `is_watched`, `progress` is told of
-/// each opening; what it doesn't take is lost. `BadSettings` where there are fewer than two participants, no transfer or
+/// each opening; what it doesn't take is lost. The books of the last opening are answered. `BadSettings` where there are fewer than two participants, no transfer or
 /// more of them than places, or more cents than the ceiling, and where the openings are not 1 to 10; `Memory` and
 /// `WriteFault` leave the lines of the openings before.
 pub fn drill<R: Threads + Wait + Sync, G: Gate + Sync, W: Write, P: Write>(
@@ -74,10 +74,11 @@ pub fn drill<R: Threads + Wait + Sync, G: Gate + Sync, W: Write, P: Write>(
     writer: &mut W,
     progress: &mut P,
     is_watched: bool,
-) -> Result<(), Fault>
+) -> Result<Books, Fault>
     ensures bad { (result ≡ Err Fault.BadSettings) ↔ ¬ MayDrill settings transfers openings }
     ensures ok { OnOk result ((reports : List SomeReport) × (length reports ≡ openings) × All IsUnited reports
         × Appends (W.contents writer.old) (W.contents writer.new) (reports_text reports)) }
+    ensures settings { IfOk result (λ books. books.settings ≡ settings) }
     ensures only { IfErr result (λ e. (e ≡ Fault.BadSettings) ⊎ ((e ≡ Fault.Memory) ⊎ (e ≡ Fault.WriteFault))) }
     ensures untouched { result ≡ Err Fault.BadSettings → writer.new ≡ writer.old }
 {
@@ -93,5 +94,8 @@ pub fn drill<R: Threads + Wait + Sync, G: Gate + Sync, W: Write, P: Write>(
         tell(alloc, &report, writer)?;
         books = Some(closed);
     }
-    Ok(())
+    match books {
+        Some(books) => Ok(books),
+        None => unreachable!(),
+    }
 }

@@ -181,9 +181,12 @@ fn perform<H: Threads + Wait + Sync, R: Read, W: Write, E: Write>(
         Task::Drill {
             transfers,
             openings,
-        } => drill(
-            rt, alloc, settings, transfers, openings, &Ungated, writer, errors, is_watched,
-        ),
+        } => {
+            drill(
+                rt, alloc, settings, transfers, openings, &Ungated, writer, errors, is_watched,
+            )?;
+            Ok(())
+        }
     }
 }
 

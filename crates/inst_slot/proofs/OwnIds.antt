@@ -5,13 +5,14 @@ use Rattle.std.specs.List.{list_any, filter}
 use Rattle.std.specs.Cmp.Lexicographic.{same_text as text_same}
 use Rattle.std.proofs.lemmas.List.{map-append, length-map}
 use Rattle.std.proofs.Math.Seq.{take-append_seam}
-use Rattle.std.proofs.lemmas.Option.{slice_get_within}
+use Rattle.std.proofs.lemmas.Option.{slice_get_within, same_Some}
 use Rattle.std.proofs.lemmas.Bool.{true≢false, eqb-true}
 use Rattle.inst_base.specs.TimeLimit.{deadline_of}
 use Rattle.inst_due.specs.Due.{is_of, has, comes_after, Adds, IsLeast}
 use Rattle.inst_settings.specs.Settings.{HubSettings, same_text}
 use Rattle.inst_settings.proofs.Numbering.{same_text_refl}
 use Rattle.inst_command.specs.declared.outcome.Outcome.{Outcome}
+use Rattle.inst_command.specs.declared.outcome.State.TheVariants.{Unused}
 use Rattle.inst_journal.specs.declared.event.Event.{Event}
 use Rattle.inst_journal.specs.declared.event.Event.TheVariants.{Funded, Defunded, Taken, Forwarded, Booked, Fetched, Opened}
 use Rattle.inst_journal.specs.Booked.{takes, is_taken, booked}
@@ -24,6 +25,7 @@ use Rattle.inst_ledger.specs.Book.{Book as Kept, with_event}
 use Rattle.inst_slot.specs.Book.{Book}
 use Rattle.inst_slot.specs.Telling.{taken_by, if_unbooked, unbooked_at}
 use Rattle.inst_slot.specs.Indexed.{IsIndexed, is_id, id_of, own_ids}
+use Rattle.inst_slot.specs.OwnState.{booked_state, state_of, own_state}
 use Rattle.inst_slot.specs.Waiting.{Deadlines, IsRight, IsWaiting, GivesNextDue, moves_none, waits, takes_waiting, books_own, deadline_in}
 use Rattle.inst_slot.proofs.Dues.{waiting_after, and_true_is, taken_books_none, at_end, undone}
 use Rattle.inst_slot.proofs.Entering.{takes_the_next}
@@ -103,6 +105,35 @@ one_there book ids i id o b same there known here =
     either : (o : Option Outcome) (b : Bool) → is_some o ≡ b → cond (is_none o) (Some id) None ≡ cond b None (Some id)
     either None b h = ap (λ (b : Bool). cond b None (Some id)) h
     either (Some x) b h = ap (λ (b : Bool). cond b None (Some id)) h
+
+-- the state at an index, by the identifiers
+pub unused_there : (who : ℕ) (J : List Event) (ids : List (List ℕ)) (i : ℕ) → ids ≡ own_ids who J → slice_get ids i ≡ None → own_state who J i ≡ Unused
+unused_there who J ids i same none =
+    of (slice_get (live_taken who J) i) (sym (own_taken who J i) ∙ ap (λ (l : List (List ℕ)). slice_get l i) (sym same) ∙ none)
+  where
+    of : (e : Option Event) → taken_by e ≡ None → state_of who J e ≡ Unused
+    of None h = refl
+    of (Some (Taken id to cents stamp)) h = cc
+    of (Some (Funded reference cents)) h = refl
+    of (Some (Defunded reference cents)) h = refl
+    of (Some (Forwarded from id cents d)) h = refl
+    of (Some (Booked from id o)) h = refl
+    of (Some (Fetched n)) h = refl
+    of (Some Opened) h = refl
+
+pub used_there : (who : ℕ) (J : List Event) (ids : List (List ℕ)) (i : ℕ) (id : List ℕ) → ids ≡ own_ids who J → slice_get ids i ≡ Some id → own_state who J i ≡ booked_state (booked who id J)
+used_there who J ids i id same there =
+    of (slice_get (live_taken who J) i) (sym (own_taken who J i) ∙ ap (λ (l : List (List ℕ)). slice_get l i) (sym same) ∙ there)
+  where
+    of : (e : Option Event) → taken_by e ≡ Some id → state_of who J e ≡ booked_state (booked who id J)
+    of None h = cc
+    of (Some (Taken other to cents stamp)) h = ap (λ (x : List ℕ). booked_state (booked who x J)) (same_Some other id h)
+    of (Some (Funded reference cents)) h = cc
+    of (Some (Defunded reference cents)) h = cc
+    of (Some (Forwarded from other cents d)) h = cc
+    of (Some (Booked from other o)) h = cc
+    of (Some (Fetched n)) h = cc
+    of (Some Opened) h = cc
 
 -- what isn't taken isn't among them
 or_false : (a b : Bool) → (a || b) ≡ false → (a ≡ false) × (b ≡ false)

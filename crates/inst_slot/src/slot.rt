@@ -11,6 +11,7 @@ mod arrived;
 mod asking;
 mod expiring;
 mod opening;
+mod reading;
 mod telling;
 
 use crate::arrivals::Arrivals;

@@ -43,7 +43,8 @@ use Rattle.inst_slot.proofs.Learning.{taken_below}
 use Rattle.inst_slot.proofs.Opening.{fits_at_place}
 use Rattle.inst_together.specs.Together.{events_of, histories, IsMember, AreTogether, IsSettled, AllAreSettled}
 use Rattle.inst_command.specs.declared.outcome.State.TheVariants.{Unused as StateUnused}
-use Rattle.inst_together.specs.Told.{booked_state, state_of, IsInTheBooks}
+use Rattle.inst_slot.specs.OwnState.{booked_state, state_of}
+use Rattle.inst_together.specs.Told.{IsInTheBooks}
 use Rattle.inst_together.proofs.Listing.{got, in_filtered, some_same, none_some, is_none_true, the_some, in_inbox, of_entry, same_forwarding, one_place}
 
 same_due : (p : Standing) (d e : ℕ) → Says p (Due d) → Says p (Due e) → d ≡ e

@@ -1,10 +1,10 @@
 -- What the closed books tell of a place: what its originator has booked of the transfer that it took there. Whatever was
 -- seen before is in it. That a caller may ask by a place is this hub's own choice.
-use Rattle.std.specs.Prelude.{◌≡◌, ◌≢◌, ℕ, ◌<◌, List, slice_get, Option, Some, None}
+use Rattle.std.specs.Prelude.{◌≡◌, ◌≢◌, ℕ, ◌<◌, List, slice_get, Some}
 use Rattle.inst_settings.specs.Settings.{HubSettings, participants}
 use Rattle.inst_command.specs.declared.outcome.Outcome.{Outcome}
 use Rattle.inst_command.specs.declared.outcome.State.{State}
-use Rattle.inst_command.specs.declared.outcome.State.TheVariants.{Unused, Pending, Decided}
+use Rattle.inst_command.specs.declared.outcome.State.TheVariants.{Unused, Decided}
 use Rattle.inst_terms.specs.declared.terms.Terms.{Terms}
 use Rattle.inst_board.specs.declared.place.Place.{Place}
 use Rattle.inst_board.specs.declared.about.About.TheVariants.{Opened, HasTerms, Decided as IsDecided}
@@ -12,25 +12,15 @@ use Rattle.inst_board.specs.declared.about.Fact.{Fact}
 use Rattle.inst_board.specs.Standing.{about}
 use Rattle.inst_journal.specs.declared.event.Event.{Event}
 use Rattle.inst_journal.specs.declared.event.Event.TheVariants.{Taken}
-use Rattle.inst_journal.specs.Booked.{booked}
 use Rattle.inst_journal.specs.Opened.{live_taken}
 use Rattle.inst_model.specs.Opening.{Opening, IsOpening}
 use Rattle.inst_slot.specs.Book.{Book}
+use Rattle.inst_slot.specs.OwnState.{own_state}
 use Rattle.inst_together.specs.Together.{histories, AreTogether, AllAreSettled}
-
-abbrev pub booked_state : Option Outcome → State
-booked_state None = Pending
-booked_state (Some outcome) = Decided outcome
-
--- the state of what this event of the originator took
-abbrev pub state_of : ℕ → List Event → Option Event → State
-state_of who J None = Unused
-state_of who J (Some (Taken id to cents stamp)) = booked_state (booked who id J)
-state_of who J (Some _) = Unused
 
 -- what the books tell of the place
 abbrev pub told : (ℕ → List Event) → Place → State
-told J k = state_of k.owner (J k.owner) (slice_get (live_taken k.owner (J k.owner)) k.index)
+told J k = own_state k.owner (J k.owner) k.index
 
 -- the terms are those of a transfer that was taken at the place
 abbrev pub IsTakenWith : (ℕ → List Event) → Place → Terms → Type 0

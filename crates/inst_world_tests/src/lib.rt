@@ -1,11 +1,8 @@
-//! Tests of the hub in one thread: worked rows as scripts of lines, worlds step by step, openings, and what readers and
-//! writers do to a run.
+//! Tests of the hub in one thread: worked rows as scripts of lines, worlds step by step, and openings.
 #![tactic(auto)]
 
 #[cfg(test)]
 mod next_openings;
-#[cfg(test)]
-mod readers_and_writers;
 #[cfg(test)]
 mod rows;
 #[cfg(test)]

@@ -20,7 +20,7 @@ returns-in-Some-clause-opened c =
 pub returns-in-Some-clause-only : goal.returns-in-Some-clause-only
 returns-in-Some-clause-only c =
     let closed : IsClosed c.in-Some.books.settings c.in-Some.books.books =
-    record { lawful = c.settings-settings.ensures.lawful; one_each = c.settings-settings.ensures.one_each; closed = c.settings-settings.ensures.closed } in
+    record { lawful = c.settings-settings.ensures.lawful; one_each = c.settings-settings.ensures.one_each; numbered = c.settings-settings.ensures.numbered; closed = c.settings-settings.ensures.closed } in
     let so = after (goal.at.returns-in-Some-clause-only c).In-Some c.requires.0 c.requires.2 in
     only_memory c.open_next.result c.open_next.ensures.only
     (λ bad. c.open_next.ensures.bad bad (may_open c.requires.0 c.in-Some.books c.args.settings.now 3 closed so c.requires.1 refl))

@@ -22,7 +22,7 @@ can_open : (c : After-deref-2) → CanOpenFrom c.in_ok-settings.settings c.deref
 can_open c =
     let many : c.len.result ≡ length c.args.codes.items = c.len.ensures ∙ (sym c.deref.ensures.len ∙ ap (λ (l : List Code). length l) c.deref.ensures.value) in
     can_open_as c.args.self.now c.args.codes.items c.in_ok-settings.settings c.len.result c.deref-2.result.now c.in_ok-journals.journals.items (wide c) many c.deref-2.ensures.value
-    (record { lawful = c.settings.ensures.lawful; one_each = c.settings.ensures.one_each; closed = c.settings.ensures.closed }) (c.may_open.ensures.few c.if-not-may_open.false) c.in_ok-journals.ensures.ok
+    (record { lawful = c.settings.ensures.lawful; one_each = c.settings.ensures.one_each; numbered = c.settings.ensures.numbered; closed = c.settings.ensures.closed }) (c.may_open.ensures.few c.if-not-may_open.false) c.in_ok-journals.ensures.ok
 
 pub open_from-requires : goal.open_from-requires
 open_from-requires c = record { journals = can_open c }

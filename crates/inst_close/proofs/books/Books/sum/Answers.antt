@@ -1,6 +1,5 @@
 use Rattle.std.proofs.Common.{◌≡◌, ◌<◌, ◌+◌, ℕ, arith, length, get_or, sym, ap, ◌∙◌, subst, pos, List}
 use Rattle.inst_journal.specs.Money.{position}
-use Rattle.inst_journal.specs.declared.event.Event.{Event}
 use Rattle.inst_slot.specs.Book.{Book}
 use Rattle.inst_model.specs.Untold.{sum_below, total}
 use Rattle.inst_together.specs.Together.{histories}
@@ -19,7 +18,7 @@ one_more c =
     let below : i < length books = omega (arith, c.loop-slot-test.true, ap (λ (l : List Book). length l) whole) in
     let here = c.slot-item.is ∙ ap (λ (l : List Book). get_or l i c.slot-item.result) whole in (
       below,
-      one_summed c.args.self.now.settings books i c.slot-item.result c.loop-slot.total c.position-total.result below here (c.position-total.ensures ∙ ap (λ (J : List Event). position J) c.journal.ensures.events) c.loop-slot.invariant,
+      one_summed c.args.self.now.settings books i c.slot-item.result c.loop-slot.total c.position-total.result below here c.position-total.ensures.value c.loop-slot.invariant,
     )
 
 all : (c : After-loop-slot) → c.loop-slot.total ≡ total c.args.self.now.settings (λ p. position (histories c.args.self.now.books p))

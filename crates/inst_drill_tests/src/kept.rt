@@ -1,0 +1,95 @@
+// What a book has of a transfer, by a walk over its events.
+use inst_base::{Fault, Ident};
+use inst_command::Outcome;
+use inst_journal::{Event, Journal};
+use std::alloc::Global;
+
+/// How often a book has a transfer and its outcomes, and what it is over, in cents.
+#[derive(Clone, Copy, Debug, PartialEq, Eq)]
+pub(crate) struct Kept {
+    pub(crate) taken: u32,
+    pub(crate) forwarded: u32,
+    pub(crate) cents: u64,
+    pub(crate) accepted: u32,
+    pub(crate) timed_out: u32,
+}
+
+impl Kept {
+    /// With what the event tells of the transfer with this identifier.
+    fn with(self, event: &Event, id: &Ident) -> Kept {
+        let Kept {
+            taken,
+            forwarded,
+            accepted,
+            timed_out,
+            ..
+        } = self;
+        match event {
+            Event::Taken {
+                id: other,
+                cents,
+                ..
+            } if other == id => Kept {
+                taken: taken.saturating_add(1),
+                cents: cents.get(),
+                ..self
+            },
+            Event::Forwarded {
+                id: other,
+                cents,
+                ..
+            } if other == id => Kept {
+                forwarded: forwarded.saturating_add(1),
+                cents: cents.get(),
+                ..self
+            },
+            Event::Booked {
+                id: other,
+                outcome,
+                ..
+            } if other == id => match outcome {
+                Outcome::Accepted => Kept {
+                    accepted: accepted.saturating_add(1),
+                    ..self
+                },
+                Outcome::TimedOut => Kept {
+                    timed_out: timed_out.saturating_add(1),
+                    ..self
+                },
+                Outcome::Rejected(_) => self,
+            },
+            _ => self,
+        }
+    }
+}
+
+/// What the book has of the transfer of a drill with this number, which is counted over all openings from 1.
+pub(crate) fn kept_of(alloc: Global, journal: &Journal, number: u32) -> Result<Kept, Fault> {
+    let text = format!(in alloc; "D{number}")?;
+    let id = Ident::new(text.as_str())?;
+    let mut kept = Kept {
+        taken: 0,
+        forwarded: 0,
+        cents: 0,
+        accepted: 0,
+        timed_out: 0,
+    };
+    for event in journal.events() {
+        kept = kept.with(event, &id);
+    }
+    Ok(kept)
+}
+
+/// How often the book was opened from, and what was funded in it, in cents.
+pub(crate) fn funded(journal: &Journal) -> (u32, u64) {
+    let mut opened = 0u32;
+    let mut funded = 0u64;
+    for event in journal.events() {
+        match event {
+            Event::Opened => opened = opened.saturating_add(1),
+            Event::Funded { cents, .. } => funded = funded.saturating_add(cents.get()),
+            _ => {}
+        }
+    }
+    (opened, funded)
+}

@@ -1,0 +1,128 @@
+// When a run writes and flushes, as a reader and a writer note it.
+use crate::pieces::Pieces;
+use crate::serving::{BAD_FIELD, replies_to};
+use inst_lines::{Counts, run_lines};
+use inst_rows::settings;
+use std::cell::Cell;
+use std::io::{self, Read, Write};
+use std::process::Abort;
+use std::test::Fail;
+
+/// The first calls in order: `r` for a read, `w` for a write, `f` for a flush.
+#[derive(Drop)]
+struct Log {
+    events: Cell<[u8; 16]>,
+    len: Cell<usize>,
+}
+
+impl Log {
+    fn new() -> Log {
+        Log {
+            events: Cell::new([b' '; 16]),
+            len: Cell::new(0),
+        }
+    }
+
+    fn add(&self, event: u8) {
+        let mut events = self.events.get();
+        let len = self.len.get();
+        if len < events.len() {
+            events[len] = event;
+            self.events.set(events);
+            self.len.set(len + 1);
+        }
+    }
+
+    fn assert_is(&self, rt: &impl Abort, expected: &[u8]) {
+        let events = self.events.get();
+        let len = self.len.get().min(events.len());
+        assert_eq!(rt; &events[..len], expected);
+    }
+}
+
+/// Notes each read.
+#[derive(Drop)]
+struct NotingReader<'a> {
+    pieces: Pieces<'a>,
+    log: &'a Log,
+}
+
+impl Read for NotingReader<'_> {
+    fn read(&mut self, buf: &mut [u8]) -> io::Result<usize> {
+        self.log.add(b'r');
+        self.pieces.read(buf)
+    }
+}
+
+/// Takes at most 40 bytes a write, and notes each write and flush.
+#[derive(Drop)]
+struct NotingWriter<'a> {
+    taken: Vec<u8>,
+    log: &'a Log,
+}
+
+impl Write for NotingWriter<'_> {
+    fn write(&mut self, buf: &[u8]) -> io::Result<usize> {
+        self.log.add(b'w');
+        let count = buf.len().min(40);
+        self.taken.extend_from_slice(&buf[..count])?;
+        Ok(count)
+    }
+
+    fn flush(&mut self) -> io::Result<()> {
+        self.log.add(b'f');
+        Ok(())
+    }
+}
+
+/// Compares the calls that a run makes over two lines `[]` which come in pieces of `most` bytes.
+fn run_pieces(
+    rt: &(impl Abort + AllocGlobal),
+    input: &[u8],
+    most: usize,
+    events: &[u8],
+) -> Result<(), Fail> {
+    let alloc = rt.alloc();
+    let log = Log::new();
+    let settings = settings(alloc)?;
+    let mut reader = NotingReader {
+        pieces: Pieces {
+            bytes: input,
+            most,
+            fails: false,
+        },
+        log: &log,
+    };
+    let mut writer = NotingWriter {
+        taken: Vec::new(alloc),
+        log: &log,
+    };
+    let counts = run_lines(alloc, &settings, &mut reader, &mut writer)?;
+    let both = Counts {
+        lines: 2,
+        refused: 2,
+    };
+    assert_eq!(rt; counts, both);
+    let replies = replies_to(
+        alloc,
+        &[(b"[]", BAD_FIELD), (b"[]", BAD_FIELD)],
+        input.len(),
+    )?;
+    assert_eq!(rt; writer.taken.as_slice(), replies.as_slice());
+    log.assert_is(rt, events);
+    Ok(())
+}
+
+#[test]
+fn flushes_before_each_read(rt: HostRuntime) -> Result<(), Fail> {
+    let cases: [(usize, &[u8]); 3] = [(3, b"rwwfrwwfr"), (9, b"rwwwfr"), (2, b"rrwwfrwwfr")];
+    for (most, events) in cases {
+        run_pieces(&rt, b"[]\n[]\n", most, events)?;
+    }
+    Ok(())
+}
+
+#[test]
+fn flushes_a_last_line_without_a_newline(rt: HostRuntime) -> Result<(), Fail> {
+    run_pieces(&rt, b"[]\n[]", 9, b"rwwfrwwf")
+}

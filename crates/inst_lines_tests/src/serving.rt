@@ -1,0 +1,60 @@
+// Runs and plays of lines, and what they write.
+use inst_base::Fault;
+use inst_lines::{Counts, play_lines, run_lines};
+use inst_settings::Settings;
+use std::alloc::Global;
+use std::io::{Read, Write};
+use std::test::Fail;
+
+/// A line, and its reply.
+pub(crate) type Row<'a> = (&'a [u8], &'a str);
+
+pub(crate) const NOT_JSON: &str = r#"{"fault":"NotJson","number":1,"reply":"refused"}"#;
+
+pub(crate) const BAD_FIELD: &str = r#"{"fault":"BadField","number":2,"reply":"refused"}"#;
+
+/// Whether lines are commands alone, or steps too.
+#[derive(Clone, Copy)]
+pub(crate) enum Mode {
+    Run,
+    Play,
+}
+
+pub(crate) fn serve<R: Read, W: Write>(
+    alloc: Global,
+    mode: Mode,
+    settings: &Settings,
+    reader: &mut R,
+    writer: &mut W,
+) -> Result<Counts, Fault> {
+    match mode {
+        Mode::Run => run_lines(alloc, settings, reader, writer),
+        Mode::Play => play_lines(alloc, settings, reader, writer),
+    }
+}
+
+/// The lines, each with a newline.
+pub(crate) fn lines_of(alloc: Global, rows: &[Row]) -> Result<Vec<u8>, Fail> {
+    let mut lines = Vec::new(alloc);
+    for (line, _) in rows {
+        lines.extend_from_slice(line)?;
+        lines.push(b'\n')?;
+    }
+    Ok(lines)
+}
+
+/// The replies to so many bytes of the lines, each with a newline. A line that is cut off is no JSON.
+pub(crate) fn replies_to(alloc: Global, rows: &[Row], len: usize) -> Result<Vec<u8>, Fail> {
+    let mut replies = Vec::new(alloc);
+    let mut left = len;
+    for (line, reply) in rows {
+        if left == 0 {
+            break;
+        }
+        let reply = if left < line.len() { NOT_JSON } else { *reply };
+        replies.extend_from_slice(reply.as_bytes())?;
+        replies.push(b'\n')?;
+        left = left.saturating_sub(line.len() + 1);
+    }
+    Ok(replies)
+}

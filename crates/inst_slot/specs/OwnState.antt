@@ -1,0 +1,24 @@
+-- What a participant's books tell of a place of its own: what is booked of the transfer that was taken there. That a caller
+-- may ask by a place is this hub's own choice.
+use Rattle.std.specs.Prelude.{ℕ, List, slice_get, Option, Some, None}
+use Rattle.inst_command.specs.declared.outcome.Outcome.{Outcome}
+use Rattle.inst_command.specs.declared.outcome.State.{State}
+use Rattle.inst_command.specs.declared.outcome.State.TheVariants.{Unused, Pending, Decided}
+use Rattle.inst_journal.specs.declared.event.Event.{Event}
+use Rattle.inst_journal.specs.declared.event.Event.TheVariants.{Taken}
+use Rattle.inst_journal.specs.Booked.{booked}
+use Rattle.inst_journal.specs.Opened.{live_taken}
+
+abbrev pub booked_state : Option Outcome → State
+booked_state None = Pending
+booked_state (Some outcome) = Decided outcome
+
+-- the state of what this event of the originator took
+abbrev pub state_of : ℕ → List Event → Option Event → State
+state_of who J None = Unused
+state_of who J (Some (Taken id to cents stamp)) = booked_state (booked who id J)
+state_of who J (Some _) = Unused
+
+-- the state of the participant's own transfer at this index
+abbrev pub own_state : ℕ → List Event → ℕ → State
+own_state who J index = state_of who J (slice_get (live_taken who J) index)
