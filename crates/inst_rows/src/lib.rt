@@ -1,10 +1,15 @@
-//! The hub of the worked rows for tests of the crates below: its settings, its steps, and how it is closed.
+//! The hub of the worked rows for tests of the crates below: its settings, its steps, its slots over one board, and how it
+//! is closed.
 #![tactic(auto)]
 
+mod acts;
 mod closing;
 mod hub;
+mod slots;
 mod steps;
 
+pub use acts::Act;
 pub use closing::{books, close, journals};
 pub use hub::{A, B, C, settings, settings_with};
+pub use slots::Slots;
 pub use steps::{ask, confirm, fund, submit};

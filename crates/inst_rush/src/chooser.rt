@@ -19,6 +19,15 @@ const PACE: u32 = 32;
 /// How many numbers are at hand at a time.
 const WINDOW: u32 = 4;
 
+/// Of how many steps one is in want of memory, in a round of such.
+const WANT: u32 = 4;
+
+/// By how many bytes the memory that is left for such a step may differ.
+const QUANTUM: u32 = 16;
+
+/// How many such differences there are.
+const QUANTA: u32 = 64;
+
 /// By how many numbers questions lie behind submissions.
 const BEHIND: u32 = 2;
 
@@ -62,12 +71,21 @@ impl Chooser {
         }
     }
 
-    /// How often the threads have arrived, where they now wait for one another.
+    /// How often the threads have arrived, where they now wait for one another, first before the first step.
     pub(crate) fn arrivals(&self) -> Option<u32> {
         if self.step % PACE != 0 {
             return None;
         }
-        Some((self.step / PACE).saturating_mul(u32::from(self.round.threads)))
+        let times = (self.step / PACE).saturating_add(1);
+        Some(times.saturating_mul(u32::from(self.round.threads)))
+    }
+
+    /// How many bytes of memory are left for the step that was chosen, where it is to be in want of memory.
+    pub(crate) fn little(&mut self) -> Option<usize> {
+        if !self.round.is_scarce || self.generator.below(WANT) != 0 {
+            return None;
+        }
+        Some((self.generator.below(QUANTA) * QUANTUM) as usize)
     }
 
     /// The contested transfer: all threads submit it before they wait for one another, and then decide it at the same

@@ -7,8 +7,8 @@ pub(crate) const PLACES: u16 = 1_024;
 /// What each participant is funded with, in cents.
 pub(crate) const FUNDS: u64 = 200_000;
 
-/// The most threads of a load.
-const MOST_THREADS: u8 = 8;
+/// The most threads of a load or a stress: one teller fewer than a hub has at most.
+const MOST_THREADS: u8 = 15;
 
 /// Between whom the threads' transfers are.
 #[derive(Clone, Copy, Debug, PartialEq, Eq)]
@@ -38,7 +38,7 @@ impl Pattern {
     }
 }
 
-/// The numbers of threads, 1 to 8, and of rounds that these words choose.
+/// The numbers of threads, 1 to 15, and of rounds that these words choose.
 pub(crate) fn threads_of(words: &[String]) -> Option<(u8, u32)> {
     let threads = words.get(2)?.parse().ok()?;
     if threads == 0 || threads > MOST_THREADS {
@@ -52,7 +52,7 @@ pub(crate) fn threads_of(words: &[String]) -> Option<(u8, u32)> {
 #[derive(Clone, Copy, Debug, PartialEq, Eq)]
 pub(crate) struct Load {
     pub(crate) pattern: Pattern,
-    /// 1 to 8.
+    /// 1 to 15.
     pub(crate) threads: u8,
     /// How many transfers each thread makes in a round.
     pub(crate) share: u32,

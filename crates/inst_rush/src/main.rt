@@ -7,7 +7,8 @@
 //!
 //! With the word `stress` in their place the threads race for the outcomes of a few transfers between 4 participants,
 //! and after each round all that they were told is compared with the books. It tells how many calls were made and how
-//! the transfers ended, or what failed, as a load does.
+//! the transfers ended, or what failed, as a load does. With the word `scarce` behind the rounds each thread makes some
+//! calls in want of memory, while the others race, and goes on where one is refused.
 #![tactic(auto)]
 
 mod accounts;
@@ -32,12 +33,12 @@ mod tally;
 mod transfer;
 
 use flaw::Failure;
-use load::{Load, threads_of};
+use load::Load;
 use rounds::rounds;
 use std::env;
 use std::io::Write;
 use std::process::ExitCode;
-use stress::stress;
+use stress::{Stress, play_apart};
 use tally::Tally;
 
 fn main(rt: HostRuntime) -> ExitCode {
@@ -47,10 +48,10 @@ fn main(rt: HostRuntime) -> ExitCode {
         Err(_) => return ExitCode::from(2),
     };
     if words.get(1).map(|word| word.as_str()) == Some("stress") {
-        let Some((threads, count)) = threads_of(&words) else {
+        let Some(stress) = Stress::of(&words) else {
             return ExitCode::from(2);
         };
-        return tell_stress(&rt, &stress(&rt, alloc, threads, count));
+        return tell_stress(&rt, &play_apart(&rt, alloc, stress));
     }
     let Some((load, count)) = Load::of(&words) else {
         return ExitCode::from(2);

@@ -11,6 +11,7 @@ use crate::job::Job;
 use crate::pace::Pace;
 use crate::sights::Sights;
 use crate::stress_round::StressRound;
+use inst_hoard::Hoard;
 use inst_hub::{Hub, Teller};
 use std::alloc::Global;
 use std::sync::Wait;
@@ -30,12 +31,39 @@ fn keep_pace(chooser: &Chooser, pace: &Pace) {
     }
 }
 
-/// Takes the steps that are chosen.
+/// Takes the step that is chosen, in want of memory where that is chosen and there is a hoard.
+fn take_step<R: Wait>(
+    rt: &R,
+    alloc: Global,
+    hub: &Hub,
+    teller: &mut Teller,
+    chooser: &mut Chooser,
+    hoard: &mut Option<Hoard>,
+    sights: &mut Sights,
+) -> Result<(), Flaw>
+    requires { IsOf hub.now teller.old }
+    ensures { IsOf hub.now teller.new }
+{
+    let act = chooser.choose(alloc)?;
+    match (chooser.little(), hoard) {
+        (Some(bytes), Some(hoard)) => {
+            // Where the other threads hold what is to be left, less is.
+            let _ = hoard.leave(bytes);
+            let ended = act_so(rt, hub, teller, sights, &act);
+            hoard.give_back();
+            ended
+        }
+        _ => act_so(rt, hub, teller, sights, &act),
+    }
+}
+
+/// Takes the steps that are chosen. In a round of want one that is refused memory is passed over.
 fn take_steps<R: Wait>(
     rt: &R,
     alloc: Global,
     hub: &Hub,
     teller: &mut Teller,
+    round: StressRound,
     chooser: Chooser,
     pace: &Pace,
 ) -> Result<Sights, Flaw>
@@ -44,9 +72,24 @@ fn take_steps<R: Wait>(
 {
     let mut chooser = chooser;
     let mut sights = Sights::new(alloc)?;
+    // All threads have their stacks before one takes the memory.
+    keep_pace(&chooser, pace);
+    let mut hoard = if round.is_scarce {
+        Hoard::new(alloc)
+    } else {
+        None
+    };
     for _step in 0..STEPS {
-        let act = chooser.choose(alloc)?;
-        act_so(rt, hub, teller, &mut sights, &act)?;
+        let ended = take_step(
+            rt,
+            alloc,
+            hub,
+            teller,
+            &mut chooser,
+            &mut hoard,
+            &mut sights,
+        );
+        sights.pass(round, ended)?;
         keep_pace(&chooser, pace);
     }
     Ok(sights)
@@ -66,7 +109,7 @@ fn work<R: Wait>(
 {
     let Job { mut teller, thread } = job;
     let chooser = Chooser::new(round, thread);
-    match take_steps(rt, alloc, hub, &mut teller, chooser, pace) {
+    match take_steps(rt, alloc, hub, &mut teller, round, chooser, pace) {
         Ok(sights) => Ok(Done {
             job: Job { teller, thread },
             sights,

@@ -54,17 +54,34 @@ pub(crate) fn settle<R: Wait>(
     Ok(())
 }
 
-/// How many were new in a sweep of each participant.
-fn sweep_each<R: Wait>(rt: &R, hub: &Hub, teller: &mut Teller) -> Result<u32, Flaw>
+/// How many were new in a sweep of each participant at this reading, in milliseconds.
+fn sweep_each<R: Wait>(rt: &R, hub: &Hub, teller: &mut Teller, at: u64) -> Result<u32, Flaw>
     requires { IsOf hub.now teller.old }
     ensures { IsOf hub.now teller.new }
 {
     let mut count = 0u32;
     for who in 0..PARTICIPANTS {
-        let new = sweep(rt, hub, teller, who as u8, Moment::new(0, LATE)?)?;
+        let new = sweep(rt, hub, teller, who as u8, Moment::new(0, at)?)?;
         count = count.saturating_add(new);
     }
     Ok(count)
+}
+
+/// In a round of want each participant is swept at a reading at which nothing is due, so that what followed a reply and
+/// was refused memory comes to it now.
+pub(crate) fn bring_all<R: Wait>(
+    rt: &R,
+    hub: &Hub,
+    teller: &mut Teller,
+    round: StressRound,
+) -> Result<(), Flaw>
+    requires { IsOf hub.now teller.old }
+    ensures { IsOf hub.now teller.new }
+{
+    if round.is_scarce {
+        sweep_each(rt, hub, teller, 0)?;
+    }
+    Ok(())
 }
 
 /// Each participant is swept, and then sweeps find nothing new. The first sweeps find only what earlier sweeps decided,
@@ -79,11 +96,11 @@ pub(crate) fn sweep_all<R: Wait>(
     requires { IsOf hub.now teller.old }
     ensures { IsOf hub.now teller.new }
 {
-    let untold = sweep_each(rt, hub, teller)?;
-    if !round.sweeps && untold != 0 {
+    let untold = sweep_each(rt, hub, teller, LATE)?;
+    if !round.sweeps && !round.is_scarce && untold != 0 {
         return Err(Flaw::NotTold);
     }
-    if sweep_each(rt, hub, teller)? != 0 {
+    if sweep_each(rt, hub, teller, LATE)? != 0 {
         return Err(Flaw::StillNew);
     }
     Ok(())

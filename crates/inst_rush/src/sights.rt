@@ -3,8 +3,9 @@ ghost use Rattle.std.specs.Prelude.{◌<◌};
 ghost use Rattle.inst_rush.specs.declared.sights.TheConstants.{ALL_PLACES};
 
 use crate::flaw::Flaw;
+use crate::stress_round::StressRound;
 use crate::transfer::PARTICIPANTS;
-use inst_base::Ident;
+use inst_base::{Fault, Ident};
 use inst_board::Place;
 use inst_command::{Command, Entry, Outcome, Reply, State};
 use inst_hub::Ticket;
@@ -92,6 +93,8 @@ pub(crate) struct Sights {
     places: Vec<Option<Sight>>,
     entries: Vec<Entry>,
     pub(crate) calls: u64,
+    /// How many steps were refused memory.
+    pub(crate) refused: u64,
 }
 
 /// Where the sights of this place stand.
@@ -110,7 +113,7 @@ pub(crate) fn place_of(number: u16) -> Place
 }
 
 impl Sights {
-    /// Nothing seen yet.
+    /// Nothing seen yet. There is room for the entries of all places, so that nothing that is noted is refused memory.
     pub(crate) fn new(alloc: Global) -> Result<Sights, Flaw> {
         // The check is told of a type of another crate inside a state only where a function names it.
         let _: Option<(State, Outcome)> = None;
@@ -120,8 +123,9 @@ impl Sights {
         }
         Ok(Sights {
             places,
-            entries: Vec::new(alloc),
+            entries: Vec::with_capacity(alloc, usize::from(ALL_PLACES))?,
             calls: 0,
+            refused: 0,
         })
     }
 
@@ -159,6 +163,17 @@ impl Sights {
         }
     }
 
+    /// Counts a step that was refused memory in a round of want, where it is passed over.
+    pub(crate) fn pass(&mut self, round: StressRound, ended: Result<(), Flaw>) -> Result<(), Flaw> {
+        match ended {
+            Err(Flaw::Refused(Fault::Memory)) if round.is_scarce => {
+                self.refused = self.refused.saturating_add(1);
+                Ok(())
+            }
+            ended => ended,
+        }
+    }
+
     /// Notes the entries that are handed out.
     pub(crate) fn fetch(&mut self, entries: &[Entry]) -> Result<(), Flaw> {
         for entry in entries {
@@ -170,6 +185,7 @@ impl Sights {
     /// These with those of another teller.
     pub(crate) fn add(&mut self, other: &Sights) -> Result<(), Flaw> {
         self.calls = self.calls.saturating_add(other.calls);
+        self.refused = self.refused.saturating_add(other.refused);
         self.fetch(other.entries())?;
         for slot in other.places() {
             if let Some(sight) = slot {

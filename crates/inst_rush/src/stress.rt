@@ -8,10 +8,11 @@ use crate::asking::fund_all;
 use crate::flaw::Failure;
 use crate::inbox::check_inbox;
 use crate::job::{Job, jobs, last};
+use crate::load::threads_of;
 use crate::meeting::{agree, meet_all, peek_all};
 use crate::opening::{Size, open};
 use crate::running::run;
-use crate::settling::{fetch_all, settle, sweep_all};
+use crate::settling::{bring_all, fetch_all, settle, sweep_all};
 use crate::sights::{PLACES, Sights};
 use crate::stress_round::StressRound;
 use crate::tally::Tally;
@@ -19,7 +20,7 @@ use crate::transfer::{FUNDS, PARTICIPANTS};
 use inst_hub::{Hub, Teller};
 use std::alloc::Global;
 use std::sync::Wait;
-use std::thread::Threads;
+use std::thread::{Threads, join};
 
 /// All tellers see the same, what was submitted came to its beneficiary, and each transfer comes to its end.
 fn end<R: Wait>(
@@ -39,6 +40,7 @@ fn end<R: Wait>(
     let jobs = meet_all(alloc, hub, teller, jobs)?;
     peek_all(teller, sights)?;
     let jobs = agree(alloc, hub, jobs, sights)?;
+    bring_all(rt, hub, teller, round)?;
     fetch_all(rt, hub, teller, sights)?;
     check_inbox(alloc, sights)?;
     settle(rt, hub, teller, sights)?;
@@ -76,19 +78,54 @@ fn round<R: Threads + Wait + Sync>(
     check(rt, &hub, &mut teller, &sights)
 }
 
-/// So many rounds with 1 to 8 threads: how the transfers ended, or the first failure.
-pub(crate) fn stress<R: Threads + Wait + Sync>(
-    rt: &R,
-    alloc: Global,
+/// What a stress is.
+#[derive(Clone, Copy, Debug)]
+pub(crate) struct Stress {
+    /// 1 to 15.
     threads: u8,
     rounds: u32,
-) -> Result<Tally, Failure> {
+    /// Whether its rounds are such of want.
+    is_scarce: bool,
+}
+
+impl Stress {
+    /// The stress that these words choose.
+    pub(crate) fn of(words: &[String]) -> Option<Stress> {
+        let (threads, rounds) = threads_of(words)?;
+        let is_scarce = match words.get(4).map(|word| word.as_str()) {
+            None => false,
+            Some("scarce") => true,
+            Some(_) => return None,
+        };
+        Some(Stress {
+            threads,
+            rounds,
+            is_scarce,
+        })
+    }
+}
+
+/// The rounds one by one: how the transfers ended, or the first failure.
+fn play<R: Threads + Wait + Sync>(rt: &R, alloc: Global, stress: Stress) -> Result<Tally, Failure> {
     let mut tally = Tally::new();
-    for number in 0..rounds {
-        let ended = round(rt, alloc, StressRound::of(threads, number)).map_err(
-            |failure| failure.in_round(number),
-        )?;
+    for number in 0..stress.rounds {
+        let ended = round(
+            rt,
+            alloc,
+            StressRound::of(stress.threads, stress.is_scarce, number),
+        )
+        .map_err(|failure| failure.in_round(number))?;
         tally = tally.plus(ended);
     }
     Ok(tally)
+}
+
+/// Plays the rounds apart from the first thread, since its stack can't grow where threads have taken all memory.
+pub(crate) fn play_apart<R: Threads + Wait + Sync>(
+    rt: &R,
+    alloc: Global,
+    stress: Stress,
+) -> Result<Tally, Failure> {
+    let (ended, ()) = join(rt, || play(rt, alloc, stress), || ());
+    ended
 }

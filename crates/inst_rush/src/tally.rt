@@ -3,13 +3,14 @@ use crate::sights::Sights;
 use inst_command::{Outcome, State};
 use std::fmt::{self, Display, Formatter};
 
-/// How many calls were made until all transfers had ended, and how these ended.
+/// How many calls were made until all transfers had ended, how these ended, and how many steps were refused memory.
 #[derive(Clone, Copy, Debug, PartialEq, Eq)]
 pub(crate) struct Tally {
     pub(crate) calls: u64,
     pub(crate) accepted: u64,
     pub(crate) rejected: u64,
     pub(crate) timed_out: u64,
+    pub(crate) refused: u64,
 }
 
 impl Tally {
@@ -19,6 +20,7 @@ impl Tally {
             accepted: 0,
             rejected: 0,
             timed_out: 0,
+            refused: 0,
         }
     }
 
@@ -26,6 +28,7 @@ impl Tally {
     pub(crate) fn of(sights: &Sights) -> Result<Tally, Flaw> {
         let mut tally = Tally {
             calls: sights.calls,
+            refused: sights.refused,
             ..Tally::new()
         };
         for slot in sights.places() {
@@ -55,6 +58,7 @@ impl Tally {
             accepted: self.accepted.saturating_add(other.accepted),
             rejected: self.rejected.saturating_add(other.rejected),
             timed_out: self.timed_out.saturating_add(other.timed_out),
+            refused: self.refused.saturating_add(other.refused),
         }
     }
 }
@@ -66,10 +70,11 @@ impl Display for Tally {
             accepted,
             rejected,
             timed_out,
+            refused,
         } = *self;
         write!(
             f,
-            "calls {calls}, accepted {accepted}, rejected {rejected}, timed out {timed_out}"
+            "calls {calls}, accepted {accepted}, rejected {rejected}, timed out {timed_out}, refused memory {refused}"
         )
     }
 }

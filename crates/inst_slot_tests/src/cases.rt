@@ -1,11 +1,10 @@
 //! What is done, one act after another, what is answered, and what is kept.
-use crate::acts::Act;
 use crate::answers::{Told, tells};
 use crate::histories::{Kept, copied, keeps};
-use crate::hub::Hub;
 use inst_base::{Cents, Fault, Ident, Moment, Reason};
 use inst_board::Place;
 use inst_command::{Answer, Command, Submission};
+use inst_rows::{Act, Slots};
 use std::alloc::Global;
 use std::process::Abort;
 use std::test::Fail;
@@ -123,8 +122,8 @@ fn arrival(arrival: Option<(usize, u16)>) -> Option<(usize, Place)> {
 }
 
 /// What the slot answers to a question.
-fn question(hub: &Hub, who: u8, does: &Does) -> Result<bool, Fault> {
-    let Some(slot) = hub.slot(who) else {
+fn question(slots: &Slots, who: u8, does: &Does) -> Result<bool, Fault> {
+    let Some(slot) = slots.slot(who) else {
         return Err(Fault::BadField);
     };
     if slot.who() != who || slot.settings().participants() != 3 {
@@ -142,53 +141,59 @@ fn question(hub: &Hub, who: u8, does: &Does) -> Result<bool, Fault> {
 
 /// What is answered to the act. An allocation may be made to fail: what was answered `Memory` has left the
 /// history as it was, and is done again.
-fn answer(rt: &impl Abort, hub: &mut Hub, who: u8, act: &Act, at: Moment) -> Result<Answer, Fault> {
-    let before = copied(hub.history(who));
-    let answer = hub.act(who, act, at);
+fn answer(
+    rt: &impl Abort,
+    slots: &mut Slots,
+    who: u8,
+    act: &Act,
+    at: Moment,
+) -> Result<Answer, Fault> {
+    let before = copied(slots.history(who));
+    let answer = slots.act(who, act, at);
     if !matches!(&answer, Err(Fault::Memory)) {
         return answer;
     }
-    let after = copied(hub.history(who));
+    let after = copied(slots.history(who));
     assert!(rt; before.0 == after.0 && before.1 == after.1);
-    hub.act(who, act, at)
+    slots.act(who, act, at)
 }
 
 /// Whether the row is answered so.
-fn is_answered(rt: &impl Abort, hub: &mut Hub, row: &Row) -> Result<bool, Fault> {
+fn is_answered(rt: &impl Abort, slots: &mut Slots, row: &Row) -> Result<bool, Fault> {
     let (who, does, at, told) = row;
     let answer = match act(does)? {
-        Some(act) => answer(rt, hub, *who, &act, Moment::new(0, *at)?),
-        None => Ok(Answer::New(question(hub, *who, does)?)),
+        Some(act) => answer(rt, slots, *who, &act, Moment::new(0, *at)?),
+        None => Ok(Answer::New(question(slots, *who, does)?)),
     };
     Ok(tells(&answer, told))
 }
 
-fn answers(rt: &impl Abort, hub: &mut Hub, rows: &[Row]) -> Result<(), Fail> {
+fn answers(rt: &impl Abort, slots: &mut Slots, rows: &[Row]) -> Result<(), Fail> {
     for (nth, row) in rows.iter().enumerate() {
-        assert!(rt; is_answered(rt, hub, row)?, "row {nth}");
+        assert!(rt; is_answered(rt, slots, row)?, "row {nth}");
     }
     Ok(())
 }
 
 /// The hub answers as the case tells, and keeps what it tells.
-fn follows(rt: &impl Abort, hub: &mut Hub, case: &Case) -> Result<(), Fail> {
-    answers(rt, hub, case.rows)?;
+fn follows(rt: &impl Abort, slots: &mut Slots, case: &Case) -> Result<(), Fail> {
+    answers(rt, slots, case.rows)?;
     for (who, history) in case.histories.iter().enumerate() {
-        keeps(rt, hub.history(who as u8), history)?;
+        keeps(rt, slots.history(who as u8), history)?;
     }
     Ok(())
 }
 
 /// A hub that opens for the first time. What answers `Memory` is opened again.
-fn opened(alloc: Global, margin: u32) -> Result<Hub, Fault> {
-    match Hub::open(alloc, margin) {
-        Err(Fault::Memory) => Hub::open(alloc, margin),
+fn opened(alloc: Global, margin: u32) -> Result<Slots, Fault> {
+    match Slots::open(alloc, margin) {
+        Err(Fault::Memory) => Slots::open(alloc, margin),
         opened => opened,
     }
 }
 
 /// A hub that opens from the books of this one, likewise.
-fn opened_again(alloc: Global, books: &Hub, is_first_new: bool) -> Result<Hub, Fault> {
+fn opened_again(alloc: Global, books: &Slots, is_first_new: bool) -> Result<Slots, Fault> {
     match books.open_again(alloc, is_first_new) {
         Err(Fault::Memory) => books.open_again(alloc, is_first_new),
         opened => opened,
@@ -196,22 +201,22 @@ fn opened_again(alloc: Global, books: &Hub, is_first_new: bool) -> Result<Hub, F
 }
 
 /// What the case tells comes so after T1 was submitted.
-pub(crate) fn comes(rt: &(impl Abort + AllocGlobal), case: &Case) -> Result<Hub, Fail> {
+pub(crate) fn comes(rt: &(impl Abort + AllocGlobal), case: &Case) -> Result<Slots, Fail> {
     // The check is told of an enum inside a struct only where a function names it.
     let _: Option<Kept> = None;
-    let mut hub = opened(rt.alloc(), case.margin)?;
-    answers(rt, &mut hub, SUBMITTED)?;
-    follows(rt, &mut hub, case)?;
-    Ok(hub)
+    let mut slots = opened(rt.alloc(), case.margin)?;
+    answers(rt, &mut slots, SUBMITTED)?;
+    follows(rt, &mut slots, case)?;
+    Ok(slots)
 }
 
 /// What the case tells comes so at a hub that opens again from the books of this one.
 pub(crate) fn comes_again(
     rt: &(impl Abort + AllocGlobal),
-    books: &Hub,
+    books: &Slots,
     is_first_new: bool,
     case: &Case,
 ) -> Result<(), Fail> {
-    let mut hub = opened_again(rt.alloc(), books, is_first_new)?;
-    follows(rt, &mut hub, case)
+    let mut slots = opened_again(rt.alloc(), books, is_first_new)?;
+    follows(rt, &mut slots, case)
 }

@@ -2,8 +2,6 @@
 #![tactic(auto)]
 
 #[cfg(test)]
-mod acts;
-#[cfg(test)]
 mod answers;
 #[cfg(test)]
 mod cases;
@@ -13,8 +11,6 @@ mod confirmations;
 mod expiries;
 #[cfg(test)]
 mod histories;
-#[cfg(test)]
-mod hub;
 #[cfg(test)]
 mod openings;
 #[cfg(test)]

@@ -6,9 +6,9 @@ use Rattle.inst_board.specs.Plain.{Contents, plain_knows}
 use Rattle.inst_journal.specs.declared.event.Event.{Event}
 use Rattle.inst_journal.specs.Sound.{IsSound}
 use Rattle.inst_slot.specs.Book.{Book}
-use Rattle.inst_slot_tests.proofs.Together.{AreBooks}
-use Rattle.inst_slot_tests.proofs.hub.Hub.open_again.Goals.{then-is_first_new, else-is_first_new}
-use Rattle.inst_slot_tests.proofs.hub.Hub.open_again.Goals as goal
+use Rattle.inst_rows.proofs.Together.{AreBooks}
+use Rattle.inst_rows.proofs.slots.Slots.open_again.Goals.{then-is_first_new, else-is_first_new}
+use Rattle.inst_rows.proofs.slots.Slots.open_again.Goals as goal
 
 -- the history of a slot of a hub is sound by a copy of the hub's settings
 sound : (b : Contents) (s copy : HubSettings) (books lent : List Book) (who : ℕ) (book : Book) (J : List Event) → AreBooks (λ (x : Contents). x.settings) plain_knows (λ _ _. Unit {0}) b s books

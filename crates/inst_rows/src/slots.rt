@@ -1,14 +1,14 @@
-//! Three slots over one board.
+// The slots of the worked rows' participants over one board.
 ghost use Rattle.std.specs.Prelude.{◌≡◌, ◌<◌, true};
 ghost use Rattle.inst_journal.specs.Opened.{openings};
 ghost use Rattle.inst_journal.specs.Sound.{IsSound};
 
 use crate::acts::{Act, act_of};
+use crate::hub::settings_with;
 use inst_base::{Fault, Moment};
 use inst_board::PlainBoard;
 use inst_command::Answer;
 use inst_journal::{Event, Journal};
-use inst_rows::settings_with;
 use inst_settings::Settings;
 use inst_slot::Slot;
 use std::alloc::Global;
@@ -16,13 +16,13 @@ use std::marker::Model;
 
 /// Slots by their participants' numbers. The board is lawful for each.
 #[derive(Drop)]
-pub(crate) struct Hub {
+pub struct Slots {
     settings: Settings,
     board: PlainBoard,
     slots: Vec<Slot>,
 }
 
-impl Model for Hub {
+impl Model for Slots {
     ghost use Rattle.std.specs.Prelude.{◌≡◌, ℕ, Some, slice_get};
     ghost use Rattle.inst_settings.specs.Settings.{HubSettings};
     ghost use Rattle.inst_board.specs.Plain.{Contents, plain_knows};
@@ -31,11 +31,11 @@ impl Model for Hub {
 
     ghost Value = { HubSettings };
 
-    ghost view = { λ hub. hub.settings };
+    ghost view = { λ slots. slots.settings };
 
-    ghost invariant = { λ hub. (p : ℕ) (book : Book) → slice_get hub.slots.items p ≡ Some book →
-        IsLawfulBoard (λ (b : Contents). b.settings) plain_knows (λ _ _. Unit {0}) hub.board book
-        × (book.who ≡ p) × (book.settings ≡ hub.settings) };
+    ghost invariant = { λ slots. (p : ℕ) (book : Book) → slice_get slots.slots.items p ≡ Some book →
+        IsLawfulBoard (λ (b : Contents). b.settings) plain_knows (λ _ _. Unit {0}) slots.board book
+        × (book.who ≡ p) × (book.settings ≡ slots.settings) };
 }
 
 /// Whether the history is short enough to be opened once more.
@@ -45,15 +45,15 @@ fn is_short(journal: &Journal) -> bool
     journal.events().len() < 500
 }
 
-impl Hub {
-    pub(crate) fn open(alloc: Global, margin: u32) -> Result<Hub, Fault> {
+impl Slots {
+    pub fn open(alloc: Global, margin: u32) -> Result<Slots, Fault> {
         let settings = settings_with(alloc, 2, margin)?;
         let board = PlainBoard::new(alloc, &settings)?;
         let mut slots = Vec::new(alloc);
         slots.push(Slot::open(alloc, &settings, 0)?)?;
         slots.push(Slot::open(alloc, &settings, 1)?)?;
         slots.push(Slot::open(alloc, &settings, 2)?)?;
-        Ok(Hub {
+        Ok(Slots {
             settings,
             board,
             slots,
@@ -67,7 +67,7 @@ impl Hub {
         first: &Journal,
         second: &Journal,
         third: &Journal,
-    ) -> Result<Hub, Fault>
+    ) -> Result<Slots, Fault>
         requires first { IsSound settings 0 first.now.events }
         requires second { IsSound settings 1 second.now.events }
         requires third { IsSound settings 2 third.now.events }
@@ -81,7 +81,7 @@ impl Hub {
         slots.push(Slot::open_from(alloc, &settings, 0, &mut board, first)?)?;
         slots.push(Slot::open_from(alloc, &settings, 1, &mut board, second)?)?;
         slots.push(Slot::open_from(alloc, &settings, 2, &mut board, third)?)?;
-        Ok(Hub {
+        Ok(Slots {
             settings,
             board,
             slots,
@@ -89,23 +89,23 @@ impl Hub {
     }
 
     /// A hub that opens from the books of this one, but the first participant has none where it is new.
-    pub(crate) fn open_again(&self, alloc: Global, is_first_new: bool) -> Result<Hub, Fault> {
+    pub fn open_again(&self, alloc: Global, is_first_new: bool) -> Result<Slots, Fault> {
         let [first, second, third] = self.slots.as_slice() else {
             return Err(Fault::BadSettings);
         };
         let none = Journal::new(alloc);
         let first = if is_first_new { &none } else { first.journal() };
         let settings = self.settings.copy()?;
-        Hub::open_from(alloc, settings, first, second.journal(), third.journal())
+        Slots::open_from(alloc, settings, first, second.journal(), third.journal())
     }
 
     /// The participant's slot.
-    pub(crate) fn slot(&self, who: u8) -> Option<&Slot> {
+    pub fn slot(&self, who: u8) -> Option<&Slot> {
         self.slots.get(usize::from(who))
     }
 
     /// The participant's history; of no participant, nothing.
-    pub(crate) fn history(&self, who: u8) -> &[Event] {
+    pub fn history(&self, who: u8) -> &[Event] {
         match self.slot(who) {
             Some(slot) => slot.journal().events(),
             None => &[],
@@ -113,7 +113,7 @@ impl Hub {
     }
 
     /// What is answered to the participant's act at this reading.
-    pub(crate) fn act(&mut self, who: u8, act: &Act, at: Moment) -> Result<Answer, Fault> {
+    pub fn act(&mut self, who: u8, act: &Act, at: Moment) -> Result<Answer, Fault> {
         match self.slots.get_mut(usize::from(who)) {
             Some(slot) => act_of(slot, &mut self.board, &self.settings, who, act, at),
             None => Err(Fault::BadField),

@@ -13,9 +13,9 @@ use Rattle.inst_slot.specs.Book.{Book}
 use Rattle.inst_slot.specs.LawfulBoard.{IsLawfulBoard}
 use Rattle.inst_slot.specs.Opening.{opened_again, MayOpenAgain, OpensPlaces}
 use Rattle.inst_slot.proofs.Opening.{may_open_first, others_may_open}
-use Rattle.inst_slot_tests.proofs.Together.{Stands, AreBooks, stayed, three}
-use Rattle.inst_slot_tests.proofs.hub.Hub.open_from.Goals as goal
-use Rattle.inst_slot_tests.proofs.hub.Hub.open_from.Goals.{then-is_short-2, else-is_short-2}
+use Rattle.inst_rows.proofs.Together.{Stands, AreBooks, stayed, three}
+use Rattle.inst_rows.proofs.slots.Slots.open_from.Goals as goal
+use Rattle.inst_rows.proofs.slots.Slots.open_from.Goals.{then-is_short-2, else-is_short-2}
 
 -- any may open over a board that is new
 first_may : (b : Contents) (s : HubSettings) (who : ℕ) → b.settings ≡ s → ((k : Place) → kept_at b k ≡ Unused) → MayOpenAgain (λ (x : Contents). x.settings) plain_knows (λ _ _. Unit {0}) b s who

@@ -3,8 +3,8 @@ use Rattle.std.specs.Prelude.{slice_get}
 use Rattle.std.proofs.lemmas.Option.{slice_get-get_or}
 use Rattle.inst_board.specs.Plain.{Contents, plain_knows}
 use Rattle.inst_slot.specs.Book.{Book}
-use Rattle.inst_slot_tests.proofs.Together.{one_acted}
-use Rattle.inst_slot_tests.proofs.hub.Hub.act.Goals as goal
+use Rattle.inst_rows.proofs.Together.{one_acted}
+use Rattle.inst_rows.proofs.slots.Slots.act.Goals as goal
 
 pub act_of-requires-clause-own : goal.act_of-requires-clause-own
 act_of-requires-clause-own c =

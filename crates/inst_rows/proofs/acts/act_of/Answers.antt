@@ -1,7 +1,7 @@
 use Rattle.inst_board.specs.Plain.{Contents, plain_knows}
-use Rattle.inst_slot_tests.proofs.Together.{lawful_are, others_are}
-use Rattle.inst_slot_tests.proofs.acts.act_of.Goals.{in-Deliver+in_ok-is_new-in-Deliver, in-Learn+in_ok-is_new-in-Learn, in-Adopt, in-Expire+in_ok-is_new-in-Expire}
-use Rattle.inst_slot_tests.proofs.acts.act_of.Goals as goal
+use Rattle.inst_rows.proofs.Together.{lawful_are, others_are}
+use Rattle.inst_rows.proofs.acts.act_of.Goals.{in-Deliver+in_ok-is_new-in-Deliver, in-Learn+in_ok-is_new-in-Learn, in-Adopt, in-Expire+in_ok-is_new-in-Expire}
+use Rattle.inst_rows.proofs.acts.act_of.Goals as goal
 
 pub returns-clause-lawful : goal.returns-clause-lawful
 returns-clause-lawful c = elim c.match-act.branch [

@@ -3,7 +3,7 @@ use Rattle.inst_board.specs.Plain.{Contents, plain_knows}
 use Rattle.inst_slot.specs.Opening.{unfound}
 use Rattle.inst_slot.proofs.Adopting.{asks_adopted}
 use Rattle.inst_slot.proofs.Found.{all_found}
-use Rattle.inst_slot_tests.proofs.acts.ask_of.Goals as goal
+use Rattle.inst_rows.proofs.acts.ask_of.Goals as goal
 
 pub apply-requires-clause-adopted : goal.apply-requires-clause-adopted
 apply-requires-clause-adopted c =

@@ -7,8 +7,8 @@ use Rattle.inst_board.specs.Plain.{Contents, plain_knows, kept_at, standing_of}
 use Rattle.inst_board.specs.Standing.{Says}
 use Rattle.inst_slot.specs.Book.{Book}
 use Rattle.inst_slot.proofs.Adopting.{begins}
-use Rattle.inst_slot_tests.proofs.Together.{Stands, AreBooks, three}
-use Rattle.inst_slot_tests.proofs.hub.Hub.open.Goals as goal
+use Rattle.inst_rows.proofs.Together.{Stands, AreBooks, three}
+use Rattle.inst_rows.proofs.slots.Slots.open.Goals as goal
 
 opened : (b : Contents) (s : HubSettings) (who : ℕ) (book : Book) → b.settings ≡ s → ((k : Place) → kept_at b k ≡ Unused) → book.settings ≡ s → book.who ≡ who → book.events ≡ [] → book.arrivals ≡ []
     → Stands (λ (x : Contents). x.settings) plain_knows (λ _ _. Unit {0}) b who s book
