@@ -1,0 +1,177 @@
+//! Replies as lines of JSON, their keys in byte order.
+use crate::books::{Entry, Kind, State};
+use crate::hub::Hub;
+use crate::text::{Ident, Reason};
+use serde::ser::{Serialize, SerializeSeq, Serializer};
+use std::fmt;
+
+#[derive(serde::Serialize)]
+#[serde(untagged)]
+pub enum Reply<'a> {
+    Done {
+        #[serde(rename = "ref")]
+        reference: &'a str,
+        reply: &'static str,
+    },
+    Taken {
+        deadline: u64,
+        id: &'a str,
+        reply: &'static str,
+    },
+    State {
+        from: &'a str,
+        id: &'a str,
+        reply: &'static str,
+        state: &'static str,
+    },
+    Rejected {
+        from: &'a str,
+        id: &'a str,
+        reason: &'a str,
+        reply: &'static str,
+        state: &'static str,
+    },
+    Inbox {
+        entries: Inbox<'a>,
+        reply: &'static str,
+    },
+    Position {
+        available: u64,
+        position: u64,
+        reply: &'static str,
+        reserved: u64,
+    },
+    Statement {
+        lines: Lines<'a>,
+        reply: &'static str,
+    },
+    Refused {
+        fault: &'static str,
+        number: u8,
+        reply: &'static str,
+    },
+}
+
+/// What became of a transfer.
+pub fn state_reply<'a>(from: &'a str, id: &'a Ident, state: &'a State) -> Reply<'a> {
+    let id = id.as_str();
+    let reply = "state";
+    let state = match state {
+        State::Rejected(reason) => return rejected(from, id, reason),
+        State::Pending => "pending",
+        State::Accepted => "accepted",
+        State::TimedOut => "timed_out",
+    };
+    Reply::State {
+        from,
+        id,
+        reply,
+        state,
+    }
+}
+
+fn rejected<'a>(from: &'a str, id: &'a str, reason: &'a Reason) -> Reply<'a> {
+    Reply::Rejected {
+        from,
+        id,
+        reason: reason.as_str(),
+        reply: "state",
+        state: "rejected",
+    }
+}
+
+/// The entries that are handed out.
+pub struct Inbox<'a> {
+    pub hub: &'a Hub,
+    pub entries: &'a [(u8, u32)],
+}
+
+#[derive(serde::Serialize)]
+struct InboxEntry<'a> {
+    cents: u64,
+    deadline: u64,
+    from: &'a str,
+    id: &'a str,
+}
+
+impl Serialize for Inbox<'_> {
+    fn serialize<S: Serializer>(&self, serializer: S) -> Result<S::Ok, S::Error> {
+        let mut entries = serializer.serialize_seq(Some(self.entries.len()))?;
+        for &(from, index) in self.entries {
+            let (id, transfer) = self.hub.transfer(from, index);
+            entries.serialize_element(&InboxEntry {
+                cents: transfer.cents,
+                deadline: transfer.stamp + self.hub.settings().limit,
+                from: self.hub.code(from),
+                id: id.as_str(),
+            })?;
+        }
+        entries.end()
+    }
+}
+
+/// Lines of the statement of a participant.
+pub struct Lines<'a> {
+    pub hub: &'a Hub,
+    pub who: u8,
+    /// How many entries stand before these.
+    pub skip: usize,
+    pub entries: &'a [Entry],
+}
+
+struct Line<'a> {
+    hub: &'a Hub,
+    who: u8,
+    number: usize,
+    entry: &'a Entry,
+}
+
+impl fmt::Display for Line<'_> {
+    fn fmt(&self, f: &mut fmt::Formatter) -> fmt::Result {
+        let Line {
+            hub, who, number, entry, ..
+        } = self;
+        let (other, id, cents) = match entry.kind {
+            Kind::Funded | Kind::Defunded => {
+                let (reference, cents) = hub.funding(*who, entry.index);
+                ("", reference, cents)
+            }
+            Kind::Received => {
+                let (id, transfer) = hub.transfer(entry.owner, entry.index);
+                (hub.code(entry.owner), id, transfer.cents)
+            }
+            Kind::Paid => {
+                let (id, transfer) = hub.transfer(entry.owner, entry.index);
+                (hub.code(transfer.to), id, transfer.cents)
+            }
+        };
+        write!(
+            f,
+            "{number:>6} {:<3} {other:<11} {:<35} {cents:>11} {:>20}",
+            entry.kind.name(),
+            id.as_str(),
+            entry.position
+        )
+    }
+}
+
+impl Serialize for Line<'_> {
+    fn serialize<S: Serializer>(&self, serializer: S) -> Result<S::Ok, S::Error> {
+        serializer.collect_str(self)
+    }
+}
+
+impl Serialize for Lines<'_> {
+    fn serialize<S: Serializer>(&self, serializer: S) -> Result<S::Ok, S::Error> {
+        let mut lines = serializer.serialize_seq(Some(self.entries.len()))?;
+        for (index, entry) in self.entries.iter().enumerate() {
+            lines.serialize_element(&Line {
+                hub: self.hub,
+                who: self.who,
+                number: self.skip + index + 1,
+                entry,
+            })?;
+        }
+        lines.end()
+    }
+}
