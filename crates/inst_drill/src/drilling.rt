@@ -1,5 +1,5 @@
 //! All openings of a drill, one after the other.
-ghost use Rattle.std.specs.Prelude.{◌≡◌, ◌⊎◌, ◌↔◌, ◌≤◌, ℕ, suc, List, length, All, OnOk, IfOk, IfErr, IsOkUnless, Err};
+ghost use Rattle.std.specs.Prelude.{◌≡◌, ◌⊎◌, ◌↔◌, ◌≤◌, ℕ, suc, false, List, length, All, OnOk, IfOk, IfErr, IsOkUnless, Err};
 ghost use Rattle.std.specs.Io.KnownBytes.{Appends};
 ghost use Rattle.inst_hub.specs.Calls.{AreOf};
 ghost use Rattle.inst_hub.specs.Opening.{parts_of};
@@ -61,9 +61,9 @@ fn tell<W: Write>(alloc: Global, report: &Report, writer: &mut W) -> Result<(), 
 /// each opening participant 0 is funded and submits so many transfers of 100 cents to participant 1 by two threads; two
 /// threads confirm them at the last moment, while a third one sweeps at their deadline, so that each ends in one of two
 /// ways; the hub is closed, and `writer` gets the four lines of a `Report`. Where `is_watched`, `progress` is told of
-/// each opening; what it doesn't take is lost. The books of the last opening are answered. `BadSettings` where there are fewer than two participants, no transfer or
-/// more of them than places, or more cents than the ceiling, and where the openings are not 1 to 10; `Memory` and
-/// `WriteFault` leave the lines of the openings before.
+/// each opening; what it doesn't take is lost. The books of the last opening are answered. `BadSettings` where there are
+/// fewer than two participants, no transfer or more of them than places, or more cents than the ceiling, and where the
+/// openings are not 1 to 10; `Memory` and `WriteFault` leave the lines of the openings before.
 pub fn drill<R: Threads + Wait + Sync, G: Gate + Sync, W: Write, P: Write>(
     rt: &R,
     alloc: Global,
@@ -81,6 +81,7 @@ pub fn drill<R: Threads + Wait + Sync, G: Gate + Sync, W: Write, P: Write>(
     ensures settings { IfOk result (λ books. books.settings ≡ settings) }
     ensures only { IfErr result (λ e. (e ≡ Fault.BadSettings) ⊎ ((e ≡ Fault.Memory) ⊎ (e ≡ Fault.WriteFault))) }
     ensures untouched { result ≡ Err Fault.BadSettings → writer.new ≡ writer.old }
+    ensures unwatched { is_watched ≡ false → progress.new ≡ progress.old }
 {
     let plan = Plan::of(&settings, transfers, openings)?;
     let mut books = None;
