@@ -22,6 +22,8 @@ use std::thread::{self, Threads};
 pub(crate) struct Done {
     job: Job,
     sights: Sights,
+    /// Held until all threads are done: given back before, it would be taken by those that still are in want.
+    hoard: Option<Hoard>,
 }
 
 /// Waits for the other threads where all do.
@@ -66,7 +68,7 @@ fn take_steps<R: Wait>(
     round: StressRound,
     chooser: Chooser,
     pace: &Pace,
-) -> Result<Sights, Flaw>
+) -> Result<(Sights, Option<Hoard>), Flaw>
     requires { IsOf hub.now teller.old }
     ensures { IsOf hub.now teller.new }
 {
@@ -92,7 +94,7 @@ fn take_steps<R: Wait>(
         sights.pass(round, ended)?;
         keep_pace(&chooser, pace);
     }
-    Ok(sights)
+    Ok((sights, hoard))
 }
 
 /// Does the job of a thread.
@@ -110,9 +112,10 @@ fn work<R: Wait>(
     let Job { mut teller, thread } = job;
     let chooser = Chooser::new(round, thread);
     match take_steps(rt, alloc, hub, &mut teller, round, chooser, pace) {
-        Ok(sights) => Ok(Done {
+        Ok((sights, hoard)) => Ok(Done {
             job: Job { teller, thread },
             sights,
+            hoard,
         }),
         Err(flaw) => Err(flaw.of(thread)),
     }
@@ -130,7 +133,8 @@ fn gather(
     let mut jobs = Vec::new(alloc);
     let mut all = Sights::new(alloc)?;
     for result in results {
-        let Done { job, sights } = result?;
+        let Done { job, sights, hoard } = result?;
+        drop(hoard);
         all.add(&sights)?;
         jobs.push(job)?;
     }
