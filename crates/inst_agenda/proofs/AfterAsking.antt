@@ -1,5 +1,5 @@
 -- After an ask whatever it names is on the agenda, and of what it doesn't name there is no more to do than before.
-use Rattle.std.proofs.Common.{◌≡◌, ◌≢◌, ℕ, true, List, ◌∷◌, Option, Some, None, refl, sym, ap, subst, ◌∙◌, inl, inr}
+use Rattle.std.proofs.Common.{◌≡◌, ◌≢◌, ℕ, ◌≤◌, true, List, ◌∷◌, length, Option, Some, None, refl, sym, ap, subst, ◌∙◌, inl, inr}
 use Rattle.std.specs.List.{list_any}
 use Rattle.std.proofs.lemmas.Bool.{false≢true, cases_Bool}
 use Rattle.inst_settings.specs.Settings.{HubSettings, is_participant}
@@ -7,6 +7,7 @@ use Rattle.inst_command.specs.declared.ask.Ask.{Ask as AskValue}
 use Rattle.inst_command.specs.declared.reply.Answer.{Answer}
 use Rattle.inst_command.specs.declared.step.Step.{Step}
 use Rattle.inst_command.specs.declared.step.Step.TheVariants.{Ask}
+use Rattle.inst_journal.specs.declared.event.Event.{Event}
 use Rattle.inst_model.specs.Opening.{Opening}
 use Rattle.inst_model.specs.Hub.{history}
 use Rattle.inst_model.specs.Trace.{answer}
@@ -18,7 +19,8 @@ use Rattle.inst_agenda.specs.Watching.{IsLeft, IsAgendaOf, Watches, NotesSome, N
 use Rattle.inst_board.specs.declared.place.Place.{Place}
 use Rattle.inst_slot.specs.Book.{place_at}
 use Rattle.inst_agenda.proofs.Noting.{notes_more, notes_none, noted_here}
-use Rattle.inst_agenda.proofs.Settled.{unnamed_rests, unnamed_stood}
+use Rattle.inst_agenda.proofs.Quiet.{no_longer_is_same, all_stay, quiet_outcome}
+use Rattle.inst_agenda.proofs.Settled.{rests_stays, unnamed_rests, unnamed_stood}
 
 -- the place where a transfer with this name lies was noted
 pub named_some : (hub : Hub) (named : Option (ℕ × List ℕ)) (a b : Agenda) (place : Place) → is_participant (settings_of hub) place.owner ≡ true → Notes a b place
@@ -83,4 +85,28 @@ watches_ask hub middle a b ask told runs same notes O L watches =
           false≢true (sym left.not_next ∙ notes.noted O (Ask ask ∷ L) (runs O L watches.ran).1 p k x (ap (λ (t : HubSettings). at_place p (history t O (Ask ask ∷ L) p) k) same ∙ there) named) in
           let stood = unnamed_stood s O L ask p k x there differs in
           unnamed_rests s O watches.ran.opening L ask at p x differs (watches.is_agenda.rests p k x participant stood at (left_before at p k left));
+    }
+
+-- after an ask of which its asker keeps nothing there is no more to do than before
+pub watches_quiet : (hub middle : Hub) (a : Agenda) (ask : AskValue) (told : Answer) (n : ℕ) → Runs hub (Ask ask) told middle → settings_of middle ≡ settings_of hub
+    → ((O : Opening) (L : List Step) → HasRun O L hub → length (history (settings_of hub) O L ask.who) ≡ n)
+    → ((O : Opening) (L : List Step) → HasRun O L middle → length (history (settings_of middle) O L ask.who) ≤ n)
+    → (O : Opening) (L : List Step) → Watches O L hub a
+    → (told ≡ answer (settings_of hub) O L (Ask ask)) × Watches O (Ask ask ∷ L) middle a
+watches_quiet hub middle a ask told n runs same before after O L watches =
+    let ran = runs O L watches.ran in
+    let long : length (history s O (Ask ask ∷ L) ask.who) ≤ n = subst (λ (t : HubSettings). length (history t O (Ask ask ∷ L) ask.who) ≤ n) same (after O (Ask ask ∷ L) ran.1) in
+    let kept = no_longer_is_same s O (Ask ask) L ask.who n (before O L watches.ran) long in
+    (ran.0, record { ran = ran.1; is_agenda = subst (λ (t : HubSettings). IsAgendaOf t O (Ask ask ∷ L) a) (sym same) (agenda kept) })
+  where
+    s : HubSettings
+    s = settings_of hub
+
+    agenda : history s O (Ask ask ∷ L) ask.who ≡ history s O L ask.who → IsAgendaOf s O (Ask ask ∷ L) a
+    agenda kept = record {
+      next_named = watches.is_agenda.next_named;
+      waiting_named = watches.is_agenda.waiting_named;
+      rests = λ p k x participant there at left.
+          let stood : at_place p (history s O L p) k ≡ Some x = ap (λ (J : List Event). at_place p J k) (sym (all_stay s O ask L kept p)) ∙ there in
+          rests_stays s O (Ask ask) L at p x (quiet_outcome s O watches.ran.opening L ask kept p x.id) (watches.is_agenda.rests p k x participant stood at left);
     }

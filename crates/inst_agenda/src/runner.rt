@@ -94,7 +94,8 @@ impl Runner {
         self.world.step(step)
     }
 
-    /// Runs the ask of a line. What it names is gone over next. `Memory` may leave it run, and what it names not noted.
+    /// Runs the ask of a line. What it names is gone over next, if the asker keeps something of it. `Memory` may leave it
+    /// run, and what it names not noted.
     pub fn ask(&mut self, ask: Ask) -> Result<Answer, Fault>
         requires fits { ask_fits self.old.world.board.settings ask ≡ true }
         ensures ok { IfOk result (λ told. (O : Opening) (L : List Step) → Watches O L self.old.world self.old.agenda →
@@ -104,8 +105,12 @@ impl Runner {
         ensures only { IsOkUnless result Fault.Memory }
         ensures settings { self.new.world.board.settings ≡ self.old.world.board.settings }
     {
+        let events = self.world.journal(ask.who).events().len();
         let answer = self.world.step(&Step::Ask(ask))?;
-        self.note_named(&ask)?;
+        // An ask of which nothing is kept decides nothing.
+        if self.world.journal(ask.who).events().len() > events {
+            self.note_named(&ask)?;
+        }
         Ok(answer)
     }
 

@@ -1,12 +1,14 @@
-ghost use Rattle.std.specs.Prelude.{◌≡◌, ℕ, ◌≤◌, List, IsTrue, length, nat_eq};
+ghost use Rattle.std.specs.Prelude.{◌≡◌, ℕ, ◌≤◌, List, IsTrue, length, nat_eq, not, map};
 ghost use Rattle.std.specs.Cmp.{partial_equiv_from_equiv};
 ghost use Rattle.std.specs.Cmp.Lexicographic.{pointwise, nat_list_eq_equiv};
 ghost use Rattle.std.specs.List.{list_all};
+ghost use Rattle.std.specs.Simd.Lanes.{mask_l};
 ghost use Rattle.inst_base.specs.Text.{is_code, is_code_character, code_of};
 
 use crate::Fault;
 use crate::short_text::ShortText;
 use std::marker::Model;
+use std::simd::prelude::*;
 
 /// A participant's code, as a BIC (ISO 9362): 8 or 11 characters of `A-Z 0-9`. No inner structure is
 /// checked.
@@ -60,9 +62,24 @@ fn is_code_character(byte: u8) -> bool
     byte.is_ascii_uppercase() || byte.is_ascii_digit()
 }
 
+/// Which of eight bytes are none of `A-Z 0-9`.
+#[inline(always)]
+fn not_code_characters(bytes: u8x8) -> u64
+    ensures { result ≡ mask_l (map (λ x. not (is_code_character x)) bytes) }
+{
+    let no_letter = (bytes - u8x8::splat(b'A')).simd_ge(u8x8::splat(26));
+    let no_digit = (bytes - u8x8::splat(b'0')).simd_ge(u8x8::splat(10));
+    (no_letter & no_digit).to_bitmask()
+}
+
 /// Whether each byte is one of `A-Z 0-9`.
 pub(crate) fn are_code_characters(text: &[u8]) -> bool
     ensures { result ≡ list_all is_code_character text.now }
 {
-    text.iter().all(|&byte| is_code_character(byte))
+    if text.len() < 8 || text.len() > 16 {
+        return text.iter().all(|&byte| is_code_character(byte));
+    }
+    let last = text.len() - 8;
+    not_code_characters(u8x8::from_slice(text)) == 0
+        && not_code_characters(u8x8::from_slice(&text[last..])) == 0
 }

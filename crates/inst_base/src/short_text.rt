@@ -15,7 +15,7 @@ use std::{fmt, str};
 #[derive(Clone, Copy)]
 pub(crate) struct ShortText<const N: usize> {
     bytes: [u8; N],
-    len: usize,
+    len: u8,
 }
 
 impl<const N: usize> Model for ShortText<N> {
@@ -47,6 +47,7 @@ impl<const N: usize> ShortText<N> {
     /// A copy of `text`.
     pub(crate) fn new(text: &str) -> Self
         requires fits { length text.now ≤ N }
+        requires small { N ≤ 255 }
         requires ascii { IsAscii text.now }
         ensures { result ≡ text.now }
     {
@@ -54,7 +55,7 @@ impl<const N: usize> ShortText<N> {
         bytes[..text.len()].copy_from_slice(text.as_bytes());
         ShortText {
             bytes,
-            len: text.len(),
+            len: text.len() as u8,
         }
     }
 
@@ -63,7 +64,7 @@ impl<const N: usize> ShortText<N> {
         ensures value { result.now ≡ self.now }
         ensures fits { length result.now ≤ N }
     {
-        unsafe { str::from_utf8_unchecked(&self.bytes[..self.len]) }
+        unsafe { str::from_utf8_unchecked(&self.bytes[..self.len as usize]) }
     }
 }
 

@@ -66,7 +66,7 @@ pub fn line_text(alloc: Global, settings: &Settings, line: &Line) -> Result<Stri
 }
 
 /// What a line calls its kind.
-fn kind_name(kind: LineKind) -> &'static str
+pub fn kind_name(kind: LineKind) -> &'static str
     ensures value { result.now ≡ kind_name kind }
     ensures short { length result.now ≤ 3 }
     ensures form { list_all is_code_character result.now ≡ true }
@@ -80,7 +80,7 @@ fn kind_name(kind: LineKind) -> &'static str
 }
 
 /// The other participant's code, blank where there is none.
-fn other_code(settings: &Settings, other: Option<u8>) -> &str
+pub fn other_code(settings: &Settings, other: Option<u8>) -> &str
     ensures value { result.now ≡ other_code settings.now other }
     ensures short { length result.now ≤ 11 }
     ensures form { list_all is_code_character result.now ≡ true }

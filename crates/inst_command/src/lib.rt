@@ -19,7 +19,7 @@ pub use command::Command;
 pub use count::{MOST_COUNT, is_count};
 pub use entry::{Entries, Entry};
 pub use items::Items;
-pub use layout::{LineText, line_text};
+pub use layout::{LineText, kind_name, line_text, other_code};
 pub use line::{Line, LineKind, Lines};
 pub use outcome::{Outcome, State};
 pub use reply::{Answer, Reply};

@@ -3,3 +3,4 @@ pub mod Plain
 pub mod Texts
 pub mod Reading
 pub mod Telling
+pub mod Rows

@@ -1,26 +1,33 @@
 //! The fields of a line, by one pass over a line of the usual form, and else from its JSON value.
-ghost use Rattle.std.specs.Prelude.{◌≡◌, Ok, IfSome};
+ghost use Rattle.std.specs.Prelude.{◌≡◌, true, Ok};
 ghost use Rattle.serde_json.specs.Data.{Data};
 ghost use Rattle.serde_json.specs.Find.{get};
 ghost use Rattle.serde_json.specs.View.{view};
 ghost use Rattle.inst_scan.specs.Fields.{found, told, fields_of, fields_told};
 ghost use Rattle.inst_json.specs.Lines.{json_of};
 
-use inst_scan::{Field, Fields, scan};
+use inst_scan::{Field, Fields, scan_into};
 use serde_json::Value;
-use std::str;
 
-/// The fields of a line that is found to be a flat object of plain texts and whole numbers.
+/// What one pass over a line finds.
+#[derive(Drop)]
+pub(crate) struct Scanned<'a> {
+    /// Whether the line is a flat object of plain texts and whole numbers. Where it isn't, it may have more fields.
+    pub is_plain: bool,
+    pub fields: Fields<'a>,
+}
+
+/// The fields of a line by one pass, filled where they lie.
 #[inline(always)]
-pub(crate) fn scan_line(line: &[u8]) -> Option<Fields<'_>>
-    ensures { IfSome result (λ fields. (d : Data) × (json_of line.now ≡ Ok d)
-        × (fields_told fields ≡ fields_of d)) }
+pub(crate) fn scan_line(line: &[u8]) -> Scanned<'_>
+    ensures { result.is_plain ≡ true → (d : Data) × (json_of line.now ≡ Ok d) × (fields_told result.fields ≡ fields_of d) }
 {
-    let fields = scan(line)?;
-    let Ok(_) = str::from_utf8(line) else {
-        return None;
+    let mut scanned = Scanned {
+        is_plain: false,
+        fields: Fields::new(),
     };
-    Some(fields)
+    scanned.is_plain = scan_into(line, &mut scanned.fields);
+    scanned
 }
 
 /// What a value has under a name.

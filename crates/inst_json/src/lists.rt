@@ -1,19 +1,20 @@
 //! The replies that are lists: the entries of an inbox and the lines of a statement.
-ghost use Rattle.std.specs.Prelude.{◌≡◌, ◌++◌, true, nat_lt, OnOk};
+ghost use Rattle.std.specs.Prelude.{◌≡◌, ◌++◌, ◌+◌, ◌-◌, ◌≤◌, true, length, nat_lt, decimal, OnOk};
 ghost use Rattle.std.specs.List.{list_all};
 ghost use Rattle.serde_json.specs.Data.{string};
 ghost use Rattle.serde_json.specs.Written.{compact_text, comma_if};
 ghost use Rattle.inst_settings.specs.Settings.{is_participant};
 ghost use Rattle.inst_command.specs.LineText.{line_fits, line_text};
 ghost use Rattle.inst_json.specs.Laws.{entry_has_words};
+ghost use Rattle.inst_json.specs.Pieces.{put};
 ghost use Rattle.inst_json.specs.Replies.{entry_data, inbox_data, statement_data};
 
 use crate::piece::{Piece, append};
 use crate::reply::code_text;
-use inst_command::{Entry, Line, LineText};
+use inst_command::{Entry, Line, kind_name, other_code};
 use inst_settings::Settings;
+use itoa::write_digits;
 use std::alloc::AllocError;
-use std::io::Write;
 
 pub(crate) fn append_inbox(
     out: &mut Vec<u8>,
@@ -88,15 +89,38 @@ pub(crate) fn append_statement(
     append(out, &[Piece::Text("],\"reply\":\"statement\"}")])
 }
 
-/// Puts a statement line at the end of the text, as a text of JSON.
+/// Puts a statement line at the end of the text, as a text of JSON: its columns between two quotes.
 fn append_line(out: &mut Vec<u8>, settings: &Settings, line: &Line) -> Result<(), AllocError>
     requires { line_fits settings.now line.now ≡ true }
     ensures { OnOk result (out.new.items
         ≡ out.old.items ++ compact_text (string (line_text settings.now line.now))) }
 {
-    let text = LineText::new(settings, line);
-    match write!(out, "\"{text}\"") {
-        Ok(()) => Ok(()),
-        Err(_) => Err(AllocError),
-    }
+    let mut row = [b' '; 93];
+    row[0] = b'"';
+    row[92] = b'"';
+    put_number(&mut row, 7, u64::from(line.number));
+    put_text(&mut row, 8, kind_name(line.kind));
+    put_text(&mut row, 12, other_code(settings, line.other));
+    put_text(&mut row, 24, line.id.text());
+    put_number(&mut row, 71, line.cents.get());
+    put_number(&mut row, 92, line.position);
+    out.extend_from_slice(&row)
+}
+
+/// Puts a text into the row, from this column on.
+#[inline(always)]
+fn put_text(row: &mut [u8; 93], column: usize, text: &str)
+    requires { column + length text.now ≤ 93 }
+    ensures { row.new ≡ put row.old column text.now }
+{
+    row[column..column + text.len()].copy_from_slice(text.as_bytes());
+}
+
+/// Puts the digits of a number into the row, right before this column.
+#[inline(always)]
+fn put_number(row: &mut [u8; 93], end: usize, number: u64)
+    requires { (length (decimal number) ≤ end) × (end ≤ 93) }
+    ensures { row.new ≡ put row.old (end - length (decimal number)) (decimal number) }
+{
+    write_digits(number, row, end);
 }

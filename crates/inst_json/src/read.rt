@@ -52,8 +52,9 @@ impl LineReader {
         ensures value { IsUnlessMemory result (command_of_line settings.now line.now) }
         ensures fits { IfOk result (λ ask. ask_fits settings.now ask ≡ true) }
     {
-        if let Some(fields) = scan_line(line) {
-            return ask_of(settings, &fields);
+        let scanned = scan_line(line);
+        if scanned.is_plain {
+            return ask_of(settings, &scanned.fields);
         }
         let value = self.json_of(line)?;
         ask_of(settings, &fields_of(&value))
@@ -67,8 +68,9 @@ impl LineReader {
         ensures value { IsUnlessMemory result (step_of_line settings.now line.now) }
         ensures fits { IfOk result (λ step. step_fits settings.now step ≡ true) }
     {
-        if let Some(fields) = scan_line(line) {
-            return step_of(settings, &fields);
+        let scanned = scan_line(line);
+        if scanned.is_plain {
+            return step_of(settings, &scanned.fields);
         }
         let value = self.json_of(line)?;
         step_of(settings, &fields_of(&value))

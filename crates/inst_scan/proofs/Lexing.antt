@@ -13,7 +13,7 @@ use Rattle.json.proofs.Printed.Numbers.{lex-number}
 use Rattle.json.proofs.Printed.Decimals.{IsNumber-decimal}
 
 -- the text from a place on, by the byte that stands there
-at_place : (t : List ℕ) (i x : ℕ) → i < length t → get_or t i 0 ≡ x → drop i t ≡ x ∷ drop (i + 1) t
+pub at_place : (t : List ℕ) (i x : ℕ) → i < length t → get_or t i 0 ≡ x → drop i t ≡ x ∷ drop (i + 1) t
 at_place t i x within is =
     let e : suc i ≡ i + 1 = omega arith in
     drop-cons t i 0 within ∙ ap₂ (λ y k. y ∷ drop k t) is e

@@ -1,4 +1,6 @@
 pub mod Reading
 pub mod Lexing
+pub mod Ascii
 pub mod Told
 pub mod Members
+pub mod Runs

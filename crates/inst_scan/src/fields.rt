@@ -38,7 +38,7 @@ pub struct Fields<'a> {
 impl<'a> Fields<'a> {
     /// No field.
     #[inline(always)]
-    pub(crate) fn new() -> Fields<'a>
+    pub fn new() -> Fields<'a>
         ensures { listed result ≡ no_fields }
     {
         Fields {

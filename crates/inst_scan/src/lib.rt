@@ -7,4 +7,4 @@ mod member;
 mod parts;
 
 pub use fields::{Field, Fields};
-pub use line::scan;
+pub use line::{scan, scan_into};

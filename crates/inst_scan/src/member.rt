@@ -1,5 +1,6 @@
 // A member of an object: its key, and its value.
 ghost use Rattle.std.specs.Prelude.{◌≡◌, ◌<◌, ◌≤◌, ◌∷◌, length, drop, Some, IfSome};
+ghost use Rattle.std.specs.Str.{IsAscii};
 ghost use Rattle.json.specs.Token.{Token, string};
 ghost use Rattle.json.specs.Lex.{lex, between, token, colon};
 ghost use Rattle.serde_json.specs.Data.{Data};
@@ -15,6 +16,7 @@ pub(crate) fn key(text: &[u8], from: usize) -> Option<(&str, usize)>
     ensures within { IfSome result (λ p. (from < p.1) × (p.1 ≤ length text.now)) }
     ensures lexed { IfSome result (λ p. lex between (drop from text.now)
         ≡ token (string p.0.now) ∷ colon ∷ lex between (drop p.1 text.now)) }
+    ensures ascii { IfSome result (λ p. IsAscii (drop p.1 text.now) → IsAscii (drop from text.now)) }
 {
     let start = skip_space(text, from);
     if start >= text.len() || text[start] != b'"' {
@@ -35,6 +37,7 @@ pub(crate) fn scalar(text: &[u8], from: usize) -> Option<(Field<'_>, usize)>
     ensures within { IfSome result (λ p. (from < p.1) × (p.1 ≤ length text.now)) }
     ensures lexed { IfSome result (λ p. (t : Token) × (d : Data) × IsScalar t d × (data_of p.0 ≡ Some d)
         × (lex between (drop from text.now) ≡ token t ∷ lex between (drop p.1 text.now))) }
+    ensures ascii { IfSome result (λ p. IsAscii (drop p.1 text.now) → IsAscii (drop from text.now)) }
 {
     let start = skip_space(text, from);
     if start < text.len() && text[start] == b'"' {

@@ -1,8 +1,9 @@
-use Rattle.std.proofs.Common.{sym, ap, ◌∙◌, ◌∷◌, refl, decimal}
+use Rattle.std.proofs.Common.{sym, ap, ◌∙◌, ◌∷◌, refl, decimal, arith}
 use Rattle.json.specs.Token as token_spec
 use Rattle.json.specs.Lex.{token}
 use Rattle.serde_json.specs.Data as value_spec
 use Rattle.serde_json.proofs.Numbers.{number_of-decimal}
+use Rattle.inst_scan.proofs.Ascii.{ascii_byte}
 use Rattle.inst_scan.proofs.Lexing.{lex_quote}
 use Rattle.inst_scan.proofs.Members.{IsScalar-string, IsScalar-number}
 use Rattle.inst_scan.proofs.member.scalar.Goals as goal
@@ -29,3 +30,11 @@ returns-clause-lexed c =
       refl,
       sym c.skip_space-start.ensures.same ∙ c.in_ok-value.ensures.lexed,
     )
+
+pub returns-then-text-start-eq34-clause-ascii : goal.returns-then-text-start-eq34-clause-ascii
+returns-then-text-start-eq34-clause-ascii c = λ rest.
+    c.skip_space-start.ensures.ascii
+    (ascii_byte c.args.text.now c.skip_space-start.result 34 c.if-start-text.true c.if-text-start-eq34.true (omega arith) (c.in_ok-word.ensures.ascii rest))
+
+pub returns-clause-ascii : goal.returns-clause-ascii
+returns-clause-ascii c = λ rest. c.skip_space-start.ensures.ascii (c.in_ok-value.ensures.ascii rest)

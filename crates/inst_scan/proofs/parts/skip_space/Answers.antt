@@ -1,4 +1,5 @@
 use Rattle.std.proofs.Common.{sym, ◌∙◌, arith}
+use Rattle.inst_scan.proofs.Ascii.{ascii_space}
 use Rattle.inst_scan.proofs.Lexing.{lex_space}
 use Rattle.inst_scan.proofs.parts.skip_space.Goals as goal
 
@@ -7,4 +8,5 @@ loop-at-preserved c = record {
   from = omega arith;
   within = omega arith;
   same = sym (lex_space c.args.text.now c.loop-at.at c.loop-at-test.true (sym c.is_space.ensures ∙ c.if-is_space.true)) ∙ c.loop-at.invariant.same;
+  ascii = λ rest. c.loop-at.invariant.ascii (ascii_space c.args.text.now c.loop-at.at c.loop-at-test.true (sym c.is_space.ensures ∙ c.if-is_space.true) rest);
 }

@@ -1,4 +1,5 @@
 use Rattle.std.proofs.Common.{◌≡◌, ◌≤◌, ◌-◌, length, drop}
+use Rattle.std.specs.Str.{IsAscii}
 use Rattle.json.specs.Lex.{lex, between}
 use Rattle.inst_scan.proofs.parts.skip_space.Given as goal
 
@@ -7,6 +8,7 @@ invariant-loop-at l = record {
   from : l.fn.from ≤ l.at;
   within : l.at ≤ length l.text;
   same : lex between (drop l.at l.text) ≡ lex between (drop l.fn.from l.text);
+  ascii : IsAscii (drop l.at l.text) → IsAscii (drop l.fn.from l.text);
 }
 
 abbrev pub decreases-loop-at : goal.decreases-loop-at

@@ -1,9 +1,10 @@
 use Rattle.std.proofs.Common.{◌≡◌, ◌+◌, ◌-◌, suc, ℕ, List, ap, sym, ◌∙◌, arith, drop, take, get_or, Some, subst, IsAscii}
-use Rattle.std.proofs.lemmas.List.{get_or-drop, drop-drop}
-use Rattle.std.proofs.lemmas.Str.{IsUtf8-from_ascii}
+use Rattle.std.proofs.lemmas.List.{get_or-drop, drop-drop, take-append-drop}
+use Rattle.std.proofs.lemmas.Str.{IsAscii-append, IsUtf8-from_ascii}
 use Rattle.std.specs.List.{prefix_len}
 use Rattle.inst_scan.specs.Scalar.{is_text}
 use Rattle.json.specs.Lex.{lex, between}
+use Rattle.inst_scan.proofs.Ascii.{ascii_byte}
 use Rattle.inst_scan.proofs.Lexing.{string_at, ascii_at}
 use Rattle.inst_scan.proofs.parts.string.Goals as goal
 
@@ -38,3 +39,14 @@ from_utf8_unchecked-word-requires c =
     let at = c.plain_end-end.ensures.value in
     let n : prefix_len is_text xs ≡ j - c.args.from = omega (arith, at) in
     IsUtf8-from_ascii _ (subst (λ k. IsAscii (take k xs)) n (ascii_at xs))
+
+pub returns-then-text-end-eq34-clause-ascii : goal.returns-then-text-end-eq34-clause-ascii
+returns-then-text-end-eq34-clause-ascii c = λ rest.
+    let t = c.args.text.now in
+    let xs = drop c.args.from t in
+    let n = prefix_len is_text xs in
+    let j = c.plain_end-end.result in
+    let at = c.plain_end-end.ensures.value in
+    let behind : drop n xs ≡ drop j t = drop-drop n c.args.from t ∙ ap (λ k. drop k t) (sym at) in
+    let quote = ascii_byte t j 34 c.if-end-text.true c.if-text-end-eq34.true (omega arith) rest in
+    subst IsAscii (take-append-drop n xs) (IsAscii-append (take n xs) (drop n xs) (ascii_at xs) (subst IsAscii (sym behind) quote))

@@ -1,17 +1,29 @@
-use Rattle.std.proofs.Common.{sym, subst, ◌∙◌, ap}
+use Rattle.std.proofs.Common.{ℕ, ◌∷◌, ◌≤◌, length, sym, subst, ◌∙◌, ap}
 use Rattle.inst_command.specs.declared.step.Step.TheVariants.{Ask}
 use Rattle.inst_world.specs.HasRun.{Hub, settings_of, Runs}
 use Rattle.inst_agenda.specs.Naming.{named_by}
-use Rattle.inst_agenda.specs.Watching.{NotesNamed}
-use Rattle.inst_agenda.proofs.AfterAsking.{watches_ask}
+use Rattle.inst_agenda.specs.Watching.{Watches, NotesNamed}
+use Rattle.inst_agenda.specs.declared.runner.Runner.{Runner}
+use Rattle.inst_agenda.proofs.AfterAsking.{watches_ask, watches_quiet}
 use Rattle.inst_agenda.proofs.runner.Runner.ask.Goals as goal
+use Rattle.inst_agenda.proofs.runner.Runner.ask.Goals.{then-events+in_ok-note_named, else-events}
 
 pub returns-clause-ok : goal.returns-clause-ok
-returns-clause-ok c =
-    let old = c.args.self.now in
-    let agenda = c.note_named.new.self.agenda in
-    let same = c.in_ok-note_named.ensures.world in
-    watches_ask old.world c.note_named.new.self.world old.agenda agenda c.args.ask c.in_ok-answer.answer
-    (subst (λ (h : Hub). Runs old.world (Ask c.args.ask) c.in_ok-answer.answer h) (sym same) c.in_ok-answer.ensures.ok)
-    (ap settings_of same ∙ c.step.ensures.settings)
-    (subst (λ (h : Hub). NotesNamed h (named_by c.args.ask.who c.args.ask.command) old.agenda agenda) (sym same) c.in_ok-note_named.ensures.notes)
+returns-clause-ok c = elim c.if-events.branch [
+  | then-events+in_ok-note_named w ↦
+      let old = c.args.self.now in
+      let noted = w.note_named.new.self in
+      let same = w.in_ok-note_named.ensures.world in
+      let known = watches_ask old.world noted.world old.agenda noted.agenda c.args.ask c.in_ok-answer.answer
+      (subst (λ (h : Hub). Runs old.world (Ask c.args.ask) c.in_ok-answer.answer h) (sym same) c.in_ok-answer.ensures.ok)
+      (ap settings_of same ∙ c.step.ensures.settings)
+      (subst (λ (h : Hub). NotesNamed h (named_by c.args.ask.who c.args.ask.command) old.agenda noted.agenda) (sym same) w.in_ok-note_named.ensures.notes) in
+      λ O L watches. ((known O L watches).0, subst (λ (r : Runner). Watches O (Ask c.args.ask ∷ L) r.world r.agenda) (sym w.self-is) (known O L watches).1)
+  | else-events w ↦
+      let old = c.args.self.now in
+      let known = watches_quiet old.world c.step.new.self old.agenda c.args.ask c.in_ok-answer.answer (length c.events-events.result.now)
+      c.in_ok-answer.ensures.ok c.step.ensures.settings
+      (λ O L ran. ap length (sym (c.events-events.ensures ∙ c.journal.ensures.history O L ran)))
+      (λ O L ran. subst (λ (n : ℕ). n ≤ length c.events-events.result.now) (ap length (c.events.ensures ∙ c.journal-2.ensures.history O L ran)) w.if-events.false) in
+      λ O L watches. ((known O L watches).0, subst (λ (r : Runner). Watches O (Ask c.args.ask ∷ L) r.world r.agenda) (sym w.self-is) (known O L watches).1)
+]

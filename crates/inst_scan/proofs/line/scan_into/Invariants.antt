@@ -1,12 +1,14 @@
 use Rattle.std.proofs.Common.{◌-◌, ◌≤◌, length, drop}
+use Rattle.std.specs.Str.{IsAscii}
 use Rattle.json.specs.Lex.{lex, between, tokens}
 use Rattle.inst_scan.proofs.Members.{Reading}
 use Rattle.inst_scan.specs.Fields.{listed}
-use Rattle.inst_scan.proofs.line.scan.Given as goal
+use Rattle.inst_scan.proofs.line.scan_into.Given as goal
 
 abbrev pub invariant-loop-at : goal.invariant-loop-at
 invariant-loop-at l = record {
   within : l.at ≤ length l.text;
+  ascii : IsAscii (drop l.at l.text) → IsAscii l.text;
   reading : Reading (tokens l.text) (lex between (drop l.at l.text)) (listed l.found);
 }
 
