@@ -14,29 +14,33 @@ use Rattle.inst_command.specs.LineText.{line_text}
 use Rattle.inst_command.specs.declared.line.Line.{Line}
 use Rattle.inst_json.specs.Replies.{done_data, taken_data, state_data, rejected_data, position_data, refused_data, new_data, entry_members, entry_data, inbox_data, statement_data, items}
 
+-- one piece more, behind what was put at the end of a text
+pub one_more : (old pieces piece : List ℕ) {before after : List ℕ} → before ≡ old ++ pieces → after ≡ before ++ piece → after ≡ old ++ (pieces ++ piece)
+one_more old pieces piece first next = next ∙ ap (λ t. t ++ piece) first ∙ append_assoc old pieces piece
+
 pub done_line : (reference : List ℕ) → escape reference ≡ reference →
-    codes "{\"ref\":\"" ++ (reference ++ codes "\",\"reply\":\"done\"}") ≡ compact_text (done_data reference)
+    (codes "{\"ref\":\"" ++ reference) ++ codes "\",\"reply\":\"done\"}" ≡ compact_text (done_data reference)
 unfolding serde_json_on_literals
 done_line reference plain = simp (plain, append_assoc)
 
 pub taken_line : (id : List ℕ) (deadline : ℕ) → escape id ≡ id →
-    codes "{\"deadline\":" ++ (decimal deadline ++ (codes ",\"id\":\"" ++ (id ++ codes "\",\"reply\":\"taken\"}"))) ≡ compact_text (taken_data id deadline)
+    (((codes "{\"deadline\":" ++ decimal deadline) ++ codes ",\"id\":\"") ++ id) ++ codes "\",\"reply\":\"taken\"}" ≡ compact_text (taken_data id deadline)
 unfolding serde_json_on_literals
 taken_line id deadline plain = simp (plain, append_assoc)
 
 pub state_line : (from id name : List ℕ) → escape from ≡ from → escape id ≡ id → escape name ≡ name →
-    codes "{\"from\":\"" ++ (from ++ (codes "\",\"id\":\"" ++ (id ++ (codes "\",\"reply\":\"state\",\"state\":\"" ++ (name ++ codes "\"}"))))) ≡ compact_text (state_data from id name)
+    (((((codes "{\"from\":\"" ++ from) ++ codes "\",\"id\":\"") ++ id) ++ codes "\",\"reply\":\"state\",\"state\":\"") ++ name) ++ codes "\"}" ≡ compact_text (state_data from id name)
 unfolding serde_json_on_literals
 state_line from id name plain_from plain_id plain_name = simp (plain_from, plain_id, plain_name, append_assoc)
 
 pub rejected_line : (from id reason : List ℕ) → escape from ≡ from → escape id ≡ id → escape reason ≡ reason →
-    codes "{\"from\":\"" ++ (from ++ (codes "\",\"id\":\"" ++ (id ++ (codes "\",\"reason\":\"" ++ (reason ++ codes "\",\"reply\":\"state\",\"state\":\"rejected\"}"))))) ≡ compact_text (rejected_data from id reason)
+    (((((codes "{\"from\":\"" ++ from) ++ codes "\",\"id\":\"") ++ id) ++ codes "\",\"reason\":\"") ++ reason) ++ codes "\",\"reply\":\"state\",\"state\":\"rejected\"}" ≡ compact_text (rejected_data from id reason)
 unfolding serde_json_on_literals
 rejected_line from id reason plain_from plain_id plain_reason = simp (plain_from, plain_id, plain_reason, append_assoc)
 
 abbrev pub entry_text : ℕ → ℕ → List ℕ → List ℕ → List ℕ
 entry_text cents deadline from id =
-    codes "{\"cents\":" ++ (decimal cents ++ (codes ",\"deadline\":" ++ (decimal deadline ++ (codes ",\"from\":\"" ++ (from ++ (codes "\",\"id\":\"" ++ (id ++ codes "\"}")))))))
+    (((((((codes "{\"cents\":" ++ decimal cents) ++ codes ",\"deadline\":") ++ decimal deadline) ++ codes ",\"from\":\"") ++ from) ++ codes "\",\"id\":\"") ++ id) ++ codes "\"}"
 
 pub entry_line : (cents deadline : ℕ) (from id : List ℕ) → escape from ≡ from → escape id ≡ id →
     entry_text cents deadline from id ≡ compact_text (entry_members cents deadline from id)
@@ -44,18 +48,18 @@ unfolding serde_json_on_literals
 entry_line cents deadline from id plain_from plain_id = simp (plain_from, plain_id, append_assoc)
 
 pub position_line : (position reserved available : ℕ) →
-    codes "{\"available\":" ++ (decimal available ++ (codes ",\"position\":" ++ (decimal position ++ (codes ",\"reply\":\"position\",\"reserved\":" ++ (decimal reserved ++ codes "}")))))
+    (((((codes "{\"available\":" ++ decimal available) ++ codes ",\"position\":") ++ decimal position) ++ codes ",\"reply\":\"position\",\"reserved\":") ++ decimal reserved) ++ codes "}"
     ≡ compact_text (position_data position reserved available)
 unfolding serde_json_on_literals
 position_line position reserved available = simp append_assoc
 
 pub refused_line : (fault : Fault) →
-    codes "{\"fault\":\"" ++ (name_of fault ++ (codes "\",\"number\":" ++ (decimal (number_of fault) ++ codes ",\"reply\":\"refused\"}"))) ≡ compact_text (refused_data fault)
+    (((codes "{\"fault\":\"" ++ name_of fault) ++ codes "\",\"number\":") ++ decimal (number_of fault)) ++ codes ",\"reply\":\"refused\"}" ≡ compact_text (refused_data fault)
 unfolding serde_json_on_literals
 refused_line fault = simp (escape-name_of fault, append_assoc)
 
 pub new_line : (new : Bool) →
-    codes "{\"new\":" ++ ((if new then codes "true" else codes "false") ++ codes ",\"reply\":\"step\"}") ≡ compact_text (new_data new)
+    (codes "{\"new\":" ++ (if new then codes "true" else codes "false")) ++ codes ",\"reply\":\"step\"}" ≡ compact_text (new_data new)
 unfolding serde_json_on_literals
 new_line true = refl
 new_line false = refl

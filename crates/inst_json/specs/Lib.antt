@@ -5,7 +5,7 @@ pub mod Checks
 pub mod Asker
 pub mod Commands
 pub mod Replies
-pub mod Pieces
+pub mod Row
 pub mod Steps
 pub mod Lines
 pub mod Laws

@@ -6,10 +6,10 @@ ghost use Rattle.serde_json.specs.Written.{compact_text, comma_if};
 ghost use Rattle.inst_settings.specs.Settings.{is_participant};
 ghost use Rattle.inst_command.specs.LineText.{line_fits, line_text};
 ghost use Rattle.inst_json.specs.Laws.{entry_has_words};
-ghost use Rattle.inst_json.specs.Pieces.{put};
+ghost use Rattle.inst_json.specs.Row.{put};
 ghost use Rattle.inst_json.specs.Replies.{entry_data, inbox_data, statement_data};
 
-use crate::piece::{Piece, append};
+use crate::piece::{push_number, push_text};
 use crate::reply::code_text;
 use inst_command::{Entry, Line, kind_name, other_code};
 use inst_settings::Settings;
@@ -25,12 +25,12 @@ pub(crate) fn append_inbox(
     ensures text { OnOk result (out.new.items ≡ out.old.items ++ compact_text (inbox_data settings.now entries.now)) }
     ensures words { OnOk result (list_all (entry_has_words settings.now) entries.now ≡ true) }
 {
-    append(out, &[Piece::Text("{\"entries\":[")])?;
+    push_text(out, "{\"entries\":[")?;
     for (index, entry) in entries.iter().enumerate() {
         append_comma(out, index)?;
         append_entry(out, settings, entry)?;
     }
-    append(out, &[Piece::Text("],\"reply\":\"inbox\"}")])
+    push_text(out, "],\"reply\":\"inbox\"}")
 }
 
 /// Puts the comma before the item with this index at the end of the text; before the first is none.
@@ -38,7 +38,7 @@ fn append_comma(out: &mut Vec<u8>, index: usize) -> Result<(), AllocError>
     ensures { OnOk result (out.new.items ≡ out.old.items ++ comma_if (nat_lt 0 index)) }
 {
     if index > 0 {
-        append(out, &[Piece::Text(",")])?;
+        push_text(out, ",")?;
     }
     Ok(())
 }
@@ -57,20 +57,15 @@ fn append_entry<'a>(
     let deadline = entry.deadline.millis(settings.base());
     let from = code_text(settings, entry.from);
     let id = entry.id.text();
-    append(
-        out,
-        &[
-            Piece::Text("{\"cents\":"),
-            Piece::Number(cents),
-            Piece::Text(",\"deadline\":"),
-            Piece::Number(deadline),
-            Piece::Text(",\"from\":\""),
-            Piece::Text(from),
-            Piece::Text("\",\"id\":\""),
-            Piece::Text(id),
-            Piece::Text("\"}"),
-        ],
-    )
+    push_text(out, "{\"cents\":")?;
+    push_number(out, cents)?;
+    push_text(out, ",\"deadline\":")?;
+    push_number(out, deadline)?;
+    push_text(out, ",\"from\":\"")?;
+    push_text(out, from)?;
+    push_text(out, "\",\"id\":\"")?;
+    push_text(out, id)?;
+    push_text(out, "\"}")
 }
 
 pub(crate) fn append_statement(
@@ -81,12 +76,12 @@ pub(crate) fn append_statement(
     requires { list_all (line_fits settings.now) lines.now ≡ true }
     ensures { OnOk result (out.new.items ≡ out.old.items ++ compact_text (statement_data settings.now lines.now)) }
 {
-    append(out, &[Piece::Text("{\"lines\":[")])?;
+    push_text(out, "{\"lines\":[")?;
     for (index, line) in lines.iter().enumerate() {
         append_comma(out, index)?;
         append_line(out, settings, line)?;
     }
-    append(out, &[Piece::Text("],\"reply\":\"statement\"}")])
+    push_text(out, "],\"reply\":\"statement\"}")
 }
 
 /// Puts a statement line at the end of the text, as a text of JSON: its columns between two quotes.

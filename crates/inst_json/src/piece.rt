@@ -1,37 +1,22 @@
-//! Texts put together from pieces.
-ghost use Rattle.std.specs.Prelude.{◌≡◌, ◌++◌, OnOk};
-ghost use Rattle.inst_json.specs.Pieces.{piece_text, pieces_text};
+//! Pieces of a text, each put at the end of those before.
+ghost use Rattle.std.specs.Prelude.{◌≡◌, ◌++◌, OnOk, decimal};
 
 use itoa::Buffer;
 use std::alloc::AllocError;
 
-/// A piece of a text: a text as it stands, or a number in decimal digits.
-#[derive(Clone, Copy, Drop)]
-pub(crate) enum Piece<'a> {
-    Text(&'a str),
-    Number(u64),
+/// Puts a text at the end of `out`. It is inlined, so that a text that is known has no loop.
+#[inline(always)]
+pub(crate) fn push_text(out: &mut Vec<u8>, text: &str) -> Result<(), AllocError>
+    ensures { OnOk result (out.new.items ≡ out.old.items ++ text.now) }
+{
+    out.extend_from_slice(text.as_bytes())
 }
 
-/// Puts pieces at the end of `out`, one after another.
+/// Puts the decimal digits of a number at the end of `out`.
 #[inline(always)]
-pub(crate) fn append(out: &mut Vec<u8>, pieces: &[Piece<'_>]) -> Result<(), AllocError>
-    ensures { OnOk result (out.new.items ≡ out.old.items ++ pieces_text pieces.now) }
+pub(crate) fn push_number(out: &mut Vec<u8>, number: u64) -> Result<(), AllocError>
+    ensures { OnOk result (out.new.items ≡ out.old.items ++ decimal number) }
 {
-    for piece in pieces {
-        append_piece(out, *piece)?;
-    }
-    Ok(())
-}
-
-#[inline(always)]
-fn append_piece(out: &mut Vec<u8>, piece: Piece<'_>) -> Result<(), AllocError>
-    ensures { OnOk result (out.new.items ≡ out.old.items ++ piece_text piece.entry) }
-{
-    match piece {
-        Piece::Text(text) => out.extend_from_slice(text.as_bytes()),
-        Piece::Number(number) => {
-            let mut buffer = Buffer::new();
-            out.extend_from_slice(buffer.format(number).as_bytes())
-        }
-    }
+    let mut buffer = Buffer::new();
+    out.extend_from_slice(buffer.format(number).as_bytes())
 }

@@ -9,7 +9,7 @@ ghost use Rattle.inst_json.specs.Replies.{done_data, taken_data, state_data, rej
 ghost use Rattle.inst_json.specs.Replies.{is_state_name, position_data, refused_data, reply_data, reply_can_be_written};
 
 use crate::lists::{append_inbox, append_statement};
-use crate::piece::{Piece, append};
+use crate::piece::{push_number, push_text};
 use inst_base::{Fault, Ident, Reason};
 use inst_command::{Outcome, Reply, State};
 use inst_settings::Settings;
@@ -56,14 +56,9 @@ fn append_done(out: &mut Vec<u8>, reference: &Ident) -> Result<(), AllocError>
     ensures { OnOk result (out.new.items ≡ out.old.items ++ compact_text (done_data reference.now)) }
 {
     let reference = reference.text();
-    append(
-        out,
-        &[
-            Piece::Text("{\"ref\":\""),
-            Piece::Text(reference),
-            Piece::Text("\",\"reply\":\"done\"}"),
-        ],
-    )
+    push_text(out, "{\"ref\":\"")?;
+    push_text(out, reference)?;
+    push_text(out, "\",\"reply\":\"done\"}")
 }
 
 /// The deadline is in absolute milliseconds.
@@ -71,16 +66,11 @@ fn append_taken(out: &mut Vec<u8>, id: &Ident, deadline: u64) -> Result<(), Allo
     ensures { OnOk result (out.new.items ≡ out.old.items ++ compact_text (taken_data id.now deadline)) }
 {
     let id = id.text();
-    append(
-        out,
-        &[
-            Piece::Text("{\"deadline\":"),
-            Piece::Number(deadline),
-            Piece::Text(",\"id\":\""),
-            Piece::Text(id),
-            Piece::Text("\",\"reply\":\"taken\"}"),
-        ],
-    )
+    push_text(out, "{\"deadline\":")?;
+    push_number(out, deadline)?;
+    push_text(out, ",\"id\":\"")?;
+    push_text(out, id)?;
+    push_text(out, "\",\"reply\":\"taken\"}")
 }
 
 fn append_position(
@@ -91,33 +81,23 @@ fn append_position(
 ) -> Result<(), AllocError>
     ensures { OnOk result (out.new.items ≡ out.old.items ++ compact_text (position_data position reserved available)) }
 {
-    append(
-        out,
-        &[
-            Piece::Text("{\"available\":"),
-            Piece::Number(available),
-            Piece::Text(",\"position\":"),
-            Piece::Number(position),
-            Piece::Text(",\"reply\":\"position\",\"reserved\":"),
-            Piece::Number(reserved),
-            Piece::Text("}"),
-        ],
-    )
+    push_text(out, "{\"available\":")?;
+    push_number(out, available)?;
+    push_text(out, ",\"position\":")?;
+    push_number(out, position)?;
+    push_text(out, ",\"reply\":\"position\",\"reserved\":")?;
+    push_number(out, reserved)?;
+    push_text(out, "}")
 }
 
 fn append_refused(out: &mut Vec<u8>, fault: Fault) -> Result<(), AllocError>
     ensures { OnOk result (out.new.items ≡ out.old.items ++ compact_text (refused_data fault)) }
 {
-    append(
-        out,
-        &[
-            Piece::Text("{\"fault\":\""),
-            Piece::Text(fault.name()),
-            Piece::Text("\",\"number\":"),
-            Piece::Number(u64::from(fault.number())),
-            Piece::Text(",\"reply\":\"refused\"}"),
-        ],
-    )
+    push_text(out, "{\"fault\":\"")?;
+    push_text(out, fault.name())?;
+    push_text(out, "\",\"number\":")?;
+    push_number(out, u64::from(fault.number()))?;
+    push_text(out, ",\"reply\":\"refused\"}")
 }
 
 /// The code of the participant with this number.
@@ -166,18 +146,13 @@ fn append_named_state<'a>(
     ensures { OnOk result (out.new.items ≡ out.old.items ++ compact_text (state_data from.now id.now name.now)) }
 {
     let id = id.text();
-    append(
-        out,
-        &[
-            Piece::Text("{\"from\":\""),
-            Piece::Text(from),
-            Piece::Text("\",\"id\":\""),
-            Piece::Text(id),
-            Piece::Text("\",\"reply\":\"state\",\"state\":\""),
-            Piece::Text(name),
-            Piece::Text("\"}"),
-        ],
-    )
+    push_text(out, "{\"from\":\"")?;
+    push_text(out, from)?;
+    push_text(out, "\",\"id\":\"")?;
+    push_text(out, id)?;
+    push_text(out, "\",\"reply\":\"state\",\"state\":\"")?;
+    push_text(out, name)?;
+    push_text(out, "\"}")
 }
 
 fn append_rejected<'a>(
@@ -191,16 +166,11 @@ fn append_rejected<'a>(
 {
     let id = id.text();
     let reason = reason.text();
-    append(
-        out,
-        &[
-            Piece::Text("{\"from\":\""),
-            Piece::Text(from),
-            Piece::Text("\",\"id\":\""),
-            Piece::Text(id),
-            Piece::Text("\",\"reason\":\""),
-            Piece::Text(reason),
-            Piece::Text("\",\"reply\":\"state\",\"state\":\"rejected\"}"),
-        ],
-    )
+    push_text(out, "{\"from\":\"")?;
+    push_text(out, from)?;
+    push_text(out, "\",\"id\":\"")?;
+    push_text(out, id)?;
+    push_text(out, "\",\"reason\":\"")?;
+    push_text(out, reason)?;
+    push_text(out, "\",\"reply\":\"state\",\"state\":\"rejected\"}")
 }

@@ -4,7 +4,7 @@ ghost use Rattle.serde_json.specs.Written.{compact_text};
 ghost use Rattle.serde_json.specs.Read.{read};
 ghost use Rattle.inst_json.specs.Replies.{reply_data, reply_can_be_written, answer_data, new_data, answer_can_be_written};
 
-use crate::piece::{Piece, append};
+use crate::piece::push_text;
 use crate::reply::append_text;
 use inst_base::Fault;
 use inst_command::{Answer, Reply};
@@ -48,14 +48,9 @@ fn new_text(alloc: Global, new: bool) -> Result<Vec<u8>, AllocError>
     ensures { IfOk result (λ bytes. bytes.items ≡ compact_text (new_data new)) }
 {
     let mut text = Vec::new(alloc);
-    append(
-        &mut text,
-        &[
-            Piece::Text("{\"new\":"),
-            Piece::Text(bool_name(new)),
-            Piece::Text(",\"reply\":\"step\"}"),
-        ],
-    )?;
+    push_text(&mut text, "{\"new\":")?;
+    push_text(&mut text, bool_name(new))?;
+    push_text(&mut text, ",\"reply\":\"step\"}")?;
     Ok(text)
 }
 

@@ -6,4 +6,4 @@ use Rattle.inst_json.proofs.lists.append_statement.Goals as goal
 pub returns : goal.returns
 returns c =
     let line = statement_line c.args.settings.now c.args.lines.now c.args.out.now.items c.loop-index.out.items c.loop-index.index (omega arith) c.loop-index.invariant.rest in
-    on_ok_weaker c.append-2.result (λ h. h ∙ line) c.append-2.ensures
+    on_ok_weaker c.push_text-2.result (λ h. h ∙ line) c.push_text-2.ensures

@@ -3,7 +3,7 @@ use Rattle.std.proofs.lemmas.Result.{on_ok_weaker}
 use Rattle.serde_json.specs.Written.{compact_text}
 use Rattle.inst_json.specs.Replies.{done_data}
 use Rattle.inst_json.proofs.Plain.{escape-identifier}
-use Rattle.inst_json.proofs.Texts.{done_line}
+use Rattle.inst_json.proofs.Texts.{one_more, done_line}
 use Rattle.inst_json.proofs.reply.append_done.Goals as goal
 
 pub returns : goal.returns
@@ -11,4 +11,5 @@ returns c =
     let old : List ℕ = c.args.out.now.items in
     let text = c.text-reference.result.now in
     let line = done_line text (escape-identifier text c.text-reference.ensures.form) in
-    on_ok_weaker c.append.result (λ h. h ∙ ap (λ t. old ++ t) (line ∙ ap (λ r. compact_text (done_data r)) c.text-reference.ensures.value)) c.append.ensures
+    let put = one_more old _ _ c.in_ok-push_text.ensures c.in_ok-push_text-2.ensures in
+    on_ok_weaker c.push_text-3.result (λ h. one_more old _ _ put h ∙ ap (λ t. old ++ t) (line ∙ ap (λ r. compact_text (done_data r)) c.text-reference.ensures.value)) c.push_text-3.ensures
