@@ -1,8 +1,9 @@
 //! From a line to an ask.
 use crate::fault::Fault;
-use crate::fields::{Fields, Value};
+use crate::fields::Fields;
 use crate::settings::Settings;
 use crate::text::{Code, Ident, Reason};
+use serde_json::Value;
 
 pub struct Ask {
     pub who: u8,
@@ -22,27 +23,21 @@ pub enum Command {
     Statement { skip: u64, count: usize },
 }
 
-fn text<'a>(value: &'a Value) -> Result<&'a str, Fault> {
-    match value {
-        Value::Text(text) => Ok(text),
-        _ => Err(Fault::BadField),
-    }
+fn text(field: Option<&str>) -> Result<&str, Fault> {
+    field.ok_or(Fault::BadField)
 }
 
-fn whole(value: &Value) -> Result<u64, Fault> {
-    match value {
-        Value::Whole(number) => Ok(*number),
-        _ => Err(Fault::BadField),
-    }
+fn whole(field: Option<u64>) -> Result<u64, Fault> {
+    field.ok_or(Fault::BadField)
 }
 
-fn code(value: &Value) -> Result<Code, Fault> {
-    Code::read(text(value)?)
+fn code(field: Option<&str>) -> Result<Code, Fault> {
+    Code::read(text(field)?)
 }
 
 /// 1 to 100.
-fn count(value: &Value) -> Result<usize, Fault> {
-    match whole(value)? {
+fn count(field: Option<u64>) -> Result<usize, Fault> {
+    match whole(field)? {
         number @ 1..=100 => Ok(number as usize),
         _ => Err(Fault::BadField),
     }
@@ -84,8 +79,8 @@ impl Checks<'_> {
 }
 
 fn funding(checks: &Checks, fields: &Fields, at: u64) -> Result<(Ident, u64), Fault> {
-    let reference = text(&fields.reference)?;
-    let cents = whole(&fields.cents)?;
+    let reference = text(fields.reference)?;
+    let cents = whole(fields.cents)?;
     let reference = Ident::read(reference)?;
     let cents = checks.cents(cents)?;
     checks.moment(at)?;
@@ -93,10 +88,10 @@ fn funding(checks: &Checks, fields: &Fields, at: u64) -> Result<(Ident, u64), Fa
 }
 
 fn submission(checks: &Checks, fields: &Fields, who: &Code, at: u64) -> Result<Ask, Fault> {
-    let id = text(&fields.id)?;
-    let to = code(&fields.to)?;
-    let cents = whole(&fields.cents)?;
-    let stamp = whole(&fields.stamp)?;
+    let id = text(fields.id)?;
+    let to = code(fields.to)?;
+    let cents = whole(fields.cents)?;
+    let stamp = whole(fields.stamp)?;
     let id = Ident::read(id)?;
     let cents = checks.cents(cents)?;
     let at = checks.moment(at)?;
@@ -120,8 +115,8 @@ fn decision(
     at: u64,
     reason: Option<Reason>,
 ) -> Result<Ask, Fault> {
-    let from = code(&fields.from)?;
-    let id = Ident::read(text(&fields.id)?)?;
+    let from = code(fields.from)?;
+    let id = Ident::read(text(fields.id)?)?;
     let at = checks.moment(at)?;
     let who = checks.number(who)?;
     let from = checks.number(&from)?;
@@ -135,36 +130,44 @@ fn decision(
 /// The ask of a line, or the first refusal.
 pub fn read(settings: &Settings, line: &[u8]) -> Result<Ask, Fault> {
     let line = std::str::from_utf8(line).map_err(|_| Fault::NotJson)?;
-    let fields: Fields = serde_json::from_str(line).map_err(|_| Fault::NotJson)?;
+    if let Some(fields) = Fields::usual(line) {
+        return ask(settings, &fields);
+    }
+    let value: Value = serde_json::from_str(line).map_err(|_| Fault::NotJson)?;
+    ask(settings, &Fields::from(&value))
+}
+
+/// The ask of a line's fields, or the first refusal.
+fn ask(settings: &Settings, fields: &Fields) -> Result<Ask, Fault> {
     let checks = Checks { settings };
-    let cmd = text(&fields.cmd)?;
-    let who = code(&fields.who)?;
-    let at = whole(&fields.at)?;
+    let cmd = text(fields.cmd)?;
+    let who = code(fields.who)?;
+    let at = whole(fields.at)?;
     let command = match cmd {
-        "submit" => return submission(&checks, &fields, &who, at),
-        "confirm" => return decision(&checks, &fields, &who, at, None),
+        "submit" => return submission(&checks, fields, &who, at),
+        "confirm" => return decision(&checks, fields, &who, at, None),
         "reject" => {
-            let reason = Reason::read(text(&fields.reason)?)?;
-            return decision(&checks, &fields, &who, at, Some(reason));
+            let reason = Reason::read(text(fields.reason)?)?;
+            return decision(&checks, fields, &who, at, Some(reason));
         }
         "fund" => {
-            let (reference, cents) = funding(&checks, &fields, at)?;
+            let (reference, cents) = funding(&checks, fields, at)?;
             Command::Fund { reference, cents }
         }
         "defund" => {
-            let (reference, cents) = funding(&checks, &fields, at)?;
+            let (reference, cents) = funding(&checks, fields, at)?;
             Command::Defund { reference, cents }
         }
         "investigate" => Command::Investigate {
-            id: Ident::read(text(&fields.id)?)?,
+            id: Ident::read(text(fields.id)?)?,
         },
         "fetch" => Command::Fetch {
-            max: count(&fields.max)?,
+            max: count(fields.max)?,
         },
         "position" => Command::Position,
         "statement" => Command::Statement {
-            skip: whole(&fields.skip)?,
-            count: count(&fields.count)?,
+            skip: whole(fields.skip)?,
+            count: count(fields.count)?,
         },
         _ => return Err(Fault::BadField),
     };
