@@ -40,19 +40,12 @@ impl Blocks {
         })
     }
 
-    /// Takes so many blocks of so many bytes: whether it did.
-    fn take(&mut self, alloc: Global, count: usize, size: usize) -> bool {
+    /// Takes so many blocks of so many bytes.
+    fn take(&mut self, alloc: Global, count: usize, size: usize) -> Result<(), AllocError> {
         for _ in 0..count {
-            match Vec::with_capacity(alloc, size) {
-                Ok(block) => {
-                    if self.blocks.push(block).is_err() {
-                        return false;
-                    }
-                }
-                Err(_) => return false,
-            }
+            self.blocks.push(Vec::with_capacity(alloc, size)?)?;
         }
-        true
+        Ok(())
     }
 
     /// Takes blocks of at most so many bytes until one byte is refused: whether it was.
@@ -79,11 +72,6 @@ impl Blocks {
         }
         false
     }
-
-    /// Gives them back.
-    fn give_back(&mut self) {
-        self.blocks.clear();
-    }
 }
 
 /// All memory but a room of 4 MiB for a row and its calls; dropped it gives all back.
@@ -102,12 +90,11 @@ impl Hoard {
         let mut far = Blocks::new(alloc, MOST_BLOCKS).ok()?;
         let near = Blocks::new(alloc, 8_192).ok()?;
         let mut room = Blocks::new(alloc, PIECES).ok()?;
-        let has_room = room.take(alloc, PIECES, PIECE);
-        let all = far.take_all(alloc, LARGEST);
-        drop(room);
-        if !has_room || !all {
+        room.take(alloc, PIECES, PIECE).ok()?;
+        if !far.take_all(alloc, LARGEST) {
             return None;
         }
+        drop(room);
         Some(Hoard { alloc, far, near })
     }
 
@@ -129,6 +116,6 @@ impl Hoard {
 
     /// Gives the room back.
     pub fn give_back(&mut self) {
-        self.near.give_back();
+        self.near.blocks.clear();
     }
 }

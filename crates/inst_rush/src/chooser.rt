@@ -46,7 +46,7 @@ pub(crate) enum Act {
 #[derive(Debug, Drop)]
 pub(crate) struct Chooser {
     generator: Generator,
-    round: StressRound,
+    pub(crate) round: StressRound,
     thread: u8,
     step: u32,
 }
@@ -81,7 +81,7 @@ impl Chooser {
     }
 
     /// How many bytes of memory are left for the step that was chosen, where it is to be in want of memory.
-    pub(crate) fn little(&mut self) -> Option<usize> {
+    pub(crate) fn bytes_left(&mut self) -> Option<usize> {
         if !self.round.is_scarce || self.generator.below(WANT) != 0 {
             return None;
         }

@@ -47,7 +47,7 @@ fn take_step<R: Wait>(
     ensures { IsOf hub.now teller.new }
 {
     let act = chooser.choose(alloc)?;
-    match (chooser.little(), hoard) {
+    match (chooser.bytes_left(), hoard) {
         (Some(bytes), Some(hoard)) => {
             // Where the other threads hold what is to be left, less is.
             let _ = hoard.leave(bytes);
@@ -65,7 +65,6 @@ fn take_steps<R: Wait>(
     alloc: Global,
     hub: &Hub,
     teller: &mut Teller,
-    round: StressRound,
     chooser: Chooser,
     pace: &Pace,
 ) -> Result<(Sights, Option<Hoard>), Flaw>
@@ -73,14 +72,11 @@ fn take_steps<R: Wait>(
     ensures { IsOf hub.now teller.new }
 {
     let mut chooser = chooser;
+    let is_scarce = chooser.round.is_scarce;
     let mut sights = Sights::new(alloc)?;
     // All threads have their stacks before one takes the memory.
     keep_pace(&chooser, pace);
-    let mut hoard = if round.is_scarce {
-        Hoard::new(alloc)
-    } else {
-        None
-    };
+    let mut hoard = if is_scarce { Hoard::new(alloc) } else { None };
     for _step in 0..STEPS {
         let ended = take_step(
             rt,
@@ -91,7 +87,11 @@ fn take_steps<R: Wait>(
             &mut hoard,
             &mut sights,
         );
-        sights.pass(round, ended)?;
+        if is_scarce {
+            sights.pass_refused(ended)?;
+        } else {
+            ended?;
+        }
         keep_pace(&chooser, pace);
     }
     Ok((sights, hoard))
@@ -111,7 +111,7 @@ fn work<R: Wait>(
 {
     let Job { mut teller, thread } = job;
     let chooser = Chooser::new(round, thread);
-    match take_steps(rt, alloc, hub, &mut teller, round, chooser, pace) {
+    match take_steps(rt, alloc, hub, &mut teller, chooser, pace) {
         Ok((sights, hoard)) => Ok(Done {
             job: Job { teller, thread },
             sights,

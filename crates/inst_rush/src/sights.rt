@@ -3,7 +3,6 @@ ghost use Rattle.std.specs.Prelude.{◌<◌};
 ghost use Rattle.inst_rush.specs.declared.sights.TheConstants.{ALL_PLACES};
 
 use crate::flaw::Flaw;
-use crate::stress_round::StressRound;
 use crate::transfer::PARTICIPANTS;
 use inst_base::{Fault, Ident};
 use inst_board::Place;
@@ -163,10 +162,10 @@ impl Sights {
         }
     }
 
-    /// Counts a step that was refused memory in a round of want, where it is passed over.
-    pub(crate) fn pass(&mut self, round: StressRound, ended: Result<(), Flaw>) -> Result<(), Flaw> {
+    /// Passes over a step that was refused memory, and counts it.
+    pub(crate) fn pass_refused(&mut self, ended: Result<(), Flaw>) -> Result<(), Flaw> {
         match ended {
-            Err(Flaw::Refused(Fault::Memory)) if round.is_scarce => {
+            Err(Flaw::Refused(Fault::Memory)) => {
                 self.refused = self.refused.saturating_add(1);
                 Ok(())
             }

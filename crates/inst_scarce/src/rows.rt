@@ -24,13 +24,34 @@ fn may_take(step: &'static str, answer: &'static str) -> Line {
     Line { step, answer, need }
 }
 
+/// The first participant is funded.
+fn funded() -> Line {
+    takes(
+        r#"{"at":0,"cents":50000,"cmd":"fund","ref":"F1","who":"AAAADEFF"}"#,
+        r#"{"ref":"F1","reply":"done"}"#,
+    )
+}
+
+/// It submits a transfer to the second.
+fn submitted() -> Line {
+    takes(
+        r#"{"at":1000,"cents":20000,"cmd":"submit","id":"T1","stamp":1000,"to":"BBBBFRPP","who":"AAAADEFF"}"#,
+        r#"{"deadline":11000,"id":"T1","reply":"taken"}"#,
+    )
+}
+
+/// The transfer comes to its beneficiary.
+fn delivered() -> Line {
+    takes(
+        r#"{"from":"AAAADEFF","place":0,"step":"deliver","who":"BBBBFRPP"}"#,
+        r#"{"new":true,"reply":"step"}"#,
+    )
+}
+
 /// A submission reserves; its repeat, what is refused and what is asked take no memory.
 pub(crate) fn submit_reserves() -> [Line; 8] {
     [
-        takes(
-            r#"{"at":0,"cents":50000,"cmd":"fund","ref":"F1","who":"AAAADEFF"}"#,
-            r#"{"ref":"F1","reply":"done"}"#,
-        ),
+        funded(),
         takes_none(
             r#"{"at":0,"cmd":"position","who":"AAAADEFF"}"#,
             r#"{"available":50000,"position":50000,"reply":"position","reserved":0}"#,
@@ -65,18 +86,9 @@ pub(crate) fn submit_reserves() -> [Line; 8] {
 /// A confirmation in time, and then its expiry.
 pub(crate) fn confirm_before_expire() -> [Line; 10] {
     [
-        takes(
-            r#"{"at":0,"cents":50000,"cmd":"fund","ref":"F1","who":"AAAADEFF"}"#,
-            r#"{"ref":"F1","reply":"done"}"#,
-        ),
-        takes(
-            r#"{"at":1000,"cents":20000,"cmd":"submit","id":"T1","stamp":1000,"to":"BBBBFRPP","who":"AAAADEFF"}"#,
-            r#"{"deadline":11000,"id":"T1","reply":"taken"}"#,
-        ),
-        takes(
-            r#"{"from":"AAAADEFF","place":0,"step":"deliver","who":"BBBBFRPP"}"#,
-            r#"{"new":true,"reply":"step"}"#,
-        ),
+        funded(),
+        submitted(),
+        delivered(),
         takes_none(
             r#"{"from":"AAAADEFF","place":0,"step":"deliver","who":"BBBBFRPP"}"#,
             r#"{"new":false,"reply":"step"}"#,
@@ -111,18 +123,9 @@ pub(crate) fn confirm_before_expire() -> [Line; 10] {
 /// A statement with its pages, and the steps that a run takes after each line.
 pub(crate) fn statement_lines() -> [Line; 17] {
     [
-        takes(
-            r#"{"at":0,"cents":50000,"cmd":"fund","ref":"F1","who":"AAAADEFF"}"#,
-            r#"{"ref":"F1","reply":"done"}"#,
-        ),
-        takes(
-            r#"{"at":1000,"cents":20000,"cmd":"submit","id":"T1","stamp":1000,"to":"BBBBFRPP","who":"AAAADEFF"}"#,
-            r#"{"deadline":11000,"id":"T1","reply":"taken"}"#,
-        ),
-        takes(
-            r#"{"from":"AAAADEFF","place":0,"step":"deliver","who":"BBBBFRPP"}"#,
-            r#"{"new":true,"reply":"step"}"#,
-        ),
+        funded(),
+        submitted(),
+        delivered(),
         takes_none(
             r#"{"from":"AAAADEFF","place":0,"step":"learn","who":"AAAADEFF"}"#,
             r#"{"new":false,"reply":"step"}"#,
