@@ -20,7 +20,7 @@ use Rattle.inst_journal.proofs.Soundness.{sound_induction}
 use Rattle.inst_journal.proofs.OwnBookings.{own_unforwarded, own_booked-booked}
 use Rattle.inst_journal.proofs.Covering.{own_push}
 use Rattle.inst_journal.proofs.Places.{sum_same}
-use Rattle.inst_ledger.specs.declared.transfers.Terms.{Terms}
+use Rattle.inst_ledger.specs.declared.terms.Terms.{Terms}
 use Rattle.inst_ledger.specs.Kept.{terms_of, cents_of, are_terms}
 use Rattle.inst_ledger.proofs.Tables.{or_else_none, terms_absent}
 

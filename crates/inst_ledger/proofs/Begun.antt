@@ -4,27 +4,29 @@ use Rattle.inst_settings.specs.Settings.{HubSettings}
 use Rattle.inst_settings.specs.Lawful.{IsSettings}
 use Rattle.inst_command.specs.declared.entry.Entry.{Entry}
 use Rattle.inst_journal.specs.declared.event.Event.{Event}
+use Rattle.inst_transfers.specs.State.{State, nothing}
+use Rattle.inst_transfers.specs.Held.{Held, state_in}
 use Rattle.inst_ledger.specs.declared.references.Funding.{Funding}
 use Rattle.inst_ledger.specs.declared.totals.Totals.{Totals}
-use Rattle.inst_ledger.specs.declared.transfers.Transfer.{Transfer}
-use Rattle.inst_ledger.specs.Beside.{terms_in, forwarding_in, outcome_in, IsBeside}
+use Rattle.inst_ledger.specs.Beside.{IsBeside}
+use Rattle.inst_ledger.specs.Right.{IsRight}
+use Rattle.inst_ledger.proofs.Right.{right_begun}
 
-pub begun : (s : HubSettings) (who : ℕ) (J : List Event) (t : Totals) (T : ℕ × List ℕ → Option Transfer) (R : List ℕ → Option Funding) (entries : List Entry) → IsSettings s → J ≡ [] → t ≡ record { funded = 0; defunded = 0; credits = 0; debits = 0; reserved = 0 }
-    → ((key : ℕ × List ℕ) → T key ≡ None) → ((reference : List ℕ) → R reference ≡ None) → entries ≡ [] → IsBeside s who J t T R 0 0 0 entries 0
-begun s who J t T R entries lawful no_event no_money no_transfer no_reference no_entry =
-    subst (λ (K : List Event). IsBeside s who K t T R 0 0 0 entries 0) (sym no_event)
-    (subst (λ (u : Totals). IsBeside s who [] u T R 0 0 0 entries 0) (sym no_money)
+pub begun : (s : HubSettings) (who : ℕ) (J : List Event) (t : Totals) (table : Held) (R : List ℕ → Option Funding) (entries : List Entry) → IsSettings s → J ≡ [] → t ≡ record { funded = 0; defunded = 0 } → table.who ≡ who → state_in table ≡ nothing
+    → ((reference : List ℕ) → R reference ≡ None) → entries ≡ [] → IsBeside s who J t table R 0 entries 0
+begun s who J t table R entries lawful no_event no_money whose no_transfer no_reference no_entry =
+    subst (λ (K : List Event). IsBeside s who K t table R 0 entries 0) (sym no_event)
+    (subst (λ (u : Totals). IsBeside s who [] u table R 0 entries 0) (sym no_money)
     (record {
-      kept = record {
-        lawful = lawful;
-        sound = tt;
-        totals = record { funded = refl; defunded = refl; credits = refl; debits = refl; reserved = refl; within = omega arith };
-        taken = λ id. ap terms_in (no_transfer (who, id));
-        booked = λ key. ap outcome_in (no_transfer key);
-        forwarded = λ key. ap forwarding_in (no_transfer key);
-      };
+      lawful = lawful;
+      sound = tt;
+      whose = whose;
+      right = subst (λ (st : State). IsRight who [] st) (sym no_transfer) (right_begun who);
+      funded = refl;
+      defunded = refl;
+      within = omega (arith, ap (λ (st : State). st.credits) no_transfer);
       referred = no_reference;
-      counted = record { are_live = refl; are_waiting = refl; are_fundings = refl };
+      fundings = refl;
       inboxed = record { came = no_entry; were_read = refl };
       amounts = omega arith;
     }))

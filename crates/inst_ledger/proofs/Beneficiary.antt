@@ -11,7 +11,7 @@ use Rattle.inst_journal.specs.Sound.{Fits, IsSound}
 use Rattle.inst_journal.proofs.Finding.{nothing_there}
 use Rattle.inst_journal.proofs.Pushing.{first_some_push}
 use Rattle.inst_journal.proofs.Soundness.{sound_induction}
-use Rattle.inst_ledger.specs.declared.transfers.Terms.{Terms}
+use Rattle.inst_ledger.specs.declared.terms.Terms.{Terms}
 use Rattle.inst_ledger.specs.Kept.{terms_of}
 use Rattle.inst_ledger.specs.Beneficiary.{takes_to, beneficiary_of}
 use Rattle.inst_ledger.proofs.Tables.{none_of, any_first, some_cond}

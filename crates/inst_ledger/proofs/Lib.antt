@@ -1,9 +1,10 @@
 pub mod Tables
 pub mod Amounts
 pub mod Forwards
-pub mod Keeping
 pub mod Funded
 pub mod Live
+pub mod OwnIds
+pub mod Right
 pub mod Beside
 pub mod Begun
 pub mod Opening

@@ -1,5 +1,5 @@
 -- What one more event does to the counts of live transfers and of fundings.
-use Rattle.std.proofs.Common.{◌≡◌, ℕ, ◌+◌, ◌≤◌, Bool, true, false, ◌||◌, ◌&&◌, cond, List, [], ◌∷◌, ◌++◌, length, Option, Some, None, is_none, sum_by, count_by, refl, sym, ap, ◌∙◌, arith, add-zero}
+use Rattle.std.proofs.Common.{◌≡◌, ℕ, ◌+◌, ◌≤◌, Bool, true, false, ◌||◌, ◌&&◌, cond, List, [], ◌∷◌, ◌++◌, length, Option, Some, None, is_none, sum_by, count_by, refl, sym, ap, ◌∙◌, arith}
 use Rattle.std.specs.List.{list_any}
 use Rattle.std.specs.Cmp.Lexicographic.{same_text as text_same, nat_list_eq_equiv}
 use Rattle.std.proofs.lemmas.Bool.{eq-eqb, false≢true}
@@ -12,12 +12,12 @@ use Rattle.inst_journal.specs.Booked.{or_else, takes, is_taken, books, booked}
 use Rattle.inst_journal.specs.Keys.{is_funding, fundings}
 use Rattle.inst_journal.specs.Opened.{is_opening, carried, current, takes_live, live_submissions}
 use Rattle.inst_journal.specs.Sound.{IsSound}
-use Rattle.inst_journal.proofs.Carrying.{carried_push, current_push, carried_opened, current_opened, carried_unbooked}
+use Rattle.inst_journal.proofs.Carrying.{current_push, current_opened, carried_unbooked}
 use Rattle.inst_journal.proofs.Counting.{count_push}
 use Rattle.inst_journal.proofs.KeyOnce.{taken_once}
 use Rattle.inst_journal.proofs.Places.{sum_same}
 use Rattle.inst_journal.proofs.Pushing.{first_some_push, sum_by-both}
-use Rattle.inst_ledger.specs.Beside.{unbooked}
+use Rattle.inst_ledger.specs.Right.{unbooked}
 use Rattle.inst_ledger.proofs.Amounts.{untaken_unbooked}
 use Rattle.inst_ledger.proofs.Tables.{or_else_none}
 
@@ -26,9 +26,6 @@ fundings_more J event other = ap (count_by is_funding) (current_push J event oth
 
 pub fundings_none : (J : List Event) → fundings (J ++ Opened ∷ []) ≡ 0
 fundings_none J = ap (count_by is_funding) (current_opened J)
-
-pub live_more : (who : ℕ) (J : List Event) (event : Event) → is_opening event ≡ false → live_submissions who (J ++ event ∷ []) ≡ live_submissions who J + cond (takes_live who (carried J) event) 1 0
-live_more who J event other = ap (λ C. count_by (takes_live who C) (J ++ event ∷ [])) (carried_push J event other) ∙ count_push (takes_live who (carried J)) J event
 
 -- a new submission is live
 pub new_lives : (s : HubSettings) (who : ℕ) (J : List Event) (id : List ℕ) (to cents stamp : ℕ) → IsSound s who J → is_taken id J ≡ false → takes_live who (carried J) (Taken id to cents stamp) ≡ true
@@ -56,10 +53,6 @@ module _ (who : ℕ) (J : List Event) (new : Event) (quiet : (id : List ℕ) →
       count_push (takes_live who (J ++ new ∷ [])) J new
       ∙ ap (λ n. n + cond (takes_live who (J ++ new ∷ []) new) 1 0) (sum_same _ _ J same_waiting)
       ∙ ap (λ n. unbooked who J + n) (same_waiting new)
-
--- after an opening those that waited are live
-pub live_opened : (who : ℕ) (J : List Event) → live_submissions who (J ++ Opened ∷ []) ≡ unbooked who J
-live_opened who J = ap (λ C. count_by (takes_live who C) (J ++ Opened ∷ [])) (carried_opened J) ∙ quiet_waiting who J Opened (λ _. refl) ∙ add-zero (unbooked who J)
 
 one_counted : (p : Event → Bool) (J : List Event) → list_any p J ≡ true → 1 ≤ count_by p J
 one_counted p [] none = absurd (false≢true none)

@@ -14,14 +14,17 @@ use Rattle.inst_journal.specs.Sound.{Fits}
 use Rattle.inst_journal.proofs.OwnBookings.{own_unforwarded}
 use Rattle.inst_ledger.specs.declared.references.Funding.{Funding}
 use Rattle.inst_ledger.specs.declared.totals.Totals.{Totals}
-use Rattle.inst_ledger.specs.declared.transfers.Forwarding.{Forwarding}
-use Rattle.inst_ledger.specs.declared.transfers.Origin.{Origin}
-use Rattle.inst_ledger.specs.declared.transfers.Origin.TheVariants.{Taken as TakenTransfer, Forwarded as ForwardedTransfer}
-use Rattle.inst_ledger.specs.declared.transfers.Terms.{Terms}
-use Rattle.inst_ledger.specs.declared.transfers.Transfer.{Transfer}
-use Rattle.inst_ledger.specs.Beside.{terms_in, forwarding_in, amount_of, IsBeside, IsLedger, movement_by, movement_booked, MayAddIf, AddsIf}
+use Rattle.inst_transfers.specs.declared.transfer.Side.{Side}
+use Rattle.inst_transfers.specs.declared.transfer.Side.TheVariants.{Own, Other}
+use Rattle.inst_transfers.specs.declared.transfer.Transfer.{Transfer}
+use Rattle.inst_transfers.specs.Held.{Held, found_at, state_in}
+use Rattle.inst_ledger.specs.Right.{terms_in, forwarding_in}
+use Rattle.inst_ledger.proofs.Right.{own_party}
+use Rattle.inst_ledger.specs.declared.terms.Forwarding.{Forwarding}
+use Rattle.inst_ledger.specs.declared.terms.Terms.{Terms}
+use Rattle.inst_ledger.specs.Beside.{amount_of, IsBeside, IsLedger, movement_by, movement_booked, MayAddIf, AddsIf}
 use Rattle.inst_ledger.specs.Kept.{terms_of, forwarding_of}
-use Rattle.inst_ledger.proofs.Beside.{taken_party, beside_same, beside_at, position_small, position_next}
+use Rattle.inst_ledger.proofs.Beside.{beside_same, position_small, position_next}
 use Rattle.inst_statement.specs.declared.movement.Movement.{Movement}
 use Rattle.inst_statement.specs.KeptStatement.{Stated, MayAdd, IsStatementOf}
 use Rattle.inst_statement.specs.Movement.{came, sent, accepted, accepted_movement, movement_of}
@@ -42,18 +45,13 @@ pub stated_at : {J K : List Event} {stated : Stated} → K ≡ J → IsStatement
 stated_at {J} {K} {stated} same of = subst (λ (E : List Event). IsStatementOf E stated) (sym same) of
 
 -- the same ledger by other names
-pub ledger_same : {s : HubSettings} {who : ℕ} {J K : List Event} {t : Totals} {T U : ℕ × List ℕ → Option Transfer} {R S : List ℕ → Option Funding} {live waiting since : ℕ} {entries : List Entry} {read : ℕ} {before after : Stated}
-    → K ≡ J → ((key : ℕ × List ℕ) → U key ≡ T key) → ((reference : List ℕ) → S reference ≡ R reference) → after.lines ≡ before.lines → after.position ≡ before.position
-    → IsLedger s who J t T R live waiting since entries read before → IsLedger s who K t U S live waiting since entries read after
-ledger_same events transfers references lines at l = record {
-  beside = beside_same events transfers references l.beside;
+pub ledger_same : {s : HubSettings} {who : ℕ} {J K : List Event} {t : Totals} {table other : Held} {R S : List ℕ → Option Funding} {since : ℕ} {entries others : List Entry} {read : ℕ} {before after : Stated}
+    → K ≡ J → (room : ℕ) → other ≡ record table { room = room } → ((reference : List ℕ) → S reference ≡ R reference) → others ≡ entries → after.lines ≡ before.lines → after.position ≡ before.position
+    → IsLedger s who J t table R since entries read before → IsLedger s who K t other S since others read after
+ledger_same events room same references inbox lines at l = record {
+  beside = beside_same events room same references inbox l.beside;
   lines = stated_at events (stated_same lines at l.lines);
 }
-
--- the same ledger, with the inbox by another name
-pub ledger_inbox : {s : HubSettings} {who : ℕ} {J : List Event} {t : Totals} {T : ℕ × List ℕ → Option Transfer} {R : List ℕ → Option Funding} {live waiting since : ℕ} {entries others : List Entry} {read : ℕ} {stated : Stated}
-    → others ≡ entries → IsLedger s who J t T R live waiting since entries read stated → IsLedger s who J t T R live waiting since others read stated
-ledger_inbox inbox l = record { beside = beside_at refl inbox l.beside; lines = l.lines }
 
 -- a movement leads from a position of 64 bits to one
 raised_fits : (m : Movement) (before after : ℕ) → after + lowered m.kind m.cents ≡ before + raised m.kind m.cents → before < 2 ^ 64 → after < 2 ^ 64 → before + raised m.kind m.cents < 2 ^ 64
@@ -84,39 +82,38 @@ came_forwarding from id (Booked other_from other outcome) = refl
 came_forwarding from id (Fetched count) = refl
 came_forwarding from id Opened = refl
 
-module _ (s : HubSettings) (who : ℕ) (J : List Event) (t : Totals) (T : ℕ × List ℕ → Option Transfer) (R : List ℕ → Option Funding) (live waiting since : ℕ) (entries : List Entry) (read : ℕ) (b : IsBeside s who J t T R live waiting since entries read) where
-  accepted_by : (from : ℕ) (id : List ℕ) (origin : Origin) (old : Option Outcome) → Fits s who J (Booked from id Accepted) → T (from, id) ≡ Some (record { origin = origin; outcome = old })
-      → accepted_movement J from id ≡ Some (movement_by from id origin)
-  accepted_by from id (TakenTransfer terms) old fits there =
-      let own = taken_party s who J t T R live waiting since entries read b from id old Accepted terms fits there in
-      let none : first_some (came from id) J ≡ None = not_come from id J (ap (λ f. is_forwarded f id J) own.0 ∙ own_unforwarded s who id J b.kept.sound) in
-      let at_who : T (who, id) ≡ Some (record { origin = TakenTransfer terms; outcome = old }) = ap (λ (f : ℕ). T (f, id)) (sym own.0) ∙ there in
-      let found : first_some (terms_of id) J ≡ Some terms = sym (b.kept.taken id) ∙ ap terms_in at_who in
-      let gone : first_some (sent id) J ≡ Some (terms.to, terms.cents) =
+module _ (s : HubSettings) (who : ℕ) (J : List Event) (t : Totals) (table : Held) (R : List ℕ → Option Funding) (since : ℕ) (entries : List Entry) (read : ℕ) (b : IsBeside s who J t table R since entries read) where
+  accepted_by : (from : ℕ) (id : List ℕ) (cents : ℕ) (side : Side) (old : Option Outcome) → Fits s who J (Booked from id Accepted) → found_at table.entries (from, id) ≡ Some (record { cents = cents; side = side; outcome = old })
+      → accepted_movement J from id ≡ Some (movement_by from id cents side)
+  accepted_by from id cents (Own to stamp) old fits there =
+      let own = own_party s who J (state_in table) b.sound b.right from id Accepted cents to stamp old fits there in
+      let none : first_some (came from id) J ≡ None = not_come from id J (ap (λ f. is_forwarded f id J) own.0 ∙ own_unforwarded s who id J b.sound) in
+      let at_who : found_at table.entries (who, id) ≡ Some (record { cents = cents; side = Own to stamp; outcome = old }) = ap (λ (f : ℕ). found_at table.entries (f, id)) (sym own.0) ∙ there in
+      let found : first_some (terms_of id) J ≡ Some (record { to = to; cents = cents; stamp = stamp }) = sym (b.right.taken id) ∙ ap terms_in at_who in
+      let gone : first_some (sent id) J ≡ Some (to, cents) =
       first_mapped (sent id) (terms_of id) (λ (t : Terms). (t.to, t.cents)) (sent_terms id) J ∙ ap (option_map (λ (t : Terms). (t.to, t.cents))) found in
       ap (λ o. accepted from id o (first_some (sent id) J)) none ∙ ap (accepted from id None) gone
-  accepted_by from id (ForwardedTransfer forwarding) old fits there =
-      let found : first_some (forwarding_of (from, id)) J ≡ Some forwarding = sym (b.kept.forwarded (from, id)) ∙ ap forwarding_in there in
-      let come : first_some (came from id) J ≡ Some forwarding.cents =
+  accepted_by from id cents (Other deadline) old fits there =
+      let found : first_some (forwarding_of (from, id)) J ≡ Some (record { cents = cents; deadline = deadline }) = sym (b.right.forwarded (from, id)) ∙ ap forwarding_in there in
+      let come : first_some (came from id) J ≡ Some cents =
       first_mapped (came from id) (forwarding_of (from, id)) (λ (f : Forwarding). f.cents) (came_forwarding from id) J ∙ ap (option_map (λ (f : Forwarding). f.cents)) found in
       ap (λ o. accepted from id o (first_some (sent id) J)) come
 
   -- a booking moves what the transfer in the table tells
-  pub booking_moves : (from : ℕ) (id : List ℕ) (outcome : Outcome) (origin : Origin) (old : Option Outcome) → Fits s who J (Booked from id outcome) → T (from, id) ≡ Some (record { origin = origin; outcome = old })
-      → movement_of J (Booked from id outcome) ≡ movement_booked from id origin outcome
-  booking_moves from id Accepted origin old fits there = accepted_by from id origin old fits there
-  booking_moves from id (Rejected reason) origin old fits there = refl
-  booking_moves from id TimedOut origin old fits there = refl
+  pub booking_moves : (from : ℕ) (id : List ℕ) (outcome : Outcome) (t : Transfer) → Fits s who J (Booked from id outcome) → found_at table.entries (from, id) ≡ Some t → movement_of J (Booked from id outcome) ≡ movement_booked from id t outcome
+  booking_moves from id Accepted t fits there = accepted_by from id t.cents t.side t.outcome fits there
+  booking_moves from id (Rejected reason) t fits there = refl
+  booking_moves from id TimedOut t fits there = refl
 
   -- the line of a movement may be added where there is room
   pub may_add : (event : Event) (m : Movement) (stated : Stated) → movement_of J event ≡ Some m → Fits s who J event → amount_of event ≤ cond (is_funding event) MOST_CENTS 0 + cond (is_forwarding event) MOST_CENTS 0
       → IsStatementOf J stated → 0 < stated.room → MayAdd stated m
   may_add event m stated is fits small of room = record {
     room = room;
-    covered = covers_movement s who J event b.kept.sound fits m stated is of;
+    covered = covers_movement s who J event b.sound fits m stated is of;
     fits = subst (λ (p : ℕ). p + raised m.kind m.cents < 2 ^ 64) (sym of.is_position)
-        (raised_fits m (position J) (position (J ++ event ∷ [])) (moved_to s who J event b.kept.sound fits m is) (position_small s who J t T R live waiting since entries read b) (position_next s who J t T R live waiting since entries read b event fits small));
-    few = number_fits s who J stated b.kept.lawful b.kept.sound of;
+        (raised_fits m (position J) (position (J ++ event ∷ [])) (moved_to s who J event b.sound fits m is) (position_small s who J t table R since entries read b) (position_next s who J t table R since entries read b event fits small));
+    few = number_fits s who J stated b.lawful b.sound of;
   }
 
   pub may_add_if : (from : ℕ) (id : List ℕ) (outcome : Outcome) (o : Option Movement) (stated : Stated) → movement_of J (Booked from id outcome) ≡ o → Fits s who J (Booked from id outcome) → IsStatementOf J stated → 0 < stated.room → MayAddIf stated o
@@ -125,5 +122,5 @@ module _ (s : HubSettings) (who : ℕ) (J : List Event) (t : Totals) (T : ℕ ×
 
   pub added_if : (from : ℕ) (id : List ℕ) (outcome : Outcome) (o : Option Movement) (before after : Stated) → movement_of J (Booked from id outcome) ≡ o → Fits s who J (Booked from id outcome) → IsStatementOf J before → AddsIf before o after
       → IsStatementOf (J ++ Booked from id outcome ∷ []) after
-  added_if from id outcome None before after is fits of same = line_less s who J (Booked from id outcome) b.kept.sound fits before after is refl same.0 same.1 of
-  added_if from id outcome (Some m) before after is fits of adds = line_added s who J (Booked from id outcome) b.kept.sound fits m before after is of adds
+  added_if from id outcome None before after is fits of same = line_less s who J (Booked from id outcome) b.sound fits before after is refl same.0 same.1 of
+  added_if from id outcome (Some m) before after is fits of adds = line_added s who J (Booked from id outcome) b.sound fits m before after is of adds

@@ -8,7 +8,7 @@ use Rattle.inst_journal.specs.declared.event.Event.{Event}
 use Rattle.inst_journal.specs.declared.event.Event.TheVariants.{Funded, Defunded, Taken, Forwarded, Booked, Fetched, Opened}
 use Rattle.inst_journal.specs.Booked.{or_else, first_some, takes, is_taken}
 use Rattle.inst_journal.proofs.Pushing.{first_some_push}
-use Rattle.inst_ledger.specs.declared.transfers.Terms.{Terms}
+use Rattle.inst_ledger.specs.declared.terms.Terms.{Terms}
 use Rattle.inst_ledger.specs.Kept.{terms_of, IsTable}
 
 pub or_else_none : {A : Type 0} (o : Option A) → or_else o None ≡ o

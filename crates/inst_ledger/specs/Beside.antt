@@ -1,6 +1,6 @@
 -- What a ledger keeps beside its history, all of it: the totals, the transfers and the fundings by their keys, how many
 -- are live, and the inbox with how much of it was handed out.
-use Rattle.std.specs.Prelude.{◌≡◌, ℕ, ◌+◌, ◌≤◌, List, Option, Some, None, sum_by, count_by, if◌then◌else◌, Bool, true, false, not, ◌&&◌, ◌==◌}
+use Rattle.std.specs.Prelude.{◌≡◌, ℕ, ◌+◌, ◌*◌, ◌≤◌, List, length, Option, Some, None, sum_by, if◌then◌else◌, Bool, true, false, not, ◌&&◌, ◌==◌}
 use Rattle.inst_settings.specs.Settings.{HubSettings, same_text}
 use Rattle.inst_command.specs.declared.entry.Entry.{Entry}
 use Rattle.inst_command.specs.declared.outcome.Outcome.{Outcome}
@@ -9,43 +9,22 @@ use Rattle.inst_journal.specs.declared.event.Event.TheVariants.{Funded, Defunded
 use Rattle.inst_journal.specs.Keys.{is_funding, fundings}
 use Rattle.inst_journal.specs.Booked.{is_forwarding}
 use Rattle.inst_base.specs.declared.cents.TheConstants.{MOST_CENTS}
-use Rattle.inst_journal.specs.Opened.{takes_live, live_submissions}
 use Rattle.inst_journal.specs.Reply.{inbox, handed_out}
 use Rattle.inst_ledger.specs.declared.references.Funding.{Funding}
 use Rattle.inst_ledger.specs.declared.totals.Totals.{Totals}
-use Rattle.inst_ledger.specs.declared.transfers.Forwarding.{Forwarding}
-use Rattle.inst_ledger.specs.declared.transfers.Origin.TheVariants.{Taken as TakenTransfer, Forwarded as ForwardedTransfer}
-use Rattle.inst_ledger.specs.declared.transfers.Terms.{Terms}
-use Rattle.inst_ledger.specs.declared.transfers.Transfer.{Transfer}
-use Rattle.inst_ledger.specs.declared.transfers.Origin.{Origin}
-use Rattle.inst_ledger.specs.Kept.{IsTable, IsKept}
+use Rattle.inst_ledger.specs.Kept.{IsTable}
+use Rattle.inst_ledger.specs.Right.{IsRight}
+use Rattle.inst_settings.specs.Lawful.{IsSettings}
+use Rattle.inst_journal.specs.Sound.{IsSound}
+use Rattle.inst_journal.specs.Sums.{funded, defunded}
+use Rattle.inst_transfers.specs.declared.transfer.Side.{Side}
+use Rattle.inst_transfers.specs.declared.transfer.Side.TheVariants.{Own, Other}
+use Rattle.inst_transfers.specs.declared.transfer.Transfer.{Transfer}
+use Rattle.inst_transfers.specs.Held.{Held, state_in}
 use Rattle.inst_command.specs.declared.line.LineKind.TheVariants.{Received, Paid}
 use Rattle.inst_command.specs.declared.outcome.Outcome.TheVariants.{Accepted, Rejected, TimedOut}
 use Rattle.inst_statement.specs.declared.movement.Movement.{Movement}
 use Rattle.inst_statement.specs.KeptStatement.{Stated, MayAdd, Adds, IsStatementOf}
-
--- the terms, where the transfer is the participant's own
-abbrev pub terms_of_origin : Origin → Option Terms
-terms_of_origin (TakenTransfer terms) = Some terms
-terms_of_origin (ForwardedTransfer forwarding) = None
-
-abbrev pub terms_in : Option Transfer → Option Terms
-terms_in None = None
-terms_in (Some transfer) = terms_of_origin transfer.origin
-
--- what came, where the transfer was forwarded
-abbrev pub forwarding_of_origin : Origin → Option Forwarding
-forwarding_of_origin (TakenTransfer terms) = None
-forwarding_of_origin (ForwardedTransfer forwarding) = Some forwarding
-
-abbrev pub forwarding_in : Option Transfer → Option Forwarding
-forwarding_in None = None
-forwarding_in (Some transfer) = forwarding_of_origin transfer.origin
-
--- what is booked of the transfer
-abbrev pub outcome_in : Option Transfer → Option Outcome
-outcome_in None = None
-outcome_in (Some transfer) = transfer.outcome
 
 -- whether both are defundings, or neither
 abbrev pub same_kind : Bool → Bool → Bool
@@ -66,16 +45,6 @@ is_funding_of is_defunding cents (Some funding) =
     same_kind funding.is_defunding is_defunding && (funding.cents == cents)
 is_funding_of is_defunding cents None = false
 
--- how many of the participant's own transfers have nothing booked
-abbrev pub unbooked : ℕ → List Event → ℕ
-unbooked who J = count_by (takes_live who J) J
-
--- how many are live, would live on over an opening, and are fundings since the last one
-pub record IsCounted (who : ℕ) (J : List Event) (live waiting since : ℕ) : Type 0 where
-  pub are_live : live ≡ live_submissions who J
-  pub are_waiting : waiting ≡ unbooked who J
-  pub are_fundings : since ≡ fundings J
-
 -- the arrivals, and how many of them were handed out
 pub record IsRead (J : List Event) (entries : List Entry) (read : ℕ) : Type 0 where
   pub came : entries ≡ inbox J
@@ -93,27 +62,31 @@ most_of J = sum_by (λ event. if is_funding event then MOST_CENTS else 0) J
     + sum_by (λ event. if is_forwarding event then MOST_CENTS else 0) J
 
 -- all that a ledger keeps beside its history is right of it
-pub record IsBeside (s : HubSettings) (who : ℕ) (J : List Event) (t : Totals) (transfers : ℕ × List ℕ → Option Transfer)
-    (references : List ℕ → Option Funding) (live waiting since : ℕ) (entries : List Entry) (read : ℕ) : Type 0 where
-  pub kept : IsKept s who J t (λ id. terms_in (transfers (who, id))) (λ key. forwarding_in (transfers key))
-      (λ key. outcome_in (transfers key))
+-- within: what came is within what the length of the history allows
+pub record IsBeside (s : HubSettings) (who : ℕ) (J : List Event) (t : Totals) (table : Held) (references : List ℕ → Option Funding)
+    (since : ℕ) (entries : List Entry) (read : ℕ) : Type 0 where
+  pub lawful : IsSettings s
+  pub sound : IsSound s who J
+  pub whose : table.who ≡ who
+  pub right : IsRight who J (state_in table)
+  pub funded : t.funded ≡ funded J
+  pub defunded : t.defunded ≡ defunded J
+  pub within : t.funded + table.credits ≤ length J * MOST_CENTS
   pub referred : IsTable funding_of J references
-  pub counted : IsCounted who J live waiting since
+  pub fundings : since ≡ fundings J
   pub inboxed : IsRead J entries read
   pub amounts : sum_by amount_of J ≤ most_of J
 
 -- what an accepted transfer moves: the amount is paid to its beneficiary, or received from its originator
-abbrev pub movement_by : ℕ → List ℕ → Origin → Movement
-movement_by from id (TakenTransfer terms) =
-    record { kind = Paid; other = Some terms.to; id = id; cents = terms.cents }
-movement_by from id (ForwardedTransfer forwarding) =
-    record { kind = Received; other = Some from; id = id; cents = forwarding.cents }
+abbrev pub movement_by : ℕ → List ℕ → ℕ → Side → Movement
+movement_by from id cents (Own to stamp) = record { kind = Paid; other = Some to; id = id; cents = cents }
+movement_by from id cents (Other deadline) = record { kind = Received; other = Some from; id = id; cents = cents }
 
 -- what a booked transfer moves, where it is accepted
-abbrev pub movement_booked : ℕ → List ℕ → Origin → Outcome → Option Movement
-movement_booked from id origin Accepted = Some (movement_by from id origin)
-movement_booked from id origin (Rejected reason) = None
-movement_booked from id origin TimedOut = None
+abbrev pub movement_booked : ℕ → List ℕ → Transfer → Outcome → Option Movement
+movement_booked from id transfer Accepted = Some (movement_by from id transfer.cents transfer.side)
+movement_booked from id transfer (Rejected reason) = None
+movement_booked from id transfer TimedOut = None
 
 -- the line of what was moved, if anything was, may be added, and is
 abbrev pub MayAddIf : Stated → Option Movement → Type 0
@@ -125,8 +98,7 @@ AddsIf before None after = (after.lines ≡ before.lines) × (after.position ≡
 AddsIf before (Some movement) after = Adds before movement after
 
 -- the statement that is kept beside them is the history's too
-pub record IsLedger (s : HubSettings) (who : ℕ) (J : List Event) (t : Totals) (transfers : ℕ × List ℕ → Option Transfer)
-    (references : List ℕ → Option Funding) (live waiting since : ℕ) (entries : List Entry) (read : ℕ) (stated : Stated)
-    : Type 0 where
-  pub beside : IsBeside s who J t transfers references live waiting since entries read
+pub record IsLedger (s : HubSettings) (who : ℕ) (J : List Event) (t : Totals) (table : Held) (references : List ℕ → Option Funding)
+    (since : ℕ) (entries : List Entry) (read : ℕ) (stated : Stated) : Type 0 where
+  pub beside : IsBeside s who J t table references since entries read
   pub lines : IsStatementOf J stated

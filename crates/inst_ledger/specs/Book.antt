@@ -7,6 +7,7 @@ use Rattle.inst_journal.specs.declared.event.Event.{Event}
 use Rattle.inst_command.specs.declared.command.Command.{Command}
 use Rattle.inst_command.specs.declared.outcome.Outcome.{Outcome}
 use Rattle.inst_journal.specs.declared.handle.Handled.{Handled}
+use Rattle.inst_transfers.specs.Held.{Held}
 use Rattle.inst_journal.specs.Reply.{handle}
 use Rattle.inst_journal.specs.Sound.{Fits}
 use Rattle.inst_journal.specs.declared.event.Event.TheVariants.{Funded, Defunded, Taken, Forwarded, Booked, Fetched, Opened}
@@ -17,8 +18,10 @@ pub record Book : Type 0 where
   pub who : ℕ
   pub events : List Event
 
+-- with the table of its transfers
 pub record BookAndRoom : Type 0 where
   pub book : Book
+  pub table : Held
   pub room : ℕ
 
 abbrev pub with_event : Book → Event → Book

@@ -1,6 +1,7 @@
 pub mod References
 pub mod Transfers
 pub mod Kept
+pub mod Right
 pub mod Beside
 pub mod Book
 pub mod Beneficiary

@@ -9,12 +9,12 @@ mod reading;
 
 use crate::references::References;
 use crate::totals::Totals;
-use crate::transfers::Transfers;
 use inst_base::Fault;
 use inst_command::{Entry, Outcome};
 use inst_journal::{Event, Journal};
 use inst_settings::Settings;
 use inst_statement::KeptStatement;
+use inst_transfers::Transfers;
 use std::alloc::Global;
 use std::marker::Model;
 
@@ -26,10 +26,8 @@ pub struct Ledger {
     who: u8,
     journal: Journal,
     totals: Totals,
-    transfers: Transfers,
+    table: Transfers,
     references: References,
-    live: usize,
-    waiting: usize,
     fundings: usize,
     inbox: Vec<Entry>,
     read: usize,
@@ -41,17 +39,17 @@ impl Model for Ledger {
     ghost use Rattle.inst_ledger.specs.Beside.{IsLedger};
     ghost use Rattle.inst_ledger.specs.Book.{BookAndRoom};
     ghost use Rattle.inst_ledger.specs.References.{funding_at};
-    ghost use Rattle.inst_ledger.specs.Transfers.{transfer_at};
 
     ghost Value = { BookAndRoom };
 
     ghost view = { λ l. record {
       book = record { settings = l.settings.value; who = l.who; events = l.journal.events };
+      table = l.table;
       room = min l.journal.room l.statement.room;
     } };
 
-    ghost invariant = { λ l. IsLedger l.settings.value l.who l.journal.events l.totals (transfer_at l.transfers)
-        (funding_at l.references) l.live l.waiting l.fundings l.inbox.items l.read l.statement };
+    ghost invariant = { λ l. IsLedger l.settings.value l.who l.journal.events l.totals l.table
+        (funding_at l.references) l.fundings l.inbox.items l.read l.statement };
 }
 
 /// A copy of the settings, in memory of its own: they have a table, and who moves a ledger doesn't move that.
@@ -74,10 +72,8 @@ impl Ledger {
             who,
             journal: Journal::new(alloc),
             totals: Totals::new(),
-            transfers: Transfers::new(alloc),
+            table: Transfers::new(alloc, who),
             references: References::new(alloc),
-            live: 0,
-            waiting: 0,
             fundings: 0,
             inbox: Vec::new(alloc),
             read: 0,
@@ -124,6 +120,7 @@ impl Ledger {
     /// Makes room for one more event that brings no new key, or answers `Memory`. The book stays as it is.
     pub fn reserve(&mut self) -> Result<(), Fault>
         ensures book { self.new.book ≡ self.old.book }
+        ensures table { self.new.table ≡ self.old.table }
         ensures room { OnOk result (0 < self.new.room) }
         ensures only { IsOkUnless result Fault.Memory }
     {

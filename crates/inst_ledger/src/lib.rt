@@ -1,9 +1,10 @@
 //! One participant's books: its history, with running totals and tables beside it.
 #![tactic(auto)]
 
+pub mod laws;
 mod ledger;
 mod references;
+mod terms;
 mod totals;
-mod transfers;
 
 pub use ledger::Ledger;

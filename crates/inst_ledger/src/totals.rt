@@ -1,26 +1,20 @@
 ghost use Rattle.std.specs.Prelude.{◌≡◌};
 
-/// The running totals of a history, in cents.
+/// The running totals of a history's fundings, in cents.
 #[derive(Clone, Copy, Debug, PartialEq, Eq)]
 pub(crate) struct Totals {
     pub(crate) funded: u128,
     pub(crate) defunded: u128,
-    pub(crate) credits: u128,
-    pub(crate) debits: u128,
-    pub(crate) reserved: u128,
 }
 
 impl Totals {
     /// The totals of an empty history.
     pub(crate) fn new() -> Self
-        ensures { result ≡ record { funded = 0; defunded = 0; credits = 0; debits = 0; reserved = 0 } }
+        ensures { result ≡ record { funded = 0; defunded = 0 } }
     {
         Totals {
             funded: 0,
             defunded: 0,
-            credits: 0,
-            debits: 0,
-            reserved: 0,
         }
     }
 }

@@ -4,7 +4,7 @@ use Rattle.std.specs.Prelude.{slice_get, position, get_or, nat_lt, Result, Err}
 use Rattle.std.specs.List.{list_any, filter, position_or_len}
 use Rattle.std.proofs.lemmas.List.Sums.{length-filter}
 use Rattle.std.specs.Cmp.Lexicographic.{same_text as text_same}
-use Rattle.std.proofs.lemmas.Bool.{false≢true}
+use Rattle.std.proofs.lemmas.Bool.{false≢true, true≢false}
 use Rattle.std.proofs.lemmas.Bool.Decides.{nat_tests}
 use Rattle.std.proofs.lemmas.List.Quantifiers.{position-Some}
 use Rattle.std.proofs.lemmas.Option.{slice_get-get_or}
@@ -35,6 +35,7 @@ use Rattle.inst_slot.specs.Book.{Book, place_at, terms_to, arrived_at}
 use Rattle.inst_slot.specs.LawfulBoard.{IsTakenAt, LiesAt, IsLawfulBoard, IsAdopted}
 use Rattle.inst_slot.specs.Asking.{wish_for, request, decides, AsksAdopted}
 use Rattle.inst_slot.specs.Telling.{booking}
+use Rattle.inst_slot.specs.Answering.{named, is_expiry, pending_for}
 use Rattle.inst_slot.proofs.Keeping.{arrival_at}
 use Rattle.inst_slot.proofs.Learning.{taken_is, arrival_forwarded}
 
@@ -79,6 +80,12 @@ standing_kept from id pending None (Some o) true yes_is none nothing = refl
 standing_kept from id pending (Some o) found true yes_is none nothing = let no : ⊥ = cc in absurd no
 standing_kept from id pending known found false yes_is none nothing = absurd (false≢true yes_is)
 
+-- what a side with nothing booked is answered
+standing_answered : (from : ℕ) (id : List ℕ) (pending : Result Handled Fault) (known found : Option Outcome) (b : Bool) → b ≡ true → known ≡ None
+    → cond b (standing from id pending known found) (Err UnknownTransfer) ≡ standing from id pending None found
+standing_answered from id pending known found b yes_is none =
+    ap (λ (b : Bool). cond b (standing from id pending known found) (Err UnknownTransfer)) yes_is ∙ ap (λ (k : Option Outcome). standing from id pending k found) none
+
 module _ {B : Type 0} (settings : B → HubSettings) (knows : B → Fact → Type 0) (has_role : B → ℕ → Type 0) where
   -- what a command asks of the board: a place of the books where nothing is booked, which the slot may decide
   pub record IsAsked (b : B) (book : Book) (command : Command) (asked : Place × Wish) : Type 0 where
@@ -88,6 +95,9 @@ module _ {B : Type 0} (settings : B → HubSettings) (knows : B → Fact → Typ
     pub may : MayDecide knows has_role b asked.0 asked.1
     pub mine : (asked.1 ≡ Expire) ⊎ (may.terms.to ≡ book.who)
     pub kept : (at : ℕ) (found : Option Outcome) → kept_events (handle book.settings book.who book.events command at found) ≡ kept_event (booking asked.0.owner id found)
+    pub id_is : id ≡ named command
+    pub answered : (at : ℕ) (found : Option Outcome) → handle book.settings book.who book.events command at found ≡ standing asked.0.owner id (pending_for asked.1 asked.0.owner id) None found
+    pub answers : is_expiry asked.1 ≡ false → is_forwarded asked.0.owner id book.events ≡ true
 
   may_answer : (b : B) (book : Book) (from : ℕ) (id : List ℕ) (index : ℕ) (wish : Wish) → IsLawfulBoard settings knows has_role b book → arrived_at from id book.arrivals ≡ Some index
       → ((t : Terms) → t.to ≡ book.who → has_role b t.to → IsParty (has_role b) wish (place_at from index) t) → MayDecide knows has_role b (place_at from index) wish
@@ -123,6 +133,9 @@ module _ {B : Type 0} (settings : B → HubSettings) (knows : B → Fact → Typ
         may = may_answer b book from id w.index Accept was w.at (λ t to role. role);
         mine = inr (mine_answer b book from id w.index Accept was w.at (λ t to role. role));
         kept = λ at found. standing_kept from id (Err Expired) (booked from id book.events) found (is_forwarded from id book.events) (forwarded_at b book from id w.index was w.at) w.none refl;
+        id_is = refl;
+        answered = λ at found. standing_answered from id (Err Expired) (booked from id book.events) found (is_forwarded from id book.events) (forwarded_at b book from id w.index was w.at) w.none;
+        answers = λ h. forwarded_at b book from id w.index was w.at;
       } in
       subst (λ (x : Place × Wish). IsAsked b book (Confirm from id) x) (sym w.asked_is) r
   asked b book (Reject from id reason) k was e =
@@ -134,6 +147,9 @@ module _ {B : Type 0} (settings : B → HubSettings) (knows : B → Fact → Typ
         may = may_answer b book from id w.index (WishReject reason) was w.at (λ t to role. role);
         mine = inr (mine_answer b book from id w.index (WishReject reason) was w.at (λ t to role. role));
         kept = λ at found. standing_kept from id (still_pending from id) (booked from id book.events) found (is_forwarded from id book.events) (forwarded_at b book from id w.index was w.at) w.none refl;
+        id_is = refl;
+        answered = λ at found. standing_answered from id (still_pending from id) (booked from id book.events) found (is_forwarded from id book.events) (forwarded_at b book from id w.index was w.at) w.none;
+        answers = λ h. forwarded_at b book from id w.index was w.at;
       } in
       subst (λ (x : Place × Wish). IsAsked b book (Reject from id reason) x) (sym w.asked_is) r
   asked b book (Investigate id) k was e =
@@ -146,6 +162,9 @@ module _ {B : Type 0} (settings : B → HubSettings) (knows : B → Fact → Typ
         may = may_expire b book id w.index was t;
         mine = inl refl;
         kept = λ at found. standing_kept book.who id (still_pending book.who id) (booked book.who id book.events) found (is_taken id book.events) (taken_is book id w.index t) w.none refl;
+        id_is = refl;
+        answered = λ at found. standing_answered book.who id (still_pending book.who id) (booked book.who id book.events) found (is_taken id book.events) (taken_is book id w.index t) w.none;
+        answers = λ h. absurd (true≢false h);
       } in
       subst (λ (x : Place × Wish). IsAsked b book (Investigate id) x) (sym w.asked_is) r
   asked b book (Fund reference cents) k was e = let no : ⊥ = cc in absurd no

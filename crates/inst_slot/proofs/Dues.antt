@@ -112,7 +112,7 @@ none_taken_out D old index timed none d k = none_out (has old d k) (nat_eq k ind
     let no : ⊥ = cc in no)
 
 -- a booking takes out what it books
-books_step : (who : ℕ) (from : ℕ) (id : List ℕ) (ids : List (List ℕ)) (index : ℕ) (outcome : Outcome) → from ≡ who → slice_get ids index ≡ Some id → ((k : ℕ) → slice_get ids k ≡ Some id → index ≡ k)
+pub books_step : (who : ℕ) (from : ℕ) (id : List ℕ) (ids : List (List ℕ)) (index : ℕ) (outcome : Outcome) → from ≡ who → slice_get ids index ≡ Some id → ((k : ℕ) → slice_get ids k ≡ Some id → index ≡ k)
     → (k : ℕ) (o : Option (List ℕ)) → slice_get ids k ≡ o → nat_eq k index ≡ books_own who (Booked from id outcome) o
 books_step who from id ids index outcome own at only k None e = ⊎_elim
     (λ yes. let both : None ≡ Some id = sym e ∙ ap (slice_get ids) (eqb-true k index yes) ∙ at in let no : ⊥ = cc in absurd no)

@@ -18,3 +18,5 @@ pub mod Indexed
 pub mod OwnIds
 pub mod Arrived
 pub mod Dues
+pub mod Requests
+pub mod Answered

@@ -1,7 +1,7 @@
 -- The identifiers of a participant's own live transfers, and what the table of their indexes tells of the history.
 use Rattle.std.proofs.Common.{◌≡◌, ℕ, zero, suc, Bool, true, false, not, ◌&&◌, ◌||◌, cond, take, ◌<◌, List, [], ◌∷◌, ◌++◌, length, refl, sym, ap, ◌∙◌, arith, subst, Option, Some, None, is_none, is_some}
 use Rattle.std.specs.Prelude.{slice_get, position, map, nat_eq}
-use Rattle.std.specs.List.{list_any, filter}
+use Rattle.std.specs.List.{filter}
 use Rattle.std.specs.Cmp.Lexicographic.{same_text as text_same}
 use Rattle.std.proofs.lemmas.List.{map-append, length-map}
 use Rattle.std.proofs.Math.Seq.{take-append_seam}
@@ -15,7 +15,7 @@ use Rattle.inst_command.specs.declared.outcome.Outcome.{Outcome}
 use Rattle.inst_command.specs.declared.outcome.State.TheVariants.{Unused}
 use Rattle.inst_journal.specs.declared.event.Event.{Event}
 use Rattle.inst_journal.specs.declared.event.Event.TheVariants.{Funded, Defunded, Taken, Forwarded, Booked, Fetched, Opened}
-use Rattle.inst_journal.specs.Booked.{takes, is_taken, booked}
+use Rattle.inst_journal.specs.Booked.{takes, booked}
 use Rattle.inst_journal.specs.Opened.{carried, is_opening, takes_live, live_taken}
 use Rattle.inst_journal.specs.Sound.{Fits, IsSound}
 use Rattle.inst_journal.proofs.Counting.{stranger_unbooked}
@@ -24,28 +24,17 @@ use Rattle.inst_journal.proofs.Soundness.{sound_push}
 use Rattle.inst_ledger.specs.Book.{Book as Kept, with_event}
 use Rattle.inst_slot.specs.Book.{Book}
 use Rattle.inst_slot.specs.Telling.{taken_by, if_unbooked, unbooked_at}
-use Rattle.inst_slot.specs.Indexed.{IsIndexed, is_id, id_of, own_ids}
+use Rattle.inst_slot.specs.Indexed.{is_id, id_of, own_ids}
 use Rattle.inst_slot.specs.OwnState.{booked_state, state_of, own_state}
 use Rattle.inst_slot.specs.Waiting.{Deadlines, IsRight, IsWaiting, GivesNextDue, moves_none, waits, takes_waiting, books_own, deadline_in}
 use Rattle.inst_slot.proofs.Dues.{waiting_after, and_true_is, taken_books_none, at_end, undone}
 use Rattle.inst_slot.proofs.Entering.{takes_the_next}
 use Rattle.inst_slot.proofs.Growing.{live_taken_push, live_taken_still}
-use Rattle.inst_slot.proofs.Indexed.{found_position, key_added, key_taken}
-use Rattle.inst_slot.proofs.Positions.{later, position_cons}
+use Rattle.inst_slot.proofs.Indexed.{is_found}
+use Rattle.inst_slot.proofs.Positions.{later, position_cons, passes_at}
 
 same : (a b : List ℕ) → same_text a b ≡ true → a ≡ b
 same a b h = text_same a b (sym h)
-
-pub id_position : (found : List ℕ → Option ℕ) (ids : List (List ℕ)) (id : List ℕ) → IsIndexed found ids → found id ≡ position (is_id id) ids
-id_position found ids id is = found_position same_text same same_text_refl found ids id is
-
-pub id_added : (found new : List ℕ → Option ℕ) (ids : List (List ℕ)) (id : List ℕ) (n : ℕ) → IsIndexed found ids → list_any (is_id id) ids ≡ false → n ≡ length ids
-    → ((q : List ℕ) → new q ≡ cond (same_text id q) (Some n) (found q)) → IsIndexed new (ids ++ id ∷ [])
-id_added found new ids id n is fresh count put = key_added same_text same same_text_refl found new ids id n is fresh count put
-
-pub id_taken : (found new : List ℕ → Option ℕ) (ids : List (List ℕ)) (id : List ℕ) → IsIndexed found (ids ++ id ∷ [])
-    → ((q : List ℕ) → new q ≡ cond (same_text id q) None (found q)) → IsIndexed new ids
-id_taken found new ids id is taken = key_taken same_text same same_text_refl found new ids id is taken
 
 -- by the identifiers, an own live transfer stands where it stands by its submission
 named_step : (id : List ℕ) (e : Event) (L : List Event) (b : Bool) → (b ≡ true → is_id id (id_of e) ≡ takes id e) → position (is_id id) (map id_of L) ≡ position (takes id) L
@@ -134,27 +123,6 @@ used_there who J ids i id same there =
     of (Some (Booked from other o)) h = cc
     of (Some (Fetched n)) h = cc
     of (Some Opened) h = cc
-
--- what isn't taken isn't among them
-or_false : (a b : Bool) → (a || b) ≡ false → (a ≡ false) × (b ≡ false)
-or_false true b e = absurd (true≢false e)
-or_false false b e = (refl, e)
-
-fresh_step : (id : List ℕ) (e : Event) (L : List Event) (b : Bool) → (b ≡ true → is_id id (id_of e) ≡ false) → list_any (is_id id) (map id_of L) ≡ false → list_any (is_id id) (map id_of (cond b (e ∷ L) L)) ≡ false
-fresh_step id e L false here rest = rest
-fresh_step id e L true here rest = ap (λ (b : Bool). b || list_any (is_id id) (map id_of L)) (here refl) ∙ rest
-
-pub untaken : (id : List ℕ) (who : ℕ) (C : List Event) (J : List Event) → is_taken id J ≡ false → list_any (is_id id) (map id_of (filter (takes_live who C) J)) ≡ false
-untaken id who C [] none = refl
-untaken id who C (Taken other to cents stamp ∷ J) none =
-    let parts = or_false (same_text other id) (is_taken id J) none in
-    fresh_step id (Taken other to cents stamp) (filter (takes_live who C) J) (is_none (booked who other C)) (λ h. parts.0) (untaken id who C J parts.1)
-untaken id who C (Funded reference cents ∷ J) none = untaken id who C J none
-untaken id who C (Defunded reference cents ∷ J) none = untaken id who C J none
-untaken id who C (Forwarded from other cents d ∷ J) none = untaken id who C J none
-untaken id who C (Booked from other o ∷ J) none = untaken id who C J none
-untaken id who C (Fetched n ∷ J) none = untaken id who C J none
-untaken id who C (Opened ∷ J) none = untaken id who C J none
 
 pub untaken_moves_none : (e : Event) → ((id : List ℕ) (to cents stamp : ℕ) → e ≡ Taken id to cents stamp → ⊥) → is_opening e ≡ false → moves_none e ≡ true
 untaken_moves_none (Booked from id outcome) other h = refl
@@ -279,3 +247,28 @@ next_due book pairs pair (Some first) same least = record {
   passing = least.passing;
   least = λ d k there after. least.least d k (same d k ∙ there) after;
 }
+
+-- what is right by the identifiers that are the history's own
+pub re_listed : {s : HubSettings} {who : ℕ} {J : List Event} {ids : List (List ℕ)} {w : Deadlines} → IsRight s who J ids w → IsRight s who J (own_ids who J) w
+re_listed h = (h.0, h.1, refl, h.3)
+
+pub keeps_over : (old new : Kept) (w v : Deadlines) (e : Event) → IsRight old.settings old.who old.events (own_ids old.who old.events) w → Fits old.settings old.who old.events e → moves_none e ≡ true → new ≡ with_event old e
+    → v.deadlines ≡ w.deadlines → (who : ℕ) → who ≡ old.who → ((d k : ℕ) → has v.pairs d k ≡ (has w.pairs d k && not (books_own who e (slice_get (own_ids new.who new.events) k)))) → IsRight new.settings new.who new.events (own_ids new.who new.events) v
+keeps_over old new w v e right fits still ok same who own out =
+    let ids : own_ids new.who new.events ≡ own_ids old.who old.events = ap (λ (x : Kept). own_ids x.who x.events) ok ∙ ap (map id_of) (still_taken old.who old.events e still) in
+    re_listed (keeps_right old new (own_ids old.who old.events) w v e right fits still ok same who own
+    (λ d k. out d k ∙ ap (λ (l : List (List ℕ)). has w.pairs d k && not (books_own who e (slice_get l k))) ids))
+
+pub takes_over : (old new : Kept) (w v : Deadlines) (id : List ℕ) (to cents stamp : ℕ) → IsRight old.settings old.who old.events (own_ids old.who old.events) w → Fits old.settings old.who old.events (Taken id to cents stamp)
+    → v.deadlines ≡ w.deadlines ++ deadline_of old.settings.limit stamp ∷ [] → Adds w.pairs v.pairs (deadline_of old.settings.limit stamp) (length w.deadlines) → new ≡ with_event old (Taken id to cents stamp)
+    → IsRight new.settings new.who new.events (own_ids new.who new.events) v
+takes_over old new w v id to cents stamp right fits longer adds ok =
+    re_listed (takes_right old new (own_ids old.who old.events) (own_ids old.who old.events ++ id ∷ []) w v id to cents stamp right fits refl longer adds ok)
+
+pub own_place : (id : List ℕ) (ids : List (List ℕ)) (r : Option ℕ) → ((k : ℕ) → slice_get ids k ≡ Some id → r ≡ Some k) → ((k : ℕ) → r ≡ Some k → slice_get ids k ≡ Some id) → r ≡ position (is_id id) ids
+own_place id ids r at only = go (position (is_id id) ids) refl r refl
+  where
+    go : (o : Option ℕ) → position (is_id id) ids ≡ o → (f : Option ℕ) → r ≡ f → r ≡ o
+    go (Some i) there f e = let x = passes_at (is_id id) ids i there in at i (x.1 ∙ ap (λ (y : List ℕ). Some y) (same x.0 id x.2))
+    go None there None e = e
+    go None there (Some i) e = absurd (is_found (is_id id) ids i id (only i e) (same_text_refl id) there)

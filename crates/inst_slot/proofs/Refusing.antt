@@ -1,6 +1,6 @@
 -- What is refused leaves the books and what the board's holder knows as they were.
 use Rattle.std.proofs.Common.{◌≡◌, ◌≢◌, ℕ, List, [], ◌∷◌, ◌++◌, append-nil, ⊎_elim, refl, sym, ap, ◌∙◌, subst, Option, Some, None}
-use Rattle.std.specs.Prelude.{Result, Ok, Err, IfErr}
+use Rattle.std.specs.Prelude.{Result, Ok, Err, IfErr, OnErr}
 use Rattle.inst_base.specs.declared.fault.Fault.{Fault}
 use Rattle.inst_base.specs.declared.fault.Fault.TheVariants.{Memory}
 use Rattle.inst_settings.specs.Settings.{HubSettings}
@@ -65,6 +65,10 @@ module _ {B : Type 0} (settings : B → HubSettings) (knows : B → Fact → Typ
     settles_nothing ask k result new fault e is = ⊎_elim
         (λ answered. answered.2 ∙ as_it_was book ask answered.0 fault (sym answered.1 ∙ is))
         (λ refused. refused.1) e
+
+    pub settles_left : (ask : Ask) (k : Place × Wish) (result : Result Reply Fault) (new : Book) → Settles margin knows has_role stood stays b book ask k.0 k.1 result c new → OnErr result (new ≡ book)
+    settles_left ask k (Ok reply) new e = tt
+    settles_left ask k (Err fault) new e = settles_nothing ask k (Err fault) new fault e refl
 
     -- what is true of a pending place was known
     pending_known : (k : Place) (t : Terms) (d : ℕ) (p : Standing) → KnowsOpening knows b k t d → ((a : About) → knows b (about k a) → Says p a) → (o : Option Outcome) (wish : Wish) (at : ℕ) (m : B) → Answers margin (stood m k) wish at p o → o ≡ None

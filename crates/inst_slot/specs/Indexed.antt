@@ -1,11 +1,9 @@
 -- What a slot keeps to find a transfer without a walk: the identifiers of the participant's own live transfers by the
 -- index of their places, and tables from what names a transfer to where it stands. This hub's own choice.
-use Rattle.std.specs.Prelude.{◌≡◌, ℕ, Bool, List, [], map, slice_get, Option, Some}
+pub use Rattle.inst_ledger.specs.Right.{id_of, own_ids}
+use Rattle.std.specs.Prelude.{◌≡◌, ℕ, Bool, List, slice_get, Option, Some}
 use Rattle.indexmap.specs.IndexMap.{IndexMap, get}
 use Rattle.inst_settings.specs.Settings.{same_text}
-use Rattle.inst_journal.specs.declared.event.Event.{Event}
-use Rattle.inst_journal.specs.declared.event.Event.TheVariants.{Taken}
-use Rattle.inst_journal.specs.Opened.{live_taken}
 use Rattle.inst_ledger.specs.Transfers.{same_key}
 use Rattle.inst_slot.specs.declared.arrival.Arrival.{Arrival}
 
@@ -13,10 +11,6 @@ use Rattle.inst_slot.specs.declared.arrival.Arrival.{Arrival}
 pub record IsIndexed {K : Type 0} (found : K → Option ℕ) (keys : List K) : Type 0 where
   pub at : (i : ℕ) (k : K) → slice_get keys i ≡ Some k → found k ≡ Some i
   pub only : (k : K) (i : ℕ) → found k ≡ Some i → slice_get keys i ≡ Some k
-
--- the index in the table under this identifier
-abbrev pub index_at : {S : Type 0} → IndexMap (List ℕ) ℕ S → List ℕ → Option ℕ
-index_at table id = get same_text table id
 
 -- the position in the table under this originator and identifier
 abbrev pub position_at : {S : Type 0} → IndexMap (ℕ × List ℕ) ℕ S → ℕ × List ℕ → Option ℕ
@@ -29,12 +23,3 @@ key_of arrival = (arrival.entry.from, arrival.entry.id)
 -- whether another identifier is this one
 abbrev pub is_id : List ℕ → List ℕ → Bool
 is_id id other = same_text other id
-
--- the identifier of the transfer that the event takes
-abbrev pub id_of : Event → List ℕ
-id_of (Taken id to cents stamp) = id
-id_of _ = []
-
--- the identifiers of the participant's own live transfers, in the order of their places
-abbrev pub own_ids : ℕ → List Event → List (List ℕ)
-own_ids who J = map id_of (live_taken who J)

@@ -8,3 +8,4 @@ pub mod OwnState
 pub mod Waiting
 pub mod Laws
 pub mod Arrived
+pub mod Answering

@@ -36,6 +36,7 @@ pub(crate) fn find<B: Board>(
     ensures err { OnErr result (OnlyLooks (B.settings board.old).margin B.knows B.has_role B.stood board.old place wish at board.new) }
     ensures only { IsOkUnless result Fault.Memory }
     ensures book { ledger.new.book ≡ ledger.old.book }
+    ensures table { ledger.new.table ≡ ledger.old.table }
     ensures stays { B.stays board.old board.new }
 {
     let look = board.look(place);

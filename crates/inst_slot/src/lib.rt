@@ -1,11 +1,11 @@
 //! A participant's slot: its books, and what its commands are answered on them, over any board.
 #![tactic(auto)]
 
+mod answering;
 mod arrival;
 mod arrivals;
 mod finding;
 pub mod laws;
-mod own;
 mod slot;
 mod waiting;
 

@@ -15,7 +15,6 @@ mod reading;
 mod telling;
 
 use crate::arrivals::Arrivals;
-use crate::own::Own;
 use crate::waiting::Waiting;
 use inst_base::{Fault, Ident};
 use inst_board::Place;
@@ -38,12 +37,12 @@ pub struct Slot {
     alloc: Global,
     ledger: Ledger,
     arrivals: Arrivals,
-    own: Own,
     waiting: Waiting,
 }
 
 impl Model for Slot {
     ghost use Rattle.inst_slot.specs.Book.{Book};
+    ghost use Rattle.inst_slot.specs.Indexed.{own_ids};
     ghost use Rattle.inst_slot.specs.Waiting.{IsRight};
 
     ghost Value = { Book };
@@ -55,7 +54,8 @@ impl Model for Slot {
       arrivals = slot.arrivals;
     } };
 
-    ghost invariant = { λ slot. IsRight slot.ledger.book.settings slot.ledger.book.who slot.ledger.book.events slot.own slot.waiting };
+    ghost invariant = { λ slot. IsRight slot.ledger.book.settings slot.ledger.book.who slot.ledger.book.events
+        (own_ids slot.ledger.book.who slot.ledger.book.events) slot.waiting };
 }
 
 impl Slot {
@@ -68,7 +68,6 @@ impl Slot {
             alloc,
             ledger: Ledger::open(alloc, settings, who)?,
             arrivals: Arrivals::new(alloc),
-            own: Own::new(alloc),
             waiting: Waiting::new(alloc),
         })
     }
@@ -109,7 +108,9 @@ impl Slot {
     fn own_index(&self, id: &Ident) -> Option<u16>
         ensures { result ≡ position (takes id.now) (live_taken self.now.who self.now.events) }
     {
-        self.own.index_of(id)
+        // The invariant is known only where a field is used.
+        let _ = &self.alloc;
+        self.ledger.own_index(id)
     }
 
     /// The place of a live transfer of the originator `from`: of the participant's own, or of one that was

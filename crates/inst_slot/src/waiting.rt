@@ -1,13 +1,13 @@
 //! The own live transfers with nothing booked, in the order in which they are due.
-ghost use Rattle.std.specs.Prelude.{◌≡◌, ℕ, ◌<◌, ◌^◌, ◌++◌, ◌∷◌, [], ◌+◌, ◌&&◌, false, nat_eq, not, length, take, slice_get, IfOk, OnOk, OnErr, IsOkUnless};
-ghost use Rattle.std.specs.List.{list_any};
+ghost use Rattle.std.specs.Prelude.{◌≡◌, ℕ, ◌<◌, ◌^◌, ◌++◌, ◌∷◌, [], ◌+◌, ◌&&◌, nat_eq, not, length, take, slice_get, IfOk, OnOk, OnErr, IsOkUnless};
 ghost use Rattle.inst_due.specs.Due.{has, Adds, IsLeast, comes_after};
 ghost use Rattle.inst_journal.specs.Opened.{carried};
-ghost use Rattle.inst_slot.specs.Indexed.{is_id};
+ghost use Rattle.inst_slot.specs.Indexed.{own_ids};
+ghost use Rattle.inst_slot.specs.Answering.{is_expiry};
 ghost use Rattle.inst_slot.specs.Waiting.{books_own, IsWaiting};
 
-use crate::own::Own;
-use inst_base::{Fault, Ident, Moment};
+use inst_base::{Fault, Moment};
+use inst_board::Wish;
 use inst_command::Outcome;
 use inst_due::Due;
 use inst_journal::Event;
@@ -70,18 +70,28 @@ impl Waiting {
     }
 
     /// Takes out the pair of an own transfer that the event books.
-    pub(crate) fn book(&mut self, own: &Own, who: u8, event: &Event)
+    pub(crate) fn book(&mut self, ledger: &Ledger, who: u8, event: &Event)
         ensures deadlines { self.new.deadlines ≡ self.old.deadlines }
-        ensures pairs { (d k : ℕ) → has self.new.pairs d k ≡ (has self.old.pairs d k && not (books_own who event.now (slice_get own.now k))) }
+        ensures pairs { (d k : ℕ) → has self.new.pairs d k ≡ (has self.old.pairs d k && not (books_own who event.now (slice_get (own_ids ledger.now.book.who ledger.now.book.events) k))) }
     {
         // The check is told of a type of another crate inside an event only where a function names it.
         let _: Option<Outcome> = None;
         if let Event::Booked { from, id, .. } = event {
             if *from == who {
-                if let Some(index) = own.index_of(id) {
+                if let Some(index) = ledger.own_index(id) {
                     self.take_out(index);
                 }
             }
+        }
+    }
+
+    /// Takes out the pair at this index, where its transfer was to expire: else it was another's.
+    pub(crate) fn settle(&mut self, wish: &Wish, index: u16)
+        ensures deadlines { self.new.deadlines ≡ self.old.deadlines }
+        ensures pairs { (d k : ℕ) → has self.new.pairs d k ≡ (has self.old.pairs d k && not (is_expiry wish.now && nat_eq k index)) }
+    {
+        if let Wish::Expire = wish {
+            self.take_out(index);
         }
     }
 
@@ -100,32 +110,6 @@ impl Waiting {
         ensures { IsLeast self.now.pairs (comes_after pair) result }
     {
         self.due.next_after(pair)
-    }
-}
-
-/// Adds the next own transfer to both, or answers `Memory`, and both stay as they were.
-pub(crate) fn add(
-    own: &mut Own,
-    waiting: &mut Waiting,
-    id: Ident,
-    deadline: Moment,
-) -> Result<(), Fault>
-    requires few { length own.old < 2 ^ 16 }
-    requires same { length waiting.old.deadlines ≡ length own.old }
-    requires new { list_any (is_id id) own.old ≡ false }
-    ensures ids { OnOk result (own.new ≡ own.old ++ id ∷ []) }
-    ensures deadlines { OnOk result (waiting.new.deadlines ≡ waiting.old.deadlines ++ deadline ∷ []) }
-    ensures pairs { OnOk result (Adds waiting.old.pairs waiting.new.pairs deadline (length waiting.old.deadlines)) }
-    ensures err { OnErr result ((own.new ≡ own.old) × (waiting.new ≡ waiting.old)) }
-    ensures only { IsOkUnless result Fault.Memory }
-{
-    own.add(id)?;
-    match waiting.add(deadline) {
-        Ok(()) => Ok(()),
-        Err(fault) => {
-            own.take_back();
-            Err(fault)
-        }
     }
 }
 

@@ -1,5 +1,5 @@
 //! What a command is answered, and what the history is to keep of it.
-ghost use Rattle.std.specs.Prelude.{◌≡◌, ◌≤◌, true, false, take, drop, length, Some, None, IfOk, IsOk};
+ghost use Rattle.std.specs.Prelude.{◌≡◌, ◌≤◌, true, false, take, drop, length, IfOk, IsOk};
 ghost use Rattle.inst_base.specs.Fault.{IsUnlessMemory};
 ghost use Rattle.inst_base.specs.Moment.{is_moment};
 ghost use Rattle.inst_base.specs.TimeLimit.{deadline_of};
@@ -79,10 +79,11 @@ impl Ledger {
         if to == self.who() {
             return Err(Fault::SelfTransfer);
         }
-        if self.is_submission_repeat(submission) {
+        let known = self.transfer(self.who(), &id);
+        if self.is_known_repeat(&known, submission) {
             return Ok(Handled { reply, kept: None });
         }
-        if self.is_taken(&id) {
+        if self.is_known_taken(&known, &id) {
             return Err(Fault::Duplicate);
         }
         if stamp.is_ahead(settings.ahead(), at) {
@@ -120,10 +121,12 @@ impl Ledger {
     ) -> Result<Handled, Fault>
         ensures { result ≡ answer_forwarded self.now.book.events from id pending found }
     {
-        if !self.is_forwarded(from, &id) {
+        let known = self.transfer(from, &id);
+        if !self.is_known_forwarded(&known, from, &id) {
             return Err(Fault::UnknownTransfer);
         }
-        standing(from, id, pending, self.booked(from, &id), found)
+        let booked = self.known_outcome(&known, from, &id);
+        standing(from, id, pending, booked, found)
     }
 
     /// Books what is found of a forwarded transfer. A confirmation that leaves it pending was read in the
@@ -145,17 +148,13 @@ impl Ledger {
     fn investigate(&self, id: Ident, found: Option<Outcome>) -> Result<Handled, Fault>
         ensures { result ≡ investigate self.now.book.who self.now.book.events id found }
     {
-        if !self.is_taken(&id) {
+        let who = self.who();
+        let known = self.transfer(who, &id);
+        if !self.is_known_taken(&known, &id) {
             return Err(Fault::UnknownTransfer);
         }
-        let who = self.who();
-        standing(
-            who,
-            id,
-            still_pending(who, id),
-            self.booked(who, &id),
-            found,
-        )
+        let booked = self.known_outcome(&known, who, &id);
+        standing(who, id, still_pending(who, id), booked, found)
     }
 
     /// The position, what of it is reserved, and what is available.

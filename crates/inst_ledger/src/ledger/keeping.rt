@@ -1,17 +1,18 @@
 //! Events that are kept, with all that stands beside them.
-ghost use Rattle.std.specs.Prelude.{◌≡◌, ◌<◌, ◌≤◌, false, Some, OnOk, OnErr, IsOk, IsOkUnless};
+ghost use Rattle.std.specs.Prelude.{◌≡◌, ◌<◌, false, OnOk, OnErr, IsOk, IsOkUnless};
 ghost use Rattle.inst_journal.specs.Sound.{Fits};
-ghost use Rattle.inst_journal.specs.Sums.{if_accepted};
 ghost use Rattle.inst_ledger.specs.Beside.{movement_booked, MayAddIf, AddsIf};
 ghost use Rattle.inst_ledger.specs.Book.{with_event, brings_key};
+ghost use Rattle.inst_transfers.specs.Held.{IsFound};
 
 use super::Ledger;
 use crate::references::Funding;
-use crate::transfers::{Forwarding, Origin, Terms, Transfer};
+use crate::terms::Terms;
 use inst_base::{Cents, Fault, Ident};
 use inst_command::{Entry, LineKind, Outcome};
 use inst_journal::Event;
 use inst_statement::{KeptStatement, Movement};
+use inst_transfers::{Found, Side, Transfer};
 
 impl Ledger {
     /// Keeps a funding.
@@ -80,10 +81,6 @@ impl Ledger {
         ensures only { IsOkUnless result Fault.Memory }
     {
         let Terms { to, cents, stamp } = terms;
-        let transfer = Transfer {
-            origin: Origin::Taken(terms),
-            outcome: None,
-        };
         let taken = Event::Taken {
             id,
             to,
@@ -91,12 +88,12 @@ impl Ledger {
             stamp,
         };
         let _ = self.journal.events().len();
+        // That an amount is within the most is known where it is read.
+        let _ = cents.get();
         self.journal.reserve()?;
-        self.transfers.put(self.who, id, transfer)?;
+        self.table.reserve()?;
         self.journal.push(taken)?;
-        self.totals.reserved += u128::from(cents.get());
-        self.live += 1;
-        self.waiting += 1;
+        self.table.take(id, to, cents, stamp);
         Ok(())
     }
 
@@ -115,10 +112,6 @@ impl Ledger {
             cents,
             deadline,
         } = entry;
-        let transfer = Transfer {
-            origin: Origin::Forwarded(Forwarding { cents, deadline }),
-            outcome: None,
-        };
         let event = Event::Forwarded {
             from,
             id,
@@ -129,8 +122,9 @@ impl Ledger {
         let _ = cents.get();
         self.journal.reserve()?;
         self.inbox.try_reserve(1)?;
-        self.transfers.put(from, id, transfer)?;
+        self.table.reserve()?;
         self.journal.push(event)?;
+        self.table.deliver(from, id, cents, deadline, None);
         self.inbox.push_reserved(entry);
         Ok(())
     }
@@ -144,36 +138,44 @@ impl Ledger {
         ensures room { 0 < self.old.room → IsOk result }
         ensures only { IsOkUnless result Fault.Memory }
     {
-        let origin = self.transfers.get(from, &id).unwrap().origin;
-        let transfer = Transfer {
-            origin,
-            outcome: Some(*outcome),
-        };
+        // The check is told of an enum inside a struct only where a function names it.
+        let _: Option<(Side, Transfer, Outcome)> = None;
+        let found = self.find(from, &id).unwrap();
+        self.keep_found(&found, outcome)
+    }
+
+    /// Books the outcome of a transfer that was found, and releases and moves its amount. It looks nothing up.
+    pub fn keep_found(&mut self, found: &Found, outcome: &Outcome) -> Result<(), Fault>
+        requires there { IsFound self.old.table found.now }
+        requires fits { Fits self.old.book.settings self.old.book.who self.old.book.events
+            (Event.Booked found.now.from found.now.id outcome.now) }
+        ensures ok { OnOk result (self.new.book ≡
+            with_event self.old.book (Event.Booked found.now.from found.now.id outcome.now)) }
+        ensures err { OnErr result (self.new.book ≡ self.old.book) }
+        ensures room { 0 < self.old.room → IsOk result }
+        ensures only { IsOkUnless result Fault.Memory }
+    {
+        let &Found {
+            from,
+            id,
+            transfer,
+            ..
+        } = found;
         let event = Event::Booked {
             from,
             id,
             outcome: *outcome,
         };
         let _ = self.journal.events().len();
+        // That an amount is within the most is known where it is read.
+        let _ = transfer.cents.get();
         self.statement.reserve()?;
         self.journal.push(event)?;
-        self.transfers.put(from, id, transfer)?;
+        self.table.book(found, outcome);
         add_line(
             &mut self.statement,
-            movement_booked(from, id, &origin, outcome),
+            movement_booked(from, id, &transfer, outcome),
         );
-        match &origin {
-            Origin::Taken(terms) => {
-                let cents = u128::from(terms.cents.get());
-                self.totals.reserved -= cents;
-                self.totals.debits += if_accepted(outcome, cents);
-                self.waiting -= 1;
-            }
-            Origin::Forwarded(forwarding) => {
-                let cents = u128::from(forwarding.cents.get());
-                self.totals.credits += if_accepted(outcome, cents);
-            }
-        }
         Ok(())
     }
 
@@ -201,7 +203,7 @@ impl Ledger {
     {
         self.journal.push(Event::Opened)?;
         self.statement.begin();
-        self.live = self.waiting;
+        self.table.begin();
         self.fundings = 0;
         Ok(())
     }
@@ -242,36 +244,26 @@ impl Ledger {
     }
 }
 
-/// The amount where the outcome is `Accepted`, else 0.
-fn if_accepted(outcome: &Outcome, cents: u128) -> u128
-    ensures value { result ≡ if_accepted (Some outcome.now) cents }
-    ensures within { result ≤ cents }
-{
-    match outcome {
-        Outcome::Accepted => cents,
-        _ => 0,
-    }
-}
-
 /// What a booked transfer moves, where it is accepted.
-fn movement_booked(from: u8, id: Ident, origin: &Origin, outcome: &Outcome) -> Option<Movement>
-    ensures { result ≡ movement_booked from id origin.now outcome.now }
+fn movement_booked(from: u8, id: Ident, transfer: &Transfer, outcome: &Outcome) -> Option<Movement>
+    ensures { result ≡ movement_booked from id transfer.now outcome.now }
 {
     if !matches!(outcome, Outcome::Accepted) {
         return None;
     }
-    Some(match origin {
-        Origin::Taken(terms) => Movement {
+    let cents = transfer.cents;
+    Some(match &transfer.side {
+        Side::Own { to, .. } => Movement {
             kind: LineKind::Paid,
-            other: Some(terms.to),
+            other: Some(*to),
             id,
-            cents: terms.cents,
+            cents,
         },
-        Origin::Forwarded(forwarding) => Movement {
+        Side::Other { .. } => Movement {
             kind: LineKind::Received,
             other: Some(from),
             id,
-            cents: forwarding.cents,
+            cents,
         },
     })
 }

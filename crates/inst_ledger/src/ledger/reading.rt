@@ -1,5 +1,5 @@
 //! What a participant's history has, read off what stands beside it.
-ghost use Rattle.std.specs.Prelude.{◌≡◌, ◌<◌, ◌^◌};
+ghost use Rattle.std.specs.Prelude.{◌≡◌, ℕ, ◌<◌, ◌^◌, slice_get, Some};
 ghost use Rattle.inst_settings.specs.Lawful.{IsSettings};
 ghost use Rattle.inst_journal.specs.Booked.{first_some, is_taken, is_forwarded, booked};
 ghost use Rattle.inst_journal.specs.Keys.{fundings, is_submission_repeat, is_fund_repeat, is_defund_repeat, has_reference};
@@ -7,16 +7,20 @@ ghost use Rattle.inst_journal.specs.Money.{reserved, position, available};
 ghost use Rattle.inst_journal.specs.Opened.{live_submissions};
 ghost use Rattle.inst_journal.specs.Sound.{IsSound};
 ghost use Rattle.inst_ledger.specs.Beneficiary.{beneficiary_of};
-ghost use Rattle.inst_ledger.specs.Beside.{terms_in, outcome_in, forwarding_in, funding_of, is_funding_of};
+ghost use Rattle.inst_ledger.specs.Beside.{funding_of, is_funding_of};
+ghost use Rattle.inst_ledger.specs.Right.{terms_in, forwarding_in, own_ids, IsRight};
+ghost use Rattle.inst_transfers.specs.Held.{Finds, IsFound, found_at, state_in};
+ghost use Rattle.inst_transfers.specs.State.{outcome_in};
 ghost use Rattle.inst_ledger.specs.Kept.{terms_of, are_terms, forwarding_of};
 
 use super::Ledger;
 use crate::references::Funding;
+use crate::terms::{Forwarding, Terms};
 use crate::totals::Totals;
-use crate::transfers::{Forwarding, Origin, Terms, Transfer};
 use inst_base::{Cents, Ident};
 use inst_command::{Outcome, Submission};
 use inst_settings::Settings;
+use inst_transfers::{Found, Side, Transfer};
 
 impl Ledger {
     /// The hub's settings.
@@ -35,18 +39,108 @@ impl Ledger {
         self.who
     }
 
+    /// Looks a transfer up in the table: the one look that a step takes.
+    pub fn find(&self, from: u8, id: &Ident) -> Option<Found>
+        ensures found { Finds self.now.table from id.now result }
+        ensures right { IsRight self.now.book.who self.now.book.events (state_in self.now.table) }
+        ensures sound { IsSound self.now.book.settings self.now.book.who self.now.book.events }
+    {
+        self.table.find(from, id)
+    }
+
+    /// What the history says of this transfer.
+    pub(crate) fn transfer(&self, from: u8, id: &Ident) -> Option<Transfer>
+        ensures found { result ≡ found_at self.now.table.entries (from, id.now) }
+        ensures right { IsRight self.now.book.who self.now.book.events (state_in self.now.table) }
+    {
+        let found = self.table.find(from, id)?;
+        Some(found.transfer)
+    }
+
+    /// The identifier of the participant's own live transfer at this place.
+    pub fn own_at(&self, index: u16) -> Option<Ident>
+        ensures { result ≡ slice_get (own_ids self.now.book.who self.now.book.events) index }
+    {
+        self.table.own_at(index)
+    }
+
+    /// The index of the place of the participant's own live transfer with this identifier.
+    pub fn own_index(&self, id: &Ident) -> Option<u16>
+        ensures at { (k : ℕ) → slice_get (own_ids self.now.book.who self.now.book.events) k ≡ Some id.now → result ≡ Some k }
+        ensures only { (k : ℕ) → result ≡ Some k → slice_get (own_ids self.now.book.who self.now.book.events) k ≡ Some id.now }
+    {
+        // The check is told of an enum inside a struct only where a function names it.
+        let _: Option<(Side, Transfer, Outcome)> = None;
+        let found = self.table.find(self.who, id)?;
+        let index = self.table.own_index(&found)?;
+        Some(index as u16)
+    }
+
+    /// The index of the place of the participant's own transfer that was found, where it is live. It looks
+    /// nothing up by its key.
+    pub fn own_place(&self, found: &Found) -> Option<u16>
+        requires there { IsFound self.now.table found.now }
+        requires own { found.now.from ≡ self.now.book.who }
+        ensures at { (k : ℕ) → slice_get (own_ids self.now.book.who self.now.book.events) k ≡ Some found.now.id → result ≡ Some k }
+        ensures only { (k : ℕ) → result ≡ Some k → slice_get (own_ids self.now.book.who self.now.book.events) k ≡ Some found.now.id }
+    {
+        let index = self.table.own_index(found)?;
+        Some(index as u16)
+    }
+
+    /// Whether this very submission is taken, by what is known of its identifier.
+    pub(crate) fn is_known_repeat(&self, known: &Option<Transfer>, submission: &Submission) -> bool
+        requires { known.now ≡ found_at self.now.table.entries (self.now.book.who, submission.now.id) }
+        ensures { result ≡ is_submission_repeat submission.now self.now.book.events }
+    {
+        let _ = &self.settings;
+        are_terms(terms_in(known), submission)
+    }
+
+    /// Whether a submission with this identifier is taken, by what is known of it.
+    pub(crate) fn is_known_taken(&self, known: &Option<Transfer>, id: &Ident) -> bool
+        requires { known.now ≡ found_at self.now.table.entries (self.now.book.who, id.now) }
+        ensures { result ≡ is_taken id.now self.now.book.events }
+    {
+        let _ = &self.settings;
+        terms_in(known).is_some()
+    }
+
+    /// Whether this transfer was forwarded to the participant, by what is known of it.
+    pub(crate) fn is_known_forwarded(&self, known: &Option<Transfer>, from: u8, id: &Ident) -> bool
+        requires { known.now ≡ found_at self.now.table.entries (from, id.now) }
+        ensures { result ≡ is_forwarded from id.now self.now.book.events }
+    {
+        let _ = &self.settings;
+        forwarding_in(known).is_some()
+    }
+
+    /// The outcome that the participant has booked for this transfer, by what is known of it.
+    pub(crate) fn known_outcome(
+        &self,
+        known: &Option<Transfer>,
+        from: u8,
+        id: &Ident,
+    ) -> Option<Outcome>
+        requires { known.now ≡ found_at self.now.table.entries (from, id.now) }
+        ensures { result ≡ booked from id.now self.now.book.events }
+    {
+        let _ = &self.settings;
+        outcome_in(known)
+    }
+
     /// The terms of the taken submission with this identifier.
     fn terms(&self, id: &Ident) -> Option<Terms>
         ensures { result ≡ first_some (terms_of id.now) self.now.book.events }
     {
-        terms_in(&self.transfers.get(self.who, id))
+        terms_in(&self.transfer(self.who, id))
     }
 
     /// What came with this transfer, where it was forwarded.
     fn forwarding(&self, from: u8, id: &Ident) -> Option<Forwarding>
         ensures { result ≡ first_some (forwarding_of (from, id.now)) self.now.book.events }
     {
-        forwarding_in(&self.transfers.get(from, id))
+        forwarding_in(&self.transfer(from, id))
     }
 
     /// The funding with this reference.
@@ -90,7 +184,7 @@ impl Ledger {
     pub fn booked(&self, from: u8, id: &Ident) -> Option<Outcome>
         ensures { result ≡ booked from id.now self.now.book.events }
     {
-        outcome_in(&self.transfers.get(from, id))
+        outcome_in(&self.transfer(from, id))
     }
 
     /// Whether a funding reference is kept.
@@ -120,7 +214,7 @@ impl Ledger {
     pub fn live_submissions(&self) -> usize
         ensures { result ≡ live_submissions self.now.book.who self.now.book.events }
     {
-        self.live
+        self.table.live()
     }
 
     /// How many fund and defund commands are kept since the last opening.
@@ -135,7 +229,7 @@ impl Ledger {
         ensures value { result ≡ reserved self.now.book.events }
         ensures within { result < 2 ^ 64 }
     {
-        self.totals.reserved
+        self.table.reserved()
     }
 
     /// Net funding and credits less debits, in cents.
@@ -143,16 +237,10 @@ impl Ledger {
         ensures value { result ≡ position self.now.book.events }
         ensures within { result < 2 ^ 64 }
     {
-        let Totals {
-            funded,
-            defunded,
-            credits,
-            debits,
-            ..
-        } = self.totals;
+        let Totals { funded, defunded } = self.totals;
         // That a history is no longer than 64 bits tell is known where its length is read.
         let _ = self.journal.events().len();
-        funded + credits - defunded - debits
+        funded + self.table.credits() - defunded - self.table.debits()
     }
 
     /// The position less what is reserved, in cents.
@@ -170,10 +258,15 @@ fn terms_in(found: &Option<Transfer>) -> Option<Terms>
     match found {
         Some(
             Transfer {
-                origin: Origin::Taken(terms),
+                cents,
+                side: Side::Own { to, stamp },
                 ..
             },
-        ) => Some(*terms),
+        ) => Some(Terms {
+            to: *to,
+            cents: *cents,
+            stamp: *stamp,
+        }),
         _ => None,
     }
 }
@@ -185,10 +278,14 @@ fn forwarding_in(found: &Option<Transfer>) -> Option<Forwarding>
     match found {
         Some(
             Transfer {
-                origin: Origin::Forwarded(forwarding),
+                cents,
+                side: Side::Other { deadline },
                 ..
             },
-        ) => Some(*forwarding),
+        ) => Some(Forwarding {
+            cents: *cents,
+            deadline: *deadline,
+        }),
         _ => None,
     }
 }

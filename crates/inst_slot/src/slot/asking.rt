@@ -14,8 +14,7 @@ ghost use Rattle.inst_slot.specs.Asking.{wish_for, request, decides, AsksAdopted
 ghost use Rattle.inst_slot.specs.Telling.{with_event};
 
 use super::Slot;
-use crate::finding::find;
-use crate::waiting::add;
+use crate::answering::{request_of, settle};
 use inst_base::{Fault, Ident, Moment};
 use inst_board::{Board, Place, Wish};
 use inst_command::{Ask, Command, Outcome, Reply};
@@ -23,53 +22,6 @@ use inst_journal::{Event, Handled};
 use inst_terms::Terms;
 
 impl Slot {
-    /// The place of the transfer that the command decides, and what it wishes for it.
-    fn request(&self, command: &Command) -> Option<(Place, Wish)>
-        ensures asked { result ≡ request self.now command.now }
-        ensures sound { IsSound self.now.settings self.now.who self.now.events }
-    {
-        // The invariant is known only where a field is used.
-        let _ = &self.alloc;
-        match command {
-            Command::Confirm { from, id } => self.answer_to(*from, id, Wish::Accept),
-            Command::Reject { from, id, reason } => self.answer_to(
-                *from,
-                id,
-                Wish::Reject(*reason),
-            ),
-            Command::Investigate { id } => self.question_about(id),
-            _ => None,
-        }
-    }
-
-    /// The place of a forwarded transfer with nothing booked, and the wish for it.
-    fn answer_to(&self, from: u8, id: &Ident, wish: Wish) -> Option<(Place, Wish)>
-        ensures { result ≡ wish_for wish from (booked from id.now self.now.events) (arrived_at from id.now self.now.arrivals) }
-    {
-        if self.ledger.booked(from, id).is_some() {
-            return None;
-        }
-        let index = self.arrivals.arrived_at(from, id)?;
-        Some((Place { owner: from, index }, wish))
-    }
-
-    /// The place of a taken transfer with nothing booked, which may expire.
-    fn question_about(&self, id: &Ident) -> Option<(Place, Wish)>
-        ensures { result ≡ wish_for Wish.Expire self.now.who (booked self.now.who id.now self.now.events) (position (takes id.now) (live_taken self.now.who self.now.events)) }
-    {
-        if self.ledger.booked(self.who(), id).is_some() {
-            return None;
-        }
-        let index = self.own_index(id)?;
-        Some((
-            Place {
-                owner: self.who(),
-                index,
-            },
-            Wish::Expire,
-        ))
-    }
-
     /// What an ask is answered where its transfer is found so, and what is to be kept of it.
     fn handle(&self, ask: &Ask, found: Option<Outcome>) -> Result<Handled, Fault>
         requires fits { ask_fits self.now.settings ask.now ≡ true }
@@ -94,7 +46,7 @@ impl Slot {
         let index = self.ledger.live_submissions() as u16;
         let &Terms { to, cents, id } = terms;
         let deadline = stamp.deadline(self.ledger.settings().limit());
-        add(&mut self.own, &mut self.waiting, id, deadline)?;
+        self.waiting.add(deadline)?;
         match self.ledger.keep(Event::Taken {
             id,
             to,
@@ -106,7 +58,6 @@ impl Slot {
                 Ok(())
             }
             Err(fault) => {
-                self.own.take_back();
                 self.waiting.take_back(index);
                 Err(fault)
             }
@@ -141,31 +92,6 @@ impl Slot {
             }
             _ => self.book(*event),
         }
-    }
-
-    /// Answers a command that decides the transfer of the place.
-    fn settle<B: Board>(
-        &mut self,
-        board: &mut B,
-        ask: &Ask,
-        place: Place,
-        wish: Wish,
-    ) -> Result<Reply, Fault>
-        requires fits { ask_fits self.old.settings ask.now ≡ true }
-        requires lawful { IsLawfulBoard B.settings B.knows B.has_role board.old self.old }
-        requires request { request self.old ask.now.command ≡ Some (place, wish) }
-        ensures settles { Settles (B.settings board.old).margin B.knows B.has_role B.stood B.stays board.old self.old ask.now place wish result board.new self.new }
-        ensures stays { B.stays board.old board.new }
-    {
-        let margin = self.ledger.settings().margin();
-        let found = find(&mut self.ledger, board, margin, place, wish, ask.at)?;
-        let Handled { reply, kept } = self.handle(ask, found)?;
-        if let Some(event) = kept {
-            self.ledger.keep(event)?;
-            let who = self.ledger.who();
-            self.waiting.book(&self.own, who, &event);
-        }
-        Ok(reply)
     }
 
     /// Answers any other command.
@@ -203,8 +129,15 @@ impl Slot {
         ensures adopted { AllAreAdopted self.old → AllAreAdopted self.new }
         ensures stays { B.stays board.old board.new }
     {
-        match self.request(&ask.command) {
-            Some((place, wish)) => self.settle(board, ask, place, wish),
+        match request_of(&self.ledger, &self.arrivals, &ask.command) {
+            Some(request) => settle(
+                &mut self.ledger,
+                &mut self.waiting,
+                board,
+                ask,
+                &request,
+                &self.arrivals,
+            ),
             None => self.enter(board, ask),
         }
     }

@@ -15,7 +15,7 @@ impl Slot {
     fn unbooked_at(&self, index: u16) -> Option<Ident>
         ensures { result ≡ unbooked_at self.now index }
     {
-        let id = self.own.at(index)?;
+        let id = self.ledger.own_at(index)?;
         if self.ledger.booked(self.who(), &id).is_some() {
             return None;
         }
@@ -55,7 +55,7 @@ impl Slot {
             Some(outcome) => {
                 let event = booked_event(self.who(), id, &outcome);
                 self.ledger.keep(event)?;
-                self.waiting.book(&self.own, place.owner, &event);
+                self.waiting.book(&self.ledger, place.owner, &event);
                 Ok(true)
             }
         }

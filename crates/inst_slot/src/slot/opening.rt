@@ -18,7 +18,6 @@ ghost use Rattle.inst_slot.specs.Opening.{opened_again, MayOpenAgain, OpensPlace
 use super::Slot;
 use crate::arrival::is_unfound;
 use crate::arrivals::carried_arrivals;
-use crate::own::carried_own;
 use crate::waiting::carried_waiting;
 use inst_base::{Fault, Moment};
 use inst_board::{Board, Look, Place};
@@ -66,13 +65,11 @@ impl Slot {
     {
         let ledger = Ledger::open_from(alloc, settings, who, journal)?;
         let arrivals = carried_arrivals(alloc, &ledger)?;
-        let own = carried_own(alloc, &ledger)?;
         let waiting = carried_waiting(alloc, &ledger)?;
         Ok(Slot {
             alloc,
             ledger,
             arrivals,
-            own,
             waiting,
         })
     }

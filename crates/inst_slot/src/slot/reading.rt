@@ -12,7 +12,7 @@ impl Slot {
     pub fn own_state(&self, index: u16) -> State
         ensures { result ≡ own_state self.now.who self.now.events index }
     {
-        let Some(id) = self.own.at(index) else {
+        let Some(id) = self.ledger.own_at(index) else {
             return State::Unused;
         };
         match self.ledger.booked(self.who(), &id) {

@@ -132,7 +132,7 @@ impl Slot {
     {
         self.ledger.keep(event)?;
         let who = self.ledger.who();
-        self.waiting.book(&self.own, who, &event);
+        self.waiting.book(&self.ledger, who, &event);
         Ok(())
     }
 

@@ -11,5 +11,5 @@ returns c =
     let i = c.self.inside in
     c.is_funding_of.ensures ∙ ap (is_funding_of true c.args.cents) c.funding.ensures
     ∙ sym (ap (λ (b : BookAndRoom). is_funding_of true c.args.cents (first_some (funding_of c.args.reference.now) b.book.events)) c.self.view_is)
-    ∙ sym (defund_found i.settings.value i.who c.args.reference.now c.args.cents i.journal.events c.self.invariant.beside.kept.sound)
+    ∙ sym (defund_found i.settings.value i.who c.args.reference.now c.args.cents i.journal.events c.self.invariant.beside.sound)
     ∙ ap (λ (b : BookAndRoom). is_defund_repeat c.args.reference.now c.args.cents b.book.events) c.self.view_is

@@ -12,5 +12,5 @@ returns c =
     let x = c.args.submission.now in
     c.are_terms.ensures ∙ ap (are_terms x) c.terms.ensures
     ∙ sym (ap (λ (b : BookAndRoom). are_terms x (first_some (terms_of x.id) b.book.events)) c.self.view_is)
-    ∙ sym (repeat_found i.settings.value i.who x i.journal.events c.self.invariant.beside.kept.sound)
+    ∙ sym (repeat_found i.settings.value i.who x i.journal.events c.self.invariant.beside.sound)
     ∙ ap (λ (b : BookAndRoom). is_submission_repeat x b.book.events) c.self.view_is

@@ -11,7 +11,6 @@ invariant_of-self-2 c =
     let event = Event.Fetched c.args.count in
     let fits = fits_at c.self.view_is event c.requires in
     record {
-      beside = beside_at c.in_ok-push.ensures.ok refl
-          (fetched_beside i.settings.value i.who i.journal.events i.totals _ _ i.live i.waiting i.fundings i.inbox.items i.read c.self.invariant.beside c.args.count fits);
-      lines = stated_at c.in_ok-push.ensures.ok (line_less i.settings.value i.who i.journal.events event c.self.invariant.beside.kept.sound fits i.statement i.statement refl refl refl refl c.self.invariant.lines);
+      beside = beside_at c.in_ok-push.ensures.ok (fetched_beside i.settings.value i.who i.journal.events i.totals i.table _ i.fundings i.inbox.items i.read c.self.invariant.beside c.args.count fits);
+      lines = stated_at c.in_ok-push.ensures.ok (line_less i.settings.value i.who i.journal.events event c.self.invariant.beside.sound fits i.statement i.statement refl refl refl refl c.self.invariant.lines);
     }

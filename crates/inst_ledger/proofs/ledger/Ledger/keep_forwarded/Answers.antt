@@ -1,12 +1,20 @@
 use Rattle.std.proofs.Common.{refl, ap, arith, ◌∙◌, ◌++◌, ◌∷◌, []}
 use Rattle.inst_journal.specs.declared.event.Event.{Event}
-use Rattle.inst_ledger.proofs.Beside.{forwarded_beside, beside_at, pushed, fits_at}
-use Rattle.inst_ledger.proofs.Stating.{stated_at, ledger_same, ledger_inbox}
+use Rattle.inst_transfers.specs.Held.{Held, found_at}
+use Rattle.inst_ledger.proofs.Beside.{forwarded_absent, forwarded_beside, beside_same, pushed, fits_at}
+use Rattle.inst_ledger.proofs.Stating.{stated_at, ledger_same}
 use Rattle.inst_statement.proofs.Stated.{line_less}
 use Rattle.inst_ledger.proofs.ledger.Ledger.keep_forwarded.Goals as goal
 
-pub invariant_of-self-in_err-put : goal.invariant_of-self-in_err-put
-invariant_of-self-in_err-put c = ledger_inbox c.try_reserve.ensures.items (ledger_same c.reserve.ensures.events c.in_err-put.ensures.err (λ _. refl) refl refl c.self.invariant)
+pub invariant_of-self-in_err-reserve-2 : goal.invariant_of-self-in_err-reserve-2
+invariant_of-self-in_err-reserve-2 c = ledger_same c.reserve.ensures.events _ c.reserve-2.ensures.same (λ _. refl) c.try_reserve.ensures.items refl refl c.self.invariant
+
+pub deliver-requires-clause-new : goal.deliver-requires-clause-new
+deliver-requires-clause-new c =
+    let i = c.self.inside in
+    let e = c.args.entry in
+    let fits = fits_at c.self.view_is (Event.Forwarded e.from e.id e.cents e.deadline) c.requires in
+    ap (λ (h : Held). found_at h.entries (e.from, e.id)) c.reserve-2.ensures.same ∙ forwarded_absent i.settings.value i.who i.journal.events i.totals i.table _ i.fundings i.inbox.items i.read c.self.invariant.beside e.from e.id fits.another fits.new
 
 pub invariant_of-self-2 : goal.invariant_of-self-2
 invariant_of-self-2 c =
@@ -15,9 +23,9 @@ invariant_of-self-2 c =
     let event = Event.Forwarded e.from e.id e.cents e.deadline in
     let fits = fits_at c.self.view_is event c.requires in
     let events = pushed event c.reserve.ensures.events c.in_ok-push.ensures.ok in
+    let before = beside_same refl _ c.reserve-2.ensures.same (λ _. refl) refl c.self.invariant.beside in
+    let after = forwarded_beside i.settings.value i.who i.journal.events i.totals c.reserve-2.new.self _ i.fundings i.inbox.items i.read before e.from e.id e.cents e.deadline c.deliver.new.self fits (omega (arith, c.get.ensures.value, c.get.ensures.within)) c.deliver.ensures.who c.deliver.ensures.state in
     record {
-      beside = beside_at events (c.push_reserved.ensures.items ∙ ap (λ xs. xs ++ e ∷ []) c.try_reserve.ensures.items)
-          (forwarded_beside i.settings.value i.who i.journal.events i.totals _ _ i.live i.waiting i.fundings i.inbox.items i.read c.self.invariant.beside e.from e.id e.cents e.deadline _
-          fits (omega (arith, c.get.ensures.value, c.get.ensures.within)) c.in_ok-put.ensures.ok);
-      lines = stated_at events (line_less i.settings.value i.who i.journal.events event c.self.invariant.beside.kept.sound fits i.statement i.statement refl refl refl refl c.self.invariant.lines);
+      beside = beside_same events _ refl (λ _. refl) (c.push_reserved.ensures.items ∙ ap (λ xs. xs ++ e ∷ []) c.try_reserve.ensures.items) after;
+      lines = stated_at events (line_less i.settings.value i.who i.journal.events event c.self.invariant.beside.sound fits i.statement i.statement refl refl refl refl c.self.invariant.lines);
     }

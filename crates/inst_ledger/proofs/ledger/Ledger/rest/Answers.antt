@@ -9,7 +9,7 @@ pub after-requires : goal.after-requires
 after-requires c =
     let i = c.self.inside in
     let b = c.self.invariant.beside.inboxed in
-    omega (arith, b.were_read, ap length (c.as_slice.ensures.value ∙ b.came), handed_within i.settings.value i.who i.journal.events c.self.invariant.beside.kept.sound)
+    omega (arith, b.were_read, ap length (c.as_slice.ensures.value ∙ b.came), handed_within i.settings.value i.who i.journal.events c.self.invariant.beside.sound)
 
 pub returns : goal.returns
 returns c =

@@ -1,15 +1,18 @@
-use Rattle.std.proofs.Common.{refl, ◌≢◌, ◌∙◌, sym}
+use Rattle.std.proofs.Common.{refl, ◌≢◌, ◌∙◌, sym, ap, subst}
 use Rattle.std.proofs.lemmas.Bool.{and_parts}
 use Rattle.inst_base.specs.declared.fault.Fault.{Fault}
 use Rattle.inst_base.specs.declared.fault.Fault.TheVariants.{Memory}
 use Rattle.inst_board.specs.Learning.{KnowTheSame}
 use Rattle.inst_settings.specs.Settings.{is_participant}
 use Rattle.inst_command.specs.Ask.{command_fits}
+use Rattle.inst_journal.specs.Sound.{IsSound}
+use Rattle.inst_slot.specs.Answering.{over}
+use Rattle.inst_slot.specs.Asking.{request, Settles}
 use Rattle.inst_slot.specs.Book.{Book}
 use Rattle.inst_slot.proofs.Deciding.{asks_where_it_decides}
 use Rattle.inst_slot.proofs.Settling.{settles_keep}
 use Rattle.inst_slot.proofs.Entering.{enters_keep}
-use Rattle.inst_slot.proofs.Refusing.{on_error, settles_unknown}
+use Rattle.inst_slot.proofs.Refusing.{on_error, settles_left, settles_unknown}
 use Rattle.inst_slot.proofs.Others.{others_settle, others_enter}
 use Rattle.inst_slot.proofs.slot.Slot.apply.Goals as goal
 
@@ -27,9 +30,13 @@ pub returns-in-Some-clause-lawful : goal.returns-in-Some-clause-lawful
 returns-in-Some-clause-lawful g c =
     let b = g.B.Board in
     let book : Book = c.args.self.now in
+    let r = c.in-Some.request in
+    let new = over c.settle.new.ledger.book c.self.inside.arrivals in
+    let is = ap (λ (x : Book). request x c.args.ask.now.command) (sym c.self.view_is) ∙ c.in-Some.ensures.is in
+    let settles = subst (λ (x : Book). Settles (b.settings c.args.board.now).margin b.knows b.has_role b.stood b.stays c.args.board.now x c.args.ask.now r.place r.wish c.settle.result c.settle.new.board new) c.self.view_is c.settle.ensures.settles in
     settles_keep b.settings b.knows b.has_role (b.settings c.args.board.now).margin b.stood b.stays (λ x y. g.met.B.Board.stays_settings x y) (λ x y p. g.met.B.Board.stays_roles x y p)
-    c.args.board.now c.settle.new.board c.settle.ensures.stays book c.requires.lawful refl c.args.ask.now (c.in-Some.place, c.in-Some.wish) c.settle.result c.settle.new.self
-    (sym c.request.ensures.asked ∙ c.in-Some.is) c.settle.ensures.settles
+    c.args.board.now c.settle.new.board c.settle.ensures.stays book c.requires.lawful refl c.args.ask.now (r.place, r.wish) c.settle.result new
+    is settles
 
 pub returns-in-None-clause-lawful : goal.returns-in-None-clause-lawful
 returns-in-None-clause-lawful g c =
@@ -37,23 +44,31 @@ returns-in-None-clause-lawful g c =
     let book : Book = c.args.self.now in
     enters_keep b.settings b.knows b.has_role (b.settings c.args.board.now).margin c.args.board.now c.enter.new.board book c.args.ask.now c.enter.result c.enter.new.self
     (g.met.B.Board.stays_settings c.args.board.now c.enter.new.board c.enter.ensures.stays) refl (λ r. (g.met.B.Board.stays_roles c.args.board.now c.enter.new.board book.who c.enter.ensures.stays).0 r)
-    c.request.ensures.sound (and_parts (is_participant book.settings c.args.ask.now.who) (command_fits book.settings c.args.ask.now.command) c.requires.fits).1 c.enter.ensures.enters c.requires.lawful
+    (subst (λ (x : Book). IsSound x.settings x.who x.events) c.self.view_is c.self.invariant.1) (and_parts (is_participant book.settings c.args.ask.now.who) (command_fits book.settings c.args.ask.now.command) c.requires.fits).1 c.enter.ensures.enters c.requires.lawful
 
 pub returns-in-Some-clause-refused : goal.returns-in-Some-clause-refused
 returns-in-Some-clause-refused g c =
     let b = g.B.Board in
     let book : Book = c.args.self.now in
+    let r = c.in-Some.request in
+    let new = over c.settle.new.ledger.book c.self.inside.arrivals in
+    let is = ap (λ (x : Book). request x c.args.ask.now.command) (sym c.self.view_is) ∙ c.in-Some.ensures.is in
+    let settles = subst (λ (x : Book). Settles (b.settings c.args.board.now).margin b.knows b.has_role b.stood b.stays c.args.board.now x c.args.ask.now r.place r.wish c.settle.result c.settle.new.board new) c.self.view_is c.settle.ensures.settles in
     on_error (λ (fault : Fault). fault ≢ Memory → KnowTheSame b.knows c.args.board.now c.settle.new.board) c.settle.result
-    (λ fault is other. settles_unknown b.settings b.knows b.has_role (b.settings c.args.board.now).margin c.args.board.now c.settle.new.board book b.stood b.stays c.requires.lawful c.args.ask.now (c.in-Some.place, c.in-Some.wish)
-    c.settle.result c.settle.new.self fault (sym c.request.ensures.asked ∙ c.in-Some.is) c.settle.ensures.settles is other)
+    (λ fault is_err other. settles_unknown b.settings b.knows b.has_role (b.settings c.args.board.now).margin c.args.board.now c.settle.new.board book b.stood b.stays c.requires.lawful c.args.ask.now (r.place, r.wish)
+    c.settle.result new fault is settles is_err other)
 
 pub returns-in-Some-clause-others : goal.returns-in-Some-clause-others
 returns-in-Some-clause-others g c =
     let b = g.B.Board in
     let book : Book = c.args.self.now in
+    let r = c.in-Some.request in
+    let new = over c.settle.new.ledger.book c.self.inside.arrivals in
+    let is = ap (λ (x : Book). request x c.args.ask.now.command) (sym c.self.view_is) ∙ c.in-Some.ensures.is in
+    let settles = subst (λ (x : Book). Settles (b.settings c.args.board.now).margin b.knows b.has_role b.stood b.stays c.args.board.now x c.args.ask.now r.place r.wish c.settle.result c.settle.new.board new) c.self.view_is c.settle.ensures.settles in
     others_settle b.settings b.knows b.has_role (b.settings c.args.board.now).margin b.stood b.stays (λ x y. g.met.B.Board.stays_settings x y) (λ x y p. g.met.B.Board.stays_roles x y p) (λ x k t o. g.met.B.Board.stood_seldom x k t o)
-    c.args.board.now c.settle.new.board c.settle.ensures.stays refl book c.args.ask.now (c.in-Some.place, c.in-Some.wish) c.settle.result c.settle.new.self c.requires.lawful
-    (sym c.request.ensures.asked ∙ c.in-Some.is) c.settle.ensures.settles
+    c.args.board.now c.settle.new.board c.settle.ensures.stays refl book c.args.ask.now (r.place, r.wish) c.settle.result new c.requires.lawful
+    is settles
 
 pub returns-in-None-clause-others : goal.returns-in-None-clause-others
 returns-in-None-clause-others g c =
@@ -61,3 +76,13 @@ returns-in-None-clause-others g c =
     let book : Book = c.args.self.now in
     others_enter b.settings b.knows b.has_role (b.settings c.args.board.now).margin b.stood b.stays (λ x y. g.met.B.Board.stays_settings x y) (λ x y p. g.met.B.Board.stays_roles x y p) (λ x k t o. g.met.B.Board.stood_seldom x k t o)
     c.args.board.now c.enter.new.board c.enter.ensures.stays refl book c.args.ask.now c.enter.result c.enter.new.self c.enter.ensures.enters
+
+pub returns-in-Some-clause-err : goal.returns-in-Some-clause-err
+returns-in-Some-clause-err g c =
+    let b = g.B.Board in
+    let book : Book = c.args.self.now in
+    let r = c.in-Some.request in
+    let new = over c.settle.new.ledger.book c.self.inside.arrivals in
+    let is = ap (λ (x : Book). request x c.args.ask.now.command) (sym c.self.view_is) ∙ c.in-Some.ensures.is in
+    let settles = subst (λ (x : Book). Settles (b.settings c.args.board.now).margin b.knows b.has_role b.stood b.stays c.args.board.now x c.args.ask.now r.place r.wish c.settle.result c.settle.new.board new) c.self.view_is c.settle.ensures.settles in
+    settles_left b.settings b.knows b.has_role (b.settings c.args.board.now).margin c.args.board.now c.settle.new.board book b.stood b.stays c.requires.lawful c.args.ask.now (r.place, r.wish) c.settle.result new settles

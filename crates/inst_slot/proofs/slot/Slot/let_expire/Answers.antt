@@ -11,8 +11,9 @@ use Rattle.inst_slot.specs.Book.{Book, place_at}
 use Rattle.inst_slot.proofs.Learning.{booking_fits}
 use Rattle.inst_slot.proofs.Settling.{unbooked_is}
 use Rattle.inst_slot.proofs.Deciding.{may_expire}
+use Rattle.inst_slot.specs.Indexed.{own_ids}
 use Rattle.inst_slot.specs.Waiting.{IsRight, moves_none}
-use Rattle.inst_slot.proofs.OwnIds.{keeps_right}
+use Rattle.inst_slot.proofs.OwnIds.{keeps_over}
 use Rattle.inst_slot.proofs.slot.Slot.let_expire.Goals as goal
 
 pub find-requires-clause-may : goal.find-requires-clause-may
@@ -49,10 +50,9 @@ invariant_of-self-in-Some-2 g c =
     let book : Book = c.args.self.now in
     let old = c.find.new.ledger.book in
     let u = unbooked_is book c.args.index c.args.id c.requires.unbooked in
-    let ids = c.self.inside.own in
-    let held = subst (λ (x : Kept). IsRight x.settings x.who x.events ids c.self.inside.waiting) (sym c.find.ensures.book) c.self.invariant in
+    let held = subst (λ (x : Kept). IsRight x.settings x.who x.events (own_ids x.who x.events) c.self.inside.waiting) (sym c.find.ensures.book) c.self.invariant in
     let fits = booking book c.self.inside.ledger.book old c.who-in-Some.result c.args.id c.in-Some.outcome c.booked_event-event.result c.find.ensures.book
     (ap (λ (x : Book). x.settings) c.self.view_is) (ap (λ (x : Book). x.who) c.self.view_is) (ap (λ (x : Book). x.events) c.self.view_is) c.who-in-Some.ensures c.booked_event-event.ensures
     (booking_fits b.settings b.knows b.has_role c.args.board.now book book.who c.args.id c.args.index c.in-Some.outcome c.requires.lawful (inl (refl, u.at)) u.none) in
-    keeps_right old c.keep.new.self.book ids c.self.inside.waiting c.book.new.self c.booked_event-event.result held fits (ap moves_none c.booked_event-event.ensures) c.in_ok-keep-in-Some.ensures.ok
+    keeps_over old c.keep.new.self.book c.self.inside.waiting c.book.new.self c.booked_event-event.result held fits (ap moves_none c.booked_event-event.ensures) c.in_ok-keep-in-Some.ensures.ok
     c.book.ensures.deadlines c.who.result (c.who.ensures ∙ sym (ap (λ (x : Book). x.who) c.self.view_is) ∙ sym (ap (λ (x : Kept). x.who) c.find.ensures.book)) c.book.ensures.pairs

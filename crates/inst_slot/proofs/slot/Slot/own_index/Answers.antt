@@ -3,13 +3,13 @@ use Rattle.std.specs.Prelude.{position}
 use Rattle.inst_journal.specs.Booked.{takes}
 use Rattle.inst_journal.specs.Opened.{live_taken}
 use Rattle.inst_slot.specs.Book.{Book}
-use Rattle.inst_slot.specs.Indexed.{is_id}
-use Rattle.inst_slot.proofs.OwnIds.{own_position}
+use Rattle.inst_slot.specs.Indexed.{own_ids}
+use Rattle.inst_slot.proofs.OwnIds.{own_place, own_position}
 use Rattle.inst_slot.proofs.slot.Slot.own_index.Goals as goal
 
 pub returns : goal.returns
 returns c =
     let id = c.args.id.now in
     let kept = c.self.inside.ledger.book in
-    c.index_of.ensures.place ∙ ap (position (is_id id)) c.self.invariant.2 ∙ own_position kept.who kept.events id
+    own_place id (own_ids kept.who kept.events) c.own_index.result c.own_index.ensures.at c.own_index.ensures.only ∙ own_position kept.who kept.events id
     ∙ ap (λ (x : Book). position (takes id) (live_taken x.who x.events)) c.self.view_is

@@ -10,16 +10,18 @@ use Rattle.inst_slot.proofs.slot.Slot.own_state.Goals.{After-booked}
 pub returns-in_default : goal.returns-in_default
 returns-in_default c =
     let book : Book = c.args.self.now in
-    let same = c.self.invariant.2 ∙ ap (λ (x : Book). own_ids x.who x.events) c.self.view_is in
-    sym (unused_there book.who book.events c.self.inside.own c.args.index same (sym c.in_default.ensures))
+    let kept = c.self.inside.ledger.book in
+    let same = ap (λ (x : Book). own_ids x.who x.events) c.self.view_is in
+    sym (unused_there book.who book.events (own_ids kept.who kept.events) c.args.index same (sym c.in_default.ensures))
 
 -- what is booked is the state
 told : (c : After-booked) → booked_state c.booked.result ≡ own_state c.args.self.now.who c.args.self.now.events c.args.index
 told c =
     let book : Book = c.args.self.now in
-    let same = c.self.invariant.2 ∙ ap (λ (x : Book). own_ids x.who x.events) c.self.view_is in
+    let kept = c.self.inside.ledger.book in
+    let same = ap (λ (x : Book). own_ids x.who x.events) c.self.view_is in
     let known = c.booked.ensures ∙ ap (λ n. booked n c.in-Some.id c.self.inside.ledger.book.events) c.who.ensures ∙ ap (λ (x : Book). booked book.who c.in-Some.id x.events) c.self.view_is in
-    ap booked_state known ∙ sym (used_there book.who book.events c.self.inside.own c.args.index c.in-Some.id same (sym c.in-Some.ensures))
+    ap booked_state known ∙ sym (used_there book.who book.events (own_ids kept.who kept.events) c.args.index c.in-Some.id same (sym c.in-Some.ensures))
 
 pub returns-in-Some-booked : goal.returns-in-Some-booked
 returns-in-Some-booked c = sym (ap booked_state c.in-Some-booked.is) ∙ told (goal.at.returns-in-Some-booked c).After-booked

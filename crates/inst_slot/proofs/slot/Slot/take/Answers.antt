@@ -1,62 +1,47 @@
-use Rattle.std.proofs.Common.{◌≡◌, ◌∙◌, ◌++◌, ◌+◌, ◌-◌, ◌∷◌, [], ℕ, List, length, length-append, take, arith, sym, ap, subst}
+use Rattle.std.proofs.Common.{◌≡◌, ◌∙◌, ◌++◌, ◌+◌, ◌∷◌, [], ℕ, length, length-append, arith, refl, sym, ap, subst}
 use Rattle.inst_due.specs.Due.{Adds}
 use Rattle.inst_settings.specs.Settings.{HubSettings}
-use Rattle.std.specs.List.{list_any}
 use Rattle.std.proofs.lemmas.List.{length-map}
-use Rattle.std.proofs.Math.Seq.{take-append_seam}
 use Rattle.inst_board.specs.declared.about.About.TheVariants.{Opened}
 use Rattle.inst_board.specs.Standing.{about, pending}
 use Rattle.inst_board.specs.Learning.{Learns}
 use Rattle.inst_base.specs.TimeLimit.{deadline_of}
-use Rattle.inst_journal.specs.Opened.{carried, live_taken, live_submissions}
+use Rattle.inst_journal.specs.Opened.{live_taken, live_submissions}
 use Rattle.inst_journal.specs.declared.event.Event.TheVariants.{Taken}
 use Rattle.inst_journal.specs.Sound.{Fits}
 use Rattle.inst_ledger.specs.Book.{Book as Kept}
 use Rattle.inst_slot.specs.Book.{Book, place_at}
-use Rattle.inst_slot.specs.Indexed.{is_id, id_of}
+use Rattle.inst_slot.specs.Indexed.{own_ids}
 use Rattle.inst_slot.specs.Waiting.{IsRight, deadline_in}
 use Rattle.inst_slot.proofs.Entering.{next_index, next_unused}
-use Rattle.inst_slot.proofs.OwnIds.{untaken, takes_right, right_again}
+use Rattle.inst_slot.proofs.OwnIds.{takes_over, right_again}
 use Rattle.inst_slot.proofs.slot.Slot.take.Goals as goal
 
-pub add-requires-clause-few : goal.add-requires-clause-few
-add-requires-clause-few g c =
+pub add-requires : goal.add-requires
+add-requires g c =
     let kept = c.self.inside.ledger.book in
     let t = c.args.terms.now in
     let fits = subst (λ (x : Book). Fits x.settings x.who x.events (Taken t.id t.to t.cents c.args.stamp)) (sym c.self.view_is) c.requires.fits in
-    let long = ap length c.self.invariant.2 ∙ length-map (live_taken kept.who kept.events) id_of ∙ next_index kept.who kept.events in
+    let long = ap length c.self.invariant.3.deadlines ∙ length-map (live_taken kept.who kept.events) (deadline_in kept.settings) ∙ next_index kept.who kept.events in
     omega (arith, long, fits.place, c.self.invariant.0.places_most)
-
-pub add-requires-clause-new : goal.add-requires-clause-new
-add-requires-clause-new g c =
-    let kept = c.self.inside.ledger.book in
-    let t = c.args.terms.now in
-    let fits = subst (λ (x : Book). Fits x.settings x.who x.events (Taken t.id t.to t.cents c.args.stamp)) (sym c.self.view_is) c.requires.fits in
-    ap (list_any (is_id t.id)) c.self.invariant.2 ∙ untaken t.id kept.who (carried kept.events) kept.events fits.new
-
-pub add-requires-clause-same : goal.add-requires-clause-same
-add-requires-clause-same g c =
-    let kept = c.self.inside.ledger.book in
-    ap length c.self.invariant.3.deadlines ∙ length-map (live_taken kept.who kept.events) (deadline_in kept.settings)
-    ∙ sym (ap length c.self.invariant.2 ∙ length-map (live_taken kept.who kept.events) id_of)
 
 pub invariant_of-self-in-Ok : goal.invariant_of-self-in-Ok
 invariant_of-self-in-Ok g c =
     let t = c.args.terms.now in
     let old = c.self.inside.ledger.book in
     let due : c.deadline-deadline.result ≡ deadline_of old.settings.limit c.args.stamp = c.deadline-deadline.ensures ∙ ap (λ (n : ℕ). deadline_of n c.args.stamp) (c.limit.ensures.value ∙ ap (λ (s : HubSettings). s.limit) c.settings.ensures.value) in
-    takes_right old c.keep.new.self.book c.self.inside.own c.add.new.own c.self.inside.waiting c.add.new.waiting t.id t.to t.cents c.args.stamp c.self.invariant
-    (subst (λ (x : Book). Fits x.settings x.who x.events (Taken t.id t.to t.cents c.args.stamp)) (sym c.self.view_is) c.requires.fits) c.in_ok-add.ensures.ids
+    takes_over old c.keep.new.self.book c.self.inside.waiting c.add.new.self t.id t.to t.cents c.args.stamp c.self.invariant
+    (subst (λ (x : Book). Fits x.settings x.who x.events (Taken t.id t.to t.cents c.args.stamp)) (sym c.self.view_is) c.requires.fits)
     (c.in_ok-add.ensures.deadlines ∙ ap (λ (n : ℕ). c.self.inside.waiting.deadlines ++ n ∷ []) due)
-    (subst (λ (n : ℕ). Adds c.self.inside.waiting.pairs c.add.new.waiting.pairs n (length c.self.inside.waiting.deadlines)) due c.in_ok-add.ensures.pairs) c.in-Ok.ensures.ok
+    (subst (λ (n : ℕ). Adds c.self.inside.waiting.pairs c.add.new.self.pairs n (length c.self.inside.waiting.deadlines)) due c.in_ok-add.ensures.pairs) c.in-Ok.ensures.ok
 
-pub take_back-requires-in-Err : goal.take_back-requires-in-Err
-take_back-requires-in-Err g c =
+pub take_back-requires : goal.take_back-requires
+take_back-requires g c =
     let kept = c.self.inside.ledger.book in
     let D = c.self.inside.waiting.deadlines in
     let at : c.live_submissions-index.result ≡ length D =
     c.live_submissions-index.ensures ∙ sym (next_index kept.who kept.events) ∙ sym (ap length c.self.invariant.3.deadlines ∙ length-map (live_taken kept.who kept.events) (deadline_in kept.settings)) in
-    let more : length c.add.new.waiting.deadlines ≡ length D + 1 = ap length c.in_ok-add.ensures.deadlines ∙ length-append D (c.deadline-deadline.result ∷ []) in
+    let more : length c.add.new.self.deadlines ≡ length D + 1 = ap length c.in_ok-add.ensures.deadlines ∙ length-append D (c.deadline-deadline.result ∷ []) in
     omega (arith, at, more)
 
 pub invariant_of-self-in-Err : goal.invariant_of-self-in-Err
@@ -65,16 +50,10 @@ invariant_of-self-in-Err g c =
     let D = c.self.inside.waiting.deadlines in
     let at : c.live_submissions-index.result ≡ length D =
     c.live_submissions-index.ensures ∙ sym (next_index kept.who kept.events) ∙ sym (ap length c.self.invariant.3.deadlines ∙ length-map (live_taken kept.who kept.events) (deadline_in kept.settings)) in
-    let ids = c.self.inside.own in
-    let more = c.add.new.own in
-    let back : c.take_back.new.self ≡ ids =
-    c.take_back.ensures ∙ ap (λ (l : List (List ℕ)). take (length l - 1) l) c.in_ok-add.ensures.ids ∙ ap (λ (n : ℕ). take n (ids ++ c.args.terms.now.id ∷ [])) (one_less ids c.args.terms.now.id) ∙ take-append_seam ids (c.args.terms.now.id ∷ []) in
-    subst (λ (x : Kept). IsRight x.settings x.who x.events c.take_back.new.self c.take_back-in-Err.new.self) (sym c.in-Err.ensures.err)
-    (right_again kept.settings kept.who kept.events ids c.take_back.new.self c.self.inside.waiting c.add.new.waiting c.take_back-in-Err.new.self c.deadline-deadline.result c.live_submissions-index.result c.self.invariant back at
-    c.in_ok-add.ensures.deadlines c.in_ok-add.ensures.pairs c.take_back-in-Err.ensures.deadlines c.take_back-in-Err.ensures.pairs)
-  where
-    one_less : (ids : List (List ℕ)) (id : List ℕ) → length (ids ++ id ∷ []) - 1 ≡ length ids
-    one_less ids id = omega (arith, length-append ids (id ∷ []))
+    let ids = own_ids kept.who kept.events in
+    subst (λ (x : Kept). IsRight x.settings x.who x.events (own_ids x.who x.events) c.take_back.new.self) (sym c.in-Err.ensures.err)
+    (right_again kept.settings kept.who kept.events ids ids c.self.inside.waiting c.add.new.self c.take_back.new.self c.deadline-deadline.result c.live_submissions-index.result c.self.invariant refl at
+    c.in_ok-add.ensures.deadlines c.in_ok-add.ensures.pairs c.take_back.ensures.deadlines c.take_back.ensures.pairs)
 
 pub open_place-requires-clause-unused : goal.open_place-requires-clause-unused
 open_place-requires-clause-unused g c = λ kn.

@@ -1,0 +1,62 @@
+-- The table is right of a history: what it finds and sums is what a walk over the history would find and sum.
+use Rattle.std.specs.Prelude.{◌≡◌, ◌≢◌, ℕ, List, [], map, count_by, Option, Some, None}
+use Rattle.inst_journal.specs.declared.event.Event.{Event}
+use Rattle.inst_journal.specs.declared.event.Event.TheVariants.{Taken}
+use Rattle.inst_journal.specs.Booked.{first_some, booked}
+use Rattle.inst_journal.specs.Opened.{takes_live, live_taken}
+use Rattle.inst_journal.specs.Sound.{IsSound}
+use Rattle.inst_settings.specs.Settings.{HubSettings}
+use Rattle.inst_journal.specs.Money.{reserved}
+use Rattle.inst_journal.specs.Sums.{credits, debits}
+use Rattle.inst_ledger.specs.declared.terms.Forwarding.{Forwarding}
+use Rattle.inst_ledger.specs.declared.terms.Terms.{Terms}
+use Rattle.inst_ledger.specs.Kept.{terms_of, forwarding_of}
+use Rattle.inst_transfers.specs.declared.transfer.Side.{Side}
+use Rattle.inst_transfers.specs.declared.transfer.Side.TheVariants.{Own, Other}
+use Rattle.inst_transfers.specs.declared.transfer.Transfer.{Transfer}
+use Rattle.inst_transfers.specs.State.{Key, State, outcome_in, state_of}
+
+-- the terms, where the transfer is the participant's own
+abbrev pub terms_by : ℕ → Side → Option Terms
+terms_by cents (Own to stamp) = Some (record { to = to; cents = cents; stamp = stamp })
+terms_by cents (Other deadline) = None
+
+abbrev pub terms_in : Option Transfer → Option Terms
+terms_in None = None
+terms_in (Some t) = terms_by t.cents t.side
+
+-- what came, where it was forwarded
+abbrev pub forwarding_by : ℕ → Side → Option Forwarding
+forwarding_by cents (Own to stamp) = None
+forwarding_by cents (Other deadline) = Some (record { cents = cents; deadline = deadline })
+
+abbrev pub forwarding_in : Option Transfer → Option Forwarding
+forwarding_in None = None
+forwarding_in (Some t) = forwarding_by t.cents t.side
+
+-- the identifier of the transfer that the event takes
+abbrev pub id_of : Event → List ℕ
+id_of (Taken id to cents stamp) = id
+id_of _ = []
+
+-- the identifiers of the participant's own live transfers, in the order of their places
+abbrev pub own_ids : ℕ → List Event → List (List ℕ)
+own_ids who J = map id_of (live_taken who J)
+
+-- how many of the participant's own transfers have nothing booked
+abbrev pub unbooked : ℕ → List Event → ℕ
+unbooked who J = count_by (takes_live who J) J
+
+pub record IsRight (who : ℕ) (J : List Event) (st : State) : Type 0 where
+  pub taken : (id : List ℕ) → terms_in (st.found (who, id)) ≡ first_some (terms_of id) J
+  pub others : (key : Key) → key.0 ≢ who → terms_in (st.found key) ≡ None
+  pub forwarded : (key : Key) → forwarding_in (st.found key) ≡ first_some (forwarding_of key) J
+  pub booked : (key : Key) → outcome_in (st.found key) ≡ booked key.0 key.1 J
+  pub own : st.own ≡ own_ids who J
+  pub reserved : st.reserved ≡ reserved J
+  pub credits : st.credits ≡ credits J
+  pub debits : st.debits ≡ debits J
+  pub waiting : st.waiting ≡ unbooked who J
+
+abbrev pub ATableIsRight : Type 0
+ATableIsRight = (s : HubSettings) (who : ℕ) (J : List Event) → IsSound s who J → IsRight who J (state_of who J)

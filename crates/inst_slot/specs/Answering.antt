@@ -1,0 +1,64 @@
+-- What a command asks of the board, with the transfer as its participant's table has it: so it is looked up once. This
+-- hub's own choice.
+use Rattle.std.specs.Prelude.{◌≡◌, ℕ, Bool, true, false, List, [], map, slice_get, Option, Some, None, Result, Err}
+use Rattle.inst_base.specs.declared.fault.Fault.{Fault}
+use Rattle.inst_base.specs.declared.fault.Fault.TheVariants.{Expired}
+use Rattle.inst_command.specs.declared.command.Command.{Command}
+use Rattle.inst_command.specs.declared.command.Command.TheVariants.{Confirm, Reject, Investigate}
+use Rattle.inst_board.specs.declared.place.Place.{Place}
+use Rattle.inst_board.specs.declared.wish.Wish.{Wish}
+use Rattle.inst_board.specs.declared.wish.Wish.TheVariants.{Accept, Reject as WishReject, Expire}
+use Rattle.inst_journal.specs.declared.event.Event.{Event}
+use Rattle.inst_journal.specs.declared.handle.Handled.{Handled}
+use Rattle.inst_journal.specs.Reply.{still_pending}
+use Rattle.inst_ledger.specs.Book.{Book as Kept, BookAndRoom}
+use Rattle.inst_transfers.specs.Held.{IsFound}
+use Rattle.inst_slot.specs.declared.arrival.Arrival.{Arrival}
+use Rattle.inst_slot.specs.declared.answering.Request.{Request}
+use Rattle.inst_slot.specs.Book.{Book, live_inbox}
+use Rattle.inst_slot.specs.Indexed.{own_ids}
+
+-- a participant's book with its arrivals, of what its ledger keeps
+abbrev pub over : Kept → List Arrival → Book
+over kept arrivals = record { settings = kept.settings; who = kept.who; events = kept.events; arrivals = arrivals }
+
+-- the identifier of the transfer that the command decides
+abbrev pub named : Command → List ℕ
+named (Confirm from id) = id
+named (Reject from id reason) = id
+named (Investigate id) = id
+named _ = []
+
+-- whether it is wished that the transfer expires
+abbrev pub is_expiry : Wish → Bool
+is_expiry Accept = false
+is_expiry (WishReject reason) = false
+is_expiry Expire = true
+
+-- what the participant is answered where the transfer stays pending
+abbrev pub pending_for : Wish → ℕ → List ℕ → Result Handled Fault
+pending_for Accept from id = Err Expired
+pending_for (WishReject reason) from id = still_pending from id
+pending_for Expire from id = still_pending from id
+
+-- there is an arrival for each live transfer that was forwarded, in order
+abbrev pub AreArrived : List Arrival → List Event → Type 0
+AreArrived arrivals J = map (λ x. x.entry) arrivals ≡ live_inbox J
+
+-- the place is that of the participant's own live transfer with this identifier
+pub record IsOwnAt (book : Kept) (id : List ℕ) (place : Place) : Type 0 where
+  pub own : place.owner ≡ book.who
+  pub at : slice_get (own_ids book.who book.events) place.index ≡ Some id
+  pub only : (k : ℕ) → slice_get (own_ids book.who book.events) k ≡ Some id → place.index ≡ k
+
+-- what is asked, of the transfer with this identifier, which was found
+pub record IsAsking (l : BookAndRoom) (asked : Option (Place × Wish)) (id : List ℕ) (r : Request) : Type 0 where
+  pub is : asked ≡ Some (r.place, r.wish)
+  pub there : IsFound l.table r.found
+  pub owner : r.found.from ≡ r.place.owner
+  pub id_is : r.found.id ≡ id
+  pub expiring : is_expiry r.wish ≡ true → IsOwnAt l.book id r.place
+
+abbrev pub Gives : BookAndRoom → Option (Place × Wish) → List ℕ → Option Request → Type 0
+Gives l asked id None = asked ≡ None
+Gives l asked id (Some r) = IsAsking l asked id r

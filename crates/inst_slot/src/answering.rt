@@ -1,0 +1,132 @@
+//! A command that decides a transfer: one look at the table, one at the board, and one decision.
+ghost use Rattle.std.specs.Prelude.{◌≡◌, false, position};
+ghost use Rattle.inst_journal.specs.Booked.{takes, booked};
+ghost use Rattle.inst_journal.specs.Opened.{live_taken};
+ghost use Rattle.inst_journal.specs.Reply.{told};
+ghost use Rattle.inst_slot.specs.Asking.{wish_for, request, Settles};
+ghost use Rattle.inst_slot.specs.Book.{arrived_at};
+ghost use Rattle.inst_slot.specs.Indexed.{own_ids};
+ghost use Rattle.inst_slot.specs.LawfulBoard.{IsLawfulBoard};
+ghost use Rattle.inst_slot.specs.Answering.{over, named, is_expiry, pending_for, AreArrived, IsAsking, Gives};
+ghost use Rattle.inst_slot.specs.Waiting.{IsRight};
+
+use crate::arrivals::Arrivals;
+use crate::finding::find;
+use crate::waiting::Waiting;
+use inst_base::{Fault, Ident};
+use inst_board::{Board, Place, Wish};
+use inst_command::{Ask, Command, Outcome, Reply, State};
+use inst_ledger::Ledger;
+use inst_transfers::{Found, Side, Transfer};
+
+/// What a command asks of the board: the transfer that was found, where it lies, and what is wished for it.
+#[derive(Clone, Copy, Debug, PartialEq, Eq)]
+pub(crate) struct Request {
+    pub(crate) found: Found,
+    pub(crate) place: Place,
+    pub(crate) wish: Wish,
+}
+
+/// The transfer that the command decides, its place, and what it wishes for it.
+pub(crate) fn request_of(ledger: &Ledger, arrivals: &Arrivals, command: &Command) -> Option<Request>
+    requires arrived { AreArrived arrivals.now ledger.now.book.events }
+    ensures { Gives ledger.now (request (over ledger.now.book arrivals.now) command.now) (named command.now) result }
+{
+    match command {
+        Command::Confirm { from, id } => answer_to(ledger, arrivals, *from, id, Wish::Accept),
+        Command::Reject { from, id, reason } => answer_to(
+            ledger,
+            arrivals,
+            *from,
+            id,
+            Wish::Reject(*reason),
+        ),
+        Command::Investigate { id } => question_about(ledger, id),
+        _ => None,
+    }
+}
+
+/// Of a forwarded transfer with nothing booked.
+fn answer_to(
+    ledger: &Ledger,
+    arrivals: &Arrivals,
+    from: u8,
+    id: &Ident,
+    wish: Wish,
+) -> Option<Request>
+    requires arrived { AreArrived arrivals.now ledger.now.book.events }
+    requires answers { is_expiry wish ≡ false }
+    ensures { Gives ledger.now (wish_for wish from (booked from id.now ledger.now.book.events) (arrived_at from id.now arrivals.now)) id.now result }
+{
+    // The check is told of an enum inside a struct only where a function names it.
+    let _: Option<(Side, Transfer, Outcome)> = None;
+    let found = ledger.find(from, id)?;
+    if found.transfer.outcome.is_some() {
+        return None;
+    }
+    let index = arrivals.arrived_at(from, id)?;
+    let place = Place { owner: from, index };
+    Some(Request { found, place, wish })
+}
+
+/// Of a taken transfer with nothing booked, which may expire.
+fn question_about(ledger: &Ledger, id: &Ident) -> Option<Request>
+    ensures { Gives ledger.now (wish_for Wish.Expire ledger.now.book.who (booked ledger.now.book.who id.now ledger.now.book.events)
+        (position (takes id.now) (live_taken ledger.now.book.who ledger.now.book.events))) id.now result }
+{
+    let _: Option<(Side, Transfer, Outcome)> = None;
+    let owner = ledger.who();
+    let found = ledger.find(owner, id)?;
+    if found.transfer.outcome.is_some() {
+        return None;
+    }
+    let index = ledger.own_place(&found)?;
+    let place = Place { owner, index };
+    let wish = Wish::Expire;
+    Some(Request { found, place, wish })
+}
+
+/// What the participant is answered where the transfer stays pending: a confirmation comes too late.
+fn pending(wish: &Wish, from: u8, id: Ident) -> Result<Reply, Fault>
+    ensures { result ≡ told (pending_for wish.now from id) }
+{
+    match wish {
+        Wish::Accept => Err(Fault::Expired),
+        Wish::Reject(_) | Wish::Expire => Ok(Reply::State {
+            from,
+            id,
+            state: State::Pending,
+        }),
+    }
+}
+
+/// Answers a command that decides the transfer of the request. It looks nothing up by its key. All room is made
+/// before the board decides, and after the decision nothing fails.
+pub(crate) fn settle<B: Board>(
+    ledger: &mut Ledger,
+    waiting: &mut Waiting,
+    board: &mut B,
+    ask: &Ask,
+    asked: &Request,
+    arrivals: &Arrivals,
+) -> Result<Reply, Fault>
+    requires lawful { IsLawfulBoard B.settings B.knows B.has_role board.old (over ledger.old.book arrivals.now) }
+    requires asking { IsAsking ledger.old (request (over ledger.old.book arrivals.now) ask.now.command) (named ask.now.command) asked.now }
+    requires right { IsRight ledger.old.book.settings ledger.old.book.who ledger.old.book.events (own_ids ledger.old.book.who ledger.old.book.events) waiting.old }
+    ensures settles { Settles (B.settings board.old).margin B.knows B.has_role B.stood B.stays board.old
+        (over ledger.old.book arrivals.now) ask.now asked.now.place asked.now.wish result board.new (over ledger.new.book arrivals.now) }
+    ensures right { IsRight ledger.new.book.settings ledger.new.book.who ledger.new.book.events (own_ids ledger.new.book.who ledger.new.book.events) waiting.new }
+    ensures stays { B.stays board.old board.new }
+{
+    let _: Option<(Side, Transfer, Outcome)> = None;
+    let margin = ledger.settings().margin();
+    let Found { from, id, .. } = asked.found;
+    let decided = find(ledger, board, margin, asked.place, asked.wish, ask.at)?;
+    let Some(outcome) = &decided else {
+        return pending(&asked.wish, from, id);
+    };
+    ledger.keep_found(&asked.found, outcome)?;
+    waiting.settle(&asked.wish, asked.place.index);
+    let state = State::Decided(*outcome);
+    Ok(Reply::State { from, id, state })
+}

@@ -1,0 +1,366 @@
+-- What one row more, and one row changed, do to what a table of transfers shows.
+use Rattle.std.proofs.Common.{◌≡◌, ℕ, zero, suc, ◌+◌, ◌<◌, ◌≤◌, Bool, true, false, ◌&&◌, ◌==◌, cond, List, [], ◌∷◌, ◌++◌, length, Option, Some, None, is_some, is_none, inl, inr, ◌⊎◌, ⊎_elim, Result, Ok, OnOk, refl, sym, ap, ◌∙◌, subst, arith, get_or}
+use Rattle.std.specs.Prelude.{slice_get}
+use Rattle.std.specs.Cmp.{IsEquivalence, nat_eq_equiv}
+use Rattle.std.specs.Cmp.Lexicographic.{same_text as text_same, nat_list_eq_equiv}
+use Rattle.std.specs.Map.{keys_of, lookup}
+use Rattle.std.specs.List.{filter, IsDistinct, AllByRecursion}
+use Rattle.std.proofs.lemmas.Bool.{eqb-true, eq-eqb, true≢false, cases_order}
+use Rattle.std.proofs.lemmas.List.{map-append, length-map}
+use Rattle.std.proofs.lemmas.List.Quantifiers.{position-Some}
+use Rattle.std.proofs.lemmas.Option.{slice_get-get_or, slice_get_within, get_or_from_slice_get}
+use Rattle.indexmap.specs.IndexMap.{IndexMap, IsUnique, with_value_at}
+use Rattle.indexmap.proofs.CallerLemmas.{updates-with_value_at}
+use Rattle.inst_settings.specs.Settings.{same_text}
+use Rattle.inst_transfers.specs.declared.transfer.Row.{Row}
+use Rattle.inst_transfers.specs.declared.transfer.Transfer.{Transfer}
+use Rattle.inst_transfers.specs.State.{Key, same_key, put, outcome_in}
+use Rattle.inst_transfers.specs.Held.{transfer_in, place_in, found_at, lies_at, at, id_in, ids_at, AreWithin, AreOwn, AreAbove, AreRising, ArePositions, lay, waits_for, waits_at}
+
+and_parts : (a b : Bool) → (a && b) ≡ true → (a ≡ true) × (b ≡ true)
+and_parts true b h = (refl, h)
+and_parts false b h = absurd (true≢false (sym h))
+
+pub key_is : (x y : Key) → same_key x y ≡ true → x ≡ y
+key_is x y same =
+    let parts = and_parts (x.0 == y.0) (same_text x.1 y.1) same in
+    let first : x.0 ≡ y.0 = eqb-true x.0 y.0 parts.0 in
+    let second : x.1 ≡ y.1 = text_same x.1 y.1 (sym parts.1) in
+    λ i. (first i, second i)
+
+pub keys_equiv : IsEquivalence same_key
+keys_equiv = record {
+  refl = λ x. ap (λ b. b && same_text x.1 x.1) (eq-eqb x.0 x.0 refl) ∙ nat_list_eq_equiv.refl x.1;
+  symm = λ x y. ap (λ b. b && same_text x.1 y.1) (nat_eq_equiv.symm x.0 y.0) ∙ ap (λ b. (y.0 == x.0) && b) (nat_list_eq_equiv.symm x.1 y.1);
+  congr = λ x y z same. ap (λ (k : Key). same_key k z) (key_is x y same);
+}
+
+-- what a call that succeeded ensures
+pub on_ok : {A E : Type 0} {P : Type 0} (r : Result A E) (x : A) → r ≡ Ok x → OnOk r P → P
+on_ok {A} {E} {P} r x is p = subst (λ (q : Result A E). OnOk q P) is p
+
+-- what is seen of a row that is put at a key
+seen : {A : Type 0} (f : Option Row → A) (b : Bool) (row : Row) (o : Option Row) → f (cond b (Some row) o) ≡ cond b (f (Some row)) (f o)
+seen f true row o = refl
+seen f false row o = refl
+
+pub found_put : (es fs : List (Key × Row)) (key : Key) (row : Row) → ((q : Key) → lookup (same_key q) fs ≡ cond (same_key key q) (Some row) (lookup (same_key q) es)) → found_at fs ≡ put (found_at es) key row.transfer
+found_put es fs key row updates = λ i q. (ap transfer_in (updates q) ∙ seen transfer_in (same_key key q) row (lookup (same_key q) es)) i
+
+pub lies_put : (es fs : List (Key × Row)) (key : Key) (row : Row) → ((q : Key) → lookup (same_key q) fs ≡ cond (same_key key q) (Some row) (lookup (same_key q) es)) → lies_at fs ≡ lay (lies_at es) key row.place
+lies_put es fs key row updates = λ i q. (ap place_in (updates q) ∙ seen place_in (same_key key q) row (lookup (same_key q) es)) i
+
+-- a key that isn't found isn't there
+pub none_found : (es : List (Key × Row)) (key : Key) → found_at es key ≡ None → lookup (same_key key) es ≡ None
+none_found es key none = by (lookup (same_key key) es) none
+  where
+    by : (o : Option Row) → transfer_in o ≡ None → o ≡ None
+    by None h = refl
+    by (Some row) h = absurd (true≢false (ap is_some h))
+
+-- one key more
+get_before : (ks : List Key) (k : Key) (p : ℕ) → p < length ks → slice_get (ks ++ k ∷ []) p ≡ slice_get ks p
+get_before [] k p below = absurd (omega arith)
+get_before (x ∷ ks) k zero below = refl
+get_before (x ∷ ks) k (suc p) below = get_before ks k p (omega arith)
+
+get_last : (ks : List Key) (k : Key) → slice_get (ks ++ k ∷ []) (length ks) ≡ Some k
+get_last [] k = refl
+get_last (x ∷ ks) k = get_last ks k
+
+ids_before : (ks : List Key) (k : Key) (ps : List ℕ) → AreWithin (length ks) ps → ids_at (ks ++ k ∷ []) ps ≡ ids_at ks ps
+ids_before ks k [] within = refl
+ids_before ks k (p ∷ ps) within =
+    let here : slice_get (ks ++ k ∷ []) p ≡ slice_get ks p = get_before ks k p within.0 in
+    let rest : ids_at (ks ++ k ∷ []) ps ≡ ids_at ks ps = ids_before ks k ps within.1 in
+    λ i. id_in (here i) ∷ rest i
+
+ids_more : (ks : List Key) (k : Key) (ps : List ℕ) → AreWithin (length ks) ps → ids_at (ks ++ k ∷ []) (ps ++ length ks ∷ []) ≡ ids_at ks ps ++ k.1 ∷ []
+ids_more ks k ps within =
+    map-append (λ p. id_in (slice_get (ks ++ k ∷ []) p)) ps (length ks ∷ [])
+    ∙ ap (λ (l : List (List ℕ)). l ++ id_in (slice_get (ks ++ k ∷ []) (length ks)) ∷ []) (ids_before ks k ps within)
+    ∙ ap (λ (o : Option Key). ids_at ks ps ++ id_in o ∷ []) (get_last ks k)
+
+keys_more : (es : List (Key × Row)) (key : Key) (row : Row) → keys_of (es ++ (key, row) ∷ []) ≡ keys_of es ++ key ∷ []
+keys_more es key row = map-append (λ (e : Key × Row). e.0) es ((key, row) ∷ [])
+
+pub own_before : (es fs : List (Key × Row)) (key : Key) (row : Row) (ps : List ℕ) → AreWithin (length (keys_of es)) ps → fs ≡ es ++ (key, row) ∷ [] → ids_at (keys_of fs) ps ≡ ids_at (keys_of es) ps
+own_before es fs key row ps within more = ap (λ (l : List (Key × Row)). ids_at (keys_of l) ps) more ∙ ap (λ (l : List Key). ids_at l ps) (keys_more es key row) ∙ ids_before (keys_of es) key ps within
+
+pub own_more : (es fs : List (Key × Row)) (key : Key) (row : Row) (ps qs : List ℕ) (n : ℕ) → AreWithin (length (keys_of es)) ps → fs ≡ es ++ (key, row) ∷ [] → n ≡ length es → qs ≡ ps ++ n ∷ [] → ids_at (keys_of fs) qs ≡ ids_at (keys_of es) ps ++ key.1 ∷ []
+own_more es fs key row ps qs n within more count longer =
+    ap (λ (l : List (Key × Row)). ids_at (keys_of l) qs) more ∙ ap (λ (l : List Key). ids_at l qs) (keys_more es key row)
+    ∙ ap (λ (l : List ℕ). ids_at (keys_of es ++ key ∷ []) l) (longer ∙ ap (λ (m : ℕ). ps ++ m ∷ []) (count ∙ sym (length-map es (λ (e : Key × Row). e.0))))
+    ∙ ids_more (keys_of es) key ps within
+
+within_more : (n m : ℕ) (ps : List ℕ) → n ≤ m → AreWithin n ps → AreWithin m ps
+within_more n m [] le within = tt
+within_more n m (p ∷ ps) le within = (omega (arith, le, within.0), within_more n m ps le within.1)
+
+within_last : (n m : ℕ) (ps : List ℕ) → n < m → AreWithin n ps → AreWithin m (ps ++ n ∷ [])
+within_last n m [] less within = (less, tt)
+within_last n m (p ∷ ps) less within = (omega (arith, less, within.0), within_last n m ps less within.1)
+
+keys_longer : (es fs : List (Key × Row)) (key : Key) (row : Row) → fs ≡ es ++ (key, row) ∷ [] → length (keys_of fs) ≡ length (keys_of es) + 1
+keys_longer es fs key row more = ap (λ (l : List (Key × Row)). length (keys_of l)) more ∙ ap length (keys_more es key row) ∙ long (keys_of es) key
+  where
+    long : (ks : List Key) (k : Key) → length (ks ++ k ∷ []) ≡ length ks + 1
+    long [] k = refl
+    long (x ∷ ks) k = omega (arith, long ks k)
+
+pub within_before : (es fs : List (Key × Row)) (key : Key) (row : Row) (ps : List ℕ) → AreWithin (length (keys_of es)) ps → fs ≡ es ++ (key, row) ∷ [] → AreWithin (length (keys_of fs)) ps
+within_before es fs key row ps within more = within_more (length (keys_of es)) (length (keys_of fs)) ps (omega (arith, keys_longer es fs key row more)) within
+
+pub within_added : (es fs : List (Key × Row)) (key : Key) (row : Row) (ps qs : List ℕ) (n : ℕ) → AreWithin (length (keys_of es)) ps → fs ≡ es ++ (key, row) ∷ [] → n ≡ length es → qs ≡ ps ++ n ∷ [] → AreWithin (length (keys_of fs)) qs
+within_added es fs key row ps qs n within more count longer =
+    let here : n ≡ length (keys_of es) = count ∙ sym (length-map es (λ (e : Key × Row). e.0)) in
+    subst (λ (l : List ℕ). AreWithin (length (keys_of fs)) l) (sym (longer ∙ ap (λ (m : ℕ). ps ++ m ∷ []) here))
+    (within_last (length (keys_of es)) (length (keys_of fs)) ps (omega (arith, keys_longer es fs key row more)) within)
+
+-- the position of a key is within the table, and the key stands there
+pub at_within : (es : List (Key × Row)) (key : Key) (p : ℕ) → at es key ≡ Some p → p < length es
+at_within es key p there = omega (arith, (position-Some (same_key key) (keys_of es) p key there).0, length-map es (λ (e : Key × Row). e.0))
+
+key_there : (es : List (Key × Row)) (p : ℕ) (k : Key) (row : Row) → slice_get es p ≡ Some (k, row) → get_or (keys_of es) p k ≡ k
+key_there [] p k row e = absurd (true≢false (sym (ap is_some e)))
+key_there (x ∷ es) zero k row e = let same : x ≡ (k, row) = cc in ap (λ (y : Key × Row). y.0) same
+key_there (x ∷ es) (suc p) k row e = key_there es p k row e
+
+stands : (es : List (Key × Row)) (key : Key) (p : ℕ) (k : Key) (row : Row) → at es key ≡ Some p → slice_get es p ≡ Some (k, row) → k ≡ key
+stands es key p k row there e =
+    let passes : same_key key (get_or (keys_of es) p k) ≡ true = (position-Some (same_key key) (keys_of es) p k there).1 in
+    sym (key_is key k (ap (λ (q : Key). same_key key q) (sym (key_there es p k row e)) ∙ passes))
+
+-- one row changed
+pub changed : {S : Type 0} (m : IndexMap Key Row S) (key k : Key) (p : ℕ) (old row : Row) → IsUnique same_key m → at m.entries key ≡ Some p → slice_get m.entries p ≡ Some (k, old)
+    → (q : Key) → lookup (same_key q) (with_value_at m p row).entries ≡ cond (same_key key q) (Some row) (lookup (same_key q) m.entries)
+changed m key k p old row unique there e q =
+    (updates-with_value_at m p row keys_equiv unique k old e).0 q
+    ∙ ap (λ (x : Key). cond (same_key x q) (Some row) (lookup (same_key q) m.entries)) (stands m.entries key p k old there e)
+
+-- what is put where it was changes nothing
+pub found_again : (f : Key → Option Transfer) (key : Key) (t : Transfer) → f key ≡ Some t → put f key t ≡ f
+found_again f key t is = λ i q. by (same_key key q) q refl i
+  where
+    by : (b : Bool) → (q : Key) → same_key key q ≡ b → cond b (Some t) (f q) ≡ f q
+    by true q same = sym is ∙ ap f (key_is key q same)
+    by false q same = refl
+
+pub lies_again : (f : Key → Option ℕ) (key : Key) (place : Option ℕ) → f key ≡ place → lay f key place ≡ f
+lies_again f key place is = λ i q. by (same_key key q) q refl i
+  where
+    by : (b : Bool) → (q : Key) → same_key key q ≡ b → cond b place (f q) ≡ f q
+    by true q same = sym is ∙ ap f (key_is key q same)
+    by false q same = refl
+
+-- the identifier at an index of the list
+pub id_there : (ks : List Key) (ps : List ℕ) (i p : ℕ) (key : Key) → slice_get ps i ≡ Some p → slice_get ks p ≡ Some key → slice_get (ids_at ks ps) i ≡ Some key.1
+id_there ks [] i p key e there = absurd (true≢false (sym (ap is_some e)))
+id_there ks (x ∷ ps) zero p key e there = let same : x ≡ p = cc in ap (λ (y : ℕ). Some (id_in (slice_get ks y))) same ∙ ap (λ (o : Option Key). Some (id_in o)) there
+id_there ks (x ∷ ps) (suc i) p key e there = id_there ks ps i p key e there
+
+pub none_at : (ks : List Key) (ps : List ℕ) (i : ℕ) → slice_get ps i ≡ None → slice_get (ids_at ks ps) i ≡ None
+none_at ks [] i e = refl
+none_at ks (x ∷ ps) zero e = absurd (true≢false (ap is_some e))
+none_at ks (x ∷ ps) (suc i) e = none_at ks ps i e
+
+pub within_at : (n : ℕ) (ps : List ℕ) (i p : ℕ) → AreWithin n ps → slice_get ps i ≡ Some p → p < n
+within_at n [] i p within e = absurd (true≢false (sym (ap is_some e)))
+within_at n (x ∷ ps) zero p within e = let same : x ≡ p = cc in omega (arith, within.0, same)
+within_at n (x ∷ ps) (suc i) p within e = within_at n ps i p within.1 e
+
+pub key_at : (es : List (Key × Row)) (p : ℕ) (key : Key) (row : Row) → slice_get es p ≡ Some (key, row) → slice_get (keys_of es) p ≡ Some key
+key_at [] p key row e = absurd (true≢false (sym (ap is_some e)))
+key_at (x ∷ es) zero key row e = let same : x ≡ (key, row) = cc in ap (λ (y : Key × Row). Some y.0) same
+key_at (x ∷ es) (suc p) key row e = key_at es p key row e
+
+outside : (ks : List Key) (i : ℕ) → i < length ks → slice_get ks i ≡ None → ⊥
+outside [] i below none = absurd (omega (arith, below))
+outside (k ∷ ks) zero below none = true≢false (ap is_some none)
+outside (k ∷ ks) (suc i) below none = outside ks i (omega (arith, below)) none
+
+-- those that live on, by their identifiers
+module _ (who : ℕ) (es : List (Key × Row)) where
+  abbrev pub lives : List ℕ → Bool
+  lives id = is_none (outcome_in (found_at es (who, id)))
+
+  one_more : (p : ℕ) (ps : List ℕ) (b : Bool) → ids_at (keys_of es) (filter (waits_at who es) ps) ≡ filter lives (ids_at (keys_of es) ps)
+      → ids_at (keys_of es) (cond b (p ∷ filter (waits_at who es) ps) (filter (waits_at who es) ps)) ≡ cond b (id_in (slice_get (keys_of es) p) ∷ filter lives (ids_at (keys_of es) ps)) (filter lives (ids_at (keys_of es) ps))
+  one_more p ps true rest = ap (λ (l : List (List ℕ)). id_in (slice_get (keys_of es) p) ∷ l) rest
+  one_more p ps false rest = rest
+
+  same_test : (p : ℕ) (o : Option Key) → p < length (keys_of es) → slice_get (keys_of es) p ≡ o → waits_at who es p ≡ lives (id_in (slice_get (keys_of es) p))
+  same_test p None below none = absurd (outside (keys_of es) p below none)
+  same_test p (Some key) below there = ap (waits_for who es) there ∙ sym (ap (λ (o : Option Key). lives (id_in o)) there)
+
+  pub live_on : (ps : List ℕ) → AreWithin (length (keys_of es)) ps → ids_at (keys_of es) (filter (waits_at who es) ps) ≡ filter lives (ids_at (keys_of es) ps)
+  live_on [] within = refl
+  live_on (p ∷ ps) within =
+      one_more p ps (waits_at who es p) (live_on ps within.1)
+      ∙ ap (λ (b : Bool). cond b (id_in (slice_get (keys_of es) p) ∷ filter lives (ids_at (keys_of es) ps)) (filter lives (ids_at (keys_of es) ps))) (same_test p (slice_get (keys_of es) p) within.0 refl)
+
+within_one : (n : ℕ) (p : ℕ) (ps : List ℕ) (b : Bool) → p < n → AreWithin n ps → AreWithin n (cond b (p ∷ ps) ps)
+within_one n p ps true below within = (below, within)
+within_one n p ps false below within = within
+
+pub within_filtered : (n : ℕ) (test : ℕ → Bool) (ps : List ℕ) → AreWithin n ps → AreWithin n (filter test ps)
+within_filtered n test [] within = tt
+within_filtered n test (p ∷ ps) within = within_one n p (filter test ps) (test p) within.0 (within_filtered n test ps within.1)
+
+-- the positions of own live transfers: kept through each change
+owns_same : (who : ℕ) (ks ls : List Key) (ps : List ℕ) → ((p : ℕ) → p < length ks → slice_get ls p ≡ slice_get ks p) → AreWithin (length ks) ps → AreOwn who ks ps → AreOwn who ls ps
+owns_same who ks ls [] same within own = tt
+owns_same who ks ls (p ∷ ps) same within own =
+    let here : slice_get ls p ≡ slice_get ks p = same p within.0 in
+    (here ∙ own.0 ∙ ap (λ (o : Option Key). Some (who, id_in o)) (sym here), owns_same who ks ls ps same within.1 own.1)
+
+owns_push : (who : ℕ) (ks : List Key) (ps : List ℕ) (n : ℕ) → AreOwn who ks ps → slice_get ks n ≡ Some (who, id_in (slice_get ks n)) → AreOwn who ks (ps ++ n ∷ [])
+owns_push who ks [] n own here = (here, tt)
+owns_push who ks (p ∷ ps) n own here = (own.0, owns_push who ks ps n own.1 here)
+
+owns_one : (who : ℕ) (ks : List Key) (p : ℕ) (ps : List ℕ) (b : Bool) → slice_get ks p ≡ Some (who, id_in (slice_get ks p)) → AreOwn who ks ps → AreOwn who ks (cond b (p ∷ ps) ps)
+owns_one who ks p ps true here own = (here, own)
+owns_one who ks p ps false here own = own
+
+owns_filtered : (who : ℕ) (ks : List Key) (test : ℕ → Bool) (ps : List ℕ) → AreOwn who ks ps → AreOwn who ks (filter test ps)
+owns_filtered who ks test [] own = tt
+owns_filtered who ks test (p ∷ ps) own = owns_one who ks p (filter test ps) (test p) own.0 (owns_filtered who ks test ps own.1)
+
+above_push : (p n : ℕ) (qs : List ℕ) → AreAbove p qs → p < n → AreAbove p (qs ++ n ∷ [])
+above_push p n [] above less = (less, tt)
+above_push p n (q ∷ qs) above less = (above.0, above_push p n qs above.1 less)
+
+rising_push : (ps : List ℕ) (n : ℕ) → AreRising ps → AreWithin n ps → AreRising (ps ++ n ∷ [])
+rising_push [] n rising within = (tt, tt)
+rising_push (p ∷ ps) n rising within = (above_push p n ps rising.0 within.0, rising_push ps n rising.1 within.1)
+
+above_one : (p q : ℕ) (qs : List ℕ) (b : Bool) → p < q → AreAbove p qs → AreAbove p (cond b (q ∷ qs) qs)
+above_one p q qs true less above = (less, above)
+above_one p q qs false less above = above
+
+above_filtered : (p : ℕ) (test : ℕ → Bool) (qs : List ℕ) → AreAbove p qs → AreAbove p (filter test qs)
+above_filtered p test [] above = tt
+above_filtered p test (q ∷ qs) above = above_one p q (filter test qs) (test q) above.0 (above_filtered p test qs above.1)
+
+rising_one : (p : ℕ) (ps : List ℕ) (b : Bool) → AreAbove p ps → AreRising ps → AreRising (cond b (p ∷ ps) ps)
+rising_one p ps true above rising = (above, rising)
+rising_one p ps false above rising = rising
+
+rising_filtered : (test : ℕ → Bool) (ps : List ℕ) → AreRising ps → AreRising (filter test ps)
+rising_filtered test [] rising = tt
+rising_filtered test (p ∷ ps) rising = rising_one p (filter test ps) (test p) (above_filtered p test ps rising.0) (rising_filtered test ps rising.1)
+
+pub positions_before : (who : ℕ) (es fs : List (Key × Row)) (key : Key) (row : Row) (ps : List ℕ) → ArePositions who (keys_of es) ps → fs ≡ es ++ (key, row) ∷ [] → ArePositions who (keys_of fs) ps
+positions_before who es fs key row ps are more =
+    let ks : keys_of fs ≡ keys_of es ++ key ∷ [] = ap (λ (l : List (Key × Row)). keys_of l) more ∙ keys_more es key row in
+    (within_before es fs key row ps are.0 more, owns_same who (keys_of es) (keys_of fs) ps (λ p below. ap (λ (l : List Key). slice_get l p) ks ∙ get_before (keys_of es) key p below) are.0 are.1, are.2)
+
+pub positions_added : (who : ℕ) (id : List ℕ) (es fs : List (Key × Row)) (row : Row) (ps qs : List ℕ) (n : ℕ) → ArePositions who (keys_of es) ps → fs ≡ es ++ ((who, id), row) ∷ [] → n ≡ length es → qs ≡ ps ++ n ∷ [] → ArePositions who (keys_of fs) qs
+positions_added who id es fs row ps qs n are more count longer =
+    let key : Key = (who, id) in
+    let ks : keys_of fs ≡ keys_of es ++ key ∷ [] = ap (λ (l : List (Key × Row)). keys_of l) more ∙ keys_more es key row in
+    let end : n ≡ length (keys_of es) = count ∙ sym (length-map es (λ (e : Key × Row). e.0)) in
+    let last : slice_get (keys_of fs) n ≡ Some key = ap (λ (l : List Key). slice_get l n) ks ∙ ap (slice_get (keys_of es ++ key ∷ [])) end ∙ get_last (keys_of es) key in
+    let before : AreOwn who (keys_of fs) ps = owns_same who (keys_of es) (keys_of fs) ps (λ p below. ap (λ (l : List Key). slice_get l p) ks ∙ get_before (keys_of es) key p below) are.0 are.1 in (
+      within_added es fs key row ps qs n are.0 more count longer,
+      subst (λ (l : List ℕ). AreOwn who (keys_of fs) l) (sym longer) (owns_push who (keys_of fs) ps n before (last ∙ ap (λ (o : Option Key). Some (who, id_in o)) (sym last))),
+      subst (λ (l : List ℕ). AreRising l) (sym longer) (rising_push ps n are.2 (subst (λ (m : ℕ). AreWithin m ps) (sym end) are.0)),
+    )
+
+pub positions_filtered : (who : ℕ) (ks : List Key) (test : ℕ → Bool) (ps : List ℕ) → ArePositions who ks ps → ArePositions who ks (filter test ps)
+positions_filtered who ks test ps are = (within_filtered (length ks) test ps are.0, owns_filtered who ks test ps are.1, rising_filtered test ps are.2)
+
+-- where an own live transfer stands
+own_there : (who : ℕ) (ks : List Key) (ps : List ℕ) (i p : ℕ) → AreOwn who ks ps → slice_get ps i ≡ Some p → slice_get ks p ≡ Some (who, id_in (slice_get ks p))
+own_there who ks [] i p own e = absurd (true≢false (sym (ap is_some e)))
+own_there who ks (x ∷ ps) zero p own e = let same : x ≡ p = cc in subst (λ (q : ℕ). slice_get ks q ≡ Some (who, id_in (slice_get ks q))) same own.0
+own_there who ks (x ∷ ps) (suc i) p own e = own_there who ks ps i p own.1 e
+
+above_at : (p : ℕ) (qs : List ℕ) (j : ℕ) → AreAbove p qs → j < length qs → p < get_or qs j 0
+above_at p [] j above below = absurd (omega (arith, below))
+above_at p (q ∷ qs) zero above below = above.0
+above_at p (q ∷ qs) (suc j) above below = above_at p qs j above.1 (omega (arith, below))
+
+rising_at : (ps : List ℕ) (i j : ℕ) → AreRising ps → i < j → j < length ps → get_or ps i 0 < get_or ps j 0
+rising_at [] i j rising less below = absurd (omega (arith, below))
+rising_at (p ∷ ps) zero zero rising less below = absurd (omega (arith, less))
+rising_at (p ∷ ps) zero (suc j) rising less below = above_at p ps j rising.0 (omega (arith, below))
+rising_at (p ∷ ps) (suc i) zero rising less below = absurd (omega (arith, less))
+rising_at (p ∷ ps) (suc i) (suc j) rising less below = rising_at ps i j rising.1 (omega (arith, less)) (omega (arith, below))
+
+pub rising_all : (ps : List ℕ) → AreRising ps → (i j : ℕ) → i ≤ j → j < length ps → get_or ps i 0 ≤ get_or ps j 0
+rising_all ps rising i j le below = by (le_cases i j le)
+  where
+    by : (i < j) ⊎ (i ≡ j) → get_or ps i 0 ≤ get_or ps j 0
+    by (inl less) = omega (arith, rising_at ps i j rising less below)
+    by (inr same) = omega (arith, ap (λ (k : ℕ). get_or ps k 0) same)
+
+    le_cases : (i j : ℕ) → i ≤ j → (i < j) ⊎ (i ≡ j)
+    le_cases zero zero h = inr refl
+    le_cases zero (suc j) h = inl (omega arith)
+    le_cases (suc i) zero h = absurd (omega (arith, h))
+    le_cases (suc i) (suc j) h = ⊎_elim (λ less. inl (omega (arith, less))) (λ same. inr (ap suc same)) (le_cases i j (omega (arith, h)))
+
+-- the keys of a table are distinct
+all_false : (k : Key) (ks : List Key) → AllByRecursion (λ y. same_key k y ≡ false) ks → (j : ℕ) (y : Key) → slice_get ks j ≡ Some y → same_key k y ≡ false
+all_false k [] all j y e = absurd (true≢false (sym (ap is_some e)))
+all_false k (x ∷ ks) all zero y e = let same : x ≡ y = cc in ap (same_key k) (sym same) ∙ all.0
+all_false k (x ∷ ks) all (suc j) y e = all_false k ks all.1 j y e
+
+distinct_at : (ks : List Key) (i j : ℕ) (x y : Key) → IsDistinct same_key ks → i < j → slice_get ks i ≡ Some x → slice_get ks j ≡ Some y → same_key x y ≡ false
+unfolding IsDistinct
+distinct_at [] i j x y distinct less e f = absurd (true≢false (sym (ap is_some e)))
+distinct_at (k ∷ ks) zero zero x y distinct less e f = absurd (omega (arith, less))
+distinct_at (k ∷ ks) zero (suc j) x y distinct less e f = let same : k ≡ x = cc in ap (λ (z : Key). same_key z y) (sym same) ∙ all_false k ks distinct.0 j y f
+distinct_at (k ∷ ks) (suc i) zero x y distinct less e f = absurd (omega (arith, less))
+distinct_at (k ∷ ks) (suc i) (suc j) x y distinct less e f = distinct_at ks i j x y distinct.1 (omega (arith, less)) e f
+
+one_place : (ks : List Key) (i j : ℕ) (x : Key) → IsDistinct same_key ks → slice_get ks i ≡ Some x → slice_get ks j ≡ Some x → i ≡ j
+one_place ks i j x distinct e f = elim (cases_order i j) [
+  | inl same ↦ same
+  | inr apart ↦ elim apart [
+    | inl less ↦ absurd (true≢false (sym (keys_equiv.refl x) ∙ distinct_at ks i j x x distinct less e f))
+    | inr more ↦ absurd (true≢false (sym (keys_equiv.refl x) ∙ distinct_at ks j i x x distinct more f e))
+  ]
+]
+
+pub key_stands : (es : List (Key × Row)) (key : Key) (p : ℕ) → at es key ≡ Some p → slice_get (keys_of es) p ≡ Some key
+key_stands es key p there =
+    let found = position-Some (same_key key) (keys_of es) p key there in
+    slice_get-get_or (keys_of es) p key found.0 ∙ ap (λ (k : Key). Some k) (sym (key_is key (get_or (keys_of es) p key) found.1))
+
+mapped : (ks : List Key) (ps : List ℕ) (k : ℕ) (id : List ℕ) → slice_get (ids_at ks ps) k ≡ Some id → (q : ℕ) × (slice_get ps k ≡ Some q) × (id_in (slice_get ks q) ≡ id)
+mapped ks [] k id e = absurd (true≢false (sym (ap is_some e)))
+mapped ks (p ∷ ps) zero id e = let same : id_in (slice_get ks p) ≡ id = cc in (p, refl, same)
+mapped ks (p ∷ ps) (suc k) id e = mapped ks ps k id e
+
+-- an own live transfer stands in the list where its position does
+pub stands_at : (who : ℕ) (es : List (Key × Row)) (ps : List ℕ) (id : List ℕ) (p k : ℕ) → ArePositions who (keys_of es) ps → IsDistinct same_key (keys_of es) → at es (who, id) ≡ Some p → slice_get (ids_at (keys_of es) ps) k ≡ Some id → slice_get ps k ≡ Some p
+stands_at who es ps id p k are distinct there e =
+    let m = mapped (keys_of es) ps k id e in
+    let key : slice_get (keys_of es) m.0 ≡ Some (who, id) = own_there who (keys_of es) ps k m.0 are.1 m.1 ∙ ap (λ (i : List ℕ). Some (who, i)) m.2 in
+    m.1 ∙ ap (λ (q : ℕ). Some q) (one_place (keys_of es) m.0 p (who, id) distinct key (key_stands es (who, id) p there))
+
+pub same_index : (ps : List ℕ) (i k p : ℕ) → AreRising ps → i < length ps → get_or ps i 0 ≡ p → slice_get ps k ≡ Some p → i ≡ k
+same_index ps i k p rising below here there =
+    let within : k < length ps = slice_get_within ps k p there in
+    let at_k : get_or ps k 0 ≡ p = get_or_from_slice_get ps k p 0 there in
+    elim (cases_order i k) [
+      | inl same ↦ same
+      | inr apart ↦ elim apart [
+        | inl less ↦ absurd (omega (arith, rising_at ps i k rising less within, here, at_k))
+        | inr more ↦ absurd (omega (arith, rising_at ps k i rising more below, here, at_k))
+      ]
+    ]
+
+pub not_there : (ps : List ℕ) (j k p : ℕ) → ((i : ℕ) → i < j → get_or ps i 0 < p) → ((i : ℕ) → j ≤ i → i < length ps → p < get_or ps i 0) → slice_get ps k ≡ Some p → ⊥
+not_there ps j k p under over there =
+    let within : k < length ps = slice_get_within ps k p there in
+    let at_k : get_or ps k 0 ≡ p = get_or_from_slice_get ps k p 0 there in
+    elim (cases_order k j) [
+      | inl same ↦ omega (arith, over k (omega (arith, same)) within, at_k)
+      | inr apart ↦ elim apart [
+        | inl less ↦ omega (arith, under k less, at_k)
+        | inr more ↦ omega (arith, over k (omega (arith, more)) within, at_k)
+      ]
+    ]

@@ -1,0 +1,119 @@
+-- What a contract sees of a table of transfers: its state, the places of the transfers, where it holds each, and for how
+-- many more it has room. This hub's own choice.
+use Rattle.std.specs.Prelude.{◌≡◌, ℕ, ◌+◌, ◌≤◌, ◌<◌, ◌^◌, cond, Bool, false, is_none, List, [], ◌∷◌, length, map, slice_get, position, Option, Some, None}
+use Rattle.std.specs.Map.{lookup, keys_of}
+use Rattle.inst_transfers.specs.declared.transfer.Found.{Found}
+use Rattle.inst_transfers.specs.declared.transfer.Row.{Row}
+use Rattle.inst_transfers.specs.declared.transfer.Side.{Side}
+use Rattle.inst_transfers.specs.declared.transfer.Side.TheVariants.{Own, Other}
+use Rattle.inst_transfers.specs.declared.transfer.Transfer.{Transfer}
+use Rattle.inst_transfers.specs.State.{Key, same_key, State, outcome_in}
+
+-- the entries of the table in the order in which they came; the positions in it of the participant's own live transfers;
+-- the sums; for how many more there is room
+pub record Held : Type 0 where
+  pub who : ℕ
+  pub entries : List (Key × Row)
+  pub positions : List ℕ
+  pub reserved : ℕ
+  pub credits : ℕ
+  pub debits : ℕ
+  pub waiting : ℕ
+  pub room : ℕ
+
+abbrev pub transfer_in : Option Row → Option Transfer
+transfer_in None = None
+transfer_in (Some row) = Some row.transfer
+
+abbrev pub place_in : Option Row → Option ℕ
+place_in None = None
+place_in (Some row) = row.place
+
+-- the identifier of the key at a position
+abbrev pub id_in : Option Key → List ℕ
+id_in None = []
+id_in (Some key) = key.1
+
+abbrev pub ids_at : List Key → List ℕ → List (List ℕ)
+ids_at ks positions = map (λ p. id_in (slice_get ks p)) positions
+
+-- each position is within the table
+abbrev pub AreWithin : ℕ → List ℕ → Type 0
+AreWithin n [] = Unit {0}
+AreWithin n (p ∷ ps) = (p < n) × AreWithin n ps
+
+-- each position is of a transfer of the participant's own
+abbrev pub AreOwn : ℕ → List Key → List ℕ → Type 0
+AreOwn who ks [] = Unit {0}
+AreOwn who ks (p ∷ ps) = (slice_get ks p ≡ Some (who, id_in (slice_get ks p))) × AreOwn who ks ps
+
+-- each position is below those after it
+abbrev pub AreAbove : ℕ → List ℕ → Type 0
+AreAbove p [] = Unit {0}
+AreAbove p (q ∷ qs) = (p < q) × AreAbove p qs
+
+abbrev pub AreRising : List ℕ → Type 0
+AreRising [] = Unit {0}
+AreRising (p ∷ ps) = AreAbove p ps × AreRising ps
+
+-- the positions of the participant's own live transfers: within the table, its own, and rising
+abbrev pub ArePositions : ℕ → List Key → List ℕ → Type 0
+ArePositions who ks ps = AreWithin (length ks) ps × AreOwn who ks ps × AreRising ps
+
+-- what the table finds at a key
+abbrev pub found_at : List (Key × Row) → Key → Option Transfer
+found_at entries key = transfer_in (lookup (same_key key) entries)
+
+-- the index of the place of the transfer at a key
+abbrev pub lies_at : List (Key × Row) → Key → Option ℕ
+lies_at entries key = place_in (lookup (same_key key) entries)
+
+-- where the table holds the key
+abbrev pub at : List (Key × Row) → Key → Option ℕ
+at entries key = position (same_key key) (keys_of entries)
+
+-- the table, as that of a history
+abbrev pub state_in : Held → State
+state_in held = record {
+  found = found_at held.entries;
+  own = ids_at (keys_of held.entries) held.positions;
+  reserved = held.reserved;
+  credits = held.credits;
+  debits = held.debits;
+  waiting = held.waiting;
+}
+
+-- the index of the place of each transfer
+abbrev pub lies_in : Held → Key → Option ℕ
+lies_in held = lies_at held.entries
+
+-- whether nothing is booked of the participant's own transfer with the identifier of this key
+abbrev pub waits_for : ℕ → List (Key × Row) → Option Key → Bool
+waits_for who entries None = false
+waits_for who entries (Some key) = is_none (outcome_in (found_at entries (who, key.1)))
+
+abbrev pub waits_at : ℕ → List (Key × Row) → ℕ → Bool
+waits_at who entries p = waits_for who entries (slice_get (keys_of entries) p)
+
+-- the places, with this one at the key
+abbrev pub lay : (Key → Option ℕ) → Key → Option ℕ → Key → Option ℕ
+lay f key place q = cond (same_key key q) place (f q)
+
+-- what was found is what the table holds at its key
+pub record IsFound (held : Held) (f : Found) : Type 0 where
+  pub position : at held.entries (f.from, f.id) ≡ Some f.position
+  pub transfer : found_at held.entries (f.from, f.id) ≡ Some f.transfer
+  pub place : lies_at held.entries (f.from, f.id) ≡ f.place
+
+-- what a look for the key gives
+abbrev pub Finds : Held → ℕ → List ℕ → Option Found → Type 0
+Finds held from id None = (found_at held.entries (from, id) ≡ None) × (lies_at held.entries (from, id) ≡ None)
+Finds held from id (Some f) = (f.from ≡ from) × (f.id ≡ id) × IsFound held f
+
+-- the sums of an own transfer hold its amount, and those of another leave room for it
+abbrev pub CoversSide : State → ℕ → Side → Type 0
+CoversSide st cents (Own to stamp) = (cents ≤ st.reserved) × (1 ≤ st.waiting) × (st.debits + cents < 2 ^ 128)
+CoversSide st cents (Other deadline) = st.credits + cents < 2 ^ 128
+
+abbrev pub Covers : State → Transfer → Type 0
+Covers st t = CoversSide st t.cents t.side

@@ -1,0 +1,285 @@
+//! A table of transfers by originator and identifier, with what is known of them all together.
+ghost use Rattle.std.specs.Prelude.{◌≡◌, ℕ, ◌+◌, ◌<◌, ◌≤◌, ◌^◌, List, ◌∷◌, [], length, slice_get, Some, None, OnOk, OnErr, IfOk, IfSome, IsOkUnless};
+ghost use Rattle.inst_journal.specs.declared.event.Event.{Event};
+ghost use Rattle.inst_journal.specs.Sums.{if_accepted};
+ghost use Rattle.std.specs.Map.{keys_of};
+ghost use Rattle.inst_transfers.specs.State.{nothing, step};
+ghost use Rattle.inst_transfers.specs.Held.{Finds, IsFound, Covers, lay, found_at, state_in, lies_in, waits_at};
+
+use crate::transfer::{Found, Row, Side, Transfer};
+use indexmap::IndexMap;
+use inst_base::{Cents, Ident, Moment};
+use inst_command::Outcome;
+use inst_journal::Event;
+use std::alloc::{AllocError, Global};
+use std::marker::Model;
+
+/// The transfers of one participant, by originator and identifier. A step looks each up once.
+#[derive(Debug, Drop)]
+pub struct Transfers {
+    who: u8,
+    table: IndexMap<(u8, Ident), Row>,
+    own: Vec<usize>,
+    reserved: u128,
+    credits: u128,
+    debits: u128,
+    waiting: usize,
+}
+
+impl Model for Transfers {
+    ghost use Rattle.std.specs.Prelude.{◌-◌, min, vec_len, vec_capacity};
+    ghost use Rattle.indexmap.specs.IndexMap.{keys, spare};
+    ghost use Rattle.inst_transfers.specs.Held.{Held, ArePositions};
+
+    ghost Value = { Held };
+
+    ghost view = { λ t. record {
+      who = t.who;
+      entries = t.table.entries;
+      positions = t.own.items;
+      reserved = t.reserved;
+      credits = t.credits;
+      debits = t.debits;
+      waiting = t.waiting;
+      room = min (spare t.table) (vec_capacity t.own - vec_len t.own);
+    } };
+
+    ghost invariant = { λ t. ArePositions t.who (keys t.table) t.own.items };
+}
+
+impl Transfers {
+    /// No transfers.
+    pub fn new(alloc: Global, who: u8) -> Transfers
+        ensures who { result.who ≡ who }
+        ensures state { state_in result ≡ nothing }
+        ensures lies { (key : ℕ × List ℕ) → lies_in result key ≡ None }
+    {
+        Transfers {
+            who,
+            table: IndexMap::new(alloc),
+            own: Vec::new(alloc),
+            reserved: 0,
+            credits: 0,
+            debits: 0,
+            waiting: 0,
+        }
+    }
+
+    /// Looks a transfer up: the one look at the table that a step takes.
+    pub fn find(&self, from: u8, id: &Ident) -> Option<Found>
+        ensures { Finds self.now from id.now result }
+    {
+        let _ = &self.own;
+        let (position, _, row) = self.table.get_full(&(from, *id))?;
+        Some(Found {
+            from,
+            id: *id,
+            position,
+            transfer: row.transfer,
+            place: row.place,
+        })
+    }
+
+    /// Makes room for one more transfer, or answers that memory was refused. Nothing else changes.
+    pub fn reserve(&mut self) -> Result<(), AllocError>
+        ensures same { self.new ≡ record self.old { room = self.new.room } }
+        ensures room { OnOk result (0 < self.new.room) }
+    {
+        self.table.reserve(1)?;
+        self.own.try_reserve(1)
+    }
+
+    /// Enters a submission of the participant's own at its next place. It can't fail.
+    pub fn take(&mut self, id: Ident, to: u8, cents: Cents, stamp: Moment)
+        requires room { 0 < self.old.room }
+        requires new { found_at self.old.entries (self.old.who, id) ≡ None }
+        requires few { length self.old.positions < 2 ^ 16 }
+        requires fits { self.old.reserved + cents < 2 ^ 128 }
+        requires count { self.old.waiting + 1 < 2 ^ 64 }
+        ensures who { self.new.who ≡ self.old.who }
+        ensures state { state_in self.new ≡ step self.old.who (state_in self.old) (Event.Taken id to cents stamp) }
+        ensures lies { lies_in self.new ≡ lay (lies_in self.old) (self.old.who, id) (Some (length self.old.positions)) }
+    {
+        let place = self.own.as_slice().len() as u16;
+        let position = self.table.len();
+        let row = Row {
+            transfer: Transfer {
+                cents,
+                side: Side::Own { to, stamp },
+                outcome: None,
+            },
+            place: Some(place),
+        };
+        self.table.insert((self.who, id), row).unwrap();
+        self.own.push_reserved(position);
+        self.reserved += u128::from(cents.get());
+        self.waiting += 1;
+    }
+
+    /// Enters a transfer of another's that is forwarded from this place, where it is known. It can't fail.
+    pub fn deliver(
+        &mut self,
+        from: u8,
+        id: Ident,
+        cents: Cents,
+        deadline: Moment,
+        place: Option<u16>,
+    )
+        requires room { 0 < self.old.room }
+        requires new { found_at self.old.entries (from, id) ≡ None }
+        ensures who { self.new.who ≡ self.old.who }
+        ensures state { state_in self.new ≡ step self.old.who (state_in self.old) (Event.Forwarded from id cents deadline) }
+        ensures lies { lies_in self.new ≡ lay (lies_in self.old) (from, id) place }
+    {
+        let row = Row {
+            transfer: Transfer {
+                cents,
+                side: Side::Other { deadline },
+                outcome: None,
+            },
+            place,
+        };
+        self.table.insert((from, id), row).unwrap();
+    }
+
+    /// Books the outcome of a transfer that was found. It takes no memory and looks nothing up.
+    pub fn book(&mut self, found: &Found, outcome: &Outcome)
+        requires there { IsFound self.old found.now }
+        requires covers { Covers (state_in self.old) found.now.transfer }
+        ensures who { self.new.who ≡ self.old.who }
+        ensures state { state_in self.new ≡ step self.old.who (state_in self.old) (Event.Booked found.now.from found.now.id outcome.now) }
+        ensures lies { lies_in self.new ≡ lies_in self.old }
+        ensures keys { keys_of self.new.entries ≡ keys_of self.old.entries }
+        ensures room { self.new.room ≡ self.old.room }
+    {
+        let Transfer { cents, side, .. } = found.transfer;
+        let outcome = *outcome;
+        let (_, row) = self.table.pair_mut(found.position);
+        *row = Row {
+            transfer: Transfer {
+                cents,
+                side,
+                outcome: Some(outcome),
+            },
+            place: found.place,
+        };
+        let cents = u128::from(cents.get());
+        match &side {
+            Side::Own { .. } => {
+                self.reserved -= cents;
+                self.debits += if_accepted(&outcome, cents);
+                self.waiting -= 1;
+            }
+            Side::Other { .. } => self.credits += if_accepted(&outcome, cents),
+        }
+    }
+
+    /// Keeps the place of a transfer that was found. It takes no memory and looks nothing up.
+    pub fn place(&mut self, found: &Found, index: u16)
+        requires there { IsFound self.old found.now }
+        ensures who { self.new.who ≡ self.old.who }
+        ensures state { state_in self.new ≡ state_in self.old }
+        ensures lies { lies_in self.new ≡ lay (lies_in self.old) (found.now.from, found.now.id) (Some index) }
+        ensures keys { keys_of self.new.entries ≡ keys_of self.old.entries }
+        ensures room { self.new.room ≡ self.old.room }
+    {
+        let (_, row) = self.table.pair_mut(found.position);
+        *row = Row {
+            transfer: found.transfer,
+            place: Some(index),
+        };
+    }
+
+    /// After an opening: what is settled lives no more. The others keep their order.
+    pub fn begin(&mut self)
+        ensures who { self.new.who ≡ self.old.who }
+        ensures state { state_in self.new ≡ step self.old.who (state_in self.old) Event.Opened }
+        ensures entries { self.new.entries ≡ self.old.entries }
+    {
+        let who = self.who;
+        let table = &self.table;
+        self.own.retain(
+            |position: &usize| -> bool
+                ensures { result ≡ waits_at who table.entry.now.entries position.now }
+            { waits(who, table, *position) },
+        );
+    }
+
+    /// The identifier of the participant's own live transfer at this place.
+    pub fn own_at(&self, index: u16) -> Option<Ident>
+        ensures { result ≡ slice_get (state_in self.now).own index }
+    {
+        let position = *self.own.get(usize::from(index))?;
+        let (key, _) = self.table.get_index(position)?;
+        Some(key.1)
+    }
+
+    /// The index of the place of the participant's own transfer that was found, where it is live. It takes a
+    /// number of steps that grows with the logarithm of the live ones, and looks nothing up by its key.
+    pub fn own_index(&self, found: &Found) -> Option<usize>
+        requires there { IsFound self.now found.now }
+        requires own { found.now.from ≡ self.now.who }
+        ensures at { (k : ℕ) → slice_get (state_in self.now).own k ≡ Some found.now.id → result ≡ Some k }
+        ensures only { (k : ℕ) → result ≡ Some k → slice_get (state_in self.now).own k ≡ Some found.now.id }
+        ensures within { IfSome result (λ k. k < length self.now.positions) }
+    {
+        // That the keys are distinct is known where the table's length is read.
+        let _ = self.table.len();
+        match self.own.as_slice().binary_search(&found.position) {
+            Ok(index) => Some(index),
+            Err(_) => None,
+        }
+    }
+
+    /// How many of the participant's own transfers are live.
+    pub fn live(&self) -> usize
+        ensures { result ≡ length (state_in self.now).own }
+    {
+        self.own.as_slice().len()
+    }
+
+    /// The taken transfers with nothing booked, in cents.
+    pub fn reserved(&self) -> u128
+        ensures { result ≡ self.now.reserved }
+    {
+        self.reserved
+    }
+
+    /// What came by transfers, in cents.
+    pub fn credits(&self) -> u128
+        ensures { result ≡ self.now.credits }
+    {
+        self.credits
+    }
+
+    /// What went by transfers, in cents.
+    pub fn debits(&self) -> u128
+        ensures { result ≡ self.now.debits }
+    {
+        self.debits
+    }
+}
+
+/// Whether nothing is booked of the participant's own transfer at this position.
+fn waits(who: u8, table: &IndexMap<(u8, Ident), Row>, position: usize) -> bool
+    ensures { result ≡ waits_at who table.now.entries position }
+{
+    let Some((key, _)) = table.get_index(position) else {
+        return false;
+    };
+    match table.get(&(who, key.1)) {
+        Some(row) => !row.transfer.outcome.is_some(),
+        None => true,
+    }
+}
+
+/// The amount where the outcome is `Accepted`, else 0.
+fn if_accepted(outcome: &Outcome, cents: u128) -> u128
+    ensures value { result ≡ if_accepted (Some outcome.now) cents }
+    ensures within { result ≤ cents }
+{
+    match outcome {
+        Outcome::Accepted => cents,
+        _ => 0,
+    }
+}
