@@ -1,29 +1,17 @@
 -- Places in the list of a plain board.
-use Rattle.std.proofs.Common.{◌≡◌, ◌≢◌, ℕ, zero, suc, ◌*◌, ◌<◌, ◌⊎◌, Bool, true, false, nat_lt, List, [], ◌∷◌, length, set, get_or, replicate, inl, inr, refl, sym, ap, ◌∙◌, subst, arith}
-use Rattle.std.specs.Prelude.{Option, Some, slice_get, if◌then◌else◌}
+use Rattle.std.proofs.Common.{◌≡◌, ◌≢◌, ℕ, zero, suc, ◌-◌, ◌*◌, ◌<◌, ◌≤◌, ◌⊎◌, Bool, true, false, nat_lt, List, [], ◌∷◌, ◌++◌, length, take, set, get_or, replicate, inl, inr, refl, sym, ap, ◌∙◌, subst, arith}
+use Rattle.std.specs.Prelude.{if◌then◌else◌}
 use Rattle.std.proofs.lemmas.Bool.{and_parts, cases_eq}
 use Rattle.std.proofs.lemmas.Bool.Decides.{nat_tests}
-use Rattle.std.proofs.lemmas.List.{length-replicate}
-use Rattle.std.proofs.Math.ListN.{length-set}
+use Rattle.std.proofs.Math.Seq.{get_or-append_seam}
+use Rattle.std.proofs.lemmas.List.{length-append, length-replicate, length-set, take_all, get_or-set_same, get_or-set_other}
 use Rattle.std.proofs.lemmas.Nat.{same_from_place, mul-add-lt}
 use Rattle.inst_settings.specs.Settings.{HubSettings, participants}
 use Rattle.inst_board.specs.declared.place.Place.{Place}
 use Rattle.inst_board.specs.declared.plain.Kept.{Kept}
 use Rattle.inst_board.specs.declared.plain.Kept.TheVariants.{Unused}
 use Rattle.inst_board.specs.Standing.{is_place, IsPlace, IsLawful}
-use Rattle.inst_board.specs.Plain.{Contents, number_of, kept_or_unused, kept_at, standing_of, IsContents, Becomes}
-
-get-set : (l : List Kept) (i : ℕ) (w : Kept) → i < length l → slice_get (set l i w) i ≡ Some w
-get-set [] i w h = absurd (omega arith)
-get-set (x ∷ xs) zero w h = refl
-get-set (x ∷ xs) (suc i) w h = get-set xs i w (omega arith)
-
-get-set_else : (l : List Kept) (i j : ℕ) (w : Kept) → j ≢ i → slice_get (set l i w) j ≡ slice_get l j
-get-set_else [] i j w n = refl
-get-set_else (x ∷ xs) zero zero w n = absurd (n refl)
-get-set_else (x ∷ xs) zero (suc j) w n = refl
-get-set_else (x ∷ xs) (suc i) zero w n = refl
-get-set_else (x ∷ xs) (suc i) (suc j) w n = get-set_else xs i j w (λ e. n (ap suc e))
+use Rattle.inst_board.specs.Plain.{Contents, number_of, rank_of, kept_at, standing_of, IsContents, Puts, Becomes}
 
 pub record IsInside (s : HubSettings) (k : Place) : Type 0 where
   pub owner : k.owner < participants s
@@ -37,6 +25,9 @@ inside s k h =
 
 pub number_below : (s : HubSettings) (k : Place) → IsPlace s k → number_of s k < s.places * participants s
 number_below s k h = let i = inside s k h in mul-add-lt k.owner s.places k.index (participants s) i.owner i.index
+
+pub rank_below : (s : HubSettings) (k : Place) → IsPlace s k → rank_of s k < participants s * s.places
+rank_below s k h = let i = inside s k h in mul-add-lt k.index (participants s) k.owner s.places i.index i.owner
 
 abbrev made : ℕ → ℕ → Place
 made owner index = record { owner = owner; index = index }
@@ -59,86 +50,96 @@ same_of_number s j k hj hk e =
     let same = same_from_place j.owner j.index k.owner k.index s.places ij.index ik.index e in
     same_place j k same.0 same.1
 
-numbers_apart : (s : HubSettings) (j k : Place) → IsPlace s j → IsPlace s k → j ≢ k → number_of s j ≢ number_of s k
-numbers_apart s j k hj hk n e = n (same_of_number s j k hj hk e)
+ranks_apart : (s : HubSettings) (j k : Place) → IsPlace s j → IsPlace s k → j ≢ k → rank_of s j ≢ rank_of s k
+ranks_apart s j k hj hk n e =
+    let ij = inside s j hj in let ik = inside s k hk in
+    let same = same_from_place j.index j.owner k.index k.owner (participants s) ij.owner ik.owner e in
+    n (same_place j k same.1 same.0)
 
 -- what is kept of a place that the settings have
-pub kept_inside : (b : Contents) (k : Place) → IsPlace b.settings k → kept_at b k ≡ kept_or_unused (slice_get b.kept (number_of b.settings k))
-kept_inside b k h = ap (λ t. if t then kept_or_unused (slice_get b.kept (number_of b.settings k)) else Unused) h
-
-abbrev pub with_kept : Contents → ℕ → Kept → Contents
-with_kept b i w = record { settings = b.settings; kept = set b.kept i w }
-
-read_at : (l : List Kept) (i : ℕ) (x : Kept) → i < length l → x ≡ get_or l i x → kept_or_unused (slice_get l i) ≡ x
-read_at [] i x h e = absurd (omega arith)
-read_at (y ∷ ys) zero x h e = sym e
-read_at (y ∷ ys) (suc i) x h e = read_at ys i x (omega arith) e
-
-get_set_cases : (l : List Kept) (i j : ℕ) (w : Kept) → (slice_get (set l i w) j ≡ Some w) ⊎ (slice_get (set l i w) j ≡ slice_get l j)
-get_set_cases [] i j w = inr refl
-get_set_cases (x ∷ xs) zero zero w = inl refl
-get_set_cases (x ∷ xs) zero (suc j) w = inr refl
-get_set_cases (x ∷ xs) (suc i) zero w = inr refl
-get_set_cases (x ∷ xs) (suc i) (suc j) w = get_set_cases xs i j w
-
-pub lawful_set : (margin : ℕ) (l : List Kept) (i : ℕ) (w : Kept) → IsLawful margin (standing_of w) → ((j : ℕ) → IsLawful margin (standing_of (kept_or_unused (slice_get l j)))) → (j : ℕ) → IsLawful margin (standing_of (kept_or_unused (slice_get (set l i w) j)))
-lawful_set margin l i w h all j = elim (get_set_cases l i j w) [
-  | inl e ↦ subst (λ (o : Option Kept). IsLawful margin (standing_of (kept_or_unused o))) (sym e) h
-  | inr e ↦ subst (λ (o : Option Kept). IsLawful margin (standing_of (kept_or_unused o))) (sym e) (all j)
-]
+pub kept_inside : (b : Contents) (k : Place) → IsPlace b.settings k → kept_at b k ≡ get_or b.kept (rank_of b.settings k) Unused
+kept_inside b k h = ap (λ t. if t then get_or b.kept (rank_of b.settings k) Unused else Unused) h
 
 kept_outside : (b : Contents) (k : Place) → is_place b.settings k ≡ false → kept_at b k ≡ Unused
-kept_outside b k h = ap (λ t. if t then kept_or_unused (slice_get b.kept (number_of b.settings k)) else Unused) h
+kept_outside b k h = ap (λ t. if t then get_or b.kept (rank_of b.settings k) Unused else Unused) h
 
-kept_elsewhere : (b : Contents) (k : Place) (w : Kept) → IsPlace b.settings k → (j : Place) → j ≢ k → (t : Bool) → is_place b.settings j ≡ t →
-    kept_at (with_kept b (number_of b.settings k) w) j ≡ kept_at b j
-kept_elsewhere b k w h j n true e = kept_inside (with_kept b (number_of b.settings k) w) j e
-    ∙ ap kept_or_unused (get-set_else b.kept (number_of b.settings k) (number_of b.settings j) w (numbers_apart b.settings j k e h n))
-    ∙ sym (kept_inside b j e)
-kept_elsewhere b k w h j n false e = kept_outside (with_kept b (number_of b.settings k) w) j e ∙ sym (kept_outside b j e)
+-- ---- a value is put at its rank
 
--- a write in the list
-pub written : (b : Contents) (k : Place) (w : Kept) → IsContents b → IsPlace b.settings k → Becomes b k w (with_kept b (number_of b.settings k) w)
-written b k w form h =
-    let i = number_of b.settings k in
-    let below = number_below b.settings k h in
-    let sized = form.sized in
-    record {
-      settings = refl;
-      here = kept_inside (with_kept b i w) k h ∙ ap kept_or_unused (get-set b.kept i w (omega arith));
-      elsewhere = λ j n. kept_elsewhere b k w h j n (is_place b.settings j) refl;
-    }
-
-pub contents_written : (b : Contents) (k : Place) (w : Kept) → IsContents b → IsPlace b.settings k → IsLawful b.settings.margin (standing_of w) → IsContents (with_kept b (number_of b.settings k) w)
-contents_written b k w form h lawful = record {
-  sized = length-set b.kept (number_of b.settings k) w ∙ form.sized;
-  lawful = lawful_set b.settings.margin b.kept (number_of b.settings k) w lawful form.lawful;
-}
-
--- a read in the list
-pub kept_read : (b : Contents) (k : Place) (x : Kept) → IsPlace b.settings k → number_of b.settings k < length b.kept → x ≡ get_or b.kept (number_of b.settings k) x → x ≡ kept_at b k
-kept_read b k x h below is = sym (kept_inside b k h ∙ read_at b.kept (number_of b.settings k) x below is)
-
-pub lawful_read : (b : Contents) (k : Place) (x : Kept) → IsContents b → IsPlace b.settings k → number_of b.settings k < length b.kept → x ≡ get_or b.kept (number_of b.settings k) x → IsLawful b.settings.margin (standing_of x)
-lawful_read b k x form h below is = subst (λ (w : Kept). IsLawful b.settings.margin (standing_of w)) (read_at b.kept (number_of b.settings k) x below is) (form.lawful (number_of b.settings k))
-
--- a board of unused places
-all_unused : (n i : ℕ) → kept_or_unused (slice_get (replicate n Unused) i) ≡ Unused
+all_unused : (n i : ℕ) → get_or (replicate n Unused) i Unused ≡ Unused
 all_unused zero i = refl
 all_unused (suc n) zero = refl
 all_unused (suc n) (suc i) = all_unused n i
 
+unused_behind : (l : List Kept) (n i : ℕ) → get_or (l ++ replicate n Unused) i Unused ≡ get_or l i Unused
+unused_behind [] n i = all_unused n i
+unused_behind (x ∷ xs) n zero = refl
+unused_behind (x ∷ xs) n (suc i) = unused_behind xs n i
+
+pushed_elsewhere : (l : List Kept) (w : Kept) (i : ℕ) → i ≢ length l → get_or (l ++ w ∷ []) i Unused ≡ get_or l i Unused
+pushed_elsewhere [] w zero other = absurd (other refl)
+pushed_elsewhere [] w (suc i) other = refl
+pushed_elsewhere (x ∷ xs) w zero other = refl
+pushed_elsewhere (x ∷ xs) w (suc i) other = pushed_elsewhere xs w i (λ e. other (ap suc e))
+
+pub set_puts : (l : List Kept) (n : ℕ) (w : Kept) → n < length l → Puts l n w (set l n w)
+set_puts l n w h = record {
+  here = get_or-set_same l n w Unused h;
+  elsewhere = λ j other. get_or-set_other l n j w Unused other;
+  within = λ most fits below. omega (arith, length-set l n w);
+}
+
+pub push_puts : (l front : List Kept) (n : ℕ) (w : Kept) → length l ≤ n → front ≡ take n l ++ replicate (n - length l) Unused → Puts l n w (front ++ w ∷ [])
+push_puts l front n w h is =
+    let whole : front ≡ l ++ replicate (n - length l) Unused = is ∙ ap (λ xs. xs ++ replicate (n - length l) Unused) (take_all n l h) in
+    let long : length front ≡ n = ap length whole ∙ length-append l (replicate (n - length l) Unused) ∙ omega (arith, length-replicate (n - length l) Unused) in
+    record {
+      here = ap (λ m. get_or (front ++ w ∷ []) m Unused) (sym long) ∙ get_or-append_seam front w [] Unused;
+      elsewhere = λ j other. pushed_elsewhere front w j (λ e. other (e ∙ long)) ∙ ap (λ xs. get_or xs j Unused) whole ∙ unused_behind l (n - length l) j;
+      within = λ most fits below. omega (arith, length-append front (w ∷ []), long);
+    }
+
+-- ---- a place is written
+
+abbrev pub with_kept : Contents → List Kept → Contents
+with_kept b new = record { settings = b.settings; kept = new }
+
+kept_elsewhere : (b : Contents) (k : Place) (w : Kept) (new : List Kept) → Puts b.kept (rank_of b.settings k) w new → IsPlace b.settings k → (j : Place) → j ≢ k
+    → (t : Bool) → is_place b.settings j ≡ t → kept_at (with_kept b new) j ≡ kept_at b j
+kept_elsewhere b k w new puts h j n true e =
+    kept_inside (with_kept b new) j e ∙ puts.elsewhere (rank_of b.settings j) (ranks_apart b.settings j k e h n) ∙ sym (kept_inside b j e)
+kept_elsewhere b k w new puts h j n false e = kept_outside (with_kept b new) j e ∙ sym (kept_outside b j e)
+
+pub written : (b : Contents) (k : Place) (w : Kept) (new : List Kept) → IsPlace b.settings k → Puts b.kept (rank_of b.settings k) w new → Becomes b k w (with_kept b new)
+written b k w new h puts = record {
+  settings = refl;
+  here = kept_inside (with_kept b new) k h ∙ puts.here;
+  elsewhere = λ j n. kept_elsewhere b k w new puts h j n (is_place b.settings j) refl;
+}
+
+lawful_put : (margin : ℕ) (l new : List Kept) (n : ℕ) (w : Kept) → Puts l n w new → IsLawful margin (standing_of w)
+    → ((j : ℕ) → IsLawful margin (standing_of (get_or l j Unused))) → (j : ℕ) → IsLawful margin (standing_of (get_or new j Unused))
+lawful_put margin l new n w puts h all j = elim (cases_eq j n) [
+  | inl e ↦ subst (λ (v : Kept). IsLawful margin (standing_of v)) (sym (ap (λ m. get_or new m Unused) e ∙ puts.here)) h
+  | inr other ↦ subst (λ (v : Kept). IsLawful margin (standing_of v)) (sym (puts.elsewhere j other)) (all j)
+]
+
+pub contents_written : (b : Contents) (k : Place) (w : Kept) (new : List Kept) → IsContents b → IsPlace b.settings k → IsLawful b.settings.margin (standing_of w)
+    → Puts b.kept (rank_of b.settings k) w new → IsContents (with_kept b new)
+contents_written b k w new form h lawful puts = record {
+  sized = puts.within (participants b.settings * b.settings.places) form.sized (rank_below b.settings k h);
+  lawful = lawful_put b.settings.margin b.kept new (rank_of b.settings k) w puts lawful form.lawful;
+}
+
+-- ---- a board of unused places
+
 abbrev pub empty : HubSettings → Contents
-empty s = record { settings = s; kept = replicate (s.places * participants s) Unused }
+empty s = record { settings = s; kept = [] }
 
 pub empty_unused : (s : HubSettings) (k : Place) → kept_at (empty s) k ≡ Unused
 empty_unused s k = at_either (is_place s k) refl where
   at_either : (t : Bool) → is_place s k ≡ t → kept_at (empty s) k ≡ Unused
-  at_either true e = kept_inside (empty s) k e ∙ all_unused (s.places * participants s) (number_of s k)
+  at_either true e = kept_inside (empty s) k e
   at_either false e = kept_outside (empty s) k e
 
 pub empty_contents : (s : HubSettings) → IsContents (empty s)
-empty_contents s = record {
-  sized = length-replicate (s.places * participants s) Unused;
-  lawful = λ i. subst (λ (w : Kept). IsLawful s.margin (standing_of w)) (sym (all_unused (s.places * participants s) i)) tt;
-}
+empty_contents s = record { sized = omega arith; lawful = λ i. tt }

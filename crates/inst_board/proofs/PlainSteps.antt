@@ -1,5 +1,5 @@
 -- The steps of a plain board, which knows all that is true.
-use Rattle.std.proofs.Common.{◌≡◌, ◌≢◌, ℕ, ◌⊎◌, inl, inr, refl, sym, ap, ◌∙◌, subst, arith}
+use Rattle.std.proofs.Common.{◌≡◌, ◌≢◌, ◌≤◌, ℕ, ◌⊎◌, inl, inr, refl, sym, ap, ◌∙◌, subst, arith}
 use Rattle.std.specs.Prelude.{Some}
 use Rattle.std.proofs.lemmas.Bool.Decides.{nat_tests}
 use Rattle.inst_command.specs.declared.outcome.Outcome.{Outcome}
@@ -12,12 +12,12 @@ use Rattle.inst_board.specs.declared.wish.Wish.TheVariants.{Accept, Reject, Expi
 use Rattle.inst_board.specs.declared.about.About.{About}
 use Rattle.inst_board.specs.declared.about.About.TheVariants.{Opened, HasTerms, Due, Decided, DecidedAt}
 use Rattle.inst_board.specs.declared.plain.Kept.{Kept}
-use Rattle.inst_board.specs.declared.plain.Kept.TheVariants.{Pending, Final}
-use Rattle.inst_board.specs.Standing.{Standing, unused, pending, final, IsLawful, Says, Shows}
+use Rattle.inst_board.specs.declared.plain.Kept.TheVariants.{Unused, Written, Pending, Final}
+use Rattle.inst_board.specs.Standing.{Standing, unused, pending, final, IsLawful, Says, Shows, about}
 use Rattle.inst_board.specs.Laws.{ShowsItsWords}
 use Rattle.inst_board.specs.Learning.{Learns, Decides}
 use Rattle.inst_board.specs.Wish.{wanted}
-use Rattle.inst_board.specs.Plain.{Contents, kept_at, standing_of, standing_at, plain_knows, plain_stood, Becomes}
+use Rattle.inst_board.specs.Plain.{Contents, kept_at, standing_of, standing_at, plain_knows, plain_wrote, plain_stood, Becomes}
 use Rattle.inst_board.proofs.Places.{place_cases}
 
 module _ (margin : ℕ) where
@@ -67,6 +67,22 @@ module _ (margin : ℕ) where
   nothing_opened unused new a q h = absurd h
   nothing_opened (pending t d) new a q h = absurd (new tt)
   nothing_opened (final t d o at) new a q h = absurd (new tt)
+
+  same_terms : (t u : Terms) → Written t ≡ Written u → t ≡ u
+  same_terms t u = ap terms_in
+    where
+      terms_in : Kept → Terms
+      terms_in Unused = t
+      terms_in (Written x) = x
+      terms_in (Pending x d) = x
+      terms_in (Final x d o at) = x
+
+  -- a written place is opened
+  pub opens_now : (b : Contents) (k : Place) (t : Terms) (d : ℕ) (v : Kept) (c : Contents) → v ≡ kept_at b k → v ≡ Written t → ¬ plain_knows b (about k Opened) → 1 ≤ d
+      → Becomes b k (Pending t d) c → (u : Terms) → plain_wrote b k u → Learns margin plain_knows b k (pending u d) c
+  opens_now b k t d v c kept is new due becomes u wrote =
+      let same : t ≡ u = same_terms t u (sym is ∙ kept ∙ wrote) in
+      learns_written b k (Pending u d) c (subst (λ x. Becomes b k (Pending x d) c) same becomes) due (λ a h. nothing_opened (standing_at b k) new a (pending u d) h)
 
   -- a decision keeps what is true of a pending place
   pub stays_true : (p : Standing) (t : Terms) (d at : ℕ) (o : Outcome) → p ≡ pending t d → (a : About) → Says p a → Says (final t d o at) a

@@ -1,6 +1,6 @@
--- What a plain board keeps: one value for each place, by the owner's number and the index. All of it is known to its
--- one holder. How places lie in a list is this hub's own choice.
-use Rattle.std.specs.Prelude.{◌≡◌, ◌≢◌, ℕ, ◌+◌, ◌*◌, List, Option, Some, None, true, false, IsTrue, refl, if◌then◌else◌, length, slice_get}
+-- What a plain board keeps: one value for each place, up to the last one that was written. All of it is known to its one
+-- holder. How places lie in a list is this hub's own choice.
+use Rattle.std.specs.Prelude.{◌≡◌, ◌≢◌, ◌<◌, ◌≤◌, ℕ, ◌+◌, ◌*◌, List, Option, Some, None, true, false, IsTrue, refl, if◌then◌else◌, length, get_or}
 use Rattle.inst_command.specs.declared.outcome.Outcome.{Outcome}
 use Rattle.inst_settings.specs.Settings.{HubSettings, participants}
 use Rattle.inst_terms.specs.declared.terms.Terms.{Terms}
@@ -15,22 +15,22 @@ use Rattle.inst_board.specs.Standing.{Standing, unused, pending, final, is_place
 use Rattle.inst_board.specs.Wish.{wanted}
 
 -- settings: those of the hub
--- kept: what is kept of each place, one originator after another
+-- kept: what is kept of each place, by rank; nothing of the places behind the last one
 pub record Contents : Type 0 where
   pub settings : HubSettings
   pub kept : List Kept
 
--- the place's number among all
+-- the place's number among all, one originator after another
 abbrev pub number_of : HubSettings → Place → ℕ
 number_of s place = place.owner * s.places + place.index
 
-abbrev pub kept_or_unused : Option Kept → Kept
-kept_or_unused None = Unused
-kept_or_unused (Some kept) = kept
+-- where a plain board keeps the place: those of one index stand side by side, since originators use their places in order
+abbrev pub rank_of : HubSettings → Place → ℕ
+rank_of s place = place.index * participants s + place.owner
 
 -- what is kept of a place, and nothing of one that the settings don't have
 abbrev pub kept_at : Contents → Place → Kept
-kept_at board place = if is_place board.settings place then kept_or_unused (slice_get board.kept (number_of board.settings place)) else Unused
+kept_at board place = if is_place board.settings place then get_or board.kept (rank_of board.settings place) Unused else Unused
 
 -- what a place is of which this is kept
 abbrev pub standing_of : Kept → Standing
@@ -51,7 +51,7 @@ plain_knows board fact = Says (standing_at board fact.place) fact.about
 pub known_is_place : (board : Contents) (place : Place) (a : About) → plain_knows board (about place a) →
     IsPlace board.settings place
 known_is_place board place a = elim (is_place board.settings place) as (λ has.
-    let kept : Kept = if has then kept_or_unused (slice_get board.kept (number_of board.settings place)) else Unused in
+    let kept : Kept = if has then get_or board.kept (rank_of board.settings place) Unused else Unused in
     Says (standing_of kept) a → IsTrue has
     ) [
       | true ↦ λ _. refl
@@ -81,10 +81,16 @@ outcome_of unused = None
 outcome_of (pending terms deadline) = None
 outcome_of (final terms deadline outcome at) = Some outcome
 
--- there is one kept value for each place, and each is lawful
+-- no value is kept of more places than there are, and each is lawful
 pub record IsContents (board : Contents) : Type 0 where
-  pub sized : length board.kept ≡ board.settings.places * participants board.settings
-  pub lawful : (k : ℕ) → IsLawful board.settings.margin (standing_of (kept_or_unused (slice_get board.kept k)))
+  pub sized : length board.kept ≤ participants board.settings * board.settings.places
+  pub lawful : (k : ℕ) → IsLawful board.settings.margin (standing_of (get_or board.kept k Unused))
+
+-- in the second list the value stands at its rank, and all others stay
+pub record Puts (old : List Kept) (rank : ℕ) (value : Kept) (new : List Kept) : Type 0 where
+  pub here : get_or new rank Unused ≡ value
+  pub elsewhere : (j : ℕ) → j ≢ rank → get_or new j Unused ≡ get_or old j Unused
+  pub within : (most : ℕ) → length old ≤ most → rank < most → length new ≤ most
 
 -- from the first to the second, the place k comes to be kept so, and all others stay
 pub record Becomes (old : Contents) (k : Place) (kept : Kept) (new : Contents) : Type 0 where

@@ -1,5 +1,6 @@
 //! The board of a hub on one thread.
-ghost use Rattle.std.specs.Prelude.{◌≡◌, ◌+◌, ◌*◌, ◌<◌, IfOk, IsOkUnless, IsTrue};
+ghost use Rattle.std.specs.Prelude.{◌≡◌, ◌+◌, ◌*◌, ◌<◌, ◌≤◌, IfOk, IsOkUnless, IsTrue, vec_capacity};
+ghost use Rattle.inst_board.specs.Plain.{Puts};
 
 use crate::{Board, Look, Place, Wish};
 use inst_base::{Fault, Moment};
@@ -24,7 +25,8 @@ pub enum Kept {
 }
 
 /// A board that one holder has alone, with all roles. It knows all that is true of the places. Each call
-/// takes one look at one place.
+/// takes one look at one place; the first one that writes a place of a higher index than any before it also
+/// clears the places up to it. Room for all places is set aside at once, and is touched as they are used.
 ///
 /// ```text
 /// let mut board = PlainBoard::new(alloc, &settings)?;
@@ -43,7 +45,7 @@ pub struct PlainBoard {
 }
 
 impl Model for PlainBoard {
-    ghost use Rattle.std.specs.Prelude.{◌≡◌, length};
+    ghost use Rattle.std.specs.Prelude.{◌≡◌, ◌≤◌, ◌*◌, length, vec_capacity};
     ghost use Rattle.inst_board.specs.Plain.{Contents, IsContents};
 
     ghost Value = { Contents };
@@ -53,7 +55,8 @@ impl Model for PlainBoard {
     ghost invariant = { λ b. IsContents (record { settings = b.settings.value; kept = b.kept.items })
         × (b.participants ≡ length b.settings.value.codes)
         × (b.places ≡ b.settings.value.places)
-        × (b.margin ≡ b.settings.value.margin) };
+        × (b.margin ≡ b.settings.value.margin)
+        × (length b.settings.value.codes * b.settings.value.places ≤ vec_capacity b.kept) };
 }
 
 impl PlainBoard {
@@ -67,17 +70,15 @@ impl PlainBoard {
         ensures unused { IfOk result (λ b. (b.settings ≡ settings.now) × ((place : Place) → kept_at b place ≡ KeptUnused)) }
         ensures only { IsOkUnless result Fault.Memory }
     {
-        // The check is told of a type of another crate inside an element only where a function names it.
-        let _: Option<Outcome> = None;
         let participants = settings.participants();
         let places = settings.places();
-        let size = usize::from(places) * usize::from(participants);
+        let size = usize::from(participants) * usize::from(places);
         Ok(PlainBoard {
             settings: Snapshot::of(settings),
             participants,
             places,
             margin: settings.margin(),
-            kept: vec![in alloc; Kept::Unused; size]?,
+            kept: Vec::with_capacity(alloc, size)?,
         })
     }
 
@@ -95,7 +96,10 @@ impl PlainBoard {
         if !self.has(place) {
             return Kept::Unused;
         }
-        self.kept[number_of(self.places, place)]
+        match self.kept.get(rank_of(self.participants, place)) {
+            Some(kept) => *kept,
+            None => Kept::Unused,
+        }
     }
 
     /// Keeps this of the place.
@@ -104,15 +108,33 @@ impl PlainBoard {
         requires lawful { IsLawful self.old.settings.margin (standing_of kept) }
         ensures { Becomes self.old place kept self.new }
     {
-        self.kept[number_of(self.places, place)] = kept;
+        put(&mut self.kept, rank_of(self.participants, place), kept);
     }
 }
 
-/// The place's number among all.
-fn number_of(places: u16, place: Place) -> usize
-    ensures { result ≡ place.owner * places + place.index }
+/// Puts a value at its rank, where there is room. What is new before it is unused.
+fn put(values: &mut Vec<Kept>, rank: usize, value: Kept)
+    requires { rank < vec_capacity values.old }
+    ensures puts { Puts values.old.items rank value values.new.items }
+    ensures room { vec_capacity values.old ≤ vec_capacity values.new }
 {
-    usize::from(place.owner) * usize::from(places) + usize::from(place.index)
+    // The check is told of a type of another crate inside an element only where a function names it.
+    let _: Option<Outcome> = None;
+    if rank < values.len() {
+        values[rank] = value;
+        return;
+    }
+    let Ok(()) = values.resize(rank, Kept::Unused) else {
+        unreachable!();
+    };
+    values.push_reserved(value);
+}
+
+/// Where the place is kept: those of one index stand side by side, since originators use theirs in order.
+fn rank_of(participants: u16, place: Place) -> usize
+    ensures { result ≡ place.index * participants + place.owner }
+{
+    usize::from(place.index) * usize::from(participants) + usize::from(place.owner)
 }
 
 /// What is kept of a decided place.
