@@ -1,32 +1,36 @@
 //! The fields of a line, by one pass over a line of the usual form, and else from its JSON value.
-ghost use Rattle.std.specs.Prelude.{◌≡◌, true, Ok};
+ghost use Rattle.std.specs.Prelude.{◌≡◌, Ok, Err};
 ghost use Rattle.serde_json.specs.Data.{Data};
 ghost use Rattle.serde_json.specs.Find.{get};
 ghost use Rattle.serde_json.specs.View.{view};
+ghost use Rattle.inst_base.specs.declared.fault.Fault.TheVariants.{NotJson};
+ghost use Rattle.inst_scan.specs.declared.form.Form.TheVariants.{Plain, Broken};
 ghost use Rattle.inst_scan.specs.Fields.{found, told, fields_of, fields_told};
 ghost use Rattle.inst_json.specs.Lines.{json_of};
 
-use inst_scan::{Field, Fields, scan_into};
+use inst_scan::{Field, Fields, Form, scan_into};
 use serde_json::Value;
 
 /// What one pass over a line finds.
 #[derive(Drop)]
 pub(crate) struct Scanned<'a> {
-    /// Whether the line is a flat object of plain texts and whole numbers. Where it isn't, it may have more fields.
-    pub is_plain: bool,
+    pub form: Form,
+    /// The fields of the line, where it is plain. Where it isn't, it may have others.
     pub fields: Fields<'a>,
 }
 
 /// The fields of a line by one pass, filled where they lie.
 #[inline(always)]
 pub(crate) fn scan_line(line: &[u8]) -> Scanned<'_>
-    ensures { result.is_plain ≡ true → (d : Data) × (json_of line.now ≡ Ok d) × (fields_told result.fields ≡ fields_of d) }
+    ensures plain { result.form ≡ Plain
+        → (d : Data) × (json_of line.now ≡ Ok d) × (fields_told result.fields ≡ fields_of d) }
+    ensures broken { result.form ≡ Broken → json_of line.now ≡ Err NotJson }
 {
     let mut scanned = Scanned {
-        is_plain: false,
+        form: Form::Other,
         fields: Fields::new(),
     };
-    scanned.is_plain = scan_into(line, &mut scanned.fields);
+    scanned.form = scan_into(line, &mut scanned.fields);
     scanned
 }
 

@@ -11,6 +11,7 @@ use crate::line::{fields_of, scan_line};
 use crate::step::step_of;
 use inst_base::Fault;
 use inst_command::{Ask, Step};
+use inst_scan::Form;
 use inst_settings::Settings;
 use json::{Reader, Scratch};
 use serde_json::Value;
@@ -53,11 +54,14 @@ impl LineReader {
         ensures fits { IfOk result (λ ask. ask_fits settings.now ask ≡ true) }
     {
         let scanned = scan_line(line);
-        if scanned.is_plain {
-            return ask_of(settings, &scanned.fields);
+        match scanned.form {
+            Form::Plain => ask_of(settings, &scanned.fields),
+            Form::Broken => Err(Fault::NotJson),
+            Form::Other => {
+                let value = self.json_of(line)?;
+                ask_of(settings, &fields_of(&value))
+            }
         }
-        let value = self.json_of(line)?;
-        ask_of(settings, &fields_of(&value))
     }
 
     /// The step of a script line, or the first of its refusals, in the order of `read_command`. An object
@@ -69,11 +73,14 @@ impl LineReader {
         ensures fits { IfOk result (λ step. step_fits settings.now step ≡ true) }
     {
         let scanned = scan_line(line);
-        if scanned.is_plain {
-            return step_of(settings, &scanned.fields);
+        match scanned.form {
+            Form::Plain => step_of(settings, &scanned.fields),
+            Form::Broken => Err(Fault::NotJson),
+            Form::Other => {
+                let value = self.json_of(line)?;
+                step_of(settings, &fields_of(&value))
+            }
         }
-        let value = self.json_of(line)?;
-        step_of(settings, &fields_of(&value))
     }
 
     /// The JSON value of a line, or `NotJson` where it is no JSON text in UTF-8 that nests at most 127

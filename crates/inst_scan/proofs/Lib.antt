@@ -4,3 +4,5 @@ pub mod Ascii
 pub mod Told
 pub mod Members
 pub mod Runs
+pub mod Starts
+pub mod NoText

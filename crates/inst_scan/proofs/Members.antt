@@ -126,12 +126,12 @@ module _ (ts : List Token) (old ls : List Lexeme) (fields : List Field) (k : Lis
     (is : old ≡ token (tok.string k) ∷ colon ∷ token t ∷ ls) (scalar : IsScalar t d) (no_colon : begins_colon ls ≡ false)
     (len : length fields ≡ 15) (seen : data_of field ≡ Some d) where
   -- the members so far, and those that are left
-  abbrev Left : Type 0
+  abbrev pub Left : Type 0
   Left = (n : ℕ) × (ms : Members) × (length (punctuate after_value ls) ≤ n)
       × (converted of_json (value 127 ts) ≡ parse_map object (converted (λ js. of_members js ms) (members (value 126) n (punctuate after_value ls))))
       × TellsMembers (set fields (place_of k) field) ms
 
-  member_read_on : Reading ts old fields → Left
+  pub member_read_on : Reading ts old fields → Left
   member_read_on (p, n, ms, may, enough, so_far, tells) =
       let us = punctuate after_value ls in
       let split : punctuate p old ≡ tok.key k ∷ t ∷ us = ap (punctuate p) is ∙ placed_member p k t d ls may scalar no_colon in

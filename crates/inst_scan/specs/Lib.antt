@@ -1,3 +1,4 @@
 pub mod Scalar
 pub mod Names
 pub mod Fields
+pub mod Begin

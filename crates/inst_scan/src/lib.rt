@@ -1,10 +1,13 @@
 //! Lines that are flat objects of plain texts and whole numbers, read in one pass with no tree.
 #![tactic(auto)]
 
+mod broken;
 mod fields;
+mod form;
 mod line;
 mod member;
 mod parts;
 
 pub use fields::{Field, Fields};
+pub use form::Form;
 pub use line::{scan, scan_into};

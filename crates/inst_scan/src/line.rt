@@ -1,11 +1,14 @@
 // A whole line.
-ghost use Rattle.std.specs.Prelude.{◌≡◌, true, Some, IfSome};
+ghost use Rattle.std.specs.Prelude.{◌≡◌, Some, None, IfSome};
 ghost use Rattle.std.specs.Str.{IsAscii};
 ghost use Rattle.serde_json.specs.Data.{Data};
 ghost use Rattle.serde_json.specs.Read.{read};
+ghost use Rattle.inst_scan.specs.declared.form.Form.TheVariants.{Plain, Broken};
 ghost use Rattle.inst_scan.specs.Fields.{fields_of, fields_told, listed, no_fields};
 
+use crate::broken::{lacks_key, lacks_value};
 use crate::fields::Fields;
+use crate::form::Form;
 use crate::member::{key, scalar};
 use crate::parts::skip_space;
 
@@ -18,44 +21,65 @@ pub fn scan<'a>(text: &'a [u8]) -> Option<Fields<'a>>
     ensures { IfSome result (λ fields. (d : Data) × (read text.now ≡ Some d) × (fields_told fields ≡ fields_of d)) }
 {
     let mut found: Fields<'a> = Fields::new();
-    if scan_into(text, &mut found) {
-        Some(found)
-    } else {
-        None
+    match scan_into(text, &mut found) {
+        Form::Plain => Some(found),
+        Form::Broken | Form::Other => None,
     }
 }
 
-/// The same into `found`, which has no field before: `true` exactly where the line is such an object.
+/// The same into `found`, which has no field before: `Plain` exactly where the line is such an object.
+/// `Broken` is told of most lines that are no JSON text, where the pass comes upon that by itself.
 #[inline(always)]
-pub fn scan_into<'a>(text: &'a [u8], found: &mut Fields<'a>) -> bool
+pub fn scan_into<'a>(text: &'a [u8], found: &mut Fields<'a>) -> Form
     requires { listed found.old ≡ no_fields }
-    ensures value { result ≡ true → (d : Data) × (read text.now ≡ Some d) × (fields_told found.new ≡ fields_of d) }
-    ensures ascii { result ≡ true → IsAscii text.now }
+    ensures value { result ≡ Plain → (d : Data) × (read text.now ≡ Some d) × (fields_told found.new ≡ fields_of d) }
+    ensures ascii { result ≡ Plain → IsAscii text.now }
+    ensures broken { result ≡ Broken → read text.now ≡ None }
 {
     let open = skip_space(text, 0);
     if open >= text.len() || text[open] != b'{' {
-        return false;
+        return if lacks_value(text, open) {
+            Form::Broken
+        } else {
+            Form::Other
+        };
     }
     let mut at = open + 1;
     while at < text.len() {
         let Some((name, value)) = key(text, at) else {
-            return false;
+            return if lacks_key(text, at) {
+                Form::Broken
+            } else {
+                Form::Other
+            };
         };
         let Some((field, end)) = scalar(text, value) else {
-            return false;
+            return if lacks_value(text, value) {
+                Form::Broken
+            } else {
+                Form::Other
+            };
         };
         found.put(name, field);
         let stop = skip_space(text, end);
         if stop >= text.len() {
-            return false;
+            return Form::Broken;
         }
         if text[stop] == b',' {
             at = stop + 1;
-        } else if text[stop] == b'}' && skip_space(text, stop + 1) == text.len() {
-            return true;
+        } else if text[stop] == b'}' {
+            return if skip_space(text, stop + 1) == text.len() {
+                Form::Plain
+            } else {
+                Form::Broken
+            };
         } else {
-            return false;
+            return if text[stop] == b':' {
+                Form::Other
+            } else {
+                Form::Broken
+            };
         }
     }
-    false
+    Form::Broken
 }

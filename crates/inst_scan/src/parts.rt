@@ -1,5 +1,5 @@
 // The parts of a line: spaces, a plain text, a whole number.
-ghost use Rattle.std.specs.Prelude.{◌≡◌, ◌+◌, ◌<◌, ◌≤◌, ◌^◌, ◌++◌, ◌∷◌, [], true, not, map, length, drop, Some, IfSome, decimal};
+ghost use Rattle.std.specs.Prelude.{◌≡◌, ◌+◌, ◌<◌, ◌≤◌, ◌^◌, ◌++◌, ◌∷◌, [], true, false, not, map, length, drop, slice_index, Some, IfSome, decimal};
 ghost use Rattle.std.specs.List.{prefix_len};
 ghost use Rattle.std.specs.Str.{IsAscii};
 ghost use Rattle.inst_scan.specs.Scalar.{is_text};
@@ -26,6 +26,7 @@ pub(crate) fn skip_space(text: &[u8], from: usize) -> usize
     requires { from ≤ length text.now }
     ensures from { from ≤ result }
     ensures within { result ≤ length text.now }
+    ensures stops { result < length text.now → is_space (slice_index text.now result) ≡ false }
     ensures same { lex between (drop result text.now) ≡ lex between (drop from text.now) }
     ensures ascii { IsAscii (drop result text.now) → IsAscii (drop from text.now) }
 {
@@ -68,7 +69,7 @@ fn plain_end_slowly(text: &[u8], from: usize) -> usize
 
 /// The first quote, backslash, control byte or byte that is not ASCII from `from` on, or the end.
 #[inline(always)]
-fn plain_end(text: &[u8], from: usize) -> usize
+pub(crate) fn plain_end(text: &[u8], from: usize) -> usize
     requires { from ≤ length text.now }
     ensures value { result ≡ from + prefix_len is_text (drop from text.now) }
     ensures within { result ≤ length text.now }

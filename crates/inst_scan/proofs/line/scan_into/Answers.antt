@@ -1,7 +1,8 @@
-use Rattle.std.proofs.Common.{◌+◌, ◌∷◌, refl, sym, ap, ◌∙◌, arith, drop, subst}
+use Rattle.std.proofs.Common.{◌≡◌, ◌+◌, ◌<◌, true, [], ◌∷◌, length, refl, sym, ap, ◌∙◌, arith, drop, subst}
 use Rattle.std.proofs.lemmas.List.{drop_all}
 use Rattle.json.specs.Token as tok
-use Rattle.json.specs.Lex.{token, colon, lex, between, fresh, punctuate, tokens}
+use Rattle.json.specs.Lex.{token, colon, lex, between, Place, fresh, may_begin, punctuate, tokens}
+use Rattle.json.specs.Json.{read_key}
 use Rattle.inst_scan.specs.Fields.{listed}
 use Rattle.inst_scan.proofs.Told.{TellsObject, told_of}
 use Rattle.std.proofs.lemmas.Str.Ascii.{IsAscii-nil}
@@ -9,6 +10,8 @@ use Rattle.std.specs.Str.{IsAscii}
 use Rattle.inst_scan.proofs.Ascii.{ascii_byte}
 use Rattle.inst_scan.proofs.Lexing.{lex_open, lex_comma, lex_close}
 use Rattle.inst_scan.proofs.Members.{Reading, reading_begins, reading_goes_on, reading_ends}
+use Rattle.inst_scan.proofs.Starts.{lex_end, no_key_left, no_comma_left, no_comma_at, some_lexeme_at}
+use Rattle.inst_scan.proofs.NoText.{broken_key, broken_value, broken_behind, broken_end}
 use Rattle.inst_scan.proofs.line.scan_into.Goals as goal
 
 pub loop-at-init : goal.loop-at-init
@@ -58,3 +61,59 @@ returns-then-skip_space-text-clause-ascii c = λ yes.
     let stop = c.skip_space-stop.result in
     let behind = c.skip_space.ensures.ascii (subst IsAscii (sym (drop_all c.skip_space.result t (omega arith))) IsAscii-nil) in
     c.loop-at.invariant.ascii (c.in-Some.ensures.ascii (c.in-Some-scalar.ensures.ascii (c.skip_space-stop.ensures.ascii (ascii_byte t stop 125 c.if-stop-text.false c.if-text-stop-eq125.true (omega arith) behind))))
+
+pub returns-then-lacks_key-clause-broken : goal.returns-then-lacks_key-clause-broken
+returns-then-lacks_key-clause-broken c = λ yes.
+    let t = c.args.text.now in
+    let l = c.loop-at in
+    broken_key (tokens t) (lex between (drop l.at t)) (listed l.found) (c.lacks_key.ensures c.if-lacks_key.true) l.invariant.reading
+
+pub returns-then-lacks_value-2-clause-broken : goal.returns-then-lacks_value-2-clause-broken
+returns-then-lacks_value-2-clause-broken c = λ yes.
+    let t = c.args.text.now in
+    let l = c.loop-at in
+    broken_value (tokens t) (lex between (drop l.at t)) (lex between (drop c.in-Some.value t)) (listed l.found) c.in-Some.name.now c.in-Some.ensures.lexed
+    (c.lacks_value-in_default-scalar.ensures c.if-lacks_value-2.true 126) l.invariant.reading
+
+pub returns-then-stop-text-clause-broken : goal.returns-then-stop-text-clause-broken
+returns-then-stop-text-clause-broken c = λ yes.
+    let t = c.args.text.now in
+    let l = c.loop-at in
+    let k = c.in-Some.name.now in
+    let v = c.in-Some-scalar.ensures.lexed in
+    let stop = c.skip_space-stop in
+    let is = c.in-Some.ensures.lexed ∙ ap (λ ls. token (tok.string k) ∷ colon ∷ ls) (v.4 ∙ ap (λ ls. token v.0 ∷ ls) (sym stop.ensures.same ∙ lex_end t stop.result c.if-stop-text.true)) in
+    broken_behind (tokens t) (lex between (drop l.at t)) [] (listed l.found) k v.0 v.1 c.in-Some-scalar.field is v.2 no_comma_left refl v.3 l.invariant.reading
+
+pub returns-else-text-stop-eq58-clause-broken : goal.returns-else-text-stop-eq58-clause-broken
+returns-else-text-stop-eq58-clause-broken c = λ yes.
+    let t = c.args.text.now in
+    let l = c.loop-at in
+    let k = c.in-Some.name.now in
+    let v = c.in-Some-scalar.ensures.lexed in
+    let stop = c.skip_space-stop in
+    let is = c.in-Some.ensures.lexed ∙ ap (λ ls. token (tok.string k) ∷ colon ∷ ls) (v.4 ∙ ap (λ ls. token v.0 ∷ ls) (sym stop.ensures.same)) in
+    let none = no_comma_at t stop.result c.if-stop-text.false (stop.ensures.stops c.if-stop-text.false) c.if-text-stop-eq125.false c.if-text-stop-eq58.false c.if-text-stop-eq44.false in
+    broken_behind (tokens t) (lex between (drop l.at t)) (lex between (drop stop.result t)) (listed l.found) k v.0 v.1 c.in-Some-scalar.field is v.2 none refl v.3 l.invariant.reading
+
+pub returns-else-skip_space-text-clause-broken : goal.returns-else-skip_space-text-clause-broken
+returns-else-skip_space-text-clause-broken c = λ yes.
+    let t = c.args.text.now in
+    let l = c.loop-at in
+    let k = c.in-Some.name.now in
+    let v = c.in-Some-scalar.ensures.lexed in
+    let stop = c.skip_space-stop.result in
+    let behind = c.skip_space in
+    let within : behind.result < length t = omega (arith, behind.ensures.within, c.if-skip_space-text.false) in
+    let more = some_lexeme_at t behind.result within (behind.ensures.stops within) in
+    let is = c.in-Some.ensures.lexed
+    ∙ ap (λ ls. token (tok.string k) ∷ colon ∷ ls)
+    (v.4 ∙ ap (λ ls. token v.0 ∷ ls) (sym c.skip_space-stop.ensures.same ∙ lex_close t stop c.if-stop-text.false c.if-text-stop-eq125.true ∙ ap (λ ls. token tok.end_object ∷ ls) (sym behind.ensures.same ∙ more.2))) in
+    broken_end (tokens t) (lex between (drop l.at t)) more.0 more.1 (listed l.found) k v.0 v.1 c.in-Some-scalar.field is v.2 refl v.3 l.invariant.reading
+
+pub returns-clause-broken : goal.returns-clause-broken
+returns-clause-broken c = λ yes.
+    let t = c.args.text.now in
+    let l = c.loop-at in
+    let none = λ (p : Place) (may : may_begin p ≡ true). ap (λ ls. read_key (punctuate p ls)) (lex_end t l.at c.loop-at-test.false) ∙ no_key_left p may in
+    broken_key (tokens t) (lex between (drop l.at t)) (listed l.found) none l.invariant.reading
