@@ -60,7 +60,7 @@ ranks_apart s j k hj hk n e =
 pub kept_inside : (b : Contents) (k : Place) → IsPlace b.settings k → kept_at b k ≡ get_or b.kept (rank_of b.settings k) Unused
 kept_inside b k h = ap (λ t. if t then get_or b.kept (rank_of b.settings k) Unused else Unused) h
 
-kept_outside : (b : Contents) (k : Place) → is_place b.settings k ≡ false → kept_at b k ≡ Unused
+pub kept_outside : (b : Contents) (k : Place) → is_place b.settings k ≡ false → kept_at b k ≡ Unused
 kept_outside b k h = ap (λ t. if t then get_or b.kept (rank_of b.settings k) Unused else Unused) h
 
 -- ---- a value is put at its rank

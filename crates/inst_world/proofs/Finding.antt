@@ -10,7 +10,8 @@ use Rattle.inst_board.specs.declared.look.Look.{Look}
 use Rattle.inst_board.specs.declared.look.Look.TheVariants.{Unused, Pending, Decided}
 use Rattle.inst_board.specs.declared.place.Place.{Place}
 use Rattle.inst_board.specs.declared.plain.Kept.TheVariants.{Unused as Nothing}
-use Rattle.inst_board.specs.Plain.{Contents, standing_at, standing_of, kept_or_unused, number_of}
+use Rattle.inst_board.specs.Plain.{Contents, standing_at, standing_of}
+use Rattle.inst_board.proofs.Places.{kept_outside}
 use Rattle.inst_board.specs.Standing.{Standing, look_of, is_place}
 use Rattle.inst_journal.specs.declared.event.Event.{Event}
 use Rattle.inst_journal.specs.declared.event.Event.TheVariants.{Funded, Defunded, Taken, Forwarded, Booked, Fetched, Opened}
@@ -144,7 +145,7 @@ found_owner board place None is = tt
 found_owner board place (Some to) is = elim (cases_Bool (is_place board.settings place)) [
   | inl there ↦ (and_parts (is_participant board.settings place.owner) (nat_lt place.index board.settings.places) there).0
   | inr outside ↦
-      let none : to_of (look_of (standing_at board place)) ≡ None = ap (λ (b : Bool). to_of (look_of (standing_of (cond b (kept_or_unused (slice_get board.kept (number_of board.settings place))) Nothing)))) outside in
+      let none : to_of (look_of (standing_at board place)) ≡ None = ap (λ kept. to_of (look_of (standing_of kept))) (kept_outside board place outside) in
       let clash : Some to ≡ None = is ∙ none in
       let no : ⊥ = cc in
       absurd no
