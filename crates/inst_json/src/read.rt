@@ -21,8 +21,8 @@ use std::str;
 /// How deep arrays and objects of a line may nest, as `serde_json` reads them.
 const MOST_DEPTH: usize = 127;
 
-/// Reads lines one after another. A plain line takes no memory; what refuses a malformed one is kept
-/// from line to line.
+/// Reads lines one after another. A plain line takes no memory, nor does one that the pass over it knows
+/// to be no JSON; what refuses any other that is none is kept from line to line.
 ///
 /// ```text
 /// let mut reader = LineReader::new(alloc);
