@@ -4,6 +4,8 @@
 #[cfg(test)]
 mod bounds;
 #[cfg(test)]
+mod breaking;
+#[cfg(test)]
 mod hub;
 #[cfg(test)]
 mod reading;

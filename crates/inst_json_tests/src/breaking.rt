@@ -1,0 +1,174 @@
+// Which lines one pass knows to be no JSON, and which it leaves to be read in another way.
+use crate::hub::{MOST, hub};
+use inst_base::Fault;
+use inst_command::Command;
+use inst_json::read_command;
+use inst_scan::{Fields, Form, scan_into};
+use inst_settings::Settings;
+use std::alloc::Global;
+use std::process::Abort;
+use std::test::Fail;
+
+/// Lines that are no JSON, and are known to be none where the pass stops.
+const BROKEN: &[&[u8]] = &[
+    // No value.
+    b"",
+    b" \t\r\n",
+    b"submit 100",
+    b"}",
+    b"]",
+    b",",
+    b":",
+    b"\\",
+    b"+1",
+    b"\xff",
+    // No key.
+    b"{",
+    b"{ ",
+    b"{,",
+    b"{:",
+    b"{{}:1}",
+    b"{]",
+    b"{1:1}",
+    b"{at:0}",
+    b"{\\",
+    b"{\xc3\xa9",
+    b"{\"at\":0,",
+    b"{\"at\":0, ",
+    b"{\"at\":0,,\"cmd\":\"position\"}",
+    // A key that breaks off, or has no colon.
+    b"{\"",
+    b"{\"at",
+    b"{\"a\nt\":0}",
+    b"{\"a\x1ft\":0}",
+    b"{\"at\"",
+    b"{\"at\" ",
+    b"{\"at\"}",
+    b"{\"at\",0}",
+    b"{\"at\" \"cmd\":0}",
+    b"{\"at:0}",
+    // No value of a member.
+    b"{\"at\":",
+    b"{\"at\": ",
+    b"{\"at\":}",
+    b"{\"at\":]}",
+    b"{\"at\":,\"cmd\":0}",
+    b"{\"at\"::0}",
+    b"{\"at\":+1}",
+    b"{\"at\":x}",
+    b"{\"at\":\"",
+    b"{\"at\":\"0",
+    b"{\"at\":\"0\t\"}",
+    b"{\"cmd\":\"sub",
+    // Nothing behind a value, or neither a comma nor a brace.
+    b"{\"at\":\"0\"",
+    b"{\"at\":0 ",
+    b"{\"at\":0 1}",
+    b"{\"at\":0 \"cmd\":\"position\"}",
+    b"{\"at\":0 ]",
+    b"{\"at\":\"0\"{}}",
+    b"{\"at\":\"0\"x}",
+    // Something behind the object.
+    b"{\"at\":0}}",
+    b"{\"at\":0} {\"at\":0}",
+    b"{\"at\":0},",
+    b"{\"at\":0}:",
+    b"{\"at\":0} x",
+];
+
+/// Lines that are left, though they are no JSON either.
+const LEFT: &[&[u8]] = &[
+    b"{\"at\":0,}",
+    b"{\"at\":\"0\":1}",
+    b"{\"at\":01}",
+    b"{\"at\":tru}",
+    b"{\"at\":-}",
+    b"tru",
+    b"{\"a\\",
+    b"{\"at\":\"\\ud800\"}",
+    b"{\"at\":\"\xff\"}",
+    b"[",
+    b"{} x",
+    b"{\"at\":[}",
+];
+
+/// JSON that is left to be read in another way; no command is in it.
+const OTHER: &[&[u8]] = &[
+    b"{}",
+    b" { } ",
+    b"[]",
+    b"null",
+    b"true",
+    b"-1",
+    b"0",
+    b"\"at\"",
+    b"{\"at\":1.5}",
+    b"{\"at\":1e3}",
+    b"{\"at\":-0}",
+    b"{\"at\":true}",
+    b"{\"at\":null}",
+    b"{\"at\":[{}]}",
+    b"{\"at\":{\"at\":0}}",
+    b"{\"\\u0061t\":0}",
+    b"{\"at\":\"\\\"\"}",
+    b"{\"\xc3\xa9\":0}",
+    b"{\"at\":\"\xc3\xa9\"}",
+    b"{\"at\":0\t}",
+    b"[{\"at\":0,\"cmd\":\"position\",\"who\":\"AAAADEFF\"}]",
+];
+
+fn is_broken(line: &[u8]) -> bool {
+    let mut fields = Fields::new();
+    matches!(scan_into(line, &mut fields), Form::Broken)
+}
+
+/// Why a line is refused, if it is.
+fn refusal(alloc: Global, hub: &Settings, line: &[u8]) -> Option<Fault> {
+    // The check is told of a type of another crate inside a result only where a function names it.
+    let _: Option<Command> = None;
+    read_command(alloc, hub, line).err()
+}
+
+/// Each line is known to be broken or not, as wanted, and is refused for that.
+fn refuses(
+    rt: &(impl Abort + AllocGlobal),
+    hub: &Settings,
+    lines: &[&[u8]],
+    is_known: bool,
+    fault: Fault,
+) {
+    for (place, line) in lines.iter().enumerate() {
+        assert_eq!(rt; is_broken(line), is_known, "{place}");
+        assert_eq!(rt; refusal(rt.alloc(), hub, line), Some(fault), "{place}");
+    }
+}
+
+#[test]
+fn broken_lines_are_known_in_one_pass(rt: HostRuntime) -> Result<(), Fail> {
+    let hub = hub(rt.alloc(), MOST, 0)?;
+    refuses(&rt, &hub, BROKEN, true, Fault::NotJson);
+    refuses(&rt, &hub, LEFT, false, Fault::NotJson);
+    refuses(&rt, &hub, OTHER, false, Fault::BadField);
+    Ok(())
+}
+
+/// A whole line, with a space in front.
+const WHOLE: &[u8] = br#" {"at":1000,"cmd":"position","who":"AAAADEFF"}"#;
+
+fn refuses_cut_lines(rt: &(impl Abort + AllocGlobal), hub: &Settings) {
+    for end in 0..WHOLE.len() {
+        assert_eq!(rt;
+            refusal(rt.alloc(), hub, &WHOLE[..end]),
+            Some(Fault::NotJson),
+            "{end}"
+        );
+    }
+    assert_eq!(rt; refusal(rt.alloc(), hub, WHOLE), None);
+}
+
+#[test]
+fn a_cut_line_is_no_json(rt: HostRuntime) -> Result<(), Fail> {
+    let hub = hub(rt.alloc(), MOST, 0)?;
+    refuses_cut_lines(&rt, &hub);
+    Ok(())
+}
