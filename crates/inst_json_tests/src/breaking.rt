@@ -36,6 +36,9 @@ const BROKEN: &[&[u8]] = &[
     b"{\"at\":0,",
     b"{\"at\":0, ",
     b"{\"at\":0,,\"cmd\":\"position\"}",
+    b"{\"at\":0,}",
+    b"{\"at\":0, \t}",
+    b"{,}",
     // A key that breaks off, or has no colon.
     b"{\"",
     b"{\"at",
@@ -78,7 +81,6 @@ const BROKEN: &[&[u8]] = &[
 
 /// Lines that are left, though they are no JSON either.
 const LEFT: &[&[u8]] = &[
-    b"{\"at\":0,}",
     b"{\"at\":\"0\":1}",
     b"{\"at\":01}",
     b"{\"at\":tru}",

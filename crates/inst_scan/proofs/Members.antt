@@ -93,10 +93,11 @@ placed_member after_value k t d ls may scalar no_colon = absurd (true≢false (s
 placed_member after_comma k t d ls may scalar no_colon = ap (λ r. tok.key k ∷ r) (scalar.placed ls no_colon)
 placed_member after_key k t d ls may scalar no_colon = absurd (true≢false (sym may))
 
--- what is read of the tokens ts, where the lexemes ls are left, an object is open and these are its fields so far
-abbrev pub Reading : List Token → List Lexeme → List Field → Type 0
-Reading ts ls fields =
-    (p : Place) × (n : ℕ) × (ms : Members) × (may_begin p ≡ true) × (length (punctuate p ls) ≤ n)
+-- what is read of the tokens ts, where the lexemes ls are left, an object is open and these are its fields so far;
+-- Behind says that a comma came last
+abbrev pub Reading : Type 0 → List Token → List Lexeme → List Field → Type 0
+Reading Behind ts ls fields =
+    (p : Place) × (n : ℕ) × (ms : Members) × (may_begin p ≡ true) × (Behind → p ≡ after_comma) × (length (punctuate p ls) ≤ n)
     × (converted of_json (value 127 ts) ≡ parse_map object (converted (λ js. of_members js ms) (members (value 126) n (punctuate p ls))))
     × TellsMembers fields ms
 
@@ -107,15 +108,16 @@ none_at zero (suc n) = refl
 none_at (suc i) (suc n) = none_at i n
 
 -- the first brace opens an object with nothing in it
-pub reading_begins : (ts : List Token) (ls : List Lexeme) (fields : List Field) → ts ≡ punctuate fresh (token tok.begin_object ∷ ls)
-    → fields ≡ no_fields → Reading ts ls fields
+pub reading_begins : {Behind : Type 0} (ts : List Token) (ls : List Lexeme) (fields : List Field) → ts ≡ punctuate fresh (token tok.begin_object ∷ ls)
+    → fields ≡ no_fields → (Behind → ⊥) → Reading Behind ts ls fields
 unfolding punctuate
-reading_begins ts ls fields is none =
+reading_begins ts ls fields is none first =
     let us = punctuate fresh ls in (
       fresh,
       length us,
       no_members,
       refl,
+      λ behind. absurd (first behind),
       omega arith,
       ap (λ vs. converted of_json (value 127 vs)) is ∙ ap (converted of_json) (value-begin_object 127 us (omega arith)) ∙ converted-object (members (value 126) (length us) us),
       λ i h. ap data_of (sym (ap (λ fs. get_or fs i Missing) none ∙ none_at i 15)),
@@ -131,8 +133,8 @@ module _ (ts : List Token) (old ls : List Lexeme) (fields : List Field) (k : Lis
       × (converted of_json (value 127 ts) ≡ parse_map object (converted (λ js. of_members js ms) (members (value 126) n (punctuate after_value ls))))
       × TellsMembers (set fields (place_of k) field) ms
 
-  pub member_read_on : Reading ts old fields → Left
-  member_read_on (p, n, ms, may, enough, so_far, tells) =
+  pub member_read_on : {Behind : Type 0} → Reading Behind ts old fields → Left
+  member_read_on (p, n, ms, may, behind, enough, so_far, tells) =
       let us = punctuate after_value ls in
       let split : punctuate p old ≡ tok.key k ∷ t ∷ us = ap (punctuate p) is ∙ placed_member p k t d ls may scalar no_colon in
       let count : suc (suc (length us)) ≤ n = rw split at enough in
@@ -144,17 +146,17 @@ module _ (ts : List Token) (old ls : List Lexeme) (fields : List Field) (k : Lis
         tells_put fields ms k d field len seen tells,
       )
 
-pub reading_goes_on : (ts : List Token) (old ls : List Lexeme) (fields : List Field) (k : List ℕ) (t : Token) (d : Data) (field : Field)
+pub reading_goes_on : {Before Behind : Type 0} (ts : List Token) (old ls : List Lexeme) (fields : List Field) (k : List ℕ) (t : Token) (d : Data) (field : Field)
     → old ≡ token (tok.string k) ∷ colon ∷ token t ∷ comma ∷ ls → IsScalar t d → length fields ≡ 15 → data_of field ≡ Some d
-    → Reading ts old fields → Reading ts ls (set fields (place_of k) field)
+    → Reading Before ts old fields → Reading Behind ts ls (set fields (place_of k) field)
 unfolding punctuate
 reading_goes_on ts old ls fields k t d field is scalar len seen reading =
     let left = member_read_on ts old (comma ∷ ls) fields k t d field is scalar refl len seen reading in
-    (after_comma, left.0, left.1, refl, left.2, left.3, left.4)
+    (after_comma, left.0, left.1, refl, λ behind. refl, left.2, left.3, left.4)
 
-pub reading_ends : (ts : List Token) (old : List Lexeme) (fields : List Field) (k : List ℕ) (t : Token) (d : Data) (field : Field)
+pub reading_ends : {Behind : Type 0} (ts : List Token) (old : List Lexeme) (fields : List Field) (k : List ℕ) (t : Token) (d : Data) (field : Field)
     → old ≡ token (tok.string k) ∷ colon ∷ token t ∷ token tok.end_object ∷ [] → IsScalar t d → length fields ≡ 15 → data_of field ≡ Some d
-    → Reading ts old fields → (e : Data) × (whole (value 127 ts) ≡ Some e) × TellsObject (set fields (place_of k) field) e
+    → Reading Behind ts old fields → (e : Data) × (whole (value 127 ts) ≡ Some e) × TellsObject (set fields (place_of k) field) e
 unfolding punctuate
 reading_ends ts old fields k t d field is scalar len seen reading =
     let left = member_read_on ts old (token tok.end_object ∷ []) fields k t d field is scalar refl len seen reading in

@@ -27,10 +27,11 @@ no_members : (ts us : List Token) (n : ℕ) (ms : Members) → converted of_json
     → members (value 126) n us ≡ None → whole (value 127 ts) ≡ None
 no_members ts us n ms so_far none = nothing_read (value 127 ts) (so_far ∙ ap (λ o. parse_map object (converted (λ js. of_members js ms) o)) none)
 
-pub broken_key : (ts : List Token) (ls : List Lexeme) (fields : List Field) → ((p : Place) → may_begin p ≡ true → read_key (punctuate p ls) ≡ None) → Reading ts ls fields
+pub broken_key : {Behind : Type 0} (ts : List Token) (ls : List Lexeme) (fields : List Field) → ((p : Place) → may_begin p ≡ true → (Behind → p ≡ after_comma) → read_key (punctuate p ls) ≡ None)
+    → Reading Behind ts ls fields
     → whole (value 127 ts) ≡ None
-broken_key ts ls fields none (p, n, ms, may, enough, so_far, tells) =
-    no_members ts (punctuate p ls) n ms so_far (members_no_key (value 126) n (punctuate p ls) (none p may))
+broken_key ts ls fields none (p, n, ms, may, behind, enough, so_far, tells) =
+    no_members ts (punctuate p ls) n ms so_far (members_no_key (value 126) n (punctuate p ls) (none p may behind))
 
 placed_key : (p : Place) (k : List ℕ) (ls : List Lexeme) → may_begin p ≡ true → punctuate p (token (tok.string k) ∷ colon ∷ ls) ≡ tok.key k ∷ punctuate fresh ls
 unfolding punctuate
@@ -39,15 +40,15 @@ placed_key after_value k ls may = absurd (false≢true may)
 placed_key after_comma k ls may = refl
 placed_key after_key k ls may = absurd (false≢true may)
 
-pub broken_value : (ts : List Token) (old ls : List Lexeme) (fields : List Field) (k : List ℕ) → old ≡ token (tok.string k) ∷ colon ∷ ls
-    → value 126 (punctuate fresh ls) ≡ None → Reading ts old fields → whole (value 127 ts) ≡ None
-broken_value ts old ls fields k is none (p, n, ms, may, enough, so_far, tells) =
+pub broken_value : {Behind : Type 0} (ts : List Token) (old ls : List Lexeme) (fields : List Field) (k : List ℕ) → old ≡ token (tok.string k) ∷ colon ∷ ls
+    → value 126 (punctuate fresh ls) ≡ None → Reading Behind ts old fields → whole (value 127 ts) ≡ None
+broken_value ts old ls fields k is none (p, n, ms, may, behind, enough, so_far, tells) =
     let split : punctuate p old ≡ tok.key k ∷ punctuate fresh ls = ap (punctuate p) is ∙ placed_key p k ls may in
     no_members ts (punctuate p old) n ms so_far (members_fail (value 126) n k (punctuate p old) (punctuate fresh ls) (ap read_key split) none)
 
-pub broken_behind : (ts : List Token) (old ls : List Lexeme) (fields : List Field) (k : List ℕ) (t : Token) (d : Data) (field : Field)
+pub broken_behind : {Behind : Type 0} (ts : List Token) (old ls : List Lexeme) (fields : List Field) (k : List ℕ) (t : Token) (d : Data) (field : Field)
     → old ≡ token (tok.string k) ∷ colon ∷ token t ∷ ls → IsScalar t d → NoComma ls → length fields ≡ 15 → data_of field ≡ Some d
-    → Reading ts old fields → whole (value 127 ts) ≡ None
+    → Reading Behind ts old fields → whole (value 127 ts) ≡ None
 broken_behind ts old ls fields k t d field is scalar none len seen reading =
     let left = member_read_on ts old ls fields k t d field is scalar none.0 len seen reading in
     no_members ts (punctuate after_value ls) left.0 left.1 left.3 (members_no_key (value 126) left.0 (punctuate after_value ls) none.1)
@@ -84,9 +85,9 @@ something_left (token t) ls j = token_left after_value t _ _ j
 something_left comma ls j = comma_left ls j
 something_left colon ls j = refl
 
-pub broken_end : (ts : List Token) (old : List Lexeme) (l : Lexeme) (ls : List Lexeme) (fields : List Field) (k : List ℕ) (t : Token) (d : Data) (field : Field)
+pub broken_end : {Behind : Type 0} (ts : List Token) (old : List Lexeme) (l : Lexeme) (ls : List Lexeme) (fields : List Field) (k : List ℕ) (t : Token) (d : Data) (field : Field)
     → old ≡ token (tok.string k) ∷ colon ∷ token t ∷ token tok.end_object ∷ l ∷ ls → IsScalar t d → length fields ≡ 15 → data_of field ≡ Some d
-    → Reading ts old fields → whole (value 127 ts) ≡ None
+    → Reading Behind ts old fields → whole (value 127 ts) ≡ None
 unfolding punctuate
 broken_end ts old l ls fields k t d field is scalar len seen reading =
     let us = punctuate after_value (l ∷ ls) in

@@ -153,6 +153,11 @@ no_key p x xs may no_space no_quote no_end =
     first_cases (λ ls. read_key (punctuate p ls) ≡ None) x xs (λ q o ls. absurd (true≢false (sym q ∙ no_quote))) (bad_no_key p)
     (λ is ls. mark_no_key p (x == 123) (x == 125) (x == 91) (x == 93) (x == 44) ls may no_end) (word_no_key p (x ∷ xs)) no_space
 
+-- behind a comma the object doesn't end
+pub end_no_key : (p : Place) (ls : List Lexeme) → p ≡ after_comma → read_key (punctuate p (token end_object ∷ ls)) ≡ None
+unfolding punctuate
+end_no_key p ls is = rw is refl
+
 pub no_key_left : (p : Place) → may_begin p ≡ true → read_key (punctuate p []) ≡ None
 unfolding punctuate
 no_key_left fresh may = refl

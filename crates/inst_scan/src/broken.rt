@@ -1,8 +1,8 @@
 // Places where a line is no JSON, whatever follows. They are looked at only once a line is not plain.
-ghost use Rattle.std.specs.Prelude.{◌≡◌, ◌≤◌, ℕ, true, length, drop, None};
+ghost use Rattle.std.specs.Prelude.{◌≡◌, ◌-◌, ◌≤◌, ℕ, true, length, drop, slice_index, None};
 ghost use Rattle.json.specs.Text.{content, plain};
 ghost use Rattle.json.specs.Json.{read_key, value};
-ghost use Rattle.json.specs.Lex.{lex, between, Place, fresh, may_begin, punctuate};
+ghost use Rattle.json.specs.Lex.{lex, between, Place, fresh, after_comma, may_begin, punctuate};
 ghost use Rattle.inst_scan.specs.Begin.{begins_value};
 
 use crate::parts::{plain_end, skip_space, string};
@@ -32,20 +32,24 @@ fn breaks_off(text: &[u8], from: usize) -> bool
     end >= text.len() || text[end] < 0x20
 }
 
-/// Whether neither a key nor the end of an object stands where one of them must. Of a brace it tells
-/// nothing, since behind a comma it is not the end.
+/// Whether neither a key nor the end of an object stands where one of them must. The end doesn't stand
+/// behind a comma.
 #[inline(never)]
 pub(crate) fn lacks_key(text: &[u8], from: usize) -> bool
     requires { from ≤ length text.now }
     ensures { result ≡ true → (p : Place) → may_begin p ≡ true
+        → (slice_index text.now (from - 1) ≡ 44 → p ≡ after_comma)
         → read_key (punctuate p (lex between (drop from text.now))) ≡ None }
 {
     let start = skip_space(text, from);
     if start >= text.len() {
         return true;
     }
+    if text[start] == b'}' {
+        return from > 0 && text[from - 1] == b',';
+    }
     if text[start] != b'"' {
-        return text[start] != b'}';
+        return true;
     }
     let Some((_, end)) = string(text, start + 1) else {
         return breaks_off(text, start + 1);

@@ -1,7 +1,7 @@
-use Rattle.std.proofs.Common.{◌≡◌, ◌+◌, ◌<◌, true, [], ◌∷◌, length, refl, sym, ap, ◌∙◌, arith, drop, subst}
+use Rattle.std.proofs.Common.{◌≡◌, ◌+◌, ◌-◌, ◌<◌, get_or, true, [], ◌∷◌, length, refl, sym, ap, ◌∙◌, arith, drop, subst}
 use Rattle.std.proofs.lemmas.List.{drop_all}
 use Rattle.json.specs.Token as tok
-use Rattle.json.specs.Lex.{token, colon, lex, between, Place, fresh, may_begin, punctuate, tokens}
+use Rattle.json.specs.Lex.{token, colon, lex, between, Place, fresh, after_comma, may_begin, punctuate, tokens}
 use Rattle.json.specs.Json.{read_key}
 use Rattle.inst_scan.specs.Fields.{listed}
 use Rattle.inst_scan.proofs.Told.{TellsObject, told_of}
@@ -19,10 +19,12 @@ loop-at-init c =
     let t = c.args.text.now in
     let begin = c.skip_space-open.result in
     let opened = ap (punctuate fresh) (sym c.skip_space-open.ensures.same ∙ lex_open t begin c.if-open-text.false c.if-text-open-ne123.false) in
+    let here : begin + 1 - 1 ≡ begin = omega arith in
+    let no_comma : get_or t (begin + 1 - 1) 0 ≡ 44 → ⊥ = λ e. omega (arith, e, ap (λ k. get_or t k 0) here, c.if-text-open-ne123.false) in
     record {
       within = omega arith;
       ascii = λ rest. c.skip_space-open.ensures.ascii (ascii_byte t begin 123 c.if-open-text.false c.if-text-open-ne123.false (omega arith) rest);
-      reading = reading_begins (tokens t) (lex between (drop (begin + 1) t)) (listed c.args.found.now) opened c.requires;
+      reading = reading_begins (tokens t) (lex between (drop (begin + 1) t)) (listed c.args.found.now) opened c.requires no_comma;
     }
 
 pub loop-at-preserved : goal.loop-at-preserved
@@ -37,7 +39,7 @@ loop-at-preserved c =
     record {
       within = omega arith;
       ascii = λ rest. l.invariant.ascii (c.in-Some.ensures.ascii (c.in-Some-scalar.ensures.ascii (c.skip_space-stop.ensures.ascii (ascii_byte t stop 44 c.if-stop-text.false c.if-text-stop-eq44.true (omega arith) rest))));
-      reading = subst (λ fs. Reading (tokens t) (lex between (drop (stop + 1) t)) fs) (sym c.put.ensures) (reading_goes_on (tokens t) (lex between (drop l.at t)) (lex between (drop (stop + 1) t)) (listed l.found) k v.0 v.1 c.in-Some-scalar.field is v.2 refl v.3 l.invariant.reading);
+      reading = subst (λ fs. Reading (get_or t (stop + 1 - 1) 0 ≡ 44) (tokens t) (lex between (drop (stop + 1) t)) fs) (sym c.put.ensures) (reading_goes_on (tokens t) (lex between (drop l.at t)) (lex between (drop (stop + 1) t)) (listed l.found) k v.0 v.1 c.in-Some-scalar.field is v.2 refl v.3 l.invariant.reading);
     }
 
 pub returns-then-skip_space-text-clause-value : goal.returns-then-skip_space-text-clause-value
@@ -115,5 +117,5 @@ pub returns-clause-broken : goal.returns-clause-broken
 returns-clause-broken c = λ yes.
     let t = c.args.text.now in
     let l = c.loop-at in
-    let none = λ (p : Place) (may : may_begin p ≡ true). ap (λ ls. read_key (punctuate p ls)) (lex_end t l.at c.loop-at-test.false) ∙ no_key_left p may in
+    let none = λ (p : Place) (may : may_begin p ≡ true) (behind : get_or t (l.at - 1) 0 ≡ 44 → p ≡ after_comma). ap (λ ls. read_key (punctuate p ls)) (lex_end t l.at c.loop-at-test.false) ∙ no_key_left p may in
     broken_key (tokens t) (lex between (drop l.at t)) (listed l.found) none l.invariant.reading
