@@ -203,13 +203,6 @@ module _ (s : HubSettings) (who : ℕ) (J : List Event) (t : Totals) (table : He
   forwarded_absent from id another new =
       unknown (found_at table.entries (from, id)) (b.right.others (from, id) another) (b.right.forwarded (from, id) ∙ none_of _ (sym (forwarded_found (from, id) J) ∙ new))
 
-  -- its originator has fewer than 2^16 live ones
-  pub few_own : (id : List ℕ) (to cents stamp : ℕ) → Fits s who J (Taken id to cents stamp) → length table.positions < 2 ^ 16
-  few_own id to cents stamp fits =
-      let ids : length table.positions ≡ length (own_ids who J) = sym (length-map table.positions _) ∙ ap length b.right.own in
-      let lives : length (own_ids who J) ≡ length (live_taken who J) = length-map (live_taken who J) id_of in
-      omega (arith, ids, lives, length-filter (takes_live who (carried J)) J, fits.place, b.lawful.places_most)
-
   -- the live ones are no more than there are places
   pub few_live : length table.positions < 2 ^ 16
   few_live =
@@ -271,7 +264,7 @@ module _ (s : HubSettings) (who : ℕ) (J : List Event) (t : Totals) (table : He
 
 -- a booking finds its transfer, by the look for it
 pub booking_finds : (s : HubSettings) (who : ℕ) (J : List Event) (table : Held) (from : ℕ) (id : List ℕ) (outcome : Outcome) (r : Option Found) → IsSound s who J → IsRight who J (state_in table) → Fits s who J (Booked from id outcome) → Finds table from id r → is_some r ≡ true
-booking_finds s who J table from id outcome None sound right fits finds = absurd (false≢true (sym (ap is_some finds.0) ∙ booked_there s who J (state_in table) sound right from id outcome fits))
+booking_finds s who J table from id outcome None sound right fits finds = absurd (false≢true (sym (ap is_some finds) ∙ booked_there s who J (state_in table) sound right from id outcome fits))
 booking_finds s who J table from id outcome (Some f) sound right fits finds = refl
 
 -- and what fits it fits what was found

@@ -1,9 +1,11 @@
 -- Each event that fits changes the table of a history as its definition says, and leaves it right.
-use Rattle.std.proofs.Common.{◌≡◌, ◌≢◌, ℕ, ◌+◌, Bool, true, false, ◌&&◌, cond, List, [], ◌∷◌, ◌++◌, Option, Some, None, is_some, is_none, refl, sym, ap, ◌∙◌, subst, arith, inl, inr}
-use Rattle.std.specs.List.{filter}
+use Rattle.std.proofs.Common.{◌≡◌, ◌≢◌, ℕ, ◌+◌, Bool, true, false, ◌&&◌, cond, List, [], ◌∷◌, ◌++◌, Option, Some, None, is_some, is_none, refl, sym, ap, ◌∙◌, subst, arith, inl, inr, append-nil}
+use Rattle.std.specs.List.{filter, cons_option}
 use Rattle.std.proofs.lemmas.Bool.{eq-eqb, ne_eqb, true≢false, false≢true}
+use Rattle.std.proofs.lemmas.List.Elements.{filter_map-append}
 use Rattle.std.proofs.lemmas.List.Sums.{fold-append}
 use Rattle.inst_settings.specs.Settings.{HubSettings, same_text}
+use Rattle.inst_command.specs.declared.entry.Entry.{Entry}
 use Rattle.inst_command.specs.declared.outcome.Outcome.{Outcome}
 use Rattle.inst_journal.specs.declared.event.Event.{Event}
 use Rattle.inst_journal.specs.declared.event.Event.TheVariants.{Funded, Defunded, Taken, Forwarded, Booked, Fetched, Opened}
@@ -21,9 +23,16 @@ use Rattle.inst_ledger.proofs.Tables.{table_put, table_keep, taken_found, terms_
 use Rattle.inst_transfers.specs.declared.transfer.Side.{Side}
 use Rattle.inst_transfers.specs.declared.transfer.Side.TheVariants.{Own, Other}
 use Rattle.inst_transfers.specs.declared.transfer.Transfer.{Transfer}
-use Rattle.inst_transfers.specs.State.{Key, same_key, put, State, nothing, with_outcome, settled, booked_in, outcome_in, waits_in, step, state_of}
+use Rattle.inst_transfers.specs.State.{Key, same_key, put, State, nothing, with_outcome, settled, booked_in, outcome_in, waits_in, step, state_of, row_of, rows_of}
 use Rattle.inst_ledger.specs.Right.{terms_in, forwarding_in, unbooked, IsRight}
 use Rattle.inst_ledger.proofs.OwnIds.{own_same, own_more, own_opened}
+
+-- what is kept for good, after one event more
+rows_push : (who : ℕ) (J : List Event) (new : Event) → rows_of who (J ++ new ∷ []) ≡ rows_of who J ++ cons_option (row_of who new) []
+rows_push who J new = filter_map-append (row_of who) J (new ∷ [])
+
+rows_same : (who : ℕ) (J : List Event) (new : Event) → row_of who new ≡ None → rows_of who (J ++ new ∷ []) ≡ rows_of who J
+rows_same who J new none = rows_push who J new ∙ ap (λ (o : Option Entry). rows_of who J ++ cons_option o []) none ∙ append-nil (rows_of who J)
 
 -- what a table that was put at one key gives
 put_in : {A : Type 0} (f : Option Transfer → A) (b : Bool) (x : Transfer) (o : Option Transfer) → f (cond b (Some x) o) ≡ cond b (f (Some x)) (f o)
@@ -46,13 +55,14 @@ booked_at J x y same = let key = key_is x y same in sym (ap (λ (from : ℕ). bo
 module _ (s : HubSettings) (who : ℕ) (J : List Event) (st : State) (sound : IsSound s who J) (is : IsRight who J st) where
   -- an event that takes, forwards and books nothing, and opens nothing
   quiet_right : (new : Event) → Fits s who J new → is_opening new ≡ false → takes_live who (carried J) new ≡ false → takes_live who J new ≡ false → ((from : ℕ) (id : List ℕ) → books from id new ≡ None)
-      → ((K : List Event) → credit K new ≡ 0) → ((K : List Event) → debit K new ≡ 0) → ((K : List Event) → reservation K new ≡ 0) → ((id : List ℕ) → terms_of id new ≡ None) → ((key : Key) → forwarding_of key new ≡ None)
+      → ((K : List Event) → credit K new ≡ 0) → ((K : List Event) → debit K new ≡ 0) → ((K : List Event) → reservation K new ≡ 0) → ((id : List ℕ) → terms_of id new ≡ None) → ((key : Key) → forwarding_of key new ≡ None) → row_of who new ≡ None
       → IsRight who (J ++ new ∷ []) st
-  quiet_right new fits other lives waits quiet no_credit no_debit no_reservation no_terms no_forwarding = record {
+  quiet_right new fits other lives waits quiet no_credit no_debit no_reservation no_terms no_forwarding no_row = record {
     taken = table_keep terms_of J new (λ id. terms_in (st.found (who, id))) is.taken no_terms;
     others = is.others;
     forwarded = table_keep forwarding_of J new (λ key. forwarding_in (st.found key)) is.forwarded no_forwarding;
     booked = table_keep outcome_of J new (λ key. outcome_in (st.found key)) is.booked (λ key. quiet key.0 key.1);
+    rows = is.rows ∙ sym (rows_same who J new no_row);
     own = is.own ∙ sym (own_same who J new other lives);
     reserved = omega (arith, is.reserved, quiet_reserved s who J new sound fits (quiet who), no_reservation (J ++ new ∷ []));
     credits = omega (arith, is.credits, quiet_credits J new quiet, no_credit (J ++ new ∷ []));
@@ -76,6 +86,7 @@ module _ (s : HubSettings) (who : ℕ) (J : List Event) (st : State) (sound : Is
             ∙ table_keep forwarding_of J new (λ key. forwarding_in (st.found key)) is.forwarded (λ _. refl) q;
         booked = λ q. same_in outcome_in (same_key (who, id) q) x (st.found q) (λ same. sym (is.booked q ∙ booked_at J (who, id) q same ∙ unbooked))
             ∙ table_keep outcome_of J new (λ key. outcome_in (st.found key)) is.booked (λ _. refl) q;
+        rows = ap (λ (l : List Entry). l ++ record { from = who; id = id; cents = cents; deadline = stamp } ∷ []) is.rows ∙ sym (rows_push who J new);
         own = ap (λ (l : List (List ℕ)). l ++ id ∷ []) is.own ∙ sym (own_more who J id to cents stamp (new_lives s who J id to cents stamp sound fits.new));
         reserved = omega (arith, is.reserved, quiet_reserved s who J new sound fits (λ _. refl), ap (λ o. if_unbooked o cents) nothing_own);
         credits = omega (arith, is.credits, quiet_credits J new (λ _ _. refl));
@@ -97,6 +108,7 @@ module _ (s : HubSettings) (who : ℕ) (J : List Event) (st : State) (sound : Is
             (λ q. put_in forwarding_in (same_key (from, id) q) x (st.found q)) (λ _. refl) (λ q same. forwarding_absent (from, id) q J fits.new same);
         booked = λ q. same_in outcome_in (same_key (from, id) q) x (st.found q) (λ same. sym (is.booked q ∙ booked_at J (from, id) q same ∙ unbooked))
             ∙ table_keep outcome_of J new (λ key. outcome_in (st.found key)) is.booked (λ _. refl) q;
+        rows = ap (λ (l : List Entry). l ++ record { from = from; id = id; cents = cents; deadline = deadline } ∷ []) is.rows ∙ sym (rows_push who J new);
         own = is.own ∙ sym (own_same who J new refl refl);
         reserved = omega (arith, is.reserved, quiet_reserved s who J new sound fits (λ _. refl));
         credits = omega (arith, is.credits, quiet_credits J new (λ _ _. refl), ap (λ o. if_accepted o cents) nothing_after);
@@ -135,6 +147,7 @@ module _ (s : HubSettings) (who : ℕ) (J : List Event) (st : State) (sound : Is
         forwarded = λ q. same_in forwarding_in (same_key (who, id) q) x (st.found q) (λ same. sym (ap forwarding_in (at_key st.found (who, id) q same ∙ there)))
             ∙ table_keep forwarding_of J new (λ key. forwarding_in (st.found key)) is.forwarded (λ _. refl) q;
         booked = outcomes_put who id outcome t fits.new;
+        rows = is.rows ∙ sym (rows_same who J new refl);
         own = is.own ∙ sym (own_same who J new refl refl);
         reserved = omega (arith, is.reserved, own_reserved s who J id outcome sound fits, amount);
         credits = is.credits ∙ sym (own_credits s who J id outcome sound fits);
@@ -159,6 +172,7 @@ module _ (s : HubSettings) (who : ℕ) (J : List Event) (st : State) (sound : Is
         forwarded = λ q. same_in forwarding_in (same_key (from, id) q) x (st.found q) (λ same. sym (ap forwarding_in (at_key st.found (from, id) q same ∙ there)))
             ∙ table_keep forwarding_of J new (λ key. forwarding_in (st.found key)) is.forwarded (λ _. refl) q;
         booked = outcomes_put from id outcome t fits.new;
+        rows = is.rows ∙ sym (rows_same who J new refl);
         own = is.own ∙ sym (own_same who J new refl refl);
         reserved = omega (arith, is.reserved, quiet_reserved s who J new sound fits quiet);
         credits = ap (λ n. n + if_accepted (Some outcome) cents) is.credits ∙ ap (λ n. credits J + if_accepted (Some outcome) n) amount ∙ sym (booked_credits s who J from id outcome sound fits.new);
@@ -207,6 +221,7 @@ module _ (s : HubSettings) (who : ℕ) (J : List Event) (st : State) (sound : Is
     others = is.others;
     forwarded = table_keep forwarding_of J Opened (λ key. forwarding_in (st.found key)) is.forwarded (λ _. refl);
     booked = table_keep outcome_of J Opened (λ key. outcome_in (st.found key)) is.booked (λ _. refl);
+    rows = is.rows ∙ sym (rows_same who J Opened refl);
     own = ap (filter (waits_in who st)) is.own ∙ own_opened who J (waits_in who st) (λ id. ap is_none (is.booked (who, id)));
     reserved = omega (arith, is.reserved, quiet_reserved s who J Opened sound fits (λ _. refl));
     credits = omega (arith, is.credits, quiet_credits J Opened (λ _ _. refl));
@@ -220,12 +235,12 @@ module _ (s : HubSettings) (who : ℕ) (J : List Event) (st : State) (sound : Is
   right_push (Forwarded from id cents deadline) fits = forwarded_right from id cents deadline fits
   right_push (Booked from id outcome) fits = booked_right from id outcome fits
   right_push Opened fits = opened_right fits
-  right_push (Funded reference cents) fits = quiet_right (Funded reference cents) fits refl refl refl (λ _ _. refl) (λ _. refl) (λ _. refl) (λ _. refl) (λ _. refl) (λ _. refl)
-  right_push (Defunded reference cents) fits = quiet_right (Defunded reference cents) fits refl refl refl (λ _ _. refl) (λ _. refl) (λ _. refl) (λ _. refl) (λ _. refl) (λ _. refl)
-  right_push (Fetched count) fits = quiet_right (Fetched count) fits refl refl refl (λ _ _. refl) (λ _. refl) (λ _. refl) (λ _. refl) (λ _. refl) (λ _. refl)
+  right_push (Funded reference cents) fits = quiet_right (Funded reference cents) fits refl refl refl (λ _ _. refl) (λ _. refl) (λ _. refl) (λ _. refl) (λ _. refl) (λ _. refl) refl
+  right_push (Defunded reference cents) fits = quiet_right (Defunded reference cents) fits refl refl refl (λ _ _. refl) (λ _. refl) (λ _. refl) (λ _. refl) (λ _. refl) (λ _. refl) refl
+  right_push (Fetched count) fits = quiet_right (Fetched count) fits refl refl refl (λ _ _. refl) (λ _. refl) (λ _. refl) (λ _. refl) (λ _. refl) (λ _. refl) refl
 
 pub right_begun : (who : ℕ) → IsRight who [] nothing
-right_begun who = record { taken = λ _. refl; others = λ _ _. refl; forwarded = λ _. refl; booked = λ _. refl; own = refl; reserved = refl; credits = refl; debits = refl; waiting = refl }
+right_begun who = record { taken = λ _. refl; others = λ _ _. refl; forwarded = λ _. refl; booked = λ _. refl; rows = refl; own = refl; reserved = refl; credits = refl; debits = refl; waiting = refl }
 
 -- the table of a history is the table of the events before it, with one event more
 pub state_push : (who : ℕ) (J : List Event) (event : Event) → state_of who (J ++ event ∷ []) ≡ step who (state_of who J) event

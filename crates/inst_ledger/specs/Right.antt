@@ -14,7 +14,7 @@ use Rattle.inst_ledger.specs.Kept.{terms_of, forwarding_of}
 use Rattle.inst_transfers.specs.declared.transfer.Side.{Side}
 use Rattle.inst_transfers.specs.declared.transfer.Side.TheVariants.{Own, Other}
 use Rattle.inst_transfers.specs.declared.transfer.Transfer.{Transfer}
-use Rattle.inst_transfers.specs.State.{Key, State, outcome_in, state_of}
+use Rattle.inst_transfers.specs.State.{Key, State, outcome_in, state_of, rows_of}
 
 -- the terms, where the transfer is the participant's own
 abbrev pub terms_by : ℕ → Side → Option Terms
@@ -52,6 +52,7 @@ pub record IsRight (who : ℕ) (J : List Event) (st : State) : Type 0 where
   pub others : (key : Key) → key.0 ≢ who → terms_in (st.found key) ≡ None
   pub forwarded : (key : Key) → forwarding_in (st.found key) ≡ first_some (forwarding_of key) J
   pub booked : (key : Key) → outcome_in (st.found key) ≡ booked key.0 key.1 J
+  pub rows : st.rows ≡ rows_of who J
   pub own : st.own ≡ own_ids who J
   pub reserved : st.reserved ≡ reserved J
   pub credits : st.credits ≡ credits J

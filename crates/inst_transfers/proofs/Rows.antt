@@ -7,15 +7,14 @@ use Rattle.std.specs.Map.{keys_of, lookup}
 use Rattle.std.specs.List.{filter, IsDistinct, AllByRecursion}
 use Rattle.std.proofs.lemmas.Bool.{eqb-true, eq-eqb, true≢false, cases_order}
 use Rattle.std.proofs.lemmas.List.{map-append, length-map}
-use Rattle.std.proofs.lemmas.List.Quantifiers.{position-Some}
 use Rattle.std.proofs.lemmas.Option.{slice_get-get_or, slice_get_within, get_or_from_slice_get}
-use Rattle.indexmap.specs.IndexMap.{IndexMap, IsUnique, with_value_at}
+use Rattle.indexmap.specs.IndexMap.{IndexMap, IsUnique, with_value_at, set_value_at}
 use Rattle.indexmap.proofs.CallerLemmas.{updates-with_value_at}
 use Rattle.inst_settings.specs.Settings.{same_text}
-use Rattle.inst_transfers.specs.declared.transfer.Row.{Row}
+use Rattle.inst_command.specs.declared.entry.Entry.{Entry}
 use Rattle.inst_transfers.specs.declared.transfer.Transfer.{Transfer}
 use Rattle.inst_transfers.specs.State.{Key, same_key, put, outcome_in}
-use Rattle.inst_transfers.specs.Held.{transfer_in, place_in, found_at, lies_at, at, id_in, ids_at, AreWithin, AreOwn, AreAbove, AreRising, ArePositions, lay, waits_for, waits_at}
+use Rattle.inst_transfers.specs.Held.{found_at, row_in, rows_in, time_in, AreApart, id_in, ids_at, AreWithin, AreOwn, AreAbove, AreRising, ArePositions, waits_for, waits_at}
 
 and_parts : (a b : Bool) → (a && b) ≡ true → (a ≡ true) × (b ≡ true)
 and_parts true b h = (refl, h)
@@ -39,24 +38,8 @@ keys_equiv = record {
 pub on_ok : {A E : Type 0} {P : Type 0} (r : Result A E) (x : A) → r ≡ Ok x → OnOk r P → P
 on_ok {A} {E} {P} r x is p = subst (λ (q : Result A E). OnOk q P) is p
 
--- what is seen of a row that is put at a key
-seen : {A : Type 0} (f : Option Row → A) (b : Bool) (row : Row) (o : Option Row) → f (cond b (Some row) o) ≡ cond b (f (Some row)) (f o)
-seen f true row o = refl
-seen f false row o = refl
-
-pub found_put : (es fs : List (Key × Row)) (key : Key) (row : Row) → ((q : Key) → lookup (same_key q) fs ≡ cond (same_key key q) (Some row) (lookup (same_key q) es)) → found_at fs ≡ put (found_at es) key row.transfer
-found_put es fs key row updates = λ i q. (ap transfer_in (updates q) ∙ seen transfer_in (same_key key q) row (lookup (same_key q) es)) i
-
-pub lies_put : (es fs : List (Key × Row)) (key : Key) (row : Row) → ((q : Key) → lookup (same_key q) fs ≡ cond (same_key key q) (Some row) (lookup (same_key q) es)) → lies_at fs ≡ lay (lies_at es) key row.place
-lies_put es fs key row updates = λ i q. (ap place_in (updates q) ∙ seen place_in (same_key key q) row (lookup (same_key q) es)) i
-
--- a key that isn't found isn't there
-pub none_found : (es : List (Key × Row)) (key : Key) → found_at es key ≡ None → lookup (same_key key) es ≡ None
-none_found es key none = by (lookup (same_key key) es) none
-  where
-    by : (o : Option Row) → transfer_in o ≡ None → o ≡ None
-    by None h = refl
-    by (Some row) h = absurd (true≢false (ap is_some h))
+pub found_put : (es fs : List (Key × Transfer)) (key : Key) (row : Transfer) → ((q : Key) → lookup (same_key q) fs ≡ cond (same_key key q) (Some row) (lookup (same_key q) es)) → found_at fs ≡ put (found_at es) key row
+found_put es fs key row updates = λ i q. updates q i
 
 -- one key more
 get_before : (ks : List Key) (k : Key) (p : ℕ) → p < length ks → slice_get (ks ++ k ∷ []) p ≡ slice_get ks p
@@ -81,16 +64,16 @@ ids_more ks k ps within =
     ∙ ap (λ (l : List (List ℕ)). l ++ id_in (slice_get (ks ++ k ∷ []) (length ks)) ∷ []) (ids_before ks k ps within)
     ∙ ap (λ (o : Option Key). ids_at ks ps ++ id_in o ∷ []) (get_last ks k)
 
-keys_more : (es : List (Key × Row)) (key : Key) (row : Row) → keys_of (es ++ (key, row) ∷ []) ≡ keys_of es ++ key ∷ []
-keys_more es key row = map-append (λ (e : Key × Row). e.0) es ((key, row) ∷ [])
+keys_more : (es : List (Key × Transfer)) (key : Key) (row : Transfer) → keys_of (es ++ (key, row) ∷ []) ≡ keys_of es ++ key ∷ []
+keys_more es key row = map-append (λ (e : Key × Transfer). e.0) es ((key, row) ∷ [])
 
-pub own_before : (es fs : List (Key × Row)) (key : Key) (row : Row) (ps : List ℕ) → AreWithin (length (keys_of es)) ps → fs ≡ es ++ (key, row) ∷ [] → ids_at (keys_of fs) ps ≡ ids_at (keys_of es) ps
-own_before es fs key row ps within more = ap (λ (l : List (Key × Row)). ids_at (keys_of l) ps) more ∙ ap (λ (l : List Key). ids_at l ps) (keys_more es key row) ∙ ids_before (keys_of es) key ps within
+pub own_before : (es fs : List (Key × Transfer)) (key : Key) (row : Transfer) (ps : List ℕ) → AreWithin (length (keys_of es)) ps → fs ≡ es ++ (key, row) ∷ [] → ids_at (keys_of fs) ps ≡ ids_at (keys_of es) ps
+own_before es fs key row ps within more = ap (λ (l : List (Key × Transfer)). ids_at (keys_of l) ps) more ∙ ap (λ (l : List Key). ids_at l ps) (keys_more es key row) ∙ ids_before (keys_of es) key ps within
 
-pub own_more : (es fs : List (Key × Row)) (key : Key) (row : Row) (ps qs : List ℕ) (n : ℕ) → AreWithin (length (keys_of es)) ps → fs ≡ es ++ (key, row) ∷ [] → n ≡ length es → qs ≡ ps ++ n ∷ [] → ids_at (keys_of fs) qs ≡ ids_at (keys_of es) ps ++ key.1 ∷ []
+pub own_more : (es fs : List (Key × Transfer)) (key : Key) (row : Transfer) (ps qs : List ℕ) (n : ℕ) → AreWithin (length (keys_of es)) ps → fs ≡ es ++ (key, row) ∷ [] → n ≡ length es → qs ≡ ps ++ n ∷ [] → ids_at (keys_of fs) qs ≡ ids_at (keys_of es) ps ++ key.1 ∷ []
 own_more es fs key row ps qs n within more count longer =
-    ap (λ (l : List (Key × Row)). ids_at (keys_of l) qs) more ∙ ap (λ (l : List Key). ids_at l qs) (keys_more es key row)
-    ∙ ap (λ (l : List ℕ). ids_at (keys_of es ++ key ∷ []) l) (longer ∙ ap (λ (m : ℕ). ps ++ m ∷ []) (count ∙ sym (length-map es (λ (e : Key × Row). e.0))))
+    ap (λ (l : List (Key × Transfer)). ids_at (keys_of l) qs) more ∙ ap (λ (l : List Key). ids_at l qs) (keys_more es key row)
+    ∙ ap (λ (l : List ℕ). ids_at (keys_of es ++ key ∷ []) l) (longer ∙ ap (λ (m : ℕ). ps ++ m ∷ []) (count ∙ sym (length-map es (λ (e : Key × Transfer). e.0))))
     ∙ ids_more (keys_of es) key ps within
 
 within_more : (n m : ℕ) (ps : List ℕ) → n ≤ m → AreWithin n ps → AreWithin m ps
@@ -101,57 +84,48 @@ within_last : (n m : ℕ) (ps : List ℕ) → n < m → AreWithin n ps → AreWi
 within_last n m [] less within = (less, tt)
 within_last n m (p ∷ ps) less within = (omega (arith, less, within.0), within_last n m ps less within.1)
 
-keys_longer : (es fs : List (Key × Row)) (key : Key) (row : Row) → fs ≡ es ++ (key, row) ∷ [] → length (keys_of fs) ≡ length (keys_of es) + 1
-keys_longer es fs key row more = ap (λ (l : List (Key × Row)). length (keys_of l)) more ∙ ap length (keys_more es key row) ∙ long (keys_of es) key
+keys_longer : (es fs : List (Key × Transfer)) (key : Key) (row : Transfer) → fs ≡ es ++ (key, row) ∷ [] → length (keys_of fs) ≡ length (keys_of es) + 1
+keys_longer es fs key row more = ap (λ (l : List (Key × Transfer)). length (keys_of l)) more ∙ ap length (keys_more es key row) ∙ long (keys_of es) key
   where
     long : (ks : List Key) (k : Key) → length (ks ++ k ∷ []) ≡ length ks + 1
     long [] k = refl
     long (x ∷ ks) k = omega (arith, long ks k)
 
-pub within_before : (es fs : List (Key × Row)) (key : Key) (row : Row) (ps : List ℕ) → AreWithin (length (keys_of es)) ps → fs ≡ es ++ (key, row) ∷ [] → AreWithin (length (keys_of fs)) ps
+pub within_before : (es fs : List (Key × Transfer)) (key : Key) (row : Transfer) (ps : List ℕ) → AreWithin (length (keys_of es)) ps → fs ≡ es ++ (key, row) ∷ [] → AreWithin (length (keys_of fs)) ps
 within_before es fs key row ps within more = within_more (length (keys_of es)) (length (keys_of fs)) ps (omega (arith, keys_longer es fs key row more)) within
 
-pub within_added : (es fs : List (Key × Row)) (key : Key) (row : Row) (ps qs : List ℕ) (n : ℕ) → AreWithin (length (keys_of es)) ps → fs ≡ es ++ (key, row) ∷ [] → n ≡ length es → qs ≡ ps ++ n ∷ [] → AreWithin (length (keys_of fs)) qs
+pub within_added : (es fs : List (Key × Transfer)) (key : Key) (row : Transfer) (ps qs : List ℕ) (n : ℕ) → AreWithin (length (keys_of es)) ps → fs ≡ es ++ (key, row) ∷ [] → n ≡ length es → qs ≡ ps ++ n ∷ [] → AreWithin (length (keys_of fs)) qs
 within_added es fs key row ps qs n within more count longer =
-    let here : n ≡ length (keys_of es) = count ∙ sym (length-map es (λ (e : Key × Row). e.0)) in
+    let here : n ≡ length (keys_of es) = count ∙ sym (length-map es (λ (e : Key × Transfer). e.0)) in
     subst (λ (l : List ℕ). AreWithin (length (keys_of fs)) l) (sym (longer ∙ ap (λ (m : ℕ). ps ++ m ∷ []) here))
     (within_last (length (keys_of es)) (length (keys_of fs)) ps (omega (arith, keys_longer es fs key row more)) within)
 
--- the position of a key is within the table, and the key stands there
-pub at_within : (es : List (Key × Row)) (key : Key) (p : ℕ) → at es key ≡ Some p → p < length es
-at_within es key p there = omega (arith, (position-Some (same_key key) (keys_of es) p key there).0, length-map es (λ (e : Key × Row). e.0))
-
-key_there : (es : List (Key × Row)) (p : ℕ) (k : Key) (row : Row) → slice_get es p ≡ Some (k, row) → get_or (keys_of es) p k ≡ k
-key_there [] p k row e = absurd (true≢false (sym (ap is_some e)))
-key_there (x ∷ es) zero k row e = let same : x ≡ (k, row) = cc in ap (λ (y : Key × Row). y.0) same
-key_there (x ∷ es) (suc p) k row e = key_there es p k row e
-
-stands : (es : List (Key × Row)) (key : Key) (p : ℕ) (k : Key) (row : Row) → at es key ≡ Some p → slice_get es p ≡ Some (k, row) → k ≡ key
-stands es key p k row there e =
-    let passes : same_key key (get_or (keys_of es) p k) ≡ true = (position-Some (same_key key) (keys_of es) p k there).1 in
-    sym (key_is key k (ap (λ (q : Key). same_key key q) (sym (key_there es p k row e)) ∙ passes))
-
 -- one row changed
-pub changed : {S : Type 0} (m : IndexMap Key Row S) (key k : Key) (p : ℕ) (old row : Row) → IsUnique same_key m → at m.entries key ≡ Some p → slice_get m.entries p ≡ Some (k, old)
+pub changed : {S : Type 0} (m : IndexMap Key Transfer S) (key : Key) (p : ℕ) (old row : Transfer) → IsUnique same_key m → slice_get m.entries p ≡ Some (key, old)
     → (q : Key) → lookup (same_key q) (with_value_at m p row).entries ≡ cond (same_key key q) (Some row) (lookup (same_key q) m.entries)
-changed m key k p old row unique there e q =
-    (updates-with_value_at m p row keys_equiv unique k old e).0 q
-    ∙ ap (λ (x : Key). cond (same_key x q) (Some row) (lookup (same_key q) m.entries)) (stands m.entries key p k old there e)
+changed m key p old row unique e q = (updates-with_value_at m p row keys_equiv unique key old e).0 q
 
--- what is put where it was changes nothing
-pub found_again : (f : Key → Option Transfer) (key : Key) (t : Transfer) → f key ≡ Some t → put f key t ≡ f
-found_again f key t is = λ i q. by (same_key key q) q refl i
-  where
-    by : (b : Bool) → (q : Key) → same_key key q ≡ b → cond b (Some t) (f q) ≡ f q
-    by true q same = sym is ∙ ap f (key_is key q same)
-    by false q same = refl
+-- what is kept for good of one more transfer, and of one whose outcome changed
+pub rows_more : (es fs : List (Key × Transfer)) (key : Key) (row : Transfer) → fs ≡ es ++ (key, row) ∷ [] → rows_in fs ≡ rows_in es ++ row_in (key, row) ∷ []
+rows_more es fs key row more = ap (λ (l : List (Key × Transfer)). rows_in l) more ∙ map-append row_in es ((key, row) ∷ [])
 
-pub lies_again : (f : Key → Option ℕ) (key : Key) (place : Option ℕ) → f key ≡ place → lay f key place ≡ f
-lies_again f key place is = λ i q. by (same_key key q) q refl i
-  where
-    by : (b : Bool) → (q : Key) → same_key key q ≡ b → cond b place (f q) ≡ f q
-    by true q same = sym is ∙ ap f (key_is key q same)
-    by false q same = refl
+pub rows_kept : (es : List (Key × Transfer)) (p : ℕ) (key : Key) (old row : Transfer) → slice_get es p ≡ Some (key, old) → row_in (key, row) ≡ row_in (key, old) → rows_in (set_value_at es p row) ≡ rows_in es
+rows_kept [] p key old row e same = absurd (true≢false (sym (ap is_some e)))
+rows_kept (x ∷ es) zero key old row e same =
+    let here : x ≡ (key, old) = cc in
+    ap (λ (y : Key × Transfer). row_in (y.0, row) ∷ rows_in es) here ∙ ap (λ (y : Entry). y ∷ rows_in es) same ∙ sym (ap (λ (y : Key × Transfer). row_in y ∷ rows_in es) here)
+rows_kept (x ∷ es) (suc p) key old row e same = ap (λ (l : List Entry). row_in x ∷ l) (rows_kept es p key old row e same)
+
+-- what stands at a position
+pub row_there : (es : List (Key × Transfer)) (p : ℕ) (e : Key × Transfer) → slice_get es p ≡ Some e → slice_get (rows_in es) p ≡ Some (row_in e)
+row_there [] p e there = absurd (true≢false (sym (ap is_some there)))
+row_there (x ∷ es) zero e there = let same : x ≡ e = cc in ap (λ (y : Key × Transfer). Some (row_in y)) same
+row_there (x ∷ es) (suc p) e there = row_there es p e there
+
+row_from : (es : List (Key × Transfer)) (p : ℕ) (x : Entry) → slice_get (rows_in es) p ≡ Some x → slice_get (keys_of es) p ≡ Some (x.from, x.id)
+row_from [] p x there = absurd (true≢false (sym (ap is_some there)))
+row_from (e ∷ es) zero x there = let same : row_in e ≡ x = cc in ap (λ (y : Entry). Some (y.from, y.id)) same
+row_from (e ∷ es) (suc p) x there = row_from es p x there
 
 -- the identifier at an index of the list
 pub id_there : (ks : List Key) (ps : List ℕ) (i p : ℕ) (key : Key) → slice_get ps i ≡ Some p → slice_get ks p ≡ Some key → slice_get (ids_at ks ps) i ≡ Some key.1
@@ -169,9 +143,9 @@ within_at n [] i p within e = absurd (true≢false (sym (ap is_some e)))
 within_at n (x ∷ ps) zero p within e = let same : x ≡ p = cc in omega (arith, within.0, same)
 within_at n (x ∷ ps) (suc i) p within e = within_at n ps i p within.1 e
 
-pub key_at : (es : List (Key × Row)) (p : ℕ) (key : Key) (row : Row) → slice_get es p ≡ Some (key, row) → slice_get (keys_of es) p ≡ Some key
+pub key_at : (es : List (Key × Transfer)) (p : ℕ) (key : Key) (row : Transfer) → slice_get es p ≡ Some (key, row) → slice_get (keys_of es) p ≡ Some key
 key_at [] p key row e = absurd (true≢false (sym (ap is_some e)))
-key_at (x ∷ es) zero key row e = let same : x ≡ (key, row) = cc in ap (λ (y : Key × Row). Some y.0) same
+key_at (x ∷ es) zero key row e = let same : x ≡ (key, row) = cc in ap (λ (y : Key × Transfer). Some y.0) same
 key_at (x ∷ es) (suc p) key row e = key_at es p key row e
 
 outside : (ks : List Key) (i : ℕ) → i < length ks → slice_get ks i ≡ None → ⊥
@@ -180,7 +154,7 @@ outside (k ∷ ks) zero below none = true≢false (ap is_some none)
 outside (k ∷ ks) (suc i) below none = outside ks i (omega (arith, below)) none
 
 -- those that live on, by their identifiers
-module _ (who : ℕ) (es : List (Key × Row)) where
+module _ (who : ℕ) (es : List (Key × Transfer)) where
   abbrev pub lives : List ℕ → Bool
   lives id = is_none (outcome_in (found_at es (who, id)))
 
@@ -250,16 +224,16 @@ rising_filtered : (test : ℕ → Bool) (ps : List ℕ) → AreRising ps → Are
 rising_filtered test [] rising = tt
 rising_filtered test (p ∷ ps) rising = rising_one p (filter test ps) (test p) (above_filtered p test ps rising.0) (rising_filtered test ps rising.1)
 
-pub positions_before : (who : ℕ) (es fs : List (Key × Row)) (key : Key) (row : Row) (ps : List ℕ) → ArePositions who (keys_of es) ps → fs ≡ es ++ (key, row) ∷ [] → ArePositions who (keys_of fs) ps
+pub positions_before : (who : ℕ) (es fs : List (Key × Transfer)) (key : Key) (row : Transfer) (ps : List ℕ) → ArePositions who (keys_of es) ps → fs ≡ es ++ (key, row) ∷ [] → ArePositions who (keys_of fs) ps
 positions_before who es fs key row ps are more =
-    let ks : keys_of fs ≡ keys_of es ++ key ∷ [] = ap (λ (l : List (Key × Row)). keys_of l) more ∙ keys_more es key row in
+    let ks : keys_of fs ≡ keys_of es ++ key ∷ [] = ap (λ (l : List (Key × Transfer)). keys_of l) more ∙ keys_more es key row in
     (within_before es fs key row ps are.0 more, owns_same who (keys_of es) (keys_of fs) ps (λ p below. ap (λ (l : List Key). slice_get l p) ks ∙ get_before (keys_of es) key p below) are.0 are.1, are.2)
 
-pub positions_added : (who : ℕ) (id : List ℕ) (es fs : List (Key × Row)) (row : Row) (ps qs : List ℕ) (n : ℕ) → ArePositions who (keys_of es) ps → fs ≡ es ++ ((who, id), row) ∷ [] → n ≡ length es → qs ≡ ps ++ n ∷ [] → ArePositions who (keys_of fs) qs
+pub positions_added : (who : ℕ) (id : List ℕ) (es fs : List (Key × Transfer)) (row : Transfer) (ps qs : List ℕ) (n : ℕ) → ArePositions who (keys_of es) ps → fs ≡ es ++ ((who, id), row) ∷ [] → n ≡ length es → qs ≡ ps ++ n ∷ [] → ArePositions who (keys_of fs) qs
 positions_added who id es fs row ps qs n are more count longer =
     let key : Key = (who, id) in
-    let ks : keys_of fs ≡ keys_of es ++ key ∷ [] = ap (λ (l : List (Key × Row)). keys_of l) more ∙ keys_more es key row in
-    let end : n ≡ length (keys_of es) = count ∙ sym (length-map es (λ (e : Key × Row). e.0)) in
+    let ks : keys_of fs ≡ keys_of es ++ key ∷ [] = ap (λ (l : List (Key × Transfer)). keys_of l) more ∙ keys_more es key row in
+    let end : n ≡ length (keys_of es) = count ∙ sym (length-map es (λ (e : Key × Transfer). e.0)) in
     let last : slice_get (keys_of fs) n ≡ Some key = ap (λ (l : List Key). slice_get l n) ks ∙ ap (slice_get (keys_of es ++ key ∷ [])) end ∙ get_last (keys_of es) key in
     let before : AreOwn who (keys_of fs) ps = owns_same who (keys_of es) (keys_of fs) ps (λ p below. ap (λ (l : List Key). slice_get l p) ks ∙ get_before (keys_of es) key p below) are.0 are.1 in (
       within_added es fs key row ps qs n are.0 more count longer,
@@ -324,10 +298,11 @@ one_place ks i j x distinct e f = elim (cases_order i j) [
   ]
 ]
 
-pub key_stands : (es : List (Key × Row)) (key : Key) (p : ℕ) → at es key ≡ Some p → slice_get (keys_of es) p ≡ Some key
-key_stands es key p there =
-    let found = position-Some (same_key key) (keys_of es) p key there in
-    slice_get-get_or (keys_of es) p key found.0 ∙ ap (λ (k : Key). Some k) (sym (key_is key (get_or (keys_of es) p key) found.1))
+-- no two rows are of the same transfer
+pub rows_apart : (es : List (Key × Transfer)) → IsDistinct same_key (keys_of es) → AreApart (rows_in es)
+rows_apart es distinct = λ i j x y here there from id.
+    let same : (y.from, y.id) ≡ (x.from, x.id) = λ k. (sym from k, sym id k) in
+    one_place (keys_of es) i j (x.from, x.id) distinct (row_from es i x here) (row_from es j y there ∙ ap (λ (k : Key). Some k) same)
 
 mapped : (ks : List Key) (ps : List ℕ) (k : ℕ) (id : List ℕ) → slice_get (ids_at ks ps) k ≡ Some id → (q : ℕ) × (slice_get ps k ≡ Some q) × (id_in (slice_get ks q) ≡ id)
 mapped ks [] k id e = absurd (true≢false (sym (ap is_some e)))
@@ -335,11 +310,11 @@ mapped ks (p ∷ ps) zero id e = let same : id_in (slice_get ks p) ≡ id = cc i
 mapped ks (p ∷ ps) (suc k) id e = mapped ks ps k id e
 
 -- an own live transfer stands in the list where its position does
-pub stands_at : (who : ℕ) (es : List (Key × Row)) (ps : List ℕ) (id : List ℕ) (p k : ℕ) → ArePositions who (keys_of es) ps → IsDistinct same_key (keys_of es) → at es (who, id) ≡ Some p → slice_get (ids_at (keys_of es) ps) k ≡ Some id → slice_get ps k ≡ Some p
+pub stands_at : (who : ℕ) (es : List (Key × Transfer)) (ps : List ℕ) (id : List ℕ) (p k : ℕ) → ArePositions who (keys_of es) ps → IsDistinct same_key (keys_of es) → slice_get (keys_of es) p ≡ Some (who, id) → slice_get (ids_at (keys_of es) ps) k ≡ Some id → slice_get ps k ≡ Some p
 stands_at who es ps id p k are distinct there e =
     let m = mapped (keys_of es) ps k id e in
     let key : slice_get (keys_of es) m.0 ≡ Some (who, id) = own_there who (keys_of es) ps k m.0 are.1 m.1 ∙ ap (λ (i : List ℕ). Some (who, i)) m.2 in
-    m.1 ∙ ap (λ (q : ℕ). Some q) (one_place (keys_of es) m.0 p (who, id) distinct key (key_stands es (who, id) p there))
+    m.1 ∙ ap (λ (q : ℕ). Some q) (one_place (keys_of es) m.0 p (who, id) distinct key there)
 
 pub same_index : (ps : List ℕ) (i k p : ℕ) → AreRising ps → i < length ps → get_or ps i 0 ≡ p → slice_get ps k ≡ Some p → i ≡ k
 same_index ps i k p rising below here there =

@@ -1,9 +1,9 @@
--- What a contract sees of a table of transfers: its state, the places of the transfers, where it holds each, and for how
--- many more it has room. This hub's own choice.
-use Rattle.std.specs.Prelude.{◌≡◌, ℕ, ◌+◌, ◌≤◌, ◌<◌, ◌^◌, cond, Bool, false, is_none, List, [], ◌∷◌, length, map, slice_get, position, Option, Some, None}
+-- What a contract sees of a table of transfers: its state, where it holds each, and for how many more it has room. This hub's
+-- own choice.
+use Rattle.std.specs.Prelude.{◌≡◌, ℕ, ◌+◌, ◌≤◌, ◌<◌, ◌^◌, Bool, false, is_none, List, [], ◌∷◌, length, map, slice_get, Option, Some, None}
 use Rattle.std.specs.Map.{lookup, keys_of}
+use Rattle.inst_command.specs.declared.entry.Entry.{Entry}
 use Rattle.inst_transfers.specs.declared.transfer.Found.{Found}
-use Rattle.inst_transfers.specs.declared.transfer.Row.{Row}
 use Rattle.inst_transfers.specs.declared.transfer.Side.{Side}
 use Rattle.inst_transfers.specs.declared.transfer.Side.TheVariants.{Own, Other}
 use Rattle.inst_transfers.specs.declared.transfer.Transfer.{Transfer}
@@ -13,21 +13,13 @@ use Rattle.inst_transfers.specs.State.{Key, same_key, State, outcome_in}
 -- the sums; for how many more there is room
 pub record Held : Type 0 where
   pub who : ℕ
-  pub entries : List (Key × Row)
+  pub entries : List (Key × Transfer)
   pub positions : List ℕ
   pub reserved : ℕ
   pub credits : ℕ
   pub debits : ℕ
   pub waiting : ℕ
   pub room : ℕ
-
-abbrev pub transfer_in : Option Row → Option Transfer
-transfer_in None = None
-transfer_in (Some row) = Some row.transfer
-
-abbrev pub place_in : Option Row → Option ℕ
-place_in None = None
-place_in (Some row) = row.place
 
 -- the identifier of the key at a position
 abbrev pub id_in : Option Key → List ℕ
@@ -61,21 +53,31 @@ abbrev pub ArePositions : ℕ → List Key → List ℕ → Type 0
 ArePositions who ks ps = AreWithin (length ks) ps × AreOwn who ks ps × AreRising ps
 
 -- what the table finds at a key
-abbrev pub found_at : List (Key × Row) → Key → Option Transfer
-found_at entries key = transfer_in (lookup (same_key key) entries)
+abbrev pub found_at : List (Key × Transfer) → Key → Option Transfer
+found_at entries key = lookup (same_key key) entries
 
--- the index of the place of the transfer at a key
-abbrev pub lies_at : List (Key × Row) → Key → Option ℕ
-lies_at entries key = place_in (lookup (same_key key) entries)
+-- the deadline of a transfer, or the stamp of one that is the participant's own
+abbrev pub time_in : Side → ℕ
+time_in (Own to stamp) = stamp
+time_in (Other deadline) = deadline
 
--- where the table holds the key
-abbrev pub at : List (Key × Row) → Key → Option ℕ
-at entries key = position (same_key key) (keys_of entries)
+abbrev pub row_in : Key × Transfer → Entry
+row_in e = record { from = e.0.0; id = e.0.1; cents = e.1.cents; deadline = time_in e.1.side }
+
+-- what the table keeps for good of each transfer, in the order in which they came
+abbrev pub rows_in : List (Key × Transfer) → List Entry
+rows_in entries = map row_in entries
+
+-- no two of them are of the same transfer
+abbrev pub AreApart : List Entry → Type 0
+AreApart rows = (i j : ℕ) (x y : Entry) → slice_get rows i ≡ Some x → slice_get rows j ≡ Some y → x.from ≡ y.from →
+    x.id ≡ y.id → i ≡ j
 
 -- the table, as that of a history
 abbrev pub state_in : Held → State
 state_in held = record {
   found = found_at held.entries;
+  rows = rows_in held.entries;
   own = ids_at (keys_of held.entries) held.positions;
   reserved = held.reserved;
   credits = held.credits;
@@ -83,32 +85,28 @@ state_in held = record {
   waiting = held.waiting;
 }
 
--- the index of the place of each transfer
-abbrev pub lies_in : Held → Key → Option ℕ
-lies_in held = lies_at held.entries
-
 -- whether nothing is booked of the participant's own transfer with the identifier of this key
-abbrev pub waits_for : ℕ → List (Key × Row) → Option Key → Bool
+abbrev pub waits_for : ℕ → List (Key × Transfer) → Option Key → Bool
 waits_for who entries None = false
 waits_for who entries (Some key) = is_none (outcome_in (found_at entries (who, key.1)))
 
-abbrev pub waits_at : ℕ → List (Key × Row) → ℕ → Bool
+abbrev pub waits_at : ℕ → List (Key × Transfer) → ℕ → Bool
 waits_at who entries p = waits_for who entries (slice_get (keys_of entries) p)
 
--- the places, with this one at the key
-abbrev pub lay : (Key → Option ℕ) → Key → Option ℕ → Key → Option ℕ
-lay f key place q = cond (same_key key q) place (f q)
-
--- what was found is what the table holds at its key
+-- what was found is what the table holds at its key, and it holds it at the position
 pub record IsFound (held : Held) (f : Found) : Type 0 where
-  pub position : at held.entries (f.from, f.id) ≡ Some f.position
+  pub row : slice_get held.entries f.position ≡ Some ((f.from, f.id), f.transfer)
   pub transfer : found_at held.entries (f.from, f.id) ≡ Some f.transfer
-  pub place : lies_at held.entries (f.from, f.id) ≡ f.place
 
 -- what a look for the key gives
 abbrev pub Finds : Held → ℕ → List ℕ → Option Found → Type 0
-Finds held from id None = (found_at held.entries (from, id) ≡ None) × (lies_at held.entries (from, id) ≡ None)
+Finds held from id None = found_at held.entries (from, id) ≡ None
 Finds held from id (Some f) = (f.from ≡ from) × (f.id ≡ id) × IsFound held f
+
+-- what stands at the position
+abbrev pub FindsAt : Held → ℕ → Option Found → Type 0
+FindsAt held position None = length held.entries ≤ position
+FindsAt held position (Some f) = (f.position ≡ position) × IsFound held f
 
 -- the sums of an own transfer hold its amount, and those of another leave room for it
 abbrev pub CoversSide : State → ℕ → Side → Type 0

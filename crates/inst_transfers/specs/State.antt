@@ -1,8 +1,9 @@
 -- The table of a history: what a participant has of each transfer, with the sums over them. Each event changes it at one
 -- key at most. This hub's own choice.
 use Rattle.std.specs.Prelude.{ℕ, ◌+◌, ◌-◌, Bool, ◌==◌, ◌&&◌, cond, is_none, List, [], ◌∷◌, ◌++◌, fold, Option, Some, None}
-use Rattle.std.specs.List.{filter}
+use Rattle.std.specs.List.{filter, filter_map}
 use Rattle.inst_settings.specs.Settings.{same_text}
+use Rattle.inst_command.specs.declared.entry.Entry.{Entry}
 use Rattle.inst_command.specs.declared.outcome.Outcome.{Outcome}
 use Rattle.inst_journal.specs.declared.event.Event.{Event}
 use Rattle.inst_journal.specs.declared.event.Event.TheVariants.{Funded, Defunded, Taken, Forwarded, Booked, Fetched, Opened}
@@ -23,10 +24,22 @@ same_key x y = (x.0 == y.0) && same_text x.1 y.1
 abbrev pub put : (Key → Option Transfer) → Key → Transfer → Key → Option Transfer
 put f key t q = cond (same_key key q) (Some t) (f q)
 
--- what a participant has of each transfer; the identifiers of its own live ones, in the order of their places; what is
--- reserved, what came and what went, in cents; how many of its own have nothing booked
+-- what a table keeps for good of the transfer that the event brings: of one that is the participant's own, its stamp stands
+-- for the deadline
+abbrev pub row_of : ℕ → Event → Option Entry
+row_of who (Taken id to cents stamp) = Some (record { from = who; id = id; cents = cents; deadline = stamp })
+row_of who (Forwarded from id cents deadline) = Some (record { from = from; id = id; cents = cents; deadline = deadline })
+row_of who _ = None
+
+-- of all transfers of a history, in the order in which they came
+abbrev pub rows_of : ℕ → List Event → List Entry
+rows_of who J = filter_map (row_of who) J
+
+-- what a participant has of each transfer; what it keeps of them for good, in order; the identifiers of its own live ones, in
+-- the order of their places; what is reserved, what came and what went, in cents; how many of its own have nothing booked
 pub record State : Type 0 where
   pub found : Key → Option Transfer
+  pub rows : List Entry
   pub own : List (List ℕ)
   pub reserved : ℕ
   pub credits : ℕ
@@ -34,7 +47,7 @@ pub record State : Type 0 where
   pub waiting : ℕ
 
 abbrev pub nothing : State
-nothing = record { found = λ key. None; own = []; reserved = 0; credits = 0; debits = 0; waiting = 0 }
+nothing = record { found = λ key. None; rows = []; own = []; reserved = 0; credits = 0; debits = 0; waiting = 0 }
 
 abbrev pub with_outcome : Transfer → Outcome → Transfer
 with_outcome t outcome = record { cents = t.cents; side = t.side; outcome = Some outcome }
@@ -43,6 +56,7 @@ with_outcome t outcome = record { cents = t.cents; side = t.side; outcome = Some
 abbrev pub settled : State → Key → Transfer → Outcome → Side → State
 settled st key t outcome (Own to stamp) = record {
   found = put st.found key (with_outcome t outcome);
+  rows = st.rows;
   own = st.own;
   reserved = st.reserved - t.cents;
   credits = st.credits;
@@ -51,6 +65,7 @@ settled st key t outcome (Own to stamp) = record {
 }
 settled st key t outcome (Other deadline) = record {
   found = put st.found key (with_outcome t outcome);
+  rows = st.rows;
   own = st.own;
   reserved = st.reserved;
   credits = st.credits + if_accepted (Some outcome) t.cents;
@@ -65,6 +80,7 @@ booked_in st key outcome (Some t) = settled st key t outcome t.side
 abbrev pub taken_in : ℕ → State → List ℕ → ℕ → ℕ → ℕ → State
 taken_in who st id to cents stamp = record {
   found = put st.found (who, id) (record { cents = cents; side = Own to stamp; outcome = None });
+  rows = st.rows ++ record { from = who; id = id; cents = cents; deadline = stamp } ∷ [];
   own = st.own ++ id ∷ [];
   reserved = st.reserved + cents;
   credits = st.credits;
@@ -75,6 +91,7 @@ taken_in who st id to cents stamp = record {
 abbrev pub forwarded_in : State → ℕ → List ℕ → ℕ → ℕ → State
 forwarded_in st from id cents deadline = record {
   found = put st.found (from, id) (record { cents = cents; side = Other deadline; outcome = None });
+  rows = st.rows ++ record { from = from; id = id; cents = cents; deadline = deadline } ∷ [];
   own = st.own;
   reserved = st.reserved;
   credits = st.credits;
@@ -95,6 +112,7 @@ waits_in who st id = is_none (outcome_in (st.found (who, id)))
 abbrev pub opened_in : ℕ → State → State
 opened_in who st = record {
   found = st.found;
+  rows = st.rows;
   own = filter (waits_in who st) st.own;
   reserved = st.reserved;
   credits = st.credits;

@@ -17,14 +17,6 @@ pub struct Transfer {
     pub outcome: Option<Outcome>,
 }
 
-/// A transfer with the index of its place: `None` where it was settled before the last opening, or where its
-/// place isn't found yet.
-#[derive(Clone, Copy, Debug, PartialEq, Eq)]
-pub(crate) struct Row {
-    pub(crate) transfer: Transfer,
-    pub(crate) place: Option<u16>,
-}
-
 /// A transfer that was looked up, and where the table holds it: until the next one comes it need not be looked
 /// up again.
 #[derive(Clone, Copy, Debug, PartialEq, Eq)]
@@ -33,5 +25,4 @@ pub struct Found {
     pub id: Ident,
     pub position: usize,
     pub transfer: Transfer,
-    pub place: Option<u16>,
 }

@@ -1,12 +1,11 @@
 //! A table of transfers by originator and identifier, with what is known of them all together.
-ghost use Rattle.std.specs.Prelude.{◌≡◌, ℕ, ◌+◌, ◌<◌, ◌≤◌, ◌^◌, List, ◌∷◌, [], length, slice_get, Some, None, OnOk, OnErr, IfOk, IfSome, IsOkUnless};
+ghost use Rattle.std.specs.Prelude.{◌≡◌, ℕ, ◌+◌, ◌<◌, ◌≤◌, ◌^◌, length, slice_get, Some, None, OnOk, IfSome};
 ghost use Rattle.inst_journal.specs.declared.event.Event.{Event};
 ghost use Rattle.inst_journal.specs.Sums.{if_accepted};
-ghost use Rattle.std.specs.Map.{keys_of};
 ghost use Rattle.inst_transfers.specs.State.{nothing, step};
-ghost use Rattle.inst_transfers.specs.Held.{Finds, IsFound, Covers, lay, found_at, state_in, lies_in, waits_at};
+ghost use Rattle.inst_transfers.specs.Held.{Finds, FindsAt, IsFound, Covers, AreApart, found_at, rows_in, state_in, waits_at};
 
-use crate::transfer::{Found, Row, Side, Transfer};
+use crate::transfer::{Found, Side, Transfer};
 use indexmap::IndexMap;
 use inst_base::{Cents, Ident, Moment};
 use inst_command::Outcome;
@@ -18,7 +17,7 @@ use std::marker::Model;
 #[derive(Debug, Drop)]
 pub struct Transfers {
     who: u8,
-    table: IndexMap<(u8, Ident), Row>,
+    table: IndexMap<(u8, Ident), Transfer>,
     own: Vec<usize>,
     reserved: u128,
     credits: u128,
@@ -52,7 +51,6 @@ impl Transfers {
     pub fn new(alloc: Global, who: u8) -> Transfers
         ensures who { result.who ≡ who }
         ensures state { state_in result ≡ nothing }
-        ensures lies { (key : ℕ × List ℕ) → lies_in result key ≡ None }
     {
         Transfers {
             who,
@@ -70,14 +68,36 @@ impl Transfers {
         ensures { Finds self.now from id.now result }
     {
         let _ = &self.own;
-        let (position, _, row) = self.table.get_full(&(from, *id))?;
+        let (position, _, transfer) = self.table.get_full(&(from, *id))?;
         Some(Found {
             from,
             id: *id,
             position,
-            transfer: row.transfer,
-            place: row.place,
+            transfer: *transfer,
         })
+    }
+
+    /// What stands at this position of the table. It looks nothing up by its key.
+    pub fn at(&self, position: usize) -> Option<Found>
+        ensures { FindsAt self.now position result }
+    {
+        let _ = &self.own;
+        let (key, transfer) = self.table.get_index(position)?;
+        Some(Found {
+            from: key.0,
+            id: key.1,
+            position,
+            transfer: *transfer,
+        })
+    }
+
+    /// How many transfers there are.
+    pub fn len(&self) -> usize
+        ensures count { result ≡ length self.now.entries }
+        ensures apart { AreApart (rows_in self.now.entries) }
+    {
+        let _ = &self.own;
+        self.table.len()
     }
 
     /// Makes room for one more transfer, or answers that memory was refused. Nothing else changes.
@@ -93,53 +113,36 @@ impl Transfers {
     pub fn take(&mut self, id: Ident, to: u8, cents: Cents, stamp: Moment)
         requires room { 0 < self.old.room }
         requires new { found_at self.old.entries (self.old.who, id) ≡ None }
-        requires few { length self.old.positions < 2 ^ 16 }
         requires fits { self.old.reserved + cents < 2 ^ 128 }
         requires count { self.old.waiting + 1 < 2 ^ 64 }
         ensures who { self.new.who ≡ self.old.who }
         ensures state { state_in self.new ≡ step self.old.who (state_in self.old) (Event.Taken id to cents stamp) }
-        ensures lies { lies_in self.new ≡ lay (lies_in self.old) (self.old.who, id) (Some (length self.old.positions)) }
     {
-        let place = self.own.as_slice().len() as u16;
         let position = self.table.len();
-        let row = Row {
-            transfer: Transfer {
-                cents,
-                side: Side::Own { to, stamp },
-                outcome: None,
-            },
-            place: Some(place),
+        let transfer = Transfer {
+            cents,
+            side: Side::Own { to, stamp },
+            outcome: None,
         };
-        self.table.insert((self.who, id), row).unwrap();
+        self.table.insert((self.who, id), transfer).unwrap();
         self.own.push_reserved(position);
         self.reserved += u128::from(cents.get());
         self.waiting += 1;
     }
 
-    /// Enters a transfer of another's that is forwarded from this place, where it is known. It can't fail.
-    pub fn deliver(
-        &mut self,
-        from: u8,
-        id: Ident,
-        cents: Cents,
-        deadline: Moment,
-        place: Option<u16>,
-    )
+    /// Enters a transfer of another's that is forwarded to the participant. It can't fail.
+    pub fn deliver(&mut self, from: u8, id: Ident, cents: Cents, deadline: Moment)
         requires room { 0 < self.old.room }
         requires new { found_at self.old.entries (from, id) ≡ None }
         ensures who { self.new.who ≡ self.old.who }
         ensures state { state_in self.new ≡ step self.old.who (state_in self.old) (Event.Forwarded from id cents deadline) }
-        ensures lies { lies_in self.new ≡ lay (lies_in self.old) (from, id) place }
     {
-        let row = Row {
-            transfer: Transfer {
-                cents,
-                side: Side::Other { deadline },
-                outcome: None,
-            },
-            place,
+        let transfer = Transfer {
+            cents,
+            side: Side::Other { deadline },
+            outcome: None,
         };
-        self.table.insert((from, id), row).unwrap();
+        self.table.insert((from, id), transfer).unwrap();
     }
 
     /// Books the outcome of a transfer that was found. It takes no memory and looks nothing up.
@@ -148,20 +151,14 @@ impl Transfers {
         requires covers { Covers (state_in self.old) found.now.transfer }
         ensures who { self.new.who ≡ self.old.who }
         ensures state { state_in self.new ≡ step self.old.who (state_in self.old) (Event.Booked found.now.from found.now.id outcome.now) }
-        ensures lies { lies_in self.new ≡ lies_in self.old }
-        ensures keys { keys_of self.new.entries ≡ keys_of self.old.entries }
-        ensures room { self.new.room ≡ self.old.room }
     {
         let Transfer { cents, side, .. } = found.transfer;
         let outcome = *outcome;
-        let (_, row) = self.table.pair_mut(found.position);
-        *row = Row {
-            transfer: Transfer {
-                cents,
-                side,
-                outcome: Some(outcome),
-            },
-            place: found.place,
+        let (_, transfer) = self.table.pair_mut(found.position);
+        *transfer = Transfer {
+            cents,
+            side,
+            outcome: Some(outcome),
         };
         let cents = u128::from(cents.get());
         match &side {
@@ -172,22 +169,6 @@ impl Transfers {
             }
             Side::Other { .. } => self.credits += if_accepted(&outcome, cents),
         }
-    }
-
-    /// Keeps the place of a transfer that was found. It takes no memory and looks nothing up.
-    pub fn place(&mut self, found: &Found, index: u16)
-        requires there { IsFound self.old found.now }
-        ensures who { self.new.who ≡ self.old.who }
-        ensures state { state_in self.new ≡ state_in self.old }
-        ensures lies { lies_in self.new ≡ lay (lies_in self.old) (found.now.from, found.now.id) (Some index) }
-        ensures keys { keys_of self.new.entries ≡ keys_of self.old.entries }
-        ensures room { self.new.room ≡ self.old.room }
-    {
-        let (_, row) = self.table.pair_mut(found.position);
-        *row = Row {
-            transfer: found.transfer,
-            place: Some(index),
-        };
     }
 
     /// After an opening: what is settled lives no more. The others keep their order.
@@ -261,14 +242,14 @@ impl Transfers {
 }
 
 /// Whether nothing is booked of the participant's own transfer at this position.
-fn waits(who: u8, table: &IndexMap<(u8, Ident), Row>, position: usize) -> bool
+fn waits(who: u8, table: &IndexMap<(u8, Ident), Transfer>, position: usize) -> bool
     ensures { result ≡ waits_at who table.now.entries position }
 {
     let Some((key, _)) = table.get_index(position) else {
         return false;
     };
     match table.get(&(who, key.1)) {
-        Some(row) => !row.transfer.outcome.is_some(),
+        Some(transfer) => !transfer.outcome.is_some(),
         None => true,
     }
 }

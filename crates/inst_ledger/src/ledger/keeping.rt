@@ -124,7 +124,7 @@ impl Ledger {
         self.inbox.try_reserve(1)?;
         self.table.reserve()?;
         self.journal.push(event)?;
-        self.table.deliver(from, id, cents, deadline, None);
+        self.table.deliver(from, id, cents, deadline);
         self.inbox.push_reserved(entry);
         Ok(())
     }

@@ -1,5 +1,5 @@
 //! What a participant's history has, read off what stands beside it.
-ghost use Rattle.std.specs.Prelude.{◌≡◌, ℕ, ◌<◌, ◌^◌, slice_get, Some};
+ghost use Rattle.std.specs.Prelude.{◌≡◌, ℕ, ◌<◌, ◌^◌, length, slice_get, Some};
 ghost use Rattle.inst_settings.specs.Lawful.{IsSettings};
 ghost use Rattle.inst_journal.specs.Booked.{first_some, is_taken, is_forwarded, booked};
 ghost use Rattle.inst_journal.specs.Keys.{fundings, is_submission_repeat, is_fund_repeat, is_defund_repeat, has_reference};
@@ -9,7 +9,7 @@ ghost use Rattle.inst_journal.specs.Sound.{IsSound};
 ghost use Rattle.inst_ledger.specs.Beneficiary.{beneficiary_of};
 ghost use Rattle.inst_ledger.specs.Beside.{funding_of, is_funding_of};
 ghost use Rattle.inst_ledger.specs.Right.{terms_in, forwarding_in, own_ids, IsRight};
-ghost use Rattle.inst_transfers.specs.Held.{Finds, IsFound, found_at, state_in};
+ghost use Rattle.inst_transfers.specs.Held.{Finds, FindsAt, IsFound, AreApart, found_at, rows_in, state_in};
 ghost use Rattle.inst_transfers.specs.State.{outcome_in};
 ghost use Rattle.inst_ledger.specs.Kept.{terms_of, are_terms, forwarding_of};
 
@@ -46,6 +46,23 @@ impl Ledger {
         ensures sound { IsSound self.now.book.settings self.now.book.who self.now.book.events }
     {
         self.table.find(from, id)
+    }
+
+    /// The transfer that stands at this position of the table. It looks nothing up by its key.
+    pub fn at(&self, position: usize) -> Option<Found>
+        ensures found { FindsAt self.now.table position result }
+        ensures right { IsRight self.now.book.who self.now.book.events (state_in self.now.table) }
+    {
+        self.table.at(position)
+    }
+
+    /// How many transfers the table has: the next one stands at this position.
+    pub fn transfers(&self) -> usize
+        ensures count { result ≡ length self.now.table.entries }
+        ensures apart { AreApart (rows_in self.now.table.entries) }
+        ensures right { IsRight self.now.book.who self.now.book.events (state_in self.now.table) }
+    {
+        self.table.len()
     }
 
     /// What the history says of this transfer.

@@ -16,7 +16,7 @@ pub returns-in_err-found : goal.returns-in_err-found
 returns-in_err-found c =
     let kept = c.args.ledger.now.book in
     let id = c.args.id.now in
-    let none = ap (λ (n : ℕ). found_at c.args.ledger.now.table.entries (n, id)) (sym c.who-owner.ensures) ∙ c.in_err-found.ensures.found.0 in
+    let none = ap (λ (n : ℕ). found_at c.args.ledger.now.table.entries (n, id)) (sym c.who-owner.ensures) ∙ c.in_err-found.ensures.found in
     subst (λ (r : Option Request). Gives c.args.ledger.now (wish_for Expire kept.who (booked kept.who id kept.events) (position (takes id) (live_taken kept.who kept.events))) id r) (sym c.from_residual.ensures)
     (unknown_question kept.who kept.events (state_in c.args.ledger.now.table) id c.in_err-found.ensures.right none)
 

@@ -1,7 +1,7 @@
 use Rattle.std.proofs.Common.{length, refl, ap, ◌∙◌, arith}
 use Rattle.inst_journal.specs.declared.event.Event.{Event}
 use Rattle.inst_transfers.specs.Held.{Held, found_at}
-use Rattle.inst_ledger.proofs.Beside.{within, few_own, taken_absent, taken_beside, beside_at, beside_same, pushed, fits_at}
+use Rattle.inst_ledger.proofs.Beside.{within, taken_absent, taken_beside, beside_at, beside_same, pushed, fits_at}
 use Rattle.inst_ledger.proofs.Stating.{stated_at, ledger_same}
 use Rattle.inst_statement.proofs.Stated.{line_less}
 use Rattle.inst_ledger.proofs.ledger.Ledger.keep_taken.Goals as goal
@@ -15,13 +15,6 @@ take-requires-clause-new c =
     let t = c.args.terms in
     let fits = fits_at c.self.view_is (Event.Taken c.args.id t.to t.cents t.stamp) c.requires in
     ap (λ (h : Held). found_at h.entries (h.who, c.args.id)) c.reserve-2.ensures.same ∙ taken_absent i.settings.value i.who i.journal.events i.totals i.table _ i.fundings i.inbox.items i.read c.self.invariant.beside c.args.id fits.new
-
-pub take-requires-clause-few : goal.take-requires-clause-few
-take-requires-clause-few c =
-    let i = c.self.inside in
-    let t = c.args.terms in
-    let fits = fits_at c.self.view_is (Event.Taken c.args.id t.to t.cents t.stamp) c.requires in
-    omega (arith, ap (λ (h : Held). length h.positions) c.reserve-2.ensures.same, few_own i.settings.value i.who i.journal.events i.totals i.table _ i.fundings i.inbox.items i.read c.self.invariant.beside c.args.id t.to t.cents t.stamp fits)
 
 pub take-requires-clause-fits : goal.take-requires-clause-fits
 take-requires-clause-fits c =

@@ -16,7 +16,7 @@ returns-in_err-found-clause-at c = λ k there.
     let id = c.args.id.now in
     let here = ap (λ (b : BookAndRoom). slice_get (own_ids b.book.who b.book.events) k) c.self.view_is ∙ there in
     let taken = own_taken_only i.who (carried i.journal.events) id i.journal.events k here in
-    absurd (true≢false (sym taken ∙ taken_found id i.journal.events ∙ ap is_some (sym (c.self.invariant.beside.right.taken id)) ∙ ap (λ (o : Option Transfer). is_some (terms_in o)) c.in_err-found.ensures.0))
+    absurd (true≢false (sym taken ∙ taken_found id i.journal.events ∙ ap is_some (sym (c.self.invariant.beside.right.taken id)) ∙ ap (λ (o : Option Transfer). is_some (terms_in o)) c.in_err-found.ensures))
 
 pub returns-in_err-index-clause-at : goal.returns-in_err-index-clause-at
 returns-in_err-index-clause-at c = λ k there.

@@ -2,7 +2,7 @@ use Rattle.std.proofs.Common.{List, sym, ap, ◌∙◌, subst, rules, ℕ}
 use Rattle.std.specs.Map.{keys_of}
 use Rattle.std.proofs.lemmas.Fn.{filter_same}
 use Rattle.inst_transfers.specs.State.{opened_in}
-use Rattle.inst_transfers.specs.Held.{Held, ArePositions, waits_at, ids_at, found_at, state_in}
+use Rattle.inst_transfers.specs.Held.{Held, ArePositions, waits_at, ids_at, found_at, rows_in, state_in}
 use Rattle.inst_transfers.proofs.Rows.{live_on, positions_filtered}
 use Rattle.inst_transfers.proofs.transfers.Transfers.begin.Goals as goal
 
@@ -17,5 +17,5 @@ returns-clause-state c =
     let i = c.self.inside in
     let kept = filter_same _ (waits_at i.who i.table.entries) _ (λ x b f call. (search rules, search rules)) _ _ c.retain.ensures.filtered in
     let own = ap (ids_at (keys_of i.table.entries)) kept ∙ live_on i.who i.table.entries i.own.items c.self.invariant.0 in
-    (λ j. record { found = found_at i.table.entries; own = own j; reserved = i.reserved; credits = i.credits; debits = i.debits; waiting = i.waiting })
+    (λ j. record { found = found_at i.table.entries; rows = rows_in i.table.entries; own = own j; reserved = i.reserved; credits = i.credits; debits = i.debits; waiting = i.waiting })
     ∙ ap (λ (h : Held). opened_in h.who (state_in h)) c.self.view_is

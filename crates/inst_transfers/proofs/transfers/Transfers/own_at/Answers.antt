@@ -4,7 +4,7 @@ use Rattle.std.proofs.lemmas.List.{length-map}
 use Rattle.std.proofs.lemmas.Option.{slice_get_read}
 use Rattle.std.specs.Prelude.{slice_get}
 use Rattle.std.specs.Map.{keys_of}
-use Rattle.inst_transfers.specs.declared.transfer.Row.{Row}
+use Rattle.inst_transfers.specs.declared.transfer.Transfer.{Transfer}
 use Rattle.inst_transfers.specs.State.{Key}
 use Rattle.inst_transfers.specs.Held.{ids_at, Held}
 use Rattle.inst_transfers.proofs.Rows.{id_there, within_at, key_at}
@@ -17,7 +17,7 @@ returns-in_err-key c =
     let p = c.in_ok-position.field-0.now in
     let there : slice_get i.own.items c.args.index ≡ Some p =
     ap (λ (l : List ℕ). slice_get l c.args.index) (sym c.deref.ensures.value) ∙ ap (slice_get c.deref.result.now) (sym c.from.ensures) ∙ slice_get_read c.deref.result.now _ _ p refl h.3.0 h.1 in
-    let below : p < length i.table.entries = omega (arith, within_at (length (keys_of i.table.entries)) i.own.items c.args.index p c.self.invariant.0 there, length-map i.table.entries (λ (e : Key × Row). e.0)) in
+    let below : p < length i.table.entries = omega (arith, within_at (length (keys_of i.table.entries)) i.own.items c.args.index p c.self.invariant.0 there, length-map i.table.entries (λ (e : Key × Transfer). e.0)) in
     absurd (false≢true (c.in_err-key.ensures.found.1 below))
 
 pub returns : goal.returns
