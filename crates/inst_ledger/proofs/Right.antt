@@ -28,7 +28,7 @@ use Rattle.inst_ledger.specs.Right.{terms_in, forwarding_in, unbooked, IsRight}
 use Rattle.inst_ledger.proofs.OwnIds.{own_same, own_more, own_opened}
 
 -- what is kept for good, after one event more
-rows_push : (who : ℕ) (J : List Event) (new : Event) → rows_of who (J ++ new ∷ []) ≡ rows_of who J ++ cons_option (row_of who new) []
+pub rows_push : (who : ℕ) (J : List Event) (new : Event) → rows_of who (J ++ new ∷ []) ≡ rows_of who J ++ cons_option (row_of who new) []
 rows_push who J new = filter_map-append (row_of who) J (new ∷ [])
 
 rows_same : (who : ℕ) (J : List Event) (new : Event) → row_of who new ≡ None → rows_of who (J ++ new ∷ []) ≡ rows_of who J

@@ -1,12 +1,11 @@
 -- A place that is found: the one arrival that awaits it gets its index, and the books stay lawful for the board.
-use Rattle.std.proofs.Common.{◌≡◌, ℕ, zero, suc, ◌+◌, ◌≤◌, arith, Bool, true, false, ◌&&◌, ◌||◌, ◌==◌, cond, List, [], ◌∷◌, set, get_or, inl, inr, ◌⊎◌, ⊎_elim, refl, sym, ap, ◌∙◌, subst, Option, Some, None, is_some, is_none, count_by}
-use Rattle.std.specs.Prelude.{slice_get, position, map, Contains}
+use Rattle.std.proofs.Common.{◌≡◌, ℕ, zero, suc, ◌+◌, ◌≤◌, arith, Bool, true, false, ◌&&◌, ◌||◌, ◌==◌, cond, List, [], ◌∷◌, set, inl, inr, ◌⊎◌, ⊎_elim, refl, sym, ap, ◌∙◌, subst, Option, Some, None, is_some, is_none, count_by}
+use Rattle.std.specs.Prelude.{slice_get, map, Contains}
 use Rattle.std.specs.List.{list_any, filter}
 use Rattle.std.specs.Cmp.Lexicographic.{same_text as text_same}
 use Rattle.std.proofs.lemmas.Bool.{and_parts, cases_Bool, eqb-true, false≢true}
 use Rattle.std.proofs.lemmas.List.Elements.{Contains-append_right}
 use Rattle.std.proofs.lemmas.List.Sums.{sum_by-cons}
-use Rattle.std.proofs.lemmas.Option.{get_or_from_slice_get}
 use Rattle.inst_settings.specs.Settings.{HubSettings, same_text}
 use Rattle.inst_command.specs.declared.entry.Entry.{Entry}
 use Rattle.inst_terms.specs.declared.terms.Terms.{Terms}
@@ -25,7 +24,6 @@ use Rattle.inst_journal.proofs.KeyOnce.{forwarded_once}
 use Rattle.inst_slot.specs.declared.arrival.Arrival.{Arrival}
 use Rattle.inst_slot.specs.Book.{Book, place_at, terms_to, live_inbox, index_of, arrived_at}
 use Rattle.inst_slot.specs.LawfulBoard.{IsLawfulBoard, AllAreAdopted}
-use Rattle.inst_slot.proofs.Positions.{none_passes, passes_at}
 use Rattle.inst_slot.specs.Opening.{is_of, is_unfound, awaits, found_at, with_found}
 
 -- how often a transfer is forwarded, and arrives
@@ -345,35 +343,22 @@ module _ (A : List Arrival) (k : Place) (t : Terms) (deadline : ℕ) (once : cou
   not_found : NothingFound k t deadline A → IsNotFound
   not_found n = record { found = sym n.none; kept = sym n.same }
 
-  pub no_arrival : position (is_of k.owner t.id) A ≡ None → IsNotFound
-  no_arrival none = not_found (none_of_it k t deadline A (none_passes (is_of k.owner t.id) A none))
+  pub no_arrival : count_by (is_of k.owner t.id) A ≡ 0 → IsNotFound
+  no_arrival none = not_found (none_of_it k t deadline A none)
 
   set_again : (A : List Arrival) (i : ℕ) (x : Arrival) → slice_get A i ≡ Some x → set A i x ≡ A
   set_again [] i x e = let no : ⊥ = cc in absurd no
   set_again (y ∷ A) zero x e = let same : y ≡ x = cc in ap (λ (z : Arrival). z ∷ A) (sym same)
   set_again (y ∷ A) (suc i) x e = ap (λ (l : List Arrival). y ∷ l) (set_again A i x e)
 
-  pub read_there : (i : ℕ) (x : Arrival) → position (is_of k.owner t.id) A ≡ Some i → x ≡ get_or A i x → slice_get A i ≡ Some x
-  read_there i x at read =
-      let p = passes_at (is_of k.owner t.id) A i at in
-      p.1 ∙ ap (λ (y : Arrival). Some y) (sym (read ∙ get_or_from_slice_get A i p.0 x p.1))
-
-  same_there : (x y : Arrival) (i : ℕ) → slice_get A i ≡ Some x → slice_get A i ≡ Some y → x ≡ y
-  same_there x y i there here = let both : Some x ≡ Some y = sym there ∙ here in cc
-
-  one : (i : ℕ) (x : Arrival) → position (is_of k.owner t.id) A ≡ Some i → slice_get A i ≡ Some x → OneFound k t deadline A i x
-  one i x at there =
-      let p = passes_at (is_of k.owner t.id) A i at in
-      one_of_it k t deadline A i x once there (ap (is_of k.owner t.id) (same_there x p.0 i there p.1) ∙ p.2)
-
-  pub another_arrival : (i : ℕ) (x : Arrival) → position (is_of k.owner t.id) A ≡ Some i → slice_get A i ≡ Some x → awaits k t deadline x ≡ false → IsNotFound
-  another_arrival i x at there other =
-      let o = one i x at there in
+  pub another_arrival : (i : ℕ) (x : Arrival) → slice_get A i ≡ Some x → is_of k.owner t.id x ≡ true → awaits k t deadline x ≡ false → IsNotFound
+  another_arrival i x there mine other =
+      let o = one_of_it k t deadline A i x once there mine in
       not_found (record { none = o.any ∙ other; same = o.new ∙ ap (set A i) (still_lies k t deadline x other) ∙ set_again A i x there })
 
-  pub this_arrival : (i : ℕ) (x : Arrival) → position (is_of k.owner t.id) A ≡ Some i → slice_get A i ≡ Some x → awaits k t deadline x ≡ true
+  pub this_arrival : (i : ℕ) (x : Arrival) → slice_get A i ≡ Some x → is_of k.owner t.id x ≡ true → awaits k t deadline x ≡ true
       → (true ≡ list_any (awaits k t deadline) A) × (set A i (record { entry = x.entry; index = Some k.index }) ≡ after)
-  this_arrival i x at there yes_it =
-      let o = one i x at there in
+  this_arrival i x there mine yes_it =
+      let o = one_of_it k t deadline A i x once there mine in
       let new : found_at k t deadline x ≡ record { entry = x.entry; index = Some k.index } = ap (λ (b : Bool). cond b (record { entry = x.entry; index = Some k.index }) x) yes_it in
       (sym (o.any ∙ yes_it), ap (λ (y : Arrival). set A i y) (sym new) ∙ sym o.new)

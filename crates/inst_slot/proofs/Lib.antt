@@ -17,6 +17,8 @@ pub mod Found
 pub mod Indexed
 pub mod OwnIds
 pub mod Arrived
+pub mod Spots
+pub mod Walked
 pub mod Dues
 pub mod Requests
 pub mod Answered

@@ -6,19 +6,15 @@ use Rattle.inst_command.specs.declared.outcome.Outcome.{Outcome}
 use Rattle.inst_board.specs.declared.wish.Wish.{Wish}
 use Rattle.inst_board.specs.declared.wish.Wish.TheVariants.{Expire}
 use Rattle.inst_journal.specs.declared.event.Event.{Event}
-use Rattle.inst_journal.specs.Booked.{takes, is_taken, is_forwarded, booked}
+use Rattle.inst_journal.specs.Booked.{takes, is_taken, booked}
 use Rattle.inst_journal.specs.Opened.{carried, live_taken}
-use Rattle.inst_ledger.specs.Right.{IsRight, own_ids, terms_in, forwarding_in}
-use Rattle.inst_ledger.proofs.Forwards.{forwarded_found}
+use Rattle.inst_ledger.specs.Right.{IsRight, own_ids, terms_in}
 use Rattle.inst_ledger.proofs.Tables.{taken_found}
 use Rattle.inst_ledger.proofs.OwnIds.{own_taken_only}
 use Rattle.inst_transfers.specs.declared.transfer.Transfer.{Transfer}
 use Rattle.inst_transfers.specs.State.{State, outcome_in}
-use Rattle.inst_slot.specs.declared.arrival.Arrival.{Arrival}
-use Rattle.inst_slot.specs.Book.{place_at, arrived_at}
+use Rattle.inst_slot.specs.Book.{place_at}
 use Rattle.inst_slot.specs.Asking.{wish_for}
-use Rattle.inst_slot.specs.Answering.{AreArrived}
-use Rattle.inst_slot.proofs.Learning.{arrived_forwarded}
 use Rattle.inst_slot.proofs.OwnIds.{own_place, own_position}
 
 -- no place, no request
@@ -30,18 +26,6 @@ wish_none wish owner o (Some i) e = let no : ⊥ = cc in absurd no
 pub none_is : (o : Option Outcome) → is_some o ≡ false → o ≡ None
 none_is None e = refl
 none_is (Some x) e = absurd (true≢false e)
-
--- what isn't in the table wasn't forwarded
-pub unknown_answer : (wish : Wish) (who : ℕ) (J : List Event) (st : State) (from : ℕ) (id : List ℕ) (A : List Arrival) → IsRight who J st → AreArrived A J → st.found (from, id) ≡ None
-    → wish_for wish from (booked from id J) (arrived_at from id A) ≡ None
-unknown_answer wish who J st from id A right arrived none = go (arrived_at from id A) refl
-  where
-    go : (r : Option ℕ) → arrived_at from id A ≡ r → wish_for wish from (booked from id J) (arrived_at from id A) ≡ None
-    go None e = wish_none wish from (booked from id J) (arrived_at from id A) e
-    go (Some index) e =
-        let there = arrived_forwarded J A from id index arrived e in
-        let known : is_forwarded from id J ≡ false = forwarded_found (from, id) J ∙ ap is_some (sym (right.forwarded (from, id))) ∙ ap (λ (o : Option Transfer). is_some (forwarding_in o)) none in
-        absurd (true≢false (sym there ∙ known))
 
 -- an own transfer is live where its place is found
 pub own_position_is : (who : ℕ) (J : List Event) (id : List ℕ) (r : Option ℕ) → ((k : ℕ) → slice_get (own_ids who J) k ≡ Some id → r ≡ Some k) → ((k : ℕ) → r ≡ Some k → slice_get (own_ids who J) k ≡ Some id)

@@ -1,6 +1,6 @@
 -- What a command asks of the board, with the transfer as its participant's table has it: so it is looked up once. This
 -- hub's own choice.
-use Rattle.std.specs.Prelude.{◌≡◌, ℕ, Bool, true, false, List, [], map, slice_get, Option, Some, None, Result, Err}
+use Rattle.std.specs.Prelude.{◌≡◌, ℕ, Bool, true, false, List, [], slice_get, Option, Some, None, Result, Err}
 use Rattle.inst_base.specs.declared.fault.Fault.{Fault}
 use Rattle.inst_base.specs.declared.fault.Fault.TheVariants.{Expired}
 use Rattle.inst_command.specs.declared.command.Command.{Command}
@@ -8,19 +8,24 @@ use Rattle.inst_command.specs.declared.command.Command.TheVariants.{Confirm, Rej
 use Rattle.inst_board.specs.declared.place.Place.{Place}
 use Rattle.inst_board.specs.declared.wish.Wish.{Wish}
 use Rattle.inst_board.specs.declared.wish.Wish.TheVariants.{Accept, Reject as WishReject, Expire}
-use Rattle.inst_journal.specs.declared.event.Event.{Event}
 use Rattle.inst_journal.specs.declared.handle.Handled.{Handled}
 use Rattle.inst_journal.specs.Reply.{still_pending}
 use Rattle.inst_ledger.specs.Book.{Book as Kept, BookAndRoom}
 use Rattle.inst_transfers.specs.Held.{IsFound}
 use Rattle.inst_slot.specs.declared.arrival.Arrival.{Arrival}
+use Rattle.inst_slot.specs.declared.arrivals.Spot.{Spot}
 use Rattle.inst_slot.specs.declared.answering.Request.{Request}
-use Rattle.inst_slot.specs.Book.{Book, live_inbox}
+use Rattle.inst_slot.specs.Book.{Book}
 use Rattle.inst_slot.specs.Indexed.{own_ids}
+use Rattle.inst_slot.specs.Spots.{rows_of, arrivals_of}
 
--- a participant's book with its arrivals, of what its ledger keeps
-abbrev pub over : Kept → List Arrival → Book
-over kept arrivals = record { settings = kept.settings; who = kept.who; events = kept.events; arrivals = arrivals }
+-- a participant's book with these arrivals, of what its ledger keeps
+abbrev pub beside : Kept → List Arrival → Book
+beside kept arrivals = record { settings = kept.settings; who = kept.who; events = kept.events; arrivals = arrivals }
+
+-- with the arrivals that it has
+abbrev pub over : Kept → List Spot → Book
+over kept spots = beside kept (arrivals_of (rows_of kept.who kept.events) spots)
 
 -- the identifier of the transfer that the command decides
 abbrev pub named : Command → List ℕ
@@ -40,10 +45,6 @@ abbrev pub pending_for : Wish → ℕ → List ℕ → Result Handled Fault
 pending_for Accept from id = Err Expired
 pending_for (WishReject reason) from id = still_pending from id
 pending_for Expire from id = still_pending from id
-
--- there is an arrival for each live transfer that was forwarded, in order
-abbrev pub AreArrived : List Arrival → List Event → Type 0
-AreArrived arrivals J = map (λ x. x.entry) arrivals ≡ live_inbox J
 
 -- the place is that of the participant's own live transfer with this identifier
 pub record IsOwnAt (book : Kept) (id : List ℕ) (place : Place) : Type 0 where

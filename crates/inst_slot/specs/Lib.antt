@@ -4,6 +4,7 @@ pub mod Asking
 pub mod Telling
 pub mod Opening
 pub mod Indexed
+pub mod Spots
 pub mod OwnState
 pub mod Waiting
 pub mod Laws

@@ -7,10 +7,11 @@ ghost use Rattle.inst_slot.specs.Asking.{wish_for, request, Settles};
 ghost use Rattle.inst_slot.specs.Book.{arrived_at};
 ghost use Rattle.inst_slot.specs.Indexed.{own_ids};
 ghost use Rattle.inst_slot.specs.LawfulBoard.{IsLawfulBoard};
-ghost use Rattle.inst_slot.specs.Answering.{over, named, is_expiry, pending_for, AreArrived, IsAsking, Gives};
+ghost use Rattle.inst_slot.specs.Spots.{rows_of, arrivals_of, AreSpots};
+ghost use Rattle.inst_slot.specs.Answering.{over, named, is_expiry, pending_for, IsAsking, Gives};
 ghost use Rattle.inst_slot.specs.Waiting.{IsRight};
 
-use crate::arrivals::Arrivals;
+use crate::arrivals::{Spot, arrived_at};
 use crate::finding::find;
 use crate::waiting::Waiting;
 use inst_base::{Fault, Ident};
@@ -28,8 +29,8 @@ pub(crate) struct Request {
 }
 
 /// The transfer that the command decides, its place, and what it wishes for it.
-pub(crate) fn request_of(ledger: &Ledger, arrivals: &Arrivals, command: &Command) -> Option<Request>
-    requires arrived { AreArrived arrivals.now ledger.now.book.events }
+pub(crate) fn request_of(ledger: &Ledger, arrivals: &[Spot], command: &Command) -> Option<Request>
+    requires spots { AreSpots (rows_of ledger.now.book.who ledger.now.book.events) arrivals.now }
     ensures { Gives ledger.now (request (over ledger.now.book arrivals.now) command.now) (named command.now) result }
 {
     match command {
@@ -49,14 +50,14 @@ pub(crate) fn request_of(ledger: &Ledger, arrivals: &Arrivals, command: &Command
 /// Of a forwarded transfer with nothing booked.
 fn answer_to(
     ledger: &Ledger,
-    arrivals: &Arrivals,
+    arrivals: &[Spot],
     from: u8,
     id: &Ident,
     wish: Wish,
 ) -> Option<Request>
-    requires arrived { AreArrived arrivals.now ledger.now.book.events }
+    requires spots { AreSpots (rows_of ledger.now.book.who ledger.now.book.events) arrivals.now }
     requires answers { is_expiry wish ≡ false }
-    ensures { Gives ledger.now (wish_for wish from (booked from id.now ledger.now.book.events) (arrived_at from id.now arrivals.now)) id.now result }
+    ensures { Gives ledger.now (wish_for wish from (booked from id.now ledger.now.book.events) (arrived_at from id.now (arrivals_of (rows_of ledger.now.book.who ledger.now.book.events) arrivals.now))) id.now result }
 {
     // The check is told of an enum inside a struct only where a function names it.
     let _: Option<(Side, Transfer, Outcome)> = None;
@@ -64,7 +65,7 @@ fn answer_to(
     if found.transfer.outcome.is_some() {
         return None;
     }
-    let index = arrivals.arrived_at(from, id)?;
+    let index = arrived_at(ledger, arrivals, &found)?;
     let place = Place { owner: from, index };
     Some(Request { found, place, wish })
 }
@@ -108,14 +109,16 @@ pub(crate) fn settle<B: Board>(
     board: &mut B,
     ask: &Ask,
     asked: &Request,
-    arrivals: &Arrivals,
+    arrivals: &[Spot],
 ) -> Result<Reply, Fault>
     requires lawful { IsLawfulBoard B.settings B.knows B.has_role board.old (over ledger.old.book arrivals.now) }
     requires asking { IsAsking ledger.old (request (over ledger.old.book arrivals.now) ask.now.command) (named ask.now.command) asked.now }
+    requires spots { AreSpots (rows_of ledger.old.book.who ledger.old.book.events) arrivals.now }
     requires right { IsRight ledger.old.book.settings ledger.old.book.who ledger.old.book.events (own_ids ledger.old.book.who ledger.old.book.events) waiting.old }
     ensures settles { Settles (B.settings board.old).margin B.knows B.has_role B.stood B.stays board.old
         (over ledger.old.book arrivals.now) ask.now asked.now.place asked.now.wish result board.new (over ledger.new.book arrivals.now) }
     ensures right { IsRight ledger.new.book.settings ledger.new.book.who ledger.new.book.events (own_ids ledger.new.book.who ledger.new.book.events) waiting.new }
+    ensures spots { AreSpots (rows_of ledger.new.book.who ledger.new.book.events) arrivals.now }
     ensures stays { B.stays board.old board.new }
 {
     let _: Option<(Side, Transfer, Outcome)> = None;

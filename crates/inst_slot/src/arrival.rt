@@ -34,7 +34,7 @@ fn is_of(arrival: &Arrival, from: u8, id: &Ident) -> bool
 }
 
 /// Whether the place of the arrival isn't found yet.
-pub(crate) fn is_unfound(arrival: &Arrival) -> bool
+fn is_unfound(arrival: &Arrival) -> bool
     ensures { result ≡ is_unfound arrival.now }
 {
     arrival.index.is_none()

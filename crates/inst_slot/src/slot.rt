@@ -5,7 +5,7 @@ ghost use Rattle.inst_journal.specs.Booked.{takes};
 ghost use Rattle.inst_journal.specs.Opened.{live_taken};
 ghost use Rattle.inst_journal.specs.Sound.{IsSound};
 ghost use Rattle.inst_ledger.specs.Beneficiary.{beneficiary_of};
-ghost use Rattle.inst_slot.specs.Book.{place_of};
+ghost use Rattle.inst_slot.specs.Book.{place_of, arrived_at};
 
 mod arrived;
 mod asking;
@@ -14,13 +14,15 @@ mod opening;
 mod reading;
 mod telling;
 
-use crate::arrivals::Arrivals;
+use crate::arrivals::{Spot, arrived_at};
 use crate::waiting::Waiting;
 use inst_base::{Fault, Ident};
 use inst_board::Place;
+use inst_command::Outcome;
 use inst_journal::Journal;
 use inst_ledger::Ledger;
 use inst_settings::Settings;
+use inst_transfers::{Side, Transfer};
 use std::alloc::Global;
 use std::marker::Model;
 
@@ -36,13 +38,14 @@ use std::marker::Model;
 pub struct Slot {
     alloc: Global,
     ledger: Ledger,
-    arrivals: Arrivals,
+    arrivals: Vec<Spot>,
     waiting: Waiting,
 }
 
 impl Model for Slot {
     ghost use Rattle.inst_slot.specs.Book.{Book};
     ghost use Rattle.inst_slot.specs.Indexed.{own_ids};
+    ghost use Rattle.inst_slot.specs.Spots.{rows_of, arrivals_of, AreSpots};
     ghost use Rattle.inst_slot.specs.Waiting.{IsRight};
 
     ghost Value = { Book };
@@ -51,11 +54,12 @@ impl Model for Slot {
       settings = slot.ledger.book.settings;
       who = slot.ledger.book.who;
       events = slot.ledger.book.events;
-      arrivals = slot.arrivals;
+      arrivals = arrivals_of (rows_of slot.ledger.book.who slot.ledger.book.events) slot.arrivals.items;
     } };
 
     ghost invariant = { λ slot. IsRight slot.ledger.book.settings slot.ledger.book.who slot.ledger.book.events
-        (own_ids slot.ledger.book.who slot.ledger.book.events) slot.waiting };
+        (own_ids slot.ledger.book.who slot.ledger.book.events) slot.waiting
+        × AreSpots (rows_of slot.ledger.book.who slot.ledger.book.events) slot.arrivals.items };
 }
 
 impl Slot {
@@ -67,7 +71,7 @@ impl Slot {
         Ok(Slot {
             alloc,
             ledger: Ledger::open(alloc, settings, who)?,
-            arrivals: Arrivals::new(alloc),
+            arrivals: Vec::new(alloc),
             waiting: Waiting::new(alloc),
         })
     }
@@ -113,6 +117,17 @@ impl Slot {
         self.ledger.own_index(id)
     }
 
+    /// The index of the place from which this transfer was forwarded.
+    fn arrived_at(&self, from: u8, id: &Ident) -> Option<u16>
+        ensures { result ≡ arrived_at from id.now self.now.arrivals }
+    {
+        // The check is told of an enum inside a struct only where a function names it.
+        let _: Option<(Side, Transfer, Outcome)> = None;
+        let _ = &self.alloc;
+        let found = self.ledger.find(from, id)?;
+        arrived_at(&self.ledger, self.arrivals.as_slice(), &found)
+    }
+
     /// The place of a live transfer of the originator `from`: of the participant's own, or of one that was
     /// forwarded to it and whose place was found.
     pub fn place_of(&self, from: u8, id: &Ident) -> Option<Place>
@@ -121,7 +136,7 @@ impl Slot {
         let index = if from == self.who() {
             self.own_index(id)?
         } else {
-            self.arrivals.arrived_at(from, id)?
+            self.arrived_at(from, id)?
         };
         Some(Place { owner: from, index })
     }

@@ -76,11 +76,11 @@ own_more es fs key row ps qs n within more count longer =
     ∙ ap (λ (l : List ℕ). ids_at (keys_of es ++ key ∷ []) l) (longer ∙ ap (λ (m : ℕ). ps ++ m ∷ []) (count ∙ sym (length-map es (λ (e : Key × Transfer). e.0))))
     ∙ ids_more (keys_of es) key ps within
 
-within_more : (n m : ℕ) (ps : List ℕ) → n ≤ m → AreWithin n ps → AreWithin m ps
+pub within_more : (n m : ℕ) (ps : List ℕ) → n ≤ m → AreWithin n ps → AreWithin m ps
 within_more n m [] le within = tt
 within_more n m (p ∷ ps) le within = (omega (arith, le, within.0), within_more n m ps le within.1)
 
-within_last : (n m : ℕ) (ps : List ℕ) → n < m → AreWithin n ps → AreWithin m (ps ++ n ∷ [])
+pub within_last : (n m : ℕ) (ps : List ℕ) → n < m → AreWithin n ps → AreWithin m (ps ++ n ∷ [])
 within_last n m [] less within = (less, tt)
 within_last n m (p ∷ ps) less within = (omega (arith, less, within.0), within_last n m ps less within.1)
 
@@ -204,7 +204,7 @@ above_push : (p n : ℕ) (qs : List ℕ) → AreAbove p qs → p < n → AreAbov
 above_push p n [] above less = (less, tt)
 above_push p n (q ∷ qs) above less = (above.0, above_push p n qs above.1 less)
 
-rising_push : (ps : List ℕ) (n : ℕ) → AreRising ps → AreWithin n ps → AreRising (ps ++ n ∷ [])
+pub rising_push : (ps : List ℕ) (n : ℕ) → AreRising ps → AreWithin n ps → AreRising (ps ++ n ∷ [])
 rising_push [] n rising within = (tt, tt)
 rising_push (p ∷ ps) n rising within = (above_push p n ps rising.0 within.0, rising_push ps n rising.1 within.1)
 

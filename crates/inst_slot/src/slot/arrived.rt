@@ -1,22 +1,30 @@
 //! Which of the transfers that were forwarded to a participant have nothing booked.
 ghost use Rattle.std.specs.Prelude.{◌≡◌, ◌<◌, ◌^◌, length};
 ghost use Rattle.inst_slot.specs.Arrived.{unbooked_place, GivesUnbooked};
+ghost use Rattle.inst_slot.specs.Spots.{rows_of, arrival_of};
 
 use super::Slot;
-use crate::Arrival;
+use crate::arrivals::Spot;
 use inst_board::Place;
+use inst_command::Outcome;
+use inst_transfers::{Side, Transfer};
 
 impl Slot {
-    /// The place of the arrival, where nothing is booked of it and its place was found.
-    fn unbooked_place(&self, arrival: &Arrival) -> Option<Place>
-        ensures { result ≡ unbooked_place self.now arrival.now }
+    /// The place of the arrival at this spot, where nothing is booked of it and its place was found. It looks nothing
+    /// up by its key.
+    fn unbooked_place(&self, spot: &Spot) -> Option<Place>
+        requires { spot.now.position < length (rows_of self.now.who self.now.events) }
+        ensures { result ≡ unbooked_place self.now (arrival_of (rows_of self.now.who self.now.events) spot.now) }
     {
-        let from = arrival.entry.from;
-        if self.ledger.booked(from, &arrival.entry.id).is_some() {
+        // The check is told of an enum inside a struct only where a function names it.
+        let _: Option<(Side, Transfer, Outcome)> = None;
+        let found = self.ledger.at(spot.position)?;
+        if found.transfer.outcome.is_some() {
             return None;
         }
-        let index = arrival.index?;
-        Some(Place { owner: from, index })
+        let index = spot.index?;
+        let owner = found.from;
+        Some(Place { owner, index })
     }
 
     /// Of the live transfers that were forwarded, in order of arrival, the first at this position or later with
@@ -26,9 +34,9 @@ impl Slot {
         ensures next { GivesUnbooked self.now position result }
         ensures few { length self.now.arrivals < 2 ^ 64 }
     {
-        let arrivals = self.arrivals.list();
-        for at in position..arrivals.len() {
-            if let Some(place) = self.unbooked_place(&arrivals[at]) {
+        let spots = self.arrivals.as_slice();
+        for at in position..spots.len() {
+            if let Some(place) = self.unbooked_place(&spots[at]) {
                 return Some((at, place));
             }
         }

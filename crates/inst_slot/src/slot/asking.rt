@@ -129,14 +129,15 @@ impl Slot {
         ensures adopted { AllAreAdopted self.old → AllAreAdopted self.new }
         ensures stays { B.stays board.old board.new }
     {
-        match request_of(&self.ledger, &self.arrivals, &ask.command) {
+        let spots = self.arrivals.as_slice();
+        match request_of(&self.ledger, spots, &ask.command) {
             Some(request) => settle(
                 &mut self.ledger,
                 &mut self.waiting,
                 board,
                 ask,
                 &request,
-                &self.arrivals,
+                spots,
             ),
             None => self.enter(board, ask),
         }

@@ -16,8 +16,7 @@ ghost use Rattle.inst_slot.specs.LawfulBoard.{IsLawfulBoard, KeepsOthers, AllAre
 ghost use Rattle.inst_slot.specs.Opening.{opened_again, MayOpenAgain, OpensPlaces, is_of, awaits, found_at, finds_carried, with_found, unfound};
 
 use super::Slot;
-use crate::arrival::is_unfound;
-use crate::arrivals::carried_arrivals;
+use crate::arrivals::{carried_arrivals, find_at};
 use crate::waiting::carried_waiting;
 use inst_base::{Fault, Moment};
 use inst_board::{Board, Look, Place};
@@ -139,9 +138,8 @@ impl Slot {
         ensures { result ≡ unfound self.now }
     {
         self.arrivals
-            .list()
             .iter()
-            .filter(|arrival| is_unfound(arrival))
+            .filter(|spot| spot.index.is_none())
             .count()
     }
 
@@ -171,7 +169,8 @@ impl Slot {
         let _ = &self.alloc;
         match look {
             Look::Pending(terms, deadline) => {
-                terms.to == self.who() && self.arrivals.find_at(place, terms, *deadline)
+                terms.to == self.who()
+                    && find_at(&self.ledger, &mut self.arrivals, place, terms, *deadline)
             }
             Look::Unused | Look::Decided(..) => false,
         }

@@ -1,17 +1,15 @@
 //! What a board tells a slot: what is forwarded to it, and how its transfers ended.
-ghost use Rattle.std.specs.Prelude.{◌≡◌, true, false, is_some, OnErr, OnOk, IsOkUnless, Some};
-ghost use Rattle.std.specs.List.{list_any};
+ghost use Rattle.std.specs.Prelude.{◌≡◌, true, is_some, OnErr, OnOk, IsOkUnless, Some};
 ghost use Rattle.inst_board.specs.declared.look.Look.{Look};
 ghost use Rattle.inst_board.specs.Learning.{Looks};
 ghost use Rattle.inst_journal.specs.Sound.{IsSound, Fits};
 ghost use Rattle.inst_slot.specs.LawfulBoard.{IsLawfulBoard, KeepsOthers, AllAreAdopted};
-ghost use Rattle.inst_slot.specs.Opening.{is_of};
 ghost use Rattle.inst_slot.specs.Telling.{delivery, with_delivery, is_party, lesson, with_event, Keeps};
 ghost use Rattle.inst_slot.specs.Waiting.{moves_none};
 
 use super::Slot;
-use crate::Arrival;
 use crate::arrival::is_at;
+use crate::arrivals::Spot;
 use inst_base::{Fault, Ident};
 use inst_board::{Board, Look, Place};
 use inst_command::{Entry, Outcome};
@@ -44,7 +42,6 @@ impl Slot {
     /// Keeps that the transfer was forwarded from the place.
     fn forward(&mut self, place: Place, entry: Entry) -> Result<(), Fault>
         requires fits { Fits self.old.settings self.old.who self.old.events (Event.Forwarded entry.from entry.id entry.cents entry.deadline) }
-        requires new { list_any (is_of entry.from entry.id) self.old.arrivals ≡ false }
         ensures ok { OnOk result (self.new ≡ with_delivery self.old place (Some entry)) }
         ensures err { OnErr result (self.new ≡ self.old) }
         ensures only { IsOkUnless result Fault.Memory }
@@ -64,14 +61,11 @@ impl Slot {
             deadline,
         };
         let index = Some(place.index);
-        self.arrivals.add(Arrival { entry, index })?;
-        match self.ledger.keep(event) {
-            Ok(()) => Ok(()),
-            Err(fault) => {
-                self.arrivals.take_back();
-                Err(fault)
-            }
-        }
+        let position = self.ledger.transfers();
+        self.arrivals.try_reserve(1)?;
+        self.ledger.keep(event)?;
+        self.arrivals.push_reserved(Spot { position, index });
+        Ok(())
     }
 
     /// Forwards what is pending at the place, if it is for the participant and new to it: `true` where it
@@ -101,7 +95,7 @@ impl Slot {
     fn is_party(&self, place: Place, id: &Ident) -> bool
         ensures { result ≡ is_party self.now place id.now }
     {
-        place.owner == self.who() || is_at(place.index, self.arrivals.arrived_at(place.owner, id))
+        place.owner == self.who() || is_at(place.index, self.arrived_at(place.owner, id))
     }
 
     /// The event that books what a look at the place shows.

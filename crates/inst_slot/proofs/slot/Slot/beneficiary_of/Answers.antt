@@ -14,5 +14,5 @@ pub returns-clause-participant : goal.returns-clause-participant
 returns-clause-participant c =
     let book : Book = c.args.self.now in
     let value = c.beneficiary_of.ensures ∙ ap (λ (x : Book). beneficiary_of c.args.id.now x.events) c.self.view_is in
-    let sound = subst (λ (x : Book). IsSound x.settings x.who x.events) c.self.view_is c.self.invariant.1 in
+    let sound = subst (λ (x : Book). IsSound x.settings x.who x.events) c.self.view_is c.self.invariant.0.1 in
     subst (λ (o : Option ℕ). IfSome o (λ (to : ℕ). IsTrue (is_participant book.settings to))) (sym value) (beneficiary_participates book.settings book.who c.args.id.now book.events sound)

@@ -2,7 +2,6 @@ use Rattle.std.proofs.Common.{refl, ◌∙◌, sym, subst}
 use Rattle.inst_slot.specs.Book.{Book}
 use Rattle.inst_slot.specs.LawfulBoard.{IsLawfulBoard}
 use Rattle.inst_slot.proofs.Looking.{looked_on}
-use Rattle.inst_slot.proofs.Arrived.{unarrived}
 use Rattle.inst_slot.proofs.Delivering.{delivery_keeps, delivery_fits}
 use Rattle.inst_slot.proofs.Others.{others_look}
 use Rattle.inst_slot.proofs.slot.Slot.deliver.Goals as goal
@@ -40,7 +39,6 @@ forward-requires g c =
     record {
       fits = delivery_fits b.settings b.knows b.has_role (b.settings c.args.board.now).margin b.stood c.args.board.now now c.args.place c.look-look.result c.look-look.ensures.look c.args.self.now c.requires.lawful c.delivery.ensures.sound c.in-Some.entry (sym c.delivery.ensures.entry ∙ c.in-Some.is) c.requires.adopted
           (λ j. g.met.B.Board.knows_one now j) (λ j a k. g.met.B.Board.knows_places now j a k) (g.met.B.Board.stays_settings c.args.board.now now c.look-look.ensures.stays);
-      new = unarrived b.settings b.knows b.has_role c.args.board.now c.args.self.now c.args.place c.look-look.result c.in-Some.entry c.requires.lawful (sym c.delivery.ensures.entry ∙ c.in-Some.is);
     }
 
 pub returns-in-None-clause-others : goal.returns-in-None-clause-others

@@ -20,7 +20,7 @@ open_place-requires-clause-place g c =
     let b = g.B.Board in
     let book : Book = c.args.self.now in
     let same = c.events-event-items.ensures ∙ c.journal.ensures.events ∙ ap (λ (x : Book). x.events) c.self.view_is in
-    let sound = subst (λ (x : Book). IsSound x.settings x.who x.events) c.self.view_is c.self.invariant.1 in
+    let sound = subst (λ (x : Book). IsSound x.settings x.who x.events) c.self.view_is c.self.invariant.0.1 in
     let here = takes_of book.who book.events c.event-item.result c.in-Taken.id c.in-Taken.to c.in-Taken.cents c.in-Taken.stamp c.booked.result false c.in-Taken.is
     (c.booked.ensures ∙ ap (λ (n : ℕ). booked n c.in-Taken.id c.self.inside.ledger.book.events) c.who.ensures ∙ ap (λ (x : Book). booked book.who c.in-Taken.id x.events) c.self.view_is) c.if-is_none.ensures in
     let more = one_more book.events c.events-event-items.result.now c.loop-event.event-index c.event-item.result same c.loop-event-test.true c.event-item.is in
@@ -34,7 +34,7 @@ open_place-requires-clause-beneficiary g c =
     let b = g.B.Board in
     let book : Book = c.args.self.now in
     let same = c.events-event-items.ensures ∙ c.journal.ensures.events ∙ ap (λ (x : Book). x.events) c.self.view_is in
-    let sound = subst (λ (x : Book). IsSound x.settings x.who x.events) c.self.view_is c.self.invariant.1 in
+    let sound = subst (λ (x : Book). IsSound x.settings x.who x.events) c.self.view_is c.self.invariant.0.1 in
     let fits = subst (λ (x : Event). Fits book.settings book.who (take c.loop-event.event-index book.events) x) c.in-Taken.is
     (fits_at_place book.settings book.who book.events c.events-event-items.result.now c.loop-event.event-index c.event-item.result same sound c.loop-event-test.true c.event-item.is) in
     let o = c.loop-event.invariant.0 in
@@ -57,7 +57,7 @@ pub open_place-requires-clause-deadline : goal.open_place-requires-clause-deadli
 open_place-requires-clause-deadline g c =
     let book : Book = c.args.self.now in
     let same = c.events-event-items.ensures ∙ c.journal.ensures.events ∙ ap (λ (x : Book). x.events) c.self.view_is in
-    let sound = subst (λ (x : Book). IsSound x.settings x.who x.events) c.self.view_is c.self.invariant.1 in
+    let sound = subst (λ (x : Book). IsSound x.settings x.who x.events) c.self.view_is c.self.invariant.0.1 in
     let fits = subst (λ (x : Event). Fits book.settings book.who (take c.loop-event.event-index book.events) x) c.in-Taken.is
     (fits_at_place book.settings book.who book.events c.events-event-items.result.now c.loop-event.event-index c.event-item.result same sound c.loop-event-test.true c.event-item.is) in
     fits.deadline
@@ -66,8 +66,8 @@ pub overflow_add-index : goal.overflow_add-index
 overflow_add-index g c =
     let book : Book = c.args.self.now in
     let same = c.events-event-items.ensures ∙ c.journal.ensures.events ∙ ap (λ (x : Book). x.events) c.self.view_is in
-    let sound = subst (λ (x : Book). IsSound x.settings x.who x.events) c.self.view_is c.self.invariant.1 in
-    let lawful = subst (λ (x : Book). IsSettings x.settings) c.self.view_is c.self.invariant.0 in
+    let sound = subst (λ (x : Book). IsSound x.settings x.who x.events) c.self.view_is c.self.invariant.0.1 in
+    let lawful = subst (λ (x : Book). IsSettings x.settings) c.self.view_is c.self.invariant.0.0 in
     let here = takes_of book.who book.events c.event-item.result c.in-Taken.id c.in-Taken.to c.in-Taken.cents c.in-Taken.stamp c.booked.result false c.in-Taken.is
     (c.booked.ensures ∙ ap (λ (n : ℕ). booked n c.in-Taken.id c.self.inside.ledger.book.events) c.who.ensures ∙ ap (λ (x : Book). booked book.who c.in-Taken.id x.events) c.self.view_is) c.if-is_none.ensures in
     let more = one_more book.events c.events-event-items.result.now c.loop-event.event-index c.event-item.result same c.loop-event-test.true c.event-item.is in

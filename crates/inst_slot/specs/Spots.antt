@@ -1,0 +1,36 @@
+-- How a slot keeps its arrivals: for each, where its participant's table holds the transfer, and the index of its place. What
+-- else an arrival has is read off the table. This hub's own choice.
+pub use Rattle.inst_transfers.specs.State.{rows_of}
+use Rattle.std.specs.Prelude.{◌≡◌, ◌≢◌, ℕ, get_or, List, [], map, length, slice_get, Option, Some, None}
+use Rattle.inst_command.specs.declared.entry.Entry.{Entry}
+use Rattle.inst_transfers.specs.Held.{AreWithin, AreRising}
+use Rattle.inst_slot.specs.declared.arrival.Arrival.{Arrival}
+use Rattle.inst_slot.specs.declared.arrivals.Spot.{Spot}
+
+abbrev pub no_entry : Entry
+no_entry = record { from = 0; id = []; cents = 0; deadline = 0 }
+
+-- the arrival at a spot, of what a table keeps for good of its transfers
+abbrev pub arrival_of : List Entry → Spot → Arrival
+arrival_of rows spot = record { entry = get_or rows spot.position no_entry; index = spot.index }
+
+abbrev pub arrivals_of : List Entry → List Spot → List Arrival
+arrivals_of rows spots = map (arrival_of rows) spots
+
+abbrev pub positions_of : List Spot → List ℕ
+positions_of spots = map (λ spot. spot.position) spots
+
+-- each spot is within the table, and they rise, as transfers arrive in its order
+abbrev pub AreSpots : List Entry → List Spot → Type 0
+AreSpots rows spots = AreWithin (length rows) (positions_of spots) × AreRising (positions_of spots)
+
+-- a spot at the position
+pub record IsSpotAt (spots : List Spot) (position k : ℕ) : Type 0 where
+  pub spot : Spot
+  pub there : slice_get spots k ≡ Some spot
+  pub is : spot.position ≡ position
+
+-- where the spot at the position stands, or that there is none
+abbrev pub FindsSpot : List Spot → ℕ → Option ℕ → Type 0
+FindsSpot spots position None = (k : ℕ) (spot : Spot) → slice_get spots k ≡ Some spot → spot.position ≢ position
+FindsSpot spots position (Some k) = IsSpotAt spots position k
