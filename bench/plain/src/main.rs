@@ -1,11 +1,14 @@
-//! The hub in one thread, as one would write it without proofs: the replies of `inst_main run`, to measure against.
+//! A hub as one would write it without proofs, to measure against: in one thread with the replies of `inst_main run`, and
+//! with a first word `load` the load of `inst_rush` at one that threads share.
 mod books;
 mod fault;
 mod fields;
 mod hub;
+mod load;
 mod reading;
 mod replies;
 mod settings;
+mod shared;
 mod text;
 
 use crate::fault::Fault;
@@ -49,8 +52,22 @@ fn run(settings: Settings) -> io::Result<()> {
     }
 }
 
+fn run_load(words: &[String]) -> ExitCode {
+    match load::run(words) {
+        Some(settled) => {
+            eprintln!("{settled} transfers settled");
+            ExitCode::SUCCESS
+        }
+        None => ExitCode::FAILURE,
+    }
+}
+
 fn main() -> ExitCode {
-    let Some(settings) = Settings::of(env::args().skip(1)) else {
+    let words: Vec<String> = env::args().skip(1).collect();
+    if words.first().map(String::as_str) == Some("load") {
+        return run_load(&words[1..]);
+    }
+    let Some(settings) = Settings::of(words.into_iter()) else {
         eprintln!("fault 15 BadSettings");
         return ExitCode::from(2);
     };
