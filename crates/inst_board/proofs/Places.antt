@@ -50,11 +50,11 @@ same_of_number s j k hj hk e =
     let same = same_from_place j.owner j.index k.owner k.index s.places ij.index ik.index e in
     same_place j k same.0 same.1
 
-ranks_apart : (s : HubSettings) (j k : Place) → IsPlace s j → IsPlace s k → j ≢ k → rank_of s j ≢ rank_of s k
-ranks_apart s j k hj hk n e =
+pub same_of_rank : (s : HubSettings) (j k : Place) → IsPlace s j → IsPlace s k → rank_of s j ≡ rank_of s k → j ≡ k
+same_of_rank s j k hj hk e =
     let ij = inside s j hj in let ik = inside s k hk in
     let same = same_from_place j.index j.owner k.index k.owner (participants s) ij.owner ik.owner e in
-    n (same_place j k same.1 same.0)
+    same_place j k same.1 same.0
 
 -- what is kept of a place that the settings have
 pub kept_inside : (b : Contents) (k : Place) → IsPlace b.settings k → kept_at b k ≡ get_or b.kept (rank_of b.settings k) Unused
@@ -106,7 +106,7 @@ with_kept b new = record { settings = b.settings; kept = new }
 kept_elsewhere : (b : Contents) (k : Place) (w : Kept) (new : List Kept) → Puts b.kept (rank_of b.settings k) w new → IsPlace b.settings k → (j : Place) → j ≢ k
     → (t : Bool) → is_place b.settings j ≡ t → kept_at (with_kept b new) j ≡ kept_at b j
 kept_elsewhere b k w new puts h j n true e =
-    kept_inside (with_kept b new) j e ∙ puts.elsewhere (rank_of b.settings j) (ranks_apart b.settings j k e h n) ∙ sym (kept_inside b j e)
+    kept_inside (with_kept b new) j e ∙ puts.elsewhere (rank_of b.settings j) (λ r. n (same_of_rank b.settings j k e h r)) ∙ sym (kept_inside b j e)
 kept_elsewhere b k w new puts h j n false e = kept_outside (with_kept b new) j e ∙ sym (kept_outside b j e)
 
 pub written : (b : Contents) (k : Place) (w : Kept) (new : List Kept) → IsPlace b.settings k → Puts b.kept (rank_of b.settings k) w new → Becomes b k w (with_kept b new)

@@ -19,7 +19,7 @@ use Rattle.inst_board.specs.declared.about.Fact.{Fact}
 use Rattle.inst_board.specs.Standing.{Standing, pending, final, IsPlace, IsLawful, Says, Shows, look_of, about}
 use Rattle.inst_board.specs.Wish.{wanted}
 use Rattle.inst_board.specs.Learning.{Learns, KnowsTruly, KnowTheSame, MayDecide, Looks, Decides}
-use Rattle.inst_board.specs.Plain.{Contents, number_of, standing_at, plain_knows, plain_stood, after, outcome_of}
+use Rattle.inst_board.specs.Plain.{Contents, number_of, rank_of, standing_at, plain_knows, plain_stood, after, outcome_of}
 
 -- whatever the first knows the second knows
 abbrev pub KnowsMore : {B : Type 0} → (B → Fact → Type 0) → B → B → Type 0
@@ -207,6 +207,11 @@ WhichPlacesThereAre = (s : HubSettings) (k : Place) → IsPlace s k ↔ ((k.owne
 abbrev pub EachPlaceHasItsNumber : Type 0
 EachPlaceHasItsNumber = (s : HubSettings) (j k : Place) → IsPlace s j → IsPlace s k →
     (number_of s j < s.places * participants s) × (number_of s j ≡ number_of s k → j ≡ k)
+
+-- each place has its own rank, below the number of all places
+abbrev pub EachPlaceHasItsRank : Type 0
+EachPlaceHasItsRank = (s : HubSettings) (j k : Place) → IsPlace s j → IsPlace s k →
+    (rank_of s j < participants s * s.places) × (rank_of s j ≡ rank_of s k → j ≡ k)
 
 -- the same is true of two standings
 abbrev pub SayTheSame : Standing → Standing → Type 0

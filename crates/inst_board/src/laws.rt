@@ -13,7 +13,7 @@ ghost use Rattle.inst_board.specs.Laws.{ADecisionIsKnown, EachWishWantsByItsRead
 ghost use Rattle.inst_board.specs.Laws.{EachDecisionIsOfItsReading, OnlyOwnReadingsAreLearnt};
 ghost use Rattle.inst_board.specs.Laws.{OwnAnswersStand, WhatIsKnownStaysTrue};
 ghost use Rattle.inst_board.specs.Laws.{StandingsFollowTheWordLaw, ShowsItsWords};
-ghost use Rattle.inst_board.specs.Laws.{WhichPlacesThereAre, EachPlaceHasItsNumber, PlainDecidesExactly};
+ghost use Rattle.inst_board.specs.Laws.{WhichPlacesThereAre, EachPlaceHasItsNumber, EachPlaceHasItsRank, PlainDecidesExactly};
 ghost use Rattle.inst_board.specs.Laws.{PlainLooksExactly, PlainOpensExactly, WhatIsDecidedIsInTime};
 
 use crate::{Board, Place, PlainBoard, Wish};
@@ -117,9 +117,14 @@ pub fn which_places_there_are()
     ensures { WhichPlacesThereAre }
 {}
 
-/// No two places lie in one another's stead on a plain board.
+/// No two places have one number, by which threads share their words.
 pub fn each_place_has_its_number()
     ensures { EachPlaceHasItsNumber }
+{}
+
+/// No two places lie in one another's stead on a plain board.
+pub fn each_place_has_its_rank()
+    ensures { EachPlaceHasItsRank }
 {}
 
 /// What any board promises of a decision is exact on a plain one.

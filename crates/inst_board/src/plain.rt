@@ -25,8 +25,8 @@ pub enum Kept {
 }
 
 /// A board that one holder has alone, with all roles. It knows all that is true of the places. Each call
-/// takes one look at one place; the first one that writes a place of a higher index than any before it also
-/// clears the places up to it. Room for all places is set aside at once, and is touched as they are used.
+/// takes one look at one place; one that writes a place behind all that were written before also clears the
+/// places up to it. Room for all places is set aside at once, and is touched as they are used.
 ///
 /// ```text
 /// let mut board = PlainBoard::new(alloc, &settings)?;

@@ -124,6 +124,11 @@ fn is_broken(line: &[u8]) -> bool {
     matches!(scan_into(line, &mut fields), Form::Broken)
 }
 
+fn is_left(line: &[u8]) -> bool {
+    let mut fields = Fields::new();
+    matches!(scan_into(line, &mut fields), Form::Other)
+}
+
 /// Why a line is refused, if it is.
 fn refusal(alloc: Global, hub: &Settings, line: &[u8]) -> Option<Fault> {
     // The check is told of a type of another crate inside a result only where a function names it.
@@ -131,7 +136,7 @@ fn refusal(alloc: Global, hub: &Settings, line: &[u8]) -> Option<Fault> {
     read_command(alloc, hub, line).err()
 }
 
-/// Each line is known to be broken or not, as wanted, and is refused for that.
+/// Each line is known to be broken or left to another way, as wanted, and is refused for that.
 fn refuses(
     rt: &(impl Abort + AllocGlobal),
     hub: &Settings,
@@ -141,6 +146,7 @@ fn refuses(
 ) {
     for (place, line) in lines.iter().enumerate() {
         assert_eq!(rt; is_broken(line), is_known, "{place}");
+        assert_eq!(rt; is_left(line), !is_known, "{place}");
         assert_eq!(rt; refusal(rt.alloc(), hub, line), Some(fault), "{place}");
     }
 }

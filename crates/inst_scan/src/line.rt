@@ -14,8 +14,7 @@ use crate::parts::skip_space;
 
 /// The fields of a line that is a flat object of texts without escapes and whole numbers of
 /// at most 19 digits: JSON (RFC 8259) with its keys in any order and its white space, where of a key
-/// given twice the last counts. `None` for every other line, JSON or not: it is to be read in another
-/// way.
+/// given twice the last counts. `None` for other lines, JSON or not: they are to be read in another way.
 #[inline(always)]
 pub fn scan<'a>(text: &'a [u8]) -> Option<Fields<'a>>
     ensures { IfSome result (λ fields. (d : Data) × (read text.now ≡ Some d) × (fields_told fields ≡ fields_of d)) }
@@ -27,7 +26,7 @@ pub fn scan<'a>(text: &'a [u8]) -> Option<Fields<'a>>
     }
 }
 
-/// The same into `found`, which has no field before: `Plain` exactly where the line is such an object.
+/// The same into `found`, which has no field before: `Plain` only where the line is such an object.
 /// `Broken` is told of most lines that are no JSON text, where the pass comes upon that by itself.
 #[inline(always)]
 pub fn scan_into<'a>(text: &'a [u8], found: &mut Fields<'a>) -> Form

@@ -1,4 +1,4 @@
-//! The transfers of one participant in one table: each found once, with all that the participant has of it.
+//! The transfers of one participant in one table: each found once, with its side, amount and outcome.
 #![tactic(auto)]
 
 mod transfer;
