@@ -7,14 +7,14 @@ use Rattle.std.specs.Map.{keys_of, lookup}
 use Rattle.std.specs.List.{filter, IsDistinct, AllByRecursion}
 use Rattle.std.proofs.lemmas.Bool.{eqb-true, eq-eqb, true≢false, cases_order}
 use Rattle.std.proofs.lemmas.List.{map-append, length-map}
-use Rattle.std.proofs.lemmas.Option.{slice_get-get_or, slice_get_within, get_or_from_slice_get}
+use Rattle.std.proofs.lemmas.Option.{slice_get_within, get_or_from_slice_get}
 use Rattle.indexmap.specs.IndexMap.{IndexMap, IsUnique, with_value_at, set_value_at}
 use Rattle.indexmap.proofs.CallerLemmas.{updates-with_value_at}
 use Rattle.inst_settings.specs.Settings.{same_text}
 use Rattle.inst_command.specs.declared.entry.Entry.{Entry}
 use Rattle.inst_transfers.specs.declared.transfer.Transfer.{Transfer}
 use Rattle.inst_transfers.specs.State.{Key, same_key, put, outcome_in}
-use Rattle.inst_transfers.specs.Held.{found_at, row_in, rows_in, time_in, AreApart, id_in, ids_at, AreWithin, AreOwn, AreAbove, AreRising, ArePositions, waits_for, waits_at}
+use Rattle.inst_transfers.specs.Held.{found_at, row_in, rows_in, AreApart, id_in, ids_at, AreWithin, AreOwn, AreAbove, AreRising, ArePositions, waits_for, waits_at}
 
 and_parts : (a b : Bool) → (a && b) ≡ true → (a ≡ true) × (b ≡ true)
 and_parts true b h = (refl, h)

@@ -1,5 +1,6 @@
 //! A table of transfers by originator and identifier, with what is known of them all together.
 ghost use Rattle.std.specs.Prelude.{◌≡◌, ℕ, ◌+◌, ◌<◌, ◌≤◌, ◌^◌, length, slice_get, Some, None, OnOk, IfSome};
+ghost use Rattle.std.specs.Map.{keys_of};
 ghost use Rattle.inst_journal.specs.declared.event.Event.{Event};
 ghost use Rattle.inst_journal.specs.Sums.{if_accepted};
 ghost use Rattle.inst_transfers.specs.State.{nothing, step};
@@ -151,6 +152,8 @@ impl Transfers {
         requires covers { Covers (state_in self.old) found.now.transfer }
         ensures who { self.new.who ≡ self.old.who }
         ensures state { state_in self.new ≡ step self.old.who (state_in self.old) (Event.Booked found.now.from found.now.id outcome.now) }
+        ensures keys { keys_of self.new.entries ≡ keys_of self.old.entries }
+        ensures room { self.new.room ≡ self.old.room }
     {
         let Transfer { cents, side, .. } = found.transfer;
         let outcome = *outcome;

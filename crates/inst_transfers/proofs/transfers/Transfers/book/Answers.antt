@@ -1,6 +1,7 @@
 use Rattle.std.proofs.Common.{ℕ, ◌+◌, ◌-◌, List, Some, sym, ap, ◌∙◌, subst, refl}
 use Rattle.std.specs.Prelude.{slice_get}
 use Rattle.std.proofs.lemmas.Option.{slice_get_within}
+use Rattle.std.specs.Map.{keys_of}
 use Rattle.indexmap.specs.IndexMap.{with_value_at}
 use Rattle.indexmap.proofs.CallerLemmas.{keys-with_value_at}
 use Rattle.inst_journal.specs.Sums.{if_accepted}
@@ -68,3 +69,13 @@ returns-in-Other-clause-state c =
     ∙ ap (λ (h : Held). settled (state_in h) key t o (Other c.in-Other.deadline)) c.self.view_is
     ∙ ap (settled (state_in c.args.self.now) key t o) (sym c.in-Other.is)
     ∙ ap (booked_in (state_in c.args.self.now) key o) (sym c.requires.there.transfer)
+
+pub returns-in-Own-clause-keys : goal.returns-in-Own-clause-keys
+returns-in-Own-clause-keys c =
+    let row : Transfer = with_outcome c.args.found.now.transfer c.args.outcome.now in
+    keys-with_value_at c.self.inside.table c.args.found.now.position row ∙ ap (λ (h : Held). keys_of h.entries) c.self.view_is
+
+pub returns-in-Other-clause-keys : goal.returns-in-Other-clause-keys
+returns-in-Other-clause-keys c =
+    let row : Transfer = with_outcome c.args.found.now.transfer c.args.outcome.now in
+    keys-with_value_at c.self.inside.table c.args.found.now.position row ∙ ap (λ (h : Held). keys_of h.entries) c.self.view_is

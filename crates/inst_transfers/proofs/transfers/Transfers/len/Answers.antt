@@ -1,4 +1,4 @@
-use Rattle.std.proofs.Common.{ap, subst}
+use Rattle.std.proofs.Common.{subst}
 use Rattle.inst_transfers.specs.Held.{Held, AreApart, rows_in}
 use Rattle.inst_transfers.proofs.Rows.{rows_apart}
 use Rattle.inst_transfers.proofs.transfers.Transfers.len.Goals as goal

@@ -1,4 +1,4 @@
-use Rattle.std.proofs.Common.{ℕ, ◌+◌, List, None, ap, ◌∙◌}
+use Rattle.std.proofs.Common.{ℕ, ◌+◌, None, ap, ◌∙◌}
 use Rattle.indexmap.proofs.CallerLemmas.{insert_entry-new}
 use Rattle.inst_transfers.specs.declared.transfer.Side.TheVariants.{Own}
 use Rattle.inst_transfers.specs.declared.transfer.Transfer.{Transfer}
