@@ -30,7 +30,7 @@ use Rattle.inst_slot.specs.Opening.{is_of, is_unfound, awaits, found_at, with_fo
 abbrev names : ℕ → List ℕ → Entry → Bool
 names from id e = same_transfer from id e.from e.id
 
-step : {X : Type 0} (p : X → Bool) (x : X) (xs : List X) → count_by p (x ∷ xs) ≡ cond (p x) 1 0 + count_by p xs
+pub step : {X : Type 0} (p : X → Bool) (x : X) (xs : List X) → count_by p (x ∷ xs) ≡ cond (p x) 1 0 + count_by p xs
 step p x xs = sum_by-cons (λ y. cond (p y) 1 0) x xs
 
 arrivals_named : (from : ℕ) (id : List ℕ) (A : List Arrival) → count_by (is_of from id) A ≡ count_by (names from id) (map (λ (x : Arrival). x.entry) A)
@@ -45,7 +45,7 @@ kept_at_most : {X : Type 0} (p q : X → Bool) (x : X) (xs : List X) (b : Bool) 
 kept_at_most p q x xs true here rest = omega (arith, step p x (filter q xs), rest)
 kept_at_most p q x xs false here rest = omega (arith, rest)
 
-fewer : {X : Type 0} (p q : X → Bool) (xs : List X) → count_by p (filter q xs) ≤ count_by p xs
+pub fewer : {X : Type 0} (p q : X → Bool) (xs : List X) → count_by p (filter q xs) ≤ count_by p xs
 fewer p q [] = omega arith
 fewer p q (x ∷ xs) = omega (arith, step p x xs, kept_at_most p q x xs (q x) refl (fewer p q xs))
 
@@ -71,8 +71,8 @@ arrives_once s who J A from id sound arrived =
     let once : count_by (forwards from id) J ≤ 1 = forwarded_once s who from id J sound in
     omega (arith, same, less, inbox_named from id J, once)
 
--- an arrival that passes is counted
-counted : (p : Arrival → Bool) (A : List Arrival) (i : ℕ) (x : Arrival) → slice_get A i ≡ Some x → p x ≡ true → 1 ≤ count_by p A
+-- what passes is counted
+pub counted : {X : Type 0} (p : X → Bool) (A : List X) (i : ℕ) (x : X) → slice_get A i ≡ Some x → p x ≡ true → 1 ≤ count_by p A
 counted p [] i x there passes = let no : ⊥ = cc in absurd no
 counted p (y ∷ A) zero x there passes =
     let same : y ≡ x = cc in

@@ -176,17 +176,19 @@ at_index index (Some other) h = ap (λ (n : ℕ). Some n) (eqb-true other index 
 
 module _ {B : Type 0} (settings : B → HubSettings) (knows : B → Fact → Type 0) (has_role : B → ℕ → Type 0) (margin : ℕ) (stood : B → Place → Outcome → Type 0)
     (b c : B) (k : Place) (look : Look) (h : Looks margin knows has_role stood b k look c) (book : Book) (was : IsLawfulBoard settings knows has_role b book) where
-  party_lies : (t : Terms) (o : Outcome) → look ≡ LookDecided t o → is_party book k t.id ≡ true → LiesAt book k.owner t.id k.index
-  party_lies t o e p = ⊎_elim
-      (λ own.
-      let mine : k.owner ≡ book.who = eqb-true k.owner book.who own in
+  pub own_lies : (t : Terms) (o : Outcome) → look ≡ LookDecided t o → k.owner ≡ book.who → IsTakenAt book t.id k.index
+  own_lies t o e mine =
       let opened = saw_own settings knows has_role margin stood b c k look h t o e (subst (λ (x : ℕ). has_role b x) (sym mine) was.role) in
       let below = was.only_taken k.index (subst (λ (x : ℕ). knows b (about (place_at x k.index) Opened)) mine opened) in
       let x = taken_below book k.index below in
       let kn = was.taken_known k.index x.id x.at.to x.at.cents x.at.stamp x.at.there in
       let u : Terms = terms_to x.at.to x.at.cents x.id in
       let same = saw_decided_same settings knows has_role margin stood b c k look h t o e u (subst (λ (n : ℕ). knows b (about (place_at n k.index) (HasTerms u))) (sym mine) kn.terms) in
-      inl (mine, subst (λ (i : List ℕ). IsTakenAt book i k.index) (ap (λ (v : Terms). v.id) same) x.at))
+      subst (λ (i : List ℕ). IsTakenAt book i k.index) (ap (λ (v : Terms). v.id) same) x.at
+
+  party_lies : (t : Terms) (o : Outcome) → look ≡ LookDecided t o → is_party book k t.id ≡ true → LiesAt book k.owner t.id k.index
+  party_lies t o e p = ⊎_elim
+      (λ own. let mine : k.owner ≡ book.who = eqb-true k.owner book.who own in inl (mine, own_lies t o e mine))
       (λ arrived. inr (at_index k.index (arrived_at k.owner t.id book.arrivals) arrived))
       (or_cases (k.owner == book.who) (is_at k.index (arrived_at k.owner t.id book.arrivals)) p)
 

@@ -22,3 +22,5 @@ pub mod Walked
 pub mod Dues
 pub mod Requests
 pub mod Answered
+pub mod Bookings
+pub mod Lessons

@@ -10,3 +10,4 @@ pub mod Waiting
 pub mod Laws
 pub mod Arrived
 pub mod Answering
+pub mod Lessons

@@ -4,8 +4,10 @@
 mod answering;
 mod arrival;
 mod arrivals;
+mod booking;
 mod finding;
 pub mod laws;
+mod lesson;
 mod slot;
 mod waiting;
 

@@ -96,7 +96,7 @@ impl Waiting {
     }
 
     /// Takes out the pair at this index.
-    fn take_out(&mut self, index: u16)
+    pub(crate) fn take_out(&mut self, index: u16)
         ensures deadlines { self.new.deadlines ≡ self.old.deadlines }
         ensures pairs { (d k : ℕ) → has self.new.pairs d k ≡ (has self.old.pairs d k && not (nat_eq k index)) }
     {

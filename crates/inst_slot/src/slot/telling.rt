@@ -4,12 +4,13 @@ ghost use Rattle.inst_board.specs.declared.look.Look.{Look};
 ghost use Rattle.inst_board.specs.Learning.{Looks};
 ghost use Rattle.inst_journal.specs.Sound.{IsSound, Fits};
 ghost use Rattle.inst_slot.specs.LawfulBoard.{IsLawfulBoard, KeepsOthers, AllAreAdopted};
-ghost use Rattle.inst_slot.specs.Telling.{delivery, with_delivery, is_party, lesson, with_event, Keeps};
+ghost use Rattle.inst_slot.specs.Telling.{delivery, with_delivery, lesson, with_event, Keeps};
 ghost use Rattle.inst_slot.specs.Waiting.{moves_none};
 
 use super::Slot;
-use crate::arrival::is_at;
 use crate::arrivals::Spot;
+use crate::booking::book;
+use crate::lesson::{Lesson, lesson_of};
 use inst_base::{Fault, Ident};
 use inst_board::{Board, Look, Place};
 use inst_command::{Entry, Outcome};
@@ -91,31 +92,6 @@ impl Slot {
         }
     }
 
-    /// Whether the transfer with this identifier that lies at the place is one of the participant's.
-    fn is_party(&self, place: Place, id: &Ident) -> bool
-        ensures { result ≡ is_party self.now place id.now }
-    {
-        place.owner == self.who() || is_at(place.index, self.arrived_at(place.owner, id))
-    }
-
-    /// The event that books what a look at the place shows.
-    fn lesson(&self, place: Place, look: &Look) -> Option<Event>
-        ensures event { result ≡ lesson self.now place look.now }
-        ensures sound { IsSound self.now.settings self.now.who self.now.events }
-    {
-        match look {
-            Look::Decided(terms, outcome) => {
-                let is_new = self.ledger.booked(place.owner, &terms.id).is_none();
-                if self.is_party(place, &terms.id) && is_new {
-                    Some(booked_event(place.owner, terms.id, outcome))
-                } else {
-                    None
-                }
-            }
-            _ => None,
-        }
-    }
-
     /// Keeps an event that leaves the own live transfers as they are.
     pub(super) fn book(&mut self, event: Event) -> Result<(), Fault>
         requires fits { Fits self.old.settings self.old.who self.old.events event }
@@ -143,10 +119,16 @@ impl Slot {
         ensures stays { B.stays board.old board.new }
     {
         let look = board.look(place);
-        match self.lesson(place, &look) {
+        match lesson_of(&self.ledger, self.arrivals.as_slice(), place, &look) {
             None => Ok(false),
-            Some(event) => {
-                self.book(event)?;
+            Some(Lesson { found, outcome }) => {
+                book(
+                    &mut self.ledger,
+                    &mut self.waiting,
+                    &found,
+                    place.index,
+                    &outcome,
+                )?;
                 Ok(true)
             }
         }

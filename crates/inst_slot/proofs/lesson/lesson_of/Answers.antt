@@ -1,0 +1,17 @@
+use Rattle.std.proofs.Common.{ap, sym, ◌∙◌, subst, Option}
+use Rattle.inst_board.specs.declared.look.Look.{Look}
+use Rattle.inst_slot.specs.declared.lesson.Lesson.{Lesson}
+use Rattle.inst_slot.specs.Answering.{over}
+use Rattle.inst_slot.specs.Lessons.{GivesLesson}
+use Rattle.inst_slot.specs.Telling.{lesson}
+use Rattle.inst_slot.proofs.Lessons.{no_lesson}
+use Rattle.inst_slot.proofs.lesson.lesson_of.Goals as goal
+
+pub returns-in_err-found : goal.returns-in_err-found
+returns-in_err-found c =
+    let l = c.args.ledger.now in
+    let t = c.in-Decided.terms in
+    let e = c.in_err-found.ensures in
+    subst (λ (r : Option Lesson). GivesLesson l c.args.place (lesson (over l.book c.args.spots.now) c.args.place c.args.look.now) r) (sym c.from_residual.ensures)
+    (ap (λ (x : Look). lesson (over l.book c.args.spots.now) c.args.place x) c.in-Decided.is
+    ∙ no_lesson l c.args.spots.now c.args.place t c.in-Decided.outcome e.right c.requires.spots (c.requires.own t c.in-Decided.outcome c.in-Decided.is) e.found)

@@ -1,0 +1,44 @@
+//! The outcome of a transfer that was found is booked.
+ghost use Rattle.std.specs.Prelude.{◌≡◌, ◌<◌, OnOk, OnErr, IsOk, IsOkUnless};
+ghost use Rattle.inst_journal.specs.declared.event.Event.{Event};
+ghost use Rattle.inst_journal.specs.Sound.{Fits};
+ghost use Rattle.inst_ledger.specs.Book.{with_event};
+ghost use Rattle.inst_transfers.specs.Held.{IsFound};
+ghost use Rattle.inst_slot.specs.Answering.{IsOwnAt};
+ghost use Rattle.inst_slot.specs.Book.{place_at};
+ghost use Rattle.inst_slot.specs.Indexed.{own_ids};
+ghost use Rattle.inst_slot.specs.Waiting.{IsRight};
+
+use crate::waiting::Waiting;
+use inst_base::Fault;
+use inst_command::Outcome;
+use inst_ledger::Ledger;
+use inst_transfers::{Found, Side, Transfer};
+
+/// Books the outcome of a transfer that was found and lies at this index: one of the participant's own waits no more.
+/// It looks nothing up by its key.
+pub(crate) fn book(
+    ledger: &mut Ledger,
+    waiting: &mut Waiting,
+    found: &Found,
+    index: u16,
+    outcome: &Outcome,
+) -> Result<(), Fault>
+    requires there { IsFound ledger.old.table found.now }
+    requires own { found.now.from ≡ ledger.old.book.who → IsOwnAt ledger.old.book found.now.id (place_at found.now.from index) }
+    requires fits { Fits ledger.old.book.settings ledger.old.book.who ledger.old.book.events (Event.Booked found.now.from found.now.id outcome.now) }
+    requires right { IsRight ledger.old.book.settings ledger.old.book.who ledger.old.book.events (own_ids ledger.old.book.who ledger.old.book.events) waiting.old }
+    ensures ok { OnOk result (ledger.new.book ≡ with_event ledger.old.book (Event.Booked found.now.from found.now.id outcome.now)) }
+    ensures err { OnErr result (ledger.new.book ≡ ledger.old.book) }
+    ensures right { IsRight ledger.new.book.settings ledger.new.book.who ledger.new.book.events (own_ids ledger.new.book.who ledger.new.book.events) waiting.new }
+    ensures room { 0 < ledger.old.room → IsOk result }
+    ensures only { IsOkUnless result Fault.Memory }
+{
+    // The check is told of an enum inside a struct only where a function names it.
+    let _: Option<(Side, Transfer, Outcome)> = None;
+    ledger.keep_found(found, outcome)?;
+    if found.from == ledger.who() {
+        waiting.take_out(index);
+    }
+    Ok(())
+}
