@@ -6,7 +6,6 @@ use Rattle.std.proofs.lemmas.List.Sums.{sum_by-le-sum_by, length-filter}
 use Rattle.inst_base.specs.declared.cents.TheConstants.{MOST_CENTS}
 use Rattle.inst_settings.specs.Lawful.{IsSettings}
 use Rattle.inst_settings.specs.Settings.{HubSettings, same_text}
-use Rattle.inst_command.specs.declared.entry.Entry.{Entry}
 use Rattle.inst_command.specs.declared.outcome.Outcome.{Outcome}
 use Rattle.inst_command.specs.declared.outcome.Outcome.TheVariants.{Accepted, Rejected, TimedOut}
 use Rattle.inst_journal.specs.declared.event.Event.{Event}
@@ -21,37 +20,31 @@ use Rattle.inst_journal.specs.Sums.{if_accepted, funding, funded, defunding, cre
 use Rattle.inst_journal.proofs.Counting.{position_fits, submissions_within}
 use Rattle.inst_journal.proofs.Covering.{covered}
 use Rattle.inst_journal.proofs.OwnBookings.{own_unforwarded}
-use Rattle.inst_journal.proofs.Paging.{in_order_of_arrival}
 use Rattle.inst_journal.proofs.Pushing.{sum_by_push, sum_by-both}
 use Rattle.inst_journal.proofs.Soundness.{sound_push}
 use Rattle.inst_transfers.specs.declared.transfer.Found.{Found}
 use Rattle.inst_transfers.specs.declared.transfer.Side.{Side}
 use Rattle.inst_transfers.specs.declared.transfer.Side.TheVariants.{Own, Other}
 use Rattle.inst_transfers.specs.declared.transfer.Transfer.{Transfer}
-use Rattle.inst_transfers.specs.State.{State, step, settled, booked_in}
+use Rattle.inst_transfers.specs.State.{State, step, settled, booked_in, rows_of}
 use Rattle.inst_transfers.specs.Held.{Held, found_at, state_in, IsFound, Finds, Covers, CoversSide}
 use Rattle.inst_ledger.specs.declared.references.Funding.{Funding}
 use Rattle.inst_ledger.specs.declared.totals.Totals.{Totals}
-use Rattle.inst_ledger.specs.Beside.{funding_of, amount_of, most_of, IsRead, IsBeside}
+use Rattle.inst_ledger.specs.Beside.{funding_of, amount_of, most_of, IsBeside}
 use Rattle.inst_ledger.specs.Book.{BookAndRoom}
+use Rattle.inst_ledger.specs.Inbox.{IsRead}
 use Rattle.inst_ledger.specs.Kept.{terms_of, IsTable, cents_of}
 use Rattle.inst_ledger.specs.Right.{terms_in, forwarding_in, own_ids, id_of, IsRight}
 use Rattle.inst_ledger.proofs.Amounts.{own_reserved}
 use Rattle.inst_ledger.proofs.Forwards.{forwarded_found}
 use Rattle.inst_ledger.proofs.Funded.{funded_put, defunded_put}
+use Rattle.inst_ledger.proofs.Inbox.{read_same, read_on, read_more}
 use Rattle.inst_ledger.proofs.Live.{fundings_more, fundings_none, one_less}
 use Rattle.inst_ledger.proofs.Right.{right_push, booked_there, own_party}
 use Rattle.inst_ledger.proofs.Tables.{none_of, table_keep, taken_found}
 
 longer : (J : List Event) (event : Event) → length (J ++ event ∷ []) ≡ length J + 1
 longer J event = length-append J (event ∷ [])
-
--- the inbox of an event that forwards nothing
-pub read_same : (J : List Event) (event : Event) (entries : List Entry) (read : ℕ) → is_forwarding event ≡ false → handed_out event ≡ 0 → IsRead J entries read → IsRead (J ++ event ∷ []) entries read
-read_same J event entries read other none is = record {
-  came = is.came ∙ sym ((in_order_of_arrival J).others event other);
-  were_read = omega (arith, is.were_read, sum_by_push handed_out J event, none);
-}
 
 -- the amounts after an event
 amounts_push : (J : List Event) (event : Event) → amount_of event ≤ cond (is_funding event) MOST_CENTS 0 + cond (is_forwarding event) MOST_CENTS 0 → sum_by amount_of J ≤ most_of J → sum_by amount_of (J ++ event ∷ []) ≤ most_of (J ++ event ∷ [])
@@ -88,12 +81,12 @@ pub pushed : {J K L : List Event} (event : Event) → K ≡ J → L ≡ K ++ eve
 pushed event same is = is ∙ ap (λ E. E ++ event ∷ []) same
 
 -- the same by other names: the table may have made room
-pub beside_same : {s : HubSettings} {who : ℕ} {J K : List Event} {t : Totals} {table other : Held} {R S : List ℕ → Option Funding} {since : ℕ} {entries others : List Entry} {read : ℕ}
-    → K ≡ J → (room : ℕ) → other ≡ record table { room = room } → ((reference : List ℕ) → S reference ≡ R reference) → others ≡ entries → IsBeside s who J t table R since entries read → IsBeside s who K t other S since others read
-beside_same {s} {who} {J} {K} {t} {table} {other} {R} {S} {since} {entries} {others} {read} events room same references inbox b =
+pub beside_same : {s : HubSettings} {who : ℕ} {J K : List Event} {t : Totals} {table other : Held} {R S : List ℕ → Option Funding} {since : ℕ} {positions others : List ℕ} {read : ℕ}
+    → K ≡ J → (room : ℕ) → other ≡ record table { room = room } → ((reference : List ℕ) → S reference ≡ R reference) → others ≡ positions → IsBeside s who J t table R since positions read → IsBeside s who K t other S since others read
+beside_same {s} {who} {J} {K} {t} {table} {other} {R} {S} {since} {positions} {others} {read} events room same references inbox b =
     subst (λ (E : List Event). IsBeside s who E t other S since others read) (sym events)
-    (subst (λ (F : List Entry). IsBeside s who J t other S since F read) (sym inbox)
-    (subst (λ (h : Held). IsBeside s who J t h S since entries read) (sym same)
+    (subst (λ (F : List ℕ). IsBeside s who J t other S since F read) (sym inbox)
+    (subst (λ (h : Held). IsBeside s who J t h S since positions read) (sym same)
     (record {
       lawful = b.lawful;
       sound = b.sound;
@@ -108,19 +101,19 @@ beside_same {s} {who} {J} {K} {t} {table} {other} {R} {S} {since} {entries} {oth
       amounts = b.amounts;
     })))
 
-pub beside_at : {s : HubSettings} {who : ℕ} {J K : List Event} {t : Totals} {table : Held} {R : List ℕ → Option Funding} {since : ℕ} {entries : List Entry} {read : ℕ} → K ≡ J → IsBeside s who J t table R since entries read → IsBeside s who K t table R since entries read
-beside_at {s} {who} {J} {K} {t} {table} {R} {since} {entries} {read} events b = subst (λ (E : List Event). IsBeside s who E t table R since entries read) (sym events) b
+pub beside_at : {s : HubSettings} {who : ℕ} {J K : List Event} {t : Totals} {table : Held} {R : List ℕ → Option Funding} {since : ℕ} {positions : List ℕ} {read : ℕ} → K ≡ J → IsBeside s who J t table R since positions read → IsBeside s who K t table R since positions read
+beside_at {s} {who} {J} {K} {t} {table} {R} {since} {positions} {read} events b = subst (λ (E : List Event). IsBeside s who E t table R since positions read) (sym events) b
 
-module _ (s : HubSettings) (who : ℕ) (J : List Event) (t : Totals) (table : Held) (R : List ℕ → Option Funding) (since : ℕ) (entries : List Entry) (read : ℕ) (b : IsBeside s who J t table R since entries read) where
+module _ (s : HubSettings) (who : ℕ) (J : List Event) (t : Totals) (table : Held) (R : List ℕ → Option Funding) (since : ℕ) (positions : List ℕ) (read : ℕ) (b : IsBeside s who J t table R since positions read) where
   -- what was paid out and what is reserved is covered
   pub within : t.defunded + table.debits + table.reserved ≤ t.funded + table.credits
   within = omega (arith, covered s who J b.sound, b.funded, b.defunded, b.right.credits, b.right.debits, b.right.reserved)
 
   -- one event more, with the table after it
-  pub pushes : (event : Event) (u : Totals) (after : Held) (S : List ℕ → Option Funding) (since' : ℕ) (entries' : List Entry) (read' : ℕ) → Fits s who J event → after.who ≡ table.who → state_in after ≡ step table.who (state_in table) event
+  pub pushes : (event : Event) (u : Totals) (after : Held) (S : List ℕ → Option Funding) (since' : ℕ) (positions' : List ℕ) (read' : ℕ) → Fits s who J event → after.who ≡ table.who → state_in after ≡ step table.who (state_in table) event
       → u.funded ≡ t.funded + funding event → u.defunded ≡ t.defunded + defunding event → u.funded + after.credits ≤ t.funded + table.credits + MOST_CENTS → IsTable funding_of (J ++ event ∷ []) S → since' ≡ fundings (J ++ event ∷ [])
-      → IsRead (J ++ event ∷ []) entries' read' → amount_of event ≤ cond (is_funding event) MOST_CENTS 0 + cond (is_forwarding event) MOST_CENTS 0 → IsBeside s who (J ++ event ∷ []) u after S since' entries' read'
-  pushes event u after S since' entries' read' fits same is funds defunds few referred counted inboxed small = record {
+      → IsRead who (J ++ event ∷ []) positions' read' → amount_of event ≤ cond (is_funding event) MOST_CENTS 0 + cond (is_forwarding event) MOST_CENTS 0 → IsBeside s who (J ++ event ∷ []) u after S since' positions' read'
+  pushes event u after S since' positions' read' fits same is funds defunds few referred counted inboxed small = record {
     lawful = b.lawful;
     sound = sound_push s who J event b.sound fits;
     whose = same ∙ b.whose;
@@ -137,52 +130,52 @@ module _ (s : HubSettings) (who : ℕ) (J : List Event) (t : Totals) (table : He
   -- one that funds nothing, forwards nothing and hands out nothing
   pub quiet_pushes : (event : Event) (after : Held) → Fits s who J event → after.who ≡ table.who → state_in after ≡ step table.who (state_in table) event → after.credits ≤ table.credits + MOST_CENTS → funding event ≡ 0 → defunding event ≡ 0
       → ((q : List ℕ) → funding_of q event ≡ None) → is_opening event ≡ false → is_funding event ≡ false → is_forwarding event ≡ false → handed_out event ≡ 0 → amount_of event ≡ 0
-      → IsBeside s who (J ++ event ∷ []) t after R since entries read
+      → IsBeside s who (J ++ event ∷ []) t after R since positions read
   quiet_pushes event after fits same is few no_funds no_defunds no_reference other no_funding no_forwarding none no_amount =
-      pushes event t after R since entries read fits same is (omega (arith, no_funds)) (omega (arith, no_defunds)) (omega (arith, few)) (table_keep funding_of J event R b.referred no_reference)
-      (omega (arith, b.fundings, fundings_more J event other, ap (λ (x : Bool). cond {A = ℕ} x 1 0) no_funding)) (read_same J event entries read no_forwarding none b.inboxed) (omega (arith, no_amount))
+      pushes event t after R since positions read fits same is (omega (arith, no_funds)) (omega (arith, no_defunds)) (omega (arith, few)) (table_keep funding_of J event R b.referred no_reference)
+      (omega (arith, b.fundings, fundings_more J event other, ap (λ (x : Bool). cond {A = ℕ} x 1 0) no_funding)) (read_same who J event positions read no_forwarding none b.inboxed) (omega (arith, no_amount))
 
   pub taken_beside : (id : List ℕ) (to cents stamp : ℕ) (after : Held) → Fits s who J (Taken id to cents stamp) → after.who ≡ table.who → state_in after ≡ step table.who (state_in table) (Taken id to cents stamp)
-      → IsBeside s who (J ++ Taken id to cents stamp ∷ []) t after R since entries read
+      → IsBeside s who (J ++ Taken id to cents stamp ∷ []) t after R since positions read
   taken_beside id to cents stamp after fits same is =
       quiet_pushes (Taken id to cents stamp) after fits same is (omega (arith, ap (λ (st : State). st.credits) is)) refl refl (λ _. refl) refl refl refl refl refl
 
-  pub forwarded_beside : (from : ℕ) (id : List ℕ) (cents deadline : ℕ) (after : Held) → Fits s who J (Forwarded from id cents deadline) → cents ≤ MOST_CENTS → after.who ≡ table.who → state_in after ≡ step table.who (state_in table) (Forwarded from id cents deadline)
-      → IsBeside s who (J ++ Forwarded from id cents deadline ∷ []) t after R since (entries ++ record { from = from; id = id; cents = cents; deadline = deadline } ∷ []) read
-  forwarded_beside from id cents deadline after fits most same is =
+  pub forwarded_beside : (from : ℕ) (id : List ℕ) (cents deadline : ℕ) (place : ℕ) (after : Held) → place ≡ length table.entries → Fits s who J (Forwarded from id cents deadline) → cents ≤ MOST_CENTS → after.who ≡ table.who → state_in after ≡ step table.who (state_in table) (Forwarded from id cents deadline)
+      → IsBeside s who (J ++ Forwarded from id cents deadline ∷ []) t after R since (positions ++ place ∷ []) read
+  forwarded_beside from id cents deadline place after at fits most same is =
       let event : Event = Forwarded from id cents deadline in
-      let entry : Entry = record { from = from; id = id; cents = cents; deadline = deadline } in
-      pushes event t after R since (entries ++ entry ∷ []) read fits same is (omega arith) (omega arith) (omega (arith, ap (λ (st : State). st.credits) is)) (table_keep funding_of J event R b.referred (λ _. refl))
+      let last : place ≡ length (rows_of who J) = at ∙ sym (length-map table.entries _) ∙ ap length b.right.rows in
+      pushes event t after R since (positions ++ place ∷ []) read fits same is (omega arith) (omega arith) (omega (arith, ap (λ (st : State). st.credits) is)) (table_keep funding_of J event R b.referred (λ _. refl))
       (omega (arith, b.fundings, fundings_more J event refl))
-      (record { came = ap (λ xs. xs ++ entry ∷ []) b.inboxed.came ∙ sym ((in_order_of_arrival J).arrival from id cents deadline); were_read = omega (arith, b.inboxed.were_read, sum_by_push handed_out J event) })
+      (read_more who J from id cents deadline place positions read last b.inboxed)
       (omega (arith, most))
 
-  pub fetched_beside : (count : ℕ) → Fits s who J (Fetched count) → IsBeside s who (J ++ Fetched count ∷ []) t table R since entries (read + count)
+  pub fetched_beside : (count : ℕ) → Fits s who J (Fetched count) → IsBeside s who (J ++ Fetched count ∷ []) t table R since positions (read + count)
   fetched_beside count fits =
       let event : Event = Fetched count in
-      pushes event t table R since entries (read + count) fits refl refl (omega arith) (omega arith) (omega arith) (table_keep funding_of J event R b.referred (λ _. refl)) (omega (arith, b.fundings, fundings_more J event refl))
-      (record { came = b.inboxed.came ∙ sym ((in_order_of_arrival J).others event refl); were_read = omega (arith, b.inboxed.were_read, sum_by_push handed_out J event) }) (omega arith)
+      pushes event t table R since positions (read + count) fits refl refl (omega arith) (omega arith) (omega arith) (table_keep funding_of J event R b.referred (λ _. refl)) (omega (arith, b.fundings, fundings_more J event refl))
+      (read_on who J count positions read b.inboxed) (omega arith)
 
-  pub opened_beside : (after : Held) → Fits s who J Opened → after.who ≡ table.who → state_in after ≡ step table.who (state_in table) Opened → IsBeside s who (J ++ Opened ∷ []) t after R 0 entries read
+  pub opened_beside : (after : Held) → Fits s who J Opened → after.who ≡ table.who → state_in after ≡ step table.who (state_in table) Opened → IsBeside s who (J ++ Opened ∷ []) t after R 0 positions read
   opened_beside after fits same is =
-      pushes Opened t after R 0 entries read fits same is (omega arith) (omega arith) (omega (arith, ap (λ (st : State). st.credits) is)) (table_keep funding_of J Opened R b.referred (λ _. refl)) (sym (fundings_none J))
-      (read_same J Opened entries read refl refl b.inboxed) (omega arith)
+      pushes Opened t after R 0 positions read fits same is (omega arith) (omega arith) (omega (arith, ap (λ (st : State). st.credits) is)) (table_keep funding_of J Opened R b.referred (λ _. refl)) (sym (fundings_none J))
+      (read_same who J Opened positions read refl refl b.inboxed) (omega arith)
 
   pub funded_beside : (reference : List ℕ) (cents added : ℕ) (after : List ℕ → Option Funding) → added ≡ cents → Fits s who J (Funded reference cents) → cents ≤ MOST_CENTS
       → ((q : List ℕ) → after q ≡ cond (same_text reference q) (Some (record { is_defunding = false; cents = cents })) (R q))
-      → IsBeside s who (J ++ Funded reference cents ∷ []) (record { funded = t.funded + added; defunded = t.defunded }) table after (since + 1) entries read
+      → IsBeside s who (J ++ Funded reference cents ∷ []) (record { funded = t.funded + added; defunded = t.defunded }) table after (since + 1) positions read
   funded_beside reference cents added after same fits most put =
       let event : Event = Funded reference cents in
-      pushes event _ table after (since + 1) entries read fits refl refl (omega (arith, same)) (omega arith) (omega (arith, same, most)) (funded_put J reference cents R after fits.new b.referred put)
-      (omega (arith, b.fundings, fundings_more J event refl)) (read_same J event entries read refl refl b.inboxed) (omega (arith, most))
+      pushes event _ table after (since + 1) positions read fits refl refl (omega (arith, same)) (omega arith) (omega (arith, same, most)) (funded_put J reference cents R after fits.new b.referred put)
+      (omega (arith, b.fundings, fundings_more J event refl)) (read_same who J event positions read refl refl b.inboxed) (omega (arith, most))
 
   pub defunded_beside : (reference : List ℕ) (cents added : ℕ) (after : List ℕ → Option Funding) → added ≡ cents → Fits s who J (Defunded reference cents)
       → ((q : List ℕ) → after q ≡ cond (same_text reference q) (Some (record { is_defunding = true; cents = cents })) (R q))
-      → IsBeside s who (J ++ Defunded reference cents ∷ []) (record { funded = t.funded; defunded = t.defunded + added }) table after (since + 1) entries read
+      → IsBeside s who (J ++ Defunded reference cents ∷ []) (record { funded = t.funded; defunded = t.defunded + added }) table after (since + 1) positions read
   defunded_beside reference cents added after same fits put =
       let event : Event = Defunded reference cents in
-      pushes event _ table after (since + 1) entries read fits refl refl (omega arith) (omega (arith, same)) (omega arith) (defunded_put J reference cents R after fits.funding.new b.referred put)
-      (omega (arith, b.fundings, fundings_more J event refl)) (read_same J event entries read refl refl b.inboxed) (omega arith)
+      pushes event _ table after (since + 1) positions read fits refl refl (omega arith) (omega (arith, same)) (omega arith) (defunded_put J reference cents R after fits.funding.new b.referred put)
+      (omega (arith, b.fundings, fundings_more J event refl)) (read_same who J event positions read refl refl b.inboxed) (omega arith)
 
   -- a transfer that was neither taken nor forwarded isn't in the table
   unknown : (o : Option Transfer) → terms_in o ≡ None → forwarding_in o ≡ None → o ≡ None
@@ -250,7 +243,7 @@ module _ (s : HubSettings) (who : ℕ) (J : List Event) (t : Totals) (table : He
       by (Other deadline) = omega (arith, little outcome f.transfer.cents, most)
 
   pub booked_beside : (f : Found) (outcome : Outcome) (after : Held) → IsFound table f → Fits s who J (Booked f.from f.id outcome) → f.transfer.cents ≤ MOST_CENTS → after.who ≡ table.who → state_in after ≡ step table.who (state_in table) (Booked f.from f.id outcome)
-      → IsBeside s who (J ++ Booked f.from f.id outcome ∷ []) t after R since entries read
+      → IsBeside s who (J ++ Booked f.from f.id outcome ∷ []) t after R since positions read
   booked_beside f outcome after found fits most same is =
       quiet_pushes (Booked f.from f.id outcome) after fits same is (credited_few f outcome after found most is) refl refl (λ _. refl) refl refl refl refl refl
 

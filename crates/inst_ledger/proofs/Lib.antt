@@ -10,3 +10,4 @@ pub mod Begun
 pub mod Opening
 pub mod Stating
 pub mod Beneficiary
+pub mod Inbox

@@ -2,7 +2,6 @@
 use Rattle.std.proofs.Common.{◌≡◌, ℕ, ◌+◌, ◌^◌, ◌<◌, ◌≤◌, cond, List, [], ◌∷◌, ◌++◌, Option, Some, None, refl, sym, ap, subst, ◌∙◌, arith}
 use Rattle.std.specs.Option.{option_map}
 use Rattle.inst_settings.specs.Settings.{HubSettings, same_text}
-use Rattle.inst_command.specs.declared.entry.Entry.{Entry}
 use Rattle.inst_command.specs.declared.outcome.Outcome.{Outcome}
 use Rattle.inst_command.specs.declared.outcome.Outcome.TheVariants.{Accepted, Rejected, TimedOut}
 use Rattle.inst_journal.specs.declared.event.Event.{Event}
@@ -45,9 +44,9 @@ pub stated_at : {J K : List Event} {stated : Stated} → K ≡ J → IsStatement
 stated_at {J} {K} {stated} same of = subst (λ (E : List Event). IsStatementOf E stated) (sym same) of
 
 -- the same ledger by other names
-pub ledger_same : {s : HubSettings} {who : ℕ} {J K : List Event} {t : Totals} {table other : Held} {R S : List ℕ → Option Funding} {since : ℕ} {entries others : List Entry} {read : ℕ} {before after : Stated}
-    → K ≡ J → (room : ℕ) → other ≡ record table { room = room } → ((reference : List ℕ) → S reference ≡ R reference) → others ≡ entries → after.lines ≡ before.lines → after.position ≡ before.position
-    → IsLedger s who J t table R since entries read before → IsLedger s who K t other S since others read after
+pub ledger_same : {s : HubSettings} {who : ℕ} {J K : List Event} {t : Totals} {table other : Held} {R S : List ℕ → Option Funding} {since : ℕ} {positions others : List ℕ} {read : ℕ} {before after : Stated}
+    → K ≡ J → (room : ℕ) → other ≡ record table { room = room } → ((reference : List ℕ) → S reference ≡ R reference) → others ≡ positions → after.lines ≡ before.lines → after.position ≡ before.position
+    → IsLedger s who J t table R since positions read before → IsLedger s who K t other S since others read after
 ledger_same events room same references inbox lines at l = record {
   beside = beside_same events room same references inbox l.beside;
   lines = stated_at events (stated_same lines at l.lines);
@@ -82,7 +81,7 @@ came_forwarding from id (Booked other_from other outcome) = refl
 came_forwarding from id (Fetched count) = refl
 came_forwarding from id Opened = refl
 
-module _ (s : HubSettings) (who : ℕ) (J : List Event) (t : Totals) (table : Held) (R : List ℕ → Option Funding) (since : ℕ) (entries : List Entry) (read : ℕ) (b : IsBeside s who J t table R since entries read) where
+module _ (s : HubSettings) (who : ℕ) (J : List Event) (t : Totals) (table : Held) (R : List ℕ → Option Funding) (since : ℕ) (positions : List ℕ) (read : ℕ) (b : IsBeside s who J t table R since positions read) where
   accepted_by : (from : ℕ) (id : List ℕ) (cents : ℕ) (side : Side) (old : Option Outcome) → Fits s who J (Booked from id Accepted) → found_at table.entries (from, id) ≡ Some (record { cents = cents; side = side; outcome = old })
       → accepted_movement J from id ≡ Some (movement_by from id cents side)
   accepted_by from id cents (Own to stamp) old fits there =
@@ -112,7 +111,7 @@ module _ (s : HubSettings) (who : ℕ) (J : List Event) (t : Totals) (table : He
     room = room;
     covered = covers_movement s who J event b.sound fits m stated is of;
     fits = subst (λ (p : ℕ). p + raised m.kind m.cents < 2 ^ 64) (sym of.is_position)
-        (raised_fits m (position J) (position (J ++ event ∷ [])) (moved_to s who J event b.sound fits m is) (position_small s who J t table R since entries read b) (position_next s who J t table R since entries read b event fits small));
+        (raised_fits m (position J) (position (J ++ event ∷ [])) (moved_to s who J event b.sound fits m is) (position_small s who J t table R since positions read b) (position_next s who J t table R since positions read b event fits small));
     few = number_fits s who J stated b.lawful b.sound of;
   }
 

@@ -2,16 +2,15 @@
 -- are live, and the inbox with how much of it was handed out.
 use Rattle.std.specs.Prelude.{◌≡◌, ℕ, ◌+◌, ◌*◌, ◌≤◌, List, length, Option, Some, None, sum_by, if◌then◌else◌, Bool, true, false, not, ◌&&◌, ◌==◌}
 use Rattle.inst_settings.specs.Settings.{HubSettings, same_text}
-use Rattle.inst_command.specs.declared.entry.Entry.{Entry}
 use Rattle.inst_command.specs.declared.outcome.Outcome.{Outcome}
 use Rattle.inst_journal.specs.declared.event.Event.{Event}
 use Rattle.inst_journal.specs.declared.event.Event.TheVariants.{Funded, Defunded, Forwarded}
 use Rattle.inst_journal.specs.Keys.{is_funding, fundings}
 use Rattle.inst_journal.specs.Booked.{is_forwarding}
 use Rattle.inst_base.specs.declared.cents.TheConstants.{MOST_CENTS}
-use Rattle.inst_journal.specs.Reply.{inbox, handed_out}
 use Rattle.inst_ledger.specs.declared.references.Funding.{Funding}
 use Rattle.inst_ledger.specs.declared.totals.Totals.{Totals}
+use Rattle.inst_ledger.specs.Inbox.{IsRead}
 use Rattle.inst_ledger.specs.Kept.{IsTable}
 use Rattle.inst_ledger.specs.Right.{IsRight}
 use Rattle.inst_settings.specs.Lawful.{IsSettings}
@@ -45,11 +44,6 @@ is_funding_of is_defunding cents (Some funding) =
     same_kind funding.is_defunding is_defunding && (funding.cents == cents)
 is_funding_of is_defunding cents None = false
 
--- the arrivals, and how many of them were handed out
-pub record IsRead (J : List Event) (entries : List Entry) (read : ℕ) : Type 0 where
-  pub came : entries ≡ inbox J
-  pub were_read : read ≡ sum_by handed_out J
-
 -- what the event adds to the position at most
 abbrev pub amount_of : Event → ℕ
 amount_of (Funded reference cents) = cents
@@ -64,7 +58,7 @@ most_of J = sum_by (λ event. if is_funding event then MOST_CENTS else 0) J
 -- all that a ledger keeps beside its history is right of it
 -- within: what came is within what the length of the history allows
 pub record IsBeside (s : HubSettings) (who : ℕ) (J : List Event) (t : Totals) (table : Held) (references : List ℕ → Option Funding)
-    (since : ℕ) (entries : List Entry) (read : ℕ) : Type 0 where
+    (since : ℕ) (positions : List ℕ) (read : ℕ) : Type 0 where
   pub lawful : IsSettings s
   pub sound : IsSound s who J
   pub whose : table.who ≡ who
@@ -74,7 +68,7 @@ pub record IsBeside (s : HubSettings) (who : ℕ) (J : List Event) (t : Totals) 
   pub within : t.funded + table.credits ≤ length J * MOST_CENTS
   pub referred : IsTable funding_of J references
   pub fundings : since ≡ fundings J
-  pub inboxed : IsRead J entries read
+  pub inboxed : IsRead who J positions read
   pub amounts : sum_by amount_of J ≤ most_of J
 
 -- what an accepted transfer moves: the amount is paid to its beneficiary, or received from its originator
@@ -99,6 +93,6 @@ AddsIf before (Some movement) after = Adds before movement after
 
 -- the statement that is kept beside them is the history's too
 pub record IsLedger (s : HubSettings) (who : ℕ) (J : List Event) (t : Totals) (table : Held) (references : List ℕ → Option Funding)
-    (since : ℕ) (entries : List Entry) (read : ℕ) (stated : Stated) : Type 0 where
-  pub beside : IsBeside s who J t table references since entries read
+    (since : ℕ) (positions : List ℕ) (read : ℕ) (stated : Stated) : Type 0 where
+  pub beside : IsBeside s who J t table references since positions read
   pub lines : IsStatementOf J stated

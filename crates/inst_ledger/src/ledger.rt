@@ -10,7 +10,7 @@ mod reading;
 use crate::references::References;
 use crate::totals::Totals;
 use inst_base::Fault;
-use inst_command::{Entry, Outcome};
+use inst_command::Outcome;
 use inst_journal::{Event, Journal};
 use inst_settings::Settings;
 use inst_statement::KeptStatement;
@@ -29,7 +29,7 @@ pub struct Ledger {
     table: Transfers,
     references: References,
     fundings: usize,
-    inbox: Vec<Entry>,
+    inbox: Vec<usize>,
     read: usize,
     statement: KeptStatement,
 }

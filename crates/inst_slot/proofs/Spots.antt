@@ -28,6 +28,7 @@ use Rattle.inst_transfers.specs.Held.{Held, state_in, found_at, row_in, rows_in,
 use Rattle.inst_transfers.proofs.Rows.{within_more, within_last, rising_push, rising_all, same_index, row_there, keys_equiv}
 use Rattle.inst_ledger.specs.Book.{Book as Kept, with_event}
 use Rattle.inst_ledger.specs.Right.{IsRight}
+use Rattle.inst_ledger.proofs.Inbox.{get_still, get_next}
 use Rattle.inst_ledger.proofs.Right.{rows_push}
 use Rattle.inst_slot.specs.declared.arrival.Arrival.{Arrival}
 use Rattle.inst_slot.specs.declared.arrivals.Spot.{Spot}
@@ -40,15 +41,6 @@ use Rattle.inst_slot.proofs.Arrived.{none_counted, counted_once, none_arrived, a
 use Rattle.inst_slot.proofs.Indexed.{none_there}
 
 -- one event more
-get_still : (xs ys : List Entry) (p : ℕ) (d : Entry) → p < length xs → get_or (xs ++ ys) p d ≡ get_or xs p d
-get_still [] ys p d below = absurd (omega (arith, below))
-get_still (x ∷ xs) ys zero d below = refl
-get_still (x ∷ xs) ys (suc p) d below = get_still xs ys p d (omega (arith, below))
-
-get_next : (xs : List Entry) (y d : Entry) → get_or (xs ++ y ∷ []) (length xs) d ≡ y
-get_next [] y d = refl
-get_next (x ∷ xs) y d = get_next xs y d
-
 abbrev lying : Option ℕ → Entry → Arrival
 lying index entry = record { entry = entry; index = index }
 

@@ -1,14 +1,12 @@
 -- How a slot keeps its arrivals: for each, where its participant's table holds the transfer, and the index of its place. What
 -- else an arrival has is read off the table. This hub's own choice.
 pub use Rattle.inst_transfers.specs.State.{rows_of}
-use Rattle.std.specs.Prelude.{◌≡◌, ◌≢◌, ℕ, get_or, List, [], map, length, slice_get, Option, Some, None}
+pub use Rattle.inst_ledger.specs.Inbox.{no_entry}
+use Rattle.std.specs.Prelude.{◌≡◌, ◌≢◌, ℕ, get_or, List, map, length, slice_get, Option, Some, None}
 use Rattle.inst_command.specs.declared.entry.Entry.{Entry}
 use Rattle.inst_transfers.specs.Held.{AreWithin, AreRising}
 use Rattle.inst_slot.specs.declared.arrival.Arrival.{Arrival}
 use Rattle.inst_slot.specs.declared.arrivals.Spot.{Spot}
-
-abbrev pub no_entry : Entry
-no_entry = record { from = 0; id = []; cents = 0; deadline = 0 }
 
 -- the arrival at a spot, of what a table keeps for good of its transfers
 abbrev pub arrival_of : List Entry → Spot → Arrival

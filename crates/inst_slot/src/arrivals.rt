@@ -2,16 +2,16 @@
 ghost use Rattle.std.specs.Prelude.{◌≡◌, IfOk, map, IsOkUnless};
 ghost use Rattle.std.specs.List.{list_any};
 ghost use Rattle.inst_journal.specs.Opened.{carried};
-ghost use Rattle.inst_transfers.specs.Held.{IsFound, AreRising, time_in};
+ghost use Rattle.inst_transfers.specs.Held.{IsFound, AreRising};
 ghost use Rattle.inst_slot.specs.Book.{live_inbox, arrived_at};
 ghost use Rattle.inst_slot.specs.Opening.{unplaced, awaits, found_at};
 ghost use Rattle.inst_slot.specs.Spots.{rows_of, arrivals_of, positions_of, AreSpots, FindsSpot};
 
 use crate::Arrival;
 use crate::arrival::awaits;
-use inst_base::{Fault, Ident, Moment};
+use inst_base::{Fault, Moment};
 use inst_board::Place;
-use inst_command::{Entry, Outcome};
+use inst_command::Outcome;
 use inst_journal::Event;
 use inst_ledger::Ledger;
 use inst_terms::Terms;
@@ -50,29 +50,6 @@ pub(crate) fn arrived_at(ledger: &Ledger, spots: &[Spot], found: &Found) -> Opti
     spots[at].index
 }
 
-/// What came with the transfer that was found.
-fn entry_of(found: &Found) -> Entry
-    ensures { result ≡ record { from = found.now.from; id = found.now.id; cents = found.now.transfer.cents; deadline = time_in found.now.transfer.side } }
-{
-    let &Found {
-        from,
-        id,
-        transfer,
-        ..
-    } = found;
-    let cents = transfer.cents;
-    let deadline = match &transfer.side {
-        Side::Own { stamp, .. } => *stamp,
-        Side::Other { deadline } => *deadline,
-    };
-    Entry {
-        from,
-        id,
-        cents,
-        deadline,
-    }
-}
-
 /// Keeps the place of the transfer that awaits it, if there is one.
 pub(crate) fn find_at(
     ledger: &Ledger,
@@ -97,7 +74,7 @@ pub(crate) fn find_at(
         return false;
     };
     let Spot { position, index } = spots[at];
-    let entry = entry_of(&found);
+    let entry = found.entry();
     if !awaits(&Arrival { entry, index }, place, terms, deadline) {
         return false;
     }

@@ -1,6 +1,9 @@
 //! What a participant has of one transfer.
+ghost use Rattle.std.specs.Prelude.{◌≡◌};
+ghost use Rattle.inst_transfers.specs.Held.{row_in};
+
 use inst_base::{Cents, Ident, Moment};
-use inst_command::Outcome;
+use inst_command::{Entry, Outcome};
 
 /// Whose transfer it is: the participant's own, or one that was forwarded to it.
 #[derive(Clone, Copy, Debug, PartialEq, Eq)]
@@ -25,4 +28,29 @@ pub struct Found {
     pub id: Ident,
     pub position: usize,
     pub transfer: Transfer,
+}
+
+impl Found {
+    /// What came with it. Of one that is the participant's own, its stamp stands for the deadline.
+    pub fn entry(&self) -> Entry
+        ensures { result ≡ row_in ((self.now.from, self.now.id), self.now.transfer) }
+    {
+        let &Found {
+            from,
+            id,
+            transfer,
+            ..
+        } = self;
+        let cents = transfer.cents;
+        let deadline = match &transfer.side {
+            Side::Own { stamp, .. } => *stamp,
+            Side::Other { deadline } => *deadline,
+        };
+        Entry {
+            from,
+            id,
+            cents,
+            deadline,
+        }
+    }
 }

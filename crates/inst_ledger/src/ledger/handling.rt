@@ -1,5 +1,5 @@
 //! What a command is answered, and what the history is to keep of it.
-ghost use Rattle.std.specs.Prelude.{◌≡◌, ◌≤◌, true, false, take, drop, length, IfOk, IsOk};
+ghost use Rattle.std.specs.Prelude.{◌≡◌, ◌≤◌, true, false, take, drop, length, IfOk, IsOk, IsOkUnless};
 ghost use Rattle.inst_base.specs.Fault.{IsUnlessMemory};
 ghost use Rattle.inst_base.specs.Moment.{is_moment};
 ghost use Rattle.inst_base.specs.TimeLimit.{deadline_of};
@@ -7,13 +7,17 @@ ghost use Rattle.inst_command.specs.Ask.{command_fits, is_count};
 ghost use Rattle.inst_journal.specs.Reply.{is_new_funding, fund, defund, submit, answer_forwarded, confirm, reject, investigate, unread, hand_out, answered, copies};
 ghost use Rattle.inst_journal.specs.Statement.{statement_part};
 ghost use Rattle.inst_ledger.specs.Book.{answer_to, MayKeep};
+ghost use Rattle.inst_ledger.specs.Inbox.{entries_at};
+ghost use Rattle.inst_transfers.specs.State.{rows_of};
+ghost use Rattle.inst_transfers.specs.Held.{AreWithin};
 ghost use Rattle.inst_journal.specs.Money.{reserved, position, available};
 
 use super::Ledger;
 use inst_base::{Cents, Fault, Ident, Moment};
 use inst_command::{Command, Entries, Entry, Lines, Outcome, Reply, Submission};
 use inst_journal::{Event, Handled, standing, still_pending};
-use std::alloc::{AllocError, Global};
+use inst_transfers::{Side, Transfer};
+use std::alloc::Global;
 
 impl Ledger {
     /// Whether a fund or defund command is new, and no repeat; `Duplicate` and `Full` come first.
@@ -169,23 +173,41 @@ impl Ledger {
         }
     }
 
-    /// The forwarded transfers that weren't handed out yet.
-    fn rest(&self) -> &[Entry]
-        ensures { result.now ≡ unread self.now.book.events }
+    /// Where the table has the forwarded transfers that weren't handed out yet.
+    fn rest(&self) -> &[usize]
+        ensures came { entries_at (rows_of self.now.book.who self.now.book.events) result.now ≡ unread self.now.book.events }
+        ensures within { AreWithin (length (rows_of self.now.book.who self.now.book.events)) result.now }
     {
         after(self.inbox.as_slice(), self.read)
     }
 
+    /// What came with the transfers at these positions of the table. It looks nothing up by its key.
+    fn entries(&self, alloc: Global, positions: &[usize]) -> Result<Vec<Entry>, Fault>
+        requires within { AreWithin (length (rows_of self.now.book.who self.now.book.events)) positions.now }
+        ensures ok { IfOk result (λ entries. entries.items ≡
+            entries_at (rows_of self.now.book.who self.now.book.events) positions.now) }
+        ensures only { IsOkUnless result Fault.Memory }
+    {
+        // The check is told of an enum inside a struct only where a function names it.
+        let _: Option<(Side, Transfer, Outcome)> = None;
+        let mut entries = Vec::new(alloc);
+        for position in positions {
+            entries.push(self.at(*position).unwrap().entry())?;
+        }
+        Ok(entries)
+    }
+
     /// The next unread forwarded transfers, at most `max` of them. It takes no memory where all are read.
-    fn unread(&self, alloc: Global, max: u32) -> Result<Vec<Entry>, AllocError>
+    fn unread(&self, alloc: Global, max: u32) -> Result<Vec<Entry>, Fault>
         ensures ok { IfOk result (λ entries. entries.items ≡ take max (unread self.now.book.events)) }
         ensures none { length (unread self.now.book.events) ≡ 0 → IsOk result }
+        ensures only { IsOkUnless result Fault.Memory }
     {
         let rest = self.rest();
         if rest.is_empty() {
             return Ok(Vec::new(alloc));
         }
-        rest[..rest.len().min(max as usize)].to_vec(alloc)
+        self.entries(alloc, &rest[..rest.len().min(max as usize)])
     }
 
     /// Hands out the next unread forwarded transfers, at most `max` of them. `Memory` only where there are some.
@@ -275,10 +297,10 @@ impl Ledger {
     }
 }
 
-/// The entries after this many of them.
-fn after(entries: &[Entry], read: usize) -> &[Entry]
-    requires { read ≤ length entries.now }
-    ensures { result.now ≡ drop read entries.now }
+/// The positions after this many of them.
+fn after(positions: &[usize], read: usize) -> &[usize]
+    requires { read ≤ length positions.now }
+    ensures { result.now ≡ drop read positions.now }
 {
-    &entries[read..]
+    &positions[read..]
 }

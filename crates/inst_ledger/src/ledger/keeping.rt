@@ -120,12 +120,13 @@ impl Ledger {
         };
         // That an amount is within the most is known where it is read.
         let _ = cents.get();
+        let position = self.table.len();
         self.journal.reserve()?;
         self.inbox.try_reserve(1)?;
         self.table.reserve()?;
         self.journal.push(event)?;
         self.table.deliver(from, id, cents, deadline);
-        self.inbox.push_reserved(entry);
+        self.inbox.push_reserved(position);
         Ok(())
     }
 

@@ -106,8 +106,8 @@ returns-then-not-awaits-clause-found c =
     let at = subst (λ (l : List Spot). IsSpotAt l f.position i) c.as_slice.ensures.value c.in-Some-spot_at.ensures in
     let x : Arrival = arrival_of rows at.spot in
     let here : c.index.result.now ≡ at.spot = c.index.ensures ∙ get_or_from_slice_get S i at.spot _ at.there in
-    let entry : c.entry_of-entry.result ≡ x.entry = c.entry_of-entry.ensures ∙ sym (is_here rows S apart c.requires.spots k.owner t.id f.position _ row is.0 is.1 i at) in
-    let same : record { entry = c.entry_of-entry.result; index = c.index.result.now.index } ≡ x = λ j. record { entry = entry j; index = (here j).index } in
+    let entry : c.entry-entry.result ≡ x.entry = c.entry-entry.ensures ∙ sym (is_here rows S apart c.requires.spots k.owner t.id f.position _ row is.0 is.1 i at) in
+    let same : record { entry = c.entry-entry.result; index = c.index.result.now.index } ≡ x = λ j. record { entry = entry j; index = (here j).index } in
     let there = arrival_there rows S i at.spot at.there in
     let mine = is_named rows S apart c.requires.spots k.owner t.id f.position _ row is.0 is.1 i at in
     let other = ap (awaits k t c.args.deadline) (sym same) ∙ sym c.awaits.ensures ∙ c.if-not-awaits.true in
@@ -131,8 +131,8 @@ returns-then-not-awaits-clause-kept c =
     let at = subst (λ (l : List Spot). IsSpotAt l f.position i) c.as_slice.ensures.value c.in-Some-spot_at.ensures in
     let x : Arrival = arrival_of rows at.spot in
     let here : c.index.result.now ≡ at.spot = c.index.ensures ∙ get_or_from_slice_get S i at.spot _ at.there in
-    let entry : c.entry_of-entry.result ≡ x.entry = c.entry_of-entry.ensures ∙ sym (is_here rows S apart c.requires.spots k.owner t.id f.position _ row is.0 is.1 i at) in
-    let same : record { entry = c.entry_of-entry.result; index = c.index.result.now.index } ≡ x = λ j. record { entry = entry j; index = (here j).index } in
+    let entry : c.entry-entry.result ≡ x.entry = c.entry-entry.ensures ∙ sym (is_here rows S apart c.requires.spots k.owner t.id f.position _ row is.0 is.1 i at) in
+    let same : record { entry = c.entry-entry.result; index = c.index.result.now.index } ≡ x = λ j. record { entry = entry j; index = (here j).index } in
     let there = arrival_there rows S i at.spot at.there in
     let mine = is_named rows S apart c.requires.spots k.owner t.id f.position _ row is.0 is.1 i at in
     let other = ap (awaits k t c.args.deadline) (sym same) ∙ sym c.awaits.ensures ∙ c.if-not-awaits.true in
@@ -156,8 +156,8 @@ returns-clause-found c =
     let at = subst (λ (l : List Spot). IsSpotAt l f.position i) c.as_slice.ensures.value c.in-Some-spot_at.ensures in
     let x : Arrival = arrival_of rows at.spot in
     let here : c.index.result.now ≡ at.spot = c.index.ensures ∙ get_or_from_slice_get S i at.spot _ at.there in
-    let entry : c.entry_of-entry.result ≡ x.entry = c.entry_of-entry.ensures ∙ sym (is_here rows S apart c.requires.spots k.owner t.id f.position _ row is.0 is.1 i at) in
-    let same : record { entry = c.entry_of-entry.result; index = c.index.result.now.index } ≡ x = λ j. record { entry = entry j; index = (here j).index } in
+    let entry : c.entry-entry.result ≡ x.entry = c.entry-entry.ensures ∙ sym (is_here rows S apart c.requires.spots k.owner t.id f.position _ row is.0 is.1 i at) in
+    let same : record { entry = c.entry-entry.result; index = c.index.result.now.index } ≡ x = λ j. record { entry = entry j; index = (here j).index } in
     let there = arrival_there rows S i at.spot at.there in
     let mine = is_named rows S apart c.requires.spots k.owner t.id f.position _ row is.0 is.1 i at in
     let waits = ap (awaits k t c.args.deadline) (sym same) ∙ sym c.awaits.ensures ∙ c.if-not-awaits.false in
@@ -181,8 +181,8 @@ returns-clause-kept c =
     let at = subst (λ (l : List Spot). IsSpotAt l f.position i) c.as_slice.ensures.value c.in-Some-spot_at.ensures in
     let x : Arrival = arrival_of rows at.spot in
     let here : c.index.result.now ≡ at.spot = c.index.ensures ∙ get_or_from_slice_get S i at.spot _ at.there in
-    let entry : c.entry_of-entry.result ≡ x.entry = c.entry_of-entry.ensures ∙ sym (is_here rows S apart c.requires.spots k.owner t.id f.position _ row is.0 is.1 i at) in
-    let same : record { entry = c.entry_of-entry.result; index = c.index.result.now.index } ≡ x = λ j. record { entry = entry j; index = (here j).index } in
+    let entry : c.entry-entry.result ≡ x.entry = c.entry-entry.ensures ∙ sym (is_here rows S apart c.requires.spots k.owner t.id f.position _ row is.0 is.1 i at) in
+    let same : record { entry = c.entry-entry.result; index = c.index.result.now.index } ≡ x = λ j. record { entry = entry j; index = (here j).index } in
     let there = arrival_there rows S i at.spot at.there in
     let mine = is_named rows S apart c.requires.spots k.owner t.id f.position _ row is.0 is.1 i at in
     let waits = ap (awaits k t c.args.deadline) (sym same) ∙ sym c.awaits.ensures ∙ c.if-not-awaits.false in
@@ -208,8 +208,8 @@ returns-clause-spots c =
     let at = subst (λ (l : List Spot). IsSpotAt l f.position i) c.as_slice.ensures.value c.in-Some-spot_at.ensures in
     let x : Arrival = arrival_of rows at.spot in
     let here : c.index.result.now ≡ at.spot = c.index.ensures ∙ get_or_from_slice_get S i at.spot _ at.there in
-    let entry : c.entry_of-entry.result ≡ x.entry = c.entry_of-entry.ensures ∙ sym (is_here rows S apart c.requires.spots k.owner t.id f.position _ row is.0 is.1 i at) in
-    let same : record { entry = c.entry_of-entry.result; index = c.index.result.now.index } ≡ x = λ j. record { entry = entry j; index = (here j).index } in
+    let entry : c.entry-entry.result ≡ x.entry = c.entry-entry.ensures ∙ sym (is_here rows S apart c.requires.spots k.owner t.id f.position _ row is.0 is.1 i at) in
+    let same : record { entry = c.entry-entry.result; index = c.index.result.now.index } ≡ x = λ j. record { entry = entry j; index = (here j).index } in
     let there = arrival_there rows S i at.spot at.there in
     let mine = is_named rows S apart c.requires.spots k.owner t.id f.position _ row is.0 is.1 i at in
     let new : Spot = record { position = c.index.result.now.position; index = Some k.index } in

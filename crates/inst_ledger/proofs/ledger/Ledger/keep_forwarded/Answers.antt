@@ -1,4 +1,4 @@
-use Rattle.std.proofs.Common.{refl, ap, arith, ◌∙◌, ◌++◌, ◌∷◌, []}
+use Rattle.std.proofs.Common.{refl, sym, ap, arith, length, ◌∙◌, ◌++◌, ◌∷◌, []}
 use Rattle.inst_journal.specs.declared.event.Event.{Event}
 use Rattle.inst_transfers.specs.Held.{Held, found_at}
 use Rattle.inst_ledger.proofs.Beside.{forwarded_absent, forwarded_beside, beside_same, pushed, fits_at}
@@ -24,8 +24,9 @@ invariant_of-self-2 c =
     let fits = fits_at c.self.view_is event c.requires in
     let events = pushed event c.reserve.ensures.events c.in_ok-push.ensures.ok in
     let before = beside_same refl _ c.reserve-2.ensures.same (λ _. refl) refl c.self.invariant.beside in
-    let after = forwarded_beside i.settings.value i.who i.journal.events i.totals c.reserve-2.new.self _ i.fundings i.inbox.items i.read before e.from e.id e.cents e.deadline c.deliver.new.self fits (omega (arith, c.get.ensures.value, c.get.ensures.within)) c.deliver.ensures.who c.deliver.ensures.state in
+    let at = c.len-position.ensures.count ∙ sym (ap (λ (h : Held). length h.entries) c.reserve-2.ensures.same) in
+    let after = forwarded_beside i.settings.value i.who i.journal.events i.totals c.reserve-2.new.self _ i.fundings i.inbox.items i.read before e.from e.id e.cents e.deadline c.len-position.result c.deliver.new.self at fits (omega (arith, c.get.ensures.value, c.get.ensures.within)) c.deliver.ensures.who c.deliver.ensures.state in
     record {
-      beside = beside_same events _ refl (λ _. refl) (c.push_reserved.ensures.items ∙ ap (λ xs. xs ++ e ∷ []) c.try_reserve.ensures.items) after;
+      beside = beside_same events _ refl (λ _. refl) (c.push_reserved.ensures.items ∙ ap (λ xs. xs ++ c.len-position.result ∷ []) c.try_reserve.ensures.items) after;
       lines = stated_at events (line_less i.settings.value i.who i.journal.events event c.self.invariant.beside.sound fits i.statement i.statement refl refl refl refl c.self.invariant.lines);
     }
