@@ -126,52 +126,30 @@ const MEMBERS: [(&str, bool); 38] = [
     (r#","#, false),
 ];
 
-/// An object of members, the one at `first` first, and then as they come; `more` stands before or
-/// behind them.
-fn line_of(
-    alloc: Global,
-    members: &[&str],
-    first: usize,
-    more: Option<&str>,
-    is_behind: bool,
-) -> Result<String, Fail> {
-    let mut parts: Vec<&str> = Vec::new(alloc);
-    if let Some(more) = more
-        && !is_behind
-    {
-        parts.push(more)?;
+/// Adds the members to the line, each with a comma before it unless it is the first.
+fn push_members(line: &mut String, members: &[&str]) -> Result<(), Fail> {
+    for member in members {
+        line.push_str(if line.len() == 1 { "" } else { "," })?;
+        line.push_str(member)?;
     }
-    for (place, member) in members.iter().enumerate() {
-        if place >= first {
-            parts.push(member)?;
-        }
-    }
-    for (place, member) in members.iter().enumerate() {
-        if place < first {
-            parts.push(member)?;
-        }
-    }
-    if let Some(more) = more
-        && is_behind
-    {
-        parts.push(more)?;
-    }
+    Ok(())
+}
+
+/// Whether one pass reads an object of these members.
+fn is_scanned(alloc: Global, front: &[&str], middle: &[&str], back: &[&str]) -> Result<bool, Fail> {
     let mut line = String::from_str(alloc, "{")?;
-    for (place, part) in parts.iter().enumerate() {
-        if place > 0 {
-            line.push_str(",")?;
-        }
-        line.push_str(part)?;
-    }
+    push_members(&mut line, front)?;
+    push_members(&mut line, middle)?;
+    push_members(&mut line, back)?;
     line.push_str("}")?;
-    Ok(line)
+    Ok(scan(line.as_bytes()).is_some())
 }
 
 /// The members in each order, each of them once in front.
 fn scans_each_order(rt: &(impl Abort + AllocGlobal), members: &[&str]) -> Result<(), Fail> {
     for first in 0..members.len() {
-        let line = line_of(rt.alloc(), members, first, None, false)?;
-        assert!(rt; scan(line.as_bytes()).is_some(), "{line}");
+        let scanned = is_scanned(rt.alloc(), &members[first..], &members[..first], &[])?;
+        assert!(rt; scanned, "{first}");
     }
     Ok(())
 }
@@ -190,9 +168,13 @@ fn scans_with_more(
     members: &[&str],
     is_behind: bool,
 ) -> Result<(), Fail> {
-    for (more, is_scanned) in MEMBERS {
-        let line = line_of(rt.alloc(), members, 0, Some(more), is_behind)?;
-        assert_eq!(rt; scan(line.as_bytes()).is_some(), is_scanned, "{line}");
+    for (more, wanted) in MEMBERS {
+        let scanned = if is_behind {
+            is_scanned(rt.alloc(), members, &[], &[more])?
+        } else {
+            is_scanned(rt.alloc(), &[more], members, &[])?
+        };
+        assert!(rt; scanned == wanted, "{more}");
     }
     Ok(())
 }

@@ -1,5 +1,5 @@
 //! Rows that are answered: by the ledger, by the plain functions on its events, and a statement by a walk over them.
-ghost use Rattle.std.specs.Prelude.{◌≡◌, ◌<◌, true};
+ghost use Rattle.std.specs.Prelude.{◌≡◌, ◌<◌, true, [], IfOk};
 ghost use Rattle.inst_command.specs.Ask.{command_fits};
 ghost use Rattle.inst_journal.specs.Opened.{openings};
 
@@ -11,6 +11,7 @@ use inst_journal::{Event, Handled, Journal, handle_command, reply_of};
 use inst_ledger::Ledger;
 use inst_rows::settings;
 use inst_statement::statement;
+use std::alloc::Global;
 use std::process::Abort;
 use std::test::Fail;
 
@@ -138,14 +139,21 @@ pub(crate) fn keeps(rt: &impl Abort, ledger: &Ledger, count: usize) {
     assert_eq!(rt; ledger.journal().events().len(), count);
 }
 
+/// The ledger of the participant `who`, with no history.
+pub(crate) fn opened(alloc: Global, who: u8) -> Result<Ledger, Fail>
+    ensures { IfOk result (λ ledger. ledger.book.events ≡ []) }
+{
+    let settings = settings(alloc)?;
+    Ok(Ledger::open(alloc, &settings, who)?)
+}
+
 /// The ledger of the participant `who` after these rows, which are its first.
 pub(crate) fn answered(
     rt: &(impl Abort + AllocGlobal),
     who: u8,
     rows: &[Row],
 ) -> Result<Ledger, Fail> {
-    let settings = settings(rt.alloc())?;
-    let mut ledger = Ledger::open(rt.alloc(), &settings, who)?;
+    let mut ledger = opened(rt.alloc(), who)?;
     answers(rt, &mut ledger, rows)?;
     Ok(ledger)
 }

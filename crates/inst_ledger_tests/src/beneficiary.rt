@@ -172,16 +172,20 @@ fn defunds_its_credits(rt: &impl Abort, ledger: &Ledger) -> Result<(), Fail> {
     Ok(())
 }
 
-/// A beneficiary fetches, confirms and rejects, defunds what came, and reads its statement.
+/// It fetches, confirms and rejects, defunds what came, and reads its statement.
+fn fetches_and_decides(rt: &(impl Abort + AllocGlobal), ledger: &mut Ledger) -> Result<(), Fail> {
+    answers(rt, ledger, FETCHES)?;
+    keeps(rt, ledger, 4);
+    answers(rt, ledger, UNKNOWN)?;
+    answers(rt, ledger, CONFIRMS_AND_REJECTS)?;
+    keeps(rt, ledger, 7);
+    defunds_its_credits(rt, ledger)
+}
+
 #[test]
 fn fetches_confirms_and_rejects(rt: HostRuntime) -> Result<(), Fail> {
     let mut ledger = forwarded(&rt, 20_000, 20_000)?;
-    answers(&rt, &mut ledger, FETCHES)?;
-    keeps(&rt, &ledger, 4);
-    answers(&rt, &mut ledger, UNKNOWN)?;
-    answers(&rt, &mut ledger, CONFIRMS_AND_REJECTS)?;
-    keeps(&rt, &ledger, 7);
-    defunds_its_credits(&rt, &ledger)
+    fetches_and_decides(&rt, &mut ledger)
 }
 
 const RECEIVES_BOTH: &[Row] = &[

@@ -1,12 +1,14 @@
 //! Books that are opened again: they keep the money and the keys, and begin a new statement.
-use crate::answering::{Row, answered, answers, keeps, opened_again};
+ghost use Rattle.std.specs.Prelude.{◌≡◌, []};
+
+use crate::answering::{Row, answered, answers, keeps, opened, opened_again};
 use crate::asked::{Asks, End};
 use crate::beneficiary::forwarded;
 use crate::told::Told;
 use inst_command::LineKind;
 use inst_journal::{Event, Journal};
 use inst_ledger::Ledger;
-use inst_rows::settings;
+use std::process::Abort;
 use std::test::Fail;
 
 const GOES_ON: &[Row] = &[
@@ -41,14 +43,30 @@ fn is_opened_last(journal: &Journal) -> bool {
     journal.events().last() == Some(&Event::Opened)
 }
 
+/// The books of this ledger, opened again, are asked these rows.
+fn opens_again(rt: &(impl Abort + AllocGlobal), ledger: &Ledger, rows: &[Row]) -> Result<(), Fail> {
+    let kept = ledger.journal().events().len();
+    let mut again = opened_again(rt, ledger)?;
+    goes_on(rt, &mut again, kept, rows)
+}
+
+/// The opening is kept behind so many events, and the rows are answered.
+fn goes_on(
+    rt: &(impl Abort + AllocGlobal),
+    ledger: &mut Ledger,
+    kept: usize,
+    rows: &[Row],
+) -> Result<(), Fail> {
+    assert!(rt; ledger.journal().events().len().checked_sub(1) == Some(kept));
+    assert!(rt; is_opened_last(ledger.journal()));
+    answers(rt, ledger, rows)
+}
+
 /// What came before an opening is fetched and confirmed after it.
 #[test]
 fn goes_on_after_an_opening(rt: HostRuntime) -> Result<(), Fail> {
-    let first = forwarded(&rt, 20_000, 20_000)?;
-    let mut ledger = opened_again(&rt, &first)?;
-    keeps(&rt, &ledger, 3);
-    assert!(rt; is_opened_last(ledger.journal()));
-    answers(&rt, &mut ledger, GOES_ON)
+    let ledger = forwarded(&rt, 20_000, 20_000)?;
+    opens_again(&rt, &ledger, GOES_ON)
 }
 
 const FUNDED: &[Row] = &[(Asks::Fund("F1", 500), 0, None, Told::Done("F1"))];
@@ -67,18 +85,23 @@ const FUNDED_AGAIN: &[Row] = &[
 /// After an opening the lines count from 1 again, from the position that was reached.
 #[test]
 fn begins_a_new_statement(rt: HostRuntime) -> Result<(), Fail> {
-    let first = answered(&rt, 0, FUNDED)?;
-    let mut ledger = opened_again(&rt, &first)?;
-    answers(&rt, &mut ledger, FUNDED_AGAIN)
+    let ledger = answered(&rt, 0, FUNDED)?;
+    opens_again(&rt, &ledger, FUNDED_AGAIN)
+}
+
+/// Room that is made is no event, and what is kept is one.
+fn keeps_an_opening(rt: &impl Abort, ledger: &mut Ledger) -> Result<(), Fail>
+    requires { ledger.old.book.events ≡ [] }
+{
+    ledger.reserve()?;
+    keeps(rt, ledger, 0);
+    ledger.keep(Event::Opened)?;
+    assert_eq!(rt; ledger.journal().events(), [Event::Opened].as_slice());
+    Ok(())
 }
 
 #[test]
 fn reserves_and_keeps(rt: HostRuntime) -> Result<(), Fail> {
-    let settings = settings(rt.alloc())?;
-    let mut ledger = Ledger::open(rt.alloc(), &settings, 2)?;
-    ledger.reserve()?;
-    assert!(rt; ledger.journal().events().is_empty());
-    ledger.keep(Event::Opened)?;
-    assert_eq!(rt; ledger.journal().events(), [Event::Opened].as_slice());
-    Ok(())
+    let mut ledger = opened(rt.alloc(), 2)?;
+    keeps_an_opening(&rt, &mut ledger)
 }
