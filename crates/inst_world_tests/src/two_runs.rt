@@ -5,6 +5,7 @@ ghost use Rattle.inst_model.specs.Rows as rows;
 use inst_base::{Cents, Fault, Ident, Moment};
 use inst_command::{Answer, Command, Entry, Line, LineKind, Outcome, Reply, State, Step};
 use inst_rows::{A, B, C, ask, confirm, fund, settings, submit};
+use inst_settings::Settings;
 use inst_world::run_both;
 use std::process::Abort;
 use std::test::Fail;
@@ -113,15 +114,27 @@ fn told_to_b(steps: &[Step], answers: &[Answer]) -> Result<usize, Fault> {
     Ok(count)
 }
 
+/// All four asks of B are answered as they must be.
+fn tells_b(rt: &impl Abort, steps: &[Step], answers: &[Answer]) -> Result<(), Fail> {
+    assert_eq!(rt; told_to_b(steps, answers)?, 4);
+    Ok(())
+}
+
+/// Among others' traffic B is told what it is told alone.
+fn hides_others(rt: &(impl Abort + AllocGlobal), settings: &Settings) -> Result<(), Fail>
+    requires { settings.now ≡ rows.settings }
+{
+    let alone = alone()?;
+    let among_others = among_others()?;
+    let (one, other) = run_both(rt.alloc(), settings, B, &alone, &among_others)?;
+    let (_, quiet) = one;
+    let (_, busy) = other;
+    tells_b(rt, &alone, quiet.answers.as_slice())?;
+    tells_b(rt, &among_others, busy.answers.as_slice())
+}
+
 #[test]
 fn other_traffic_unseen(rt: HostRuntime) -> Result<(), Fail> {
     let settings = settings(rt.alloc())?;
-    let alone = alone()?;
-    let among_others = among_others()?;
-    let (one, other) = run_both(rt.alloc(), &settings, B, &alone, &among_others)?;
-    let (_, quiet) = one;
-    let (_, busy) = other;
-    assert_eq!(rt; told_to_b(&alone, quiet.answers.as_slice())?, 4);
-    assert_eq!(rt; told_to_b(&among_others, busy.answers.as_slice())?, 4);
-    Ok(())
+    hides_others(&rt, &settings)
 }
