@@ -70,11 +70,18 @@ fn decided_twice(
     Ok(decide_plain_twice(&mut board, place, first.0, at, second.0, later))
 }
 
+/// What a look shows where this was found.
+fn shown(found: Option<Outcome>) -> Result<Look, Fault> {
+    Ok(match found {
+        Some(outcome) => Look::Decided(terms()?, outcome),
+        None => Look::Pending(terms()?, moment(DEADLINE)?),
+    })
+}
+
 #[test]
 fn each_wish_about_the_deadline(rt: HostRuntime) -> Result<(), Fault> {
     let reason = Reason::new("AC04")?;
     let rejected = Outcome::Rejected(reason);
-    let pending = Look::Pending(terms()?, moment(DEADLINE)?);
     for (wish, at, want) in [
         (Wish::Accept, 799, Some(Outcome::Accepted)),
         (Wish::Accept, 800, None),
@@ -89,12 +96,7 @@ fn each_wish_about_the_deadline(rt: HostRuntime) -> Result<(), Fault> {
         (Wish::Expire, 1001, Some(Outcome::TimedOut)),
     ] {
         let (found, look) = decided(rt.alloc(), wish, at)?;
-        assert_eq!(rt; found, want, "{wish:?} at {at}");
-        let shown = match want {
-            Some(outcome) => Look::Decided(terms()?, outcome),
-            None => pending,
-        };
-        assert_eq!(rt; look, shown, "{wish:?} at {at}");
+        assert!(rt; found == want && look == shown(want)?, "{wish:?} at {at}");
     }
     Ok(())
 }

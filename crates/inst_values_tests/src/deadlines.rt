@@ -7,36 +7,63 @@ fn moment(ms: u64) -> Result<Moment, Fault> {
     Moment::new(0, ms)
 }
 
+/// Puts the pairs in.
+fn add_all(due: &mut Due, pairs: &[(Moment, u16)]) -> Result<(), Fault> {
+    for (deadline, index) in pairs {
+        due.add(*deadline, *index)?;
+    }
+    Ok(())
+}
+
+/// The pairs come one after the other, and then none.
+fn come_in_order(rt: &impl Abort, due: &Due, pairs: &[(Moment, u16)]) {
+    let mut last = None;
+    for pair in pairs {
+        last = due.next_after(last);
+        assert!(rt; last == Some(*pair));
+    }
+    assert!(rt; due.next_after(last).is_none());
+}
+
+/// Two pairs of the earlier deadline, by place, and then one of the later.
+fn come_by_deadline(rt: &impl Abort, due: &mut Due) -> Result<(), Fault> {
+    let early = moment(11_000)?;
+    let late = moment(12_000)?;
+    add_all(due, &[(late, 0), (early, 2), (early, 1), (early, 1)])?;
+    assert!(rt; due.first_due(moment(10_999)?).is_none());
+    assert!(rt; due.first_due(early) == Some((early, 1)));
+    assert!(rt; due.next_after(Some((early, 0))) == Some((early, 1)));
+    come_in_order(rt, due, &[(early, 1), (early, 2), (late, 0)]);
+    Ok(())
+}
+
 #[test]
 fn pairs_come_by_deadline_and_then_by_place(rt: HostRuntime) -> Result<(), Fault> {
     let mut due = Due::new(rt.alloc());
+    come_by_deadline(&rt, &mut due)
+}
+
+/// Takes the pair out, where it is there.
+fn takes_out(rt: &impl Abort, due: &mut Due, deadline: Moment, index: u16, is_there: bool) {
+    let was_there = due.take_out(deadline, index);
+    assert!(rt; was_there == is_there);
+}
+
+/// A pair is taken out once, and then the next one is due.
+fn takes_out_once(rt: &impl Abort, due: &mut Due) -> Result<(), Fault> {
     let early = moment(11_000)?;
     let late = moment(12_000)?;
-    due.add(late, 0)?;
-    due.add(early, 2)?;
-    due.add(early, 1)?;
-    due.add(early, 1)?;
-    assert_eq!(rt; due.first_due(moment(10_999)?), None);
-    assert_eq!(rt; due.first_due(early), Some((early, 1)));
-    assert_eq!(rt; due.next_after(None), Some((early, 1)));
-    assert_eq!(rt; due.next_after(Some((early, 0))), Some((early, 1)));
-    assert_eq!(rt; due.next_after(Some((early, 1))), Some((early, 2)));
-    assert_eq!(rt; due.next_after(Some((early, 2))), Some((late, 0)));
-    assert_eq!(rt; due.next_after(Some((late, 0))), None);
+    add_all(due, &[(early, 0), (late, 1)])?;
+    takes_out(rt, due, early, 1, false);
+    takes_out(rt, due, early, 0, true);
+    takes_out(rt, due, early, 0, false);
+    assert!(rt; due.first_due(early).is_none());
+    assert!(rt; due.first_due(late) == Some((late, 1)));
     Ok(())
 }
 
 #[test]
 fn what_is_taken_out_is_gone(rt: HostRuntime) -> Result<(), Fault> {
     let mut due = Due::new(rt.alloc());
-    let early = moment(11_000)?;
-    let late = moment(12_000)?;
-    due.add(early, 0)?;
-    due.add(late, 1)?;
-    assert_eq!(rt; due.take_out(early, 1), false);
-    assert_eq!(rt; due.take_out(early, 0), true);
-    assert_eq!(rt; due.take_out(early, 0), false);
-    assert_eq!(rt; due.first_due(early), None);
-    assert_eq!(rt; due.first_due(late), Some((late, 1)));
-    Ok(())
+    takes_out_once(&rt, &mut due)
 }

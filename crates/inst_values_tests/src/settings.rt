@@ -2,6 +2,7 @@
 use inst_base::{Code, Fault};
 use inst_settings::Settings;
 use std::alloc::Global;
+use std::process::Abort;
 use std::test::Fail;
 
 /// The numbers of a setting: places, fundings, limit, margin, ahead, ceiling
@@ -128,6 +129,14 @@ fn numbers_to_their_bounds(rt: HostRuntime) -> Result<(), Fail> {
     Ok(())
 }
 
+/// There are 256 participants, the last has the last number, and no other code has one.
+fn ends_at_the_last(rt: &impl Abort, settings: &Settings) -> Result<(), Fail> {
+    assert_eq!(rt; settings.participants(), 256);
+    has_code(rt, settings, 255, &Code::new("AAAAD355")?);
+    assert_eq!(rt; settings.index_of(&Code::new("AAAAD356")?), None);
+    Ok(())
+}
+
 #[test]
 fn participants_to_their_bounds(rt: HostRuntime) -> Result<(), Fail> {
     let alloc = rt.alloc();
@@ -141,42 +150,58 @@ fn participants_to_their_bounds(rt: HostRuntime) -> Result<(), Fail> {
         assert_eq!(rt; refusal, fault, "{count}");
     }
     let settings = check(codes(alloc, 256)?, &MOST)?;
-    assert_eq!(rt; settings.participants(), 256);
-    let last = Code::new("AAAAD355")?;
-    assert_eq!(rt; settings.code(255), Some(&last));
-    assert_eq!(rt; settings.index_of(&last), Some(255));
-    assert_eq!(rt; settings.index_of(&Code::new("AAAAD356")?), None);
+    ends_at_the_last(&rt, &settings)
+}
+
+/// The code has this number, and the number this code.
+fn has_code(rt: &impl Abort, settings: &Settings, index: u8, code: &Code) {
+    assert_eq!(rt; settings.code(index), Some(code));
+    assert_eq!(rt; settings.index_of(code), Some(index));
+}
+
+/// There are three codes, numbered as they were given, and no other.
+fn numbers_codes(rt: &impl Abort, settings: &Settings, codes: &[Code; 3]) -> Result<(), Fail> {
+    assert_eq!(rt; told(settings), LEAST);
+    assert_eq!(rt; settings.participants(), 3);
+    has_code(rt, settings, 0, &codes[0]);
+    has_code(rt, settings, 1, &codes[1]);
+    has_code(rt, settings, 2, &codes[2]);
+    assert_eq!(rt; settings.code(3), None);
+    assert_eq!(rt; settings.index_of(&Code::new("DDDDESMM")?), None);
     Ok(())
 }
 
-#[test]
-fn codes_are_numbered_as_given(rt: HostRuntime) -> Result<(), Fail> {
-    let alloc = rt.alloc();
-    let first = Code::new("CCCCITMM")?;
-    let second = Code::new("AAAADEFF")?;
-    let longer = Code::new("AAAADEFF123")?;
-    let other = Code::new("DDDDESMM")?;
-    let settings = check([first, second, longer].to_vec(alloc)?, &LEAST)?;
+/// The settings number the codes so, and a copy of them does.
+fn copies_codes(rt: &impl Abort, settings: &Settings, codes: &[Code; 3]) -> Result<(), Fail> {
+    numbers_codes(rt, settings, codes)?;
     let copy = settings.copy()?;
-    for settings in [&settings, &copy] {
-        assert_eq!(rt; told(settings), LEAST);
-        assert_eq!(rt; settings.participants(), 3);
-        for (index, code) in [(0, first), (1, second), (2, longer)] {
-            assert_eq!(rt; settings.code(index).copied(), Some(code));
-            assert_eq!(rt; settings.index_of(&code), Some(index));
-        }
-        assert_eq!(rt; settings.code(3).copied(), None);
-        assert_eq!(rt; settings.index_of(&other), None);
-    }
+    numbers_codes(rt, &copy, codes)
+}
+
+/// Three codes of which two are the same are refused.
+fn refuses_a_code_twice(rt: &(impl Abort + AllocGlobal), codes: &[Code; 3]) -> Result<(), Fail> {
+    let [first, second, _] = *codes;
     for twice in [
         [first, first, second],
         [first, second, first],
         [first, second, second],
     ] {
-        let refusal = check(twice.to_vec(alloc)?, &LEAST).err();
-        assert_eq!(rt; refusal, Some(Fault::BadSettings), "{twice:?}");
+        let refusal = check(twice.to_vec(rt.alloc())?, &LEAST).err();
+        assert!(rt; refusal == Some(Fault::BadSettings));
     }
     Ok(())
+}
+
+#[test]
+fn codes_are_numbered_as_given(rt: HostRuntime) -> Result<(), Fail> {
+    let codes = [
+        Code::new("CCCCITMM")?,
+        Code::new("AAAADEFF")?,
+        Code::new("AAAADEFF123")?,
+    ];
+    refuses_a_code_twice(&rt, &codes)?;
+    let settings = check(codes.to_vec(rt.alloc())?, &LEAST)?;
+    copies_codes(&rt, &settings, &codes)
 }
 
 /// So many codes as banks have them, every third with a branch: other banks, the same bank in other

@@ -17,25 +17,25 @@ fn hub(alloc: Global) -> Result<Settings, Fail>
     Ok(Settings::check(codes.to_vec(alloc)?, 1, 1, 1, 0, 0, 1, 0)?)
 }
 
+/// The line is laid out in 91 columns, so.
 fn assert_text(
-    rt: &impl Abort,
-    alloc: Global,
+    rt: &(impl Abort + AllocGlobal),
     settings: &Settings,
     line: &Line,
     wanted: &str,
 ) -> Result<(), Fail>
     requires { line_fits settings.now line.now ≡ true }
 {
-    let text = line_text(alloc, settings, line)?;
+    let text = line_text(rt.alloc(), settings, line)?;
     assert_eq!(rt; text.len(), 91);
     assert_eq!(rt; text.as_str(), wanted);
     Ok(())
 }
 
-#[test]
-fn lays_out_lines(rt: HostRuntime) -> Result<(), Fail> {
-    let alloc = rt.alloc();
-    let hub = hub(alloc)?;
+/// Fundings have no other side.
+fn lays_out_fundings(rt: &(impl Abort + AllocGlobal), hub: &Settings) -> Result<(), Fail>
+    requires { participants hub.now ≡ 2 }
+{
     let funded = Line {
         number: 1,
         kind: LineKind::Funded,
@@ -46,18 +46,7 @@ fn lays_out_lines(rt: HostRuntime) -> Result<(), Fail> {
     };
     let text =
         "     1 FND             F1                                        50000                50000";
-    assert_text(&rt, alloc, &hub, &funded, text)?;
-    let paid = Line {
-        number: 2,
-        kind: LineKind::Paid,
-        other: Some(0),
-        id: Ident::new("T1")?,
-        cents: Cents::new(20_000)?,
-        position: 30_000,
-    };
-    let text =
-        "     2 OUT AAAADEFF    T1                                        20000                30000";
-    assert_text(&rt, alloc, &hub, &paid, text)?;
+    assert_text(rt, hub, &funded, text)?;
     let defunded = Line {
         number: 3,
         kind: LineKind::Defunded,
@@ -68,7 +57,24 @@ fn lays_out_lines(rt: HostRuntime) -> Result<(), Fail> {
     };
     let text =
         "     3 DFD             D1                                         5000                25000";
-    assert_text(&rt, alloc, &hub, &defunded, text)?;
+    assert_text(rt, hub, &defunded, text)
+}
+
+/// Transfers have one, and all columns may be full.
+fn lays_out_transfers(rt: &(impl Abort + AllocGlobal), hub: &Settings) -> Result<(), Fail>
+    requires { participants hub.now ≡ 2 }
+{
+    let paid = Line {
+        number: 2,
+        kind: LineKind::Paid,
+        other: Some(0),
+        id: Ident::new("T1")?,
+        cents: Cents::new(20_000)?,
+        position: 30_000,
+    };
+    let text =
+        "     2 OUT AAAADEFF    T1                                        20000                30000";
+    assert_text(rt, hub, &paid, text)?;
     let widest = Line {
         number: 999_999,
         kind: LineKind::Received,
@@ -79,6 +85,12 @@ fn lays_out_lines(rt: HostRuntime) -> Result<(), Fail> {
     };
     let text =
         "999999 IN  BBBBFRPP123 INV/2026-07 O'Brien (final) part 01 99999999999 18446744073709551615";
-    assert_text(&rt, alloc, &hub, &widest, text)?;
-    Ok(())
+    assert_text(rt, hub, &widest, text)
+}
+
+#[test]
+fn lays_out_lines(rt: HostRuntime) -> Result<(), Fail> {
+    let hub = hub(rt.alloc())?;
+    lays_out_fundings(&rt, &hub)?;
+    lays_out_transfers(&rt, &hub)
 }

@@ -98,7 +98,7 @@ fn stamps_on_either_side_of_what_is_ahead(rt: HostRuntime) -> Result<(), Fail> {
 }
 
 #[test]
-fn codes_and_reasons_by_length_and_set(rt: HostRuntime) -> Result<(), Fail> {
+fn codes_by_length_and_set(rt: HostRuntime) -> Result<(), Fail> {
     for text in ["AAAADEFF", "DDDDESMM123", "AZ09AZ09", "00000000000"] {
         assert_eq!(rt; Code::new(text)?.text(), text);
     }
@@ -117,15 +117,20 @@ fn codes_and_reasons_by_length_and_set(rt: HostRuntime) -> Result<(), Fail> {
         "AAAADE[F",
         "AAAADEÉ",
     ] {
-        assert_eq!(rt; Code::new(text), Err(Fault::BadField), "{text}");
+        assert!(rt; Code::new(text) == Err(Fault::BadField), "{text}");
     }
+    Ok(())
+}
+
+#[test]
+fn reasons_by_length_and_set(rt: HostRuntime) -> Result<(), Fail> {
     for text in ["AC04", "AZ09", "0000"] {
         assert_eq!(rt; Reason::new(text)?.text(), text);
     }
     for text in [
         "", "AC0", "AC045", "ac04", "AC0z", "AC 4", "A/04", "A:04", "A@04", "A[04", "ACÉ",
     ] {
-        assert_eq!(rt; Reason::new(text), Err(Fault::BadField), "{text}");
+        assert!(rt; Reason::new(text) == Err(Fault::BadField), "{text}");
     }
     Ok(())
 }
