@@ -11,3 +11,4 @@ pub mod Laws
 pub mod Arrived
 pub mod Answering
 pub mod Lessons
+pub mod Expiries

@@ -12,6 +12,7 @@ ghost use Rattle.inst_slot.specs.Answering.{over, named, is_expiry, pending_for,
 ghost use Rattle.inst_slot.specs.Waiting.{IsRight};
 
 use crate::arrivals::{Spot, arrived_at};
+use crate::booking::book;
 use crate::finding::find;
 use crate::waiting::Waiting;
 use inst_base::{Fault, Ident};
@@ -128,8 +129,7 @@ pub(crate) fn settle<B: Board>(
     let Some(outcome) = &decided else {
         return pending(&asked.wish, from, id);
     };
-    ledger.keep_found(&asked.found, outcome)?;
-    waiting.settle(&asked.wish, asked.place.index);
+    book(ledger, waiting, &asked.found, asked.place.index, outcome)?;
     let state = State::Decided(*outcome);
     Ok(Reply::State { from, id, state })
 }

@@ -3,11 +3,9 @@ ghost use Rattle.std.specs.Prelude.{◌≡◌, ℕ, ◌<◌, ◌^◌, ◌++◌, 
 ghost use Rattle.inst_due.specs.Due.{has, Adds, IsLeast, comes_after};
 ghost use Rattle.inst_journal.specs.Opened.{carried};
 ghost use Rattle.inst_slot.specs.Indexed.{own_ids};
-ghost use Rattle.inst_slot.specs.Answering.{is_expiry};
 ghost use Rattle.inst_slot.specs.Waiting.{books_own, IsWaiting};
 
 use inst_base::{Fault, Moment};
-use inst_board::Wish;
 use inst_command::Outcome;
 use inst_due::Due;
 use inst_journal::Event;
@@ -82,16 +80,6 @@ impl Waiting {
                     self.take_out(index);
                 }
             }
-        }
-    }
-
-    /// Takes out the pair at this index, where its transfer was to expire: else it was another's.
-    pub(crate) fn settle(&mut self, wish: &Wish, index: u16)
-        ensures deadlines { self.new.deadlines ≡ self.old.deadlines }
-        ensures pairs { (d k : ℕ) → has self.new.pairs d k ≡ (has self.old.pairs d k && not (is_expiry wish.now && nat_eq k index)) }
-    {
-        if let Wish::Expire = wish {
-            self.take_out(index);
         }
     }
 

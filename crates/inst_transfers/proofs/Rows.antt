@@ -7,14 +7,16 @@ use Rattle.std.specs.Map.{keys_of, lookup}
 use Rattle.std.specs.List.{filter, IsDistinct, AllByRecursion}
 use Rattle.std.proofs.lemmas.Bool.{eqb-true, eq-eqb, true≢false, cases_order}
 use Rattle.std.proofs.lemmas.List.{map-append, length-map}
-use Rattle.std.proofs.lemmas.Option.{slice_get_within, get_or_from_slice_get}
+use Rattle.std.proofs.lemmas.Map.Entries.{lookup_from_place}
+use Rattle.std.proofs.lemmas.Option.{same_Some, slice_get_within, get_or_from_slice_get}
 use Rattle.indexmap.specs.IndexMap.{IndexMap, IsUnique, with_value_at, set_value_at}
 use Rattle.indexmap.proofs.CallerLemmas.{updates-with_value_at}
 use Rattle.inst_settings.specs.Settings.{same_text}
 use Rattle.inst_command.specs.declared.entry.Entry.{Entry}
+use Rattle.inst_transfers.specs.declared.transfer.Found.{Found}
 use Rattle.inst_transfers.specs.declared.transfer.Transfer.{Transfer}
 use Rattle.inst_transfers.specs.State.{Key, same_key, put, outcome_in}
-use Rattle.inst_transfers.specs.Held.{found_at, row_in, rows_in, AreApart, id_in, ids_at, AreWithin, AreOwn, AreAbove, AreRising, ArePositions, waits_for, waits_at}
+use Rattle.inst_transfers.specs.Held.{found_at, row_in, rows_in, AreApart, id_in, ids_at, AreWithin, AreOwn, AreAbove, AreRising, ArePositions, waits_row, waits_at, FindsAt, FindsOwn, Held}
 
 and_parts : (a b : Bool) → (a && b) ≡ true → (a ≡ true) × (b ≡ true)
 and_parts true b h = (refl, h)
@@ -148,30 +150,37 @@ key_at [] p key row e = absurd (true≢false (sym (ap is_some e)))
 key_at (x ∷ es) zero key row e = let same : x ≡ (key, row) = cc in ap (λ (y : Key × Transfer). Some y.0) same
 key_at (x ∷ es) (suc p) key row e = key_at es p key row e
 
-outside : (ks : List Key) (i : ℕ) → i < length ks → slice_get ks i ≡ None → ⊥
+outside : {A : Type 0} (ks : List A) (i : ℕ) → i < length ks → slice_get ks i ≡ None → ⊥
 outside [] i below none = absurd (omega (arith, below))
 outside (k ∷ ks) zero below none = true≢false (ap is_some none)
 outside (k ∷ ks) (suc i) below none = outside ks i (omega (arith, below)) none
 
 -- those that live on, by their identifiers
-module _ (who : ℕ) (es : List (Key × Transfer)) where
+module _ (who : ℕ) (es : List (Key × Transfer)) (unique : IsDistinct same_key (keys_of es)) where
   abbrev pub lives : List ℕ → Bool
   lives id = is_none (outcome_in (found_at es (who, id)))
 
-  one_more : (p : ℕ) (ps : List ℕ) (b : Bool) → ids_at (keys_of es) (filter (waits_at who es) ps) ≡ filter lives (ids_at (keys_of es) ps)
-      → ids_at (keys_of es) (cond b (p ∷ filter (waits_at who es) ps) (filter (waits_at who es) ps)) ≡ cond b (id_in (slice_get (keys_of es) p) ∷ filter lives (ids_at (keys_of es) ps)) (filter lives (ids_at (keys_of es) ps))
+  one_more : (p : ℕ) (ps : List ℕ) (b : Bool) → ids_at (keys_of es) (filter (waits_at es) ps) ≡ filter lives (ids_at (keys_of es) ps)
+      → ids_at (keys_of es) (cond b (p ∷ filter (waits_at es) ps) (filter (waits_at es) ps)) ≡ cond b (id_in (slice_get (keys_of es) p) ∷ filter lives (ids_at (keys_of es) ps)) (filter lives (ids_at (keys_of es) ps))
   one_more p ps true rest = ap (λ (l : List (List ℕ)). id_in (slice_get (keys_of es) p) ∷ l) rest
   one_more p ps false rest = rest
 
-  same_test : (p : ℕ) (o : Option Key) → p < length (keys_of es) → slice_get (keys_of es) p ≡ o → waits_at who es p ≡ lives (id_in (slice_get (keys_of es) p))
-  same_test p None below none = absurd (outside (keys_of es) p below none)
-  same_test p (Some key) below there = ap (waits_for who es) there ∙ sym (ap (λ (o : Option Key). lives (id_in o)) there)
+  same_test : (p : ℕ) (id : List ℕ) → p < length (keys_of es) → slice_get (keys_of es) p ≡ Some (who, id) → waits_at es p ≡ lives id
+  same_test p id below own = go (slice_get es p) refl
+    where
+      go : (o : Option (Key × Transfer)) → slice_get es p ≡ o → waits_at es p ≡ lives id
+      go None there = absurd (outside es p (omega (arith, below, length-map es (λ (e : Key × Transfer). e.0))) there)
+      go (Some e) there =
+          let both : Some e.0 ≡ Some (who, id) = sym (key_at es p e.0 e.1 there) ∙ own in
+          let key : e.0 ≡ (who, id) = cc in
+          let found : found_at es (who, id) ≡ Some e.1 = ap (found_at es) (sym key) ∙ lookup_from_place keys_equiv es p e.0 e.1 unique there in
+          ap waits_row there ∙ sym (ap (λ (o : Option Transfer). is_none (outcome_in o)) found)
 
-  pub live_on : (ps : List ℕ) → AreWithin (length (keys_of es)) ps → ids_at (keys_of es) (filter (waits_at who es) ps) ≡ filter lives (ids_at (keys_of es) ps)
-  live_on [] within = refl
-  live_on (p ∷ ps) within =
-      one_more p ps (waits_at who es p) (live_on ps within.1)
-      ∙ ap (λ (b : Bool). cond b (id_in (slice_get (keys_of es) p) ∷ filter lives (ids_at (keys_of es) ps)) (filter lives (ids_at (keys_of es) ps))) (same_test p (slice_get (keys_of es) p) within.0 refl)
+  pub live_on : (ps : List ℕ) → AreWithin (length (keys_of es)) ps → AreOwn who (keys_of es) ps → ids_at (keys_of es) (filter (waits_at es) ps) ≡ filter lives (ids_at (keys_of es) ps)
+  live_on [] within own = refl
+  live_on (p ∷ ps) within own =
+      one_more p ps (waits_at es p) (live_on ps within.1 own.1)
+      ∙ ap (λ (b : Bool). cond b (id_in (slice_get (keys_of es) p) ∷ filter lives (ids_at (keys_of es) ps)) (filter lives (ids_at (keys_of es) ps))) (same_test p (id_in (slice_get (keys_of es) p)) within.0 own.0)
 
 within_one : (n : ℕ) (p : ℕ) (ps : List ℕ) (b : Bool) → p < n → AreWithin n ps → AreWithin n (cond b (p ∷ ps) ps)
 within_one n p ps true below within = (below, within)
@@ -249,6 +258,17 @@ own_there : (who : ℕ) (ks : List Key) (ps : List ℕ) (i p : ℕ) → AreOwn w
 own_there who ks [] i p own e = absurd (true≢false (sym (ap is_some e)))
 own_there who ks (x ∷ ps) zero p own e = let same : x ≡ p = cc in subst (λ (q : ℕ). slice_get ks q ≡ Some (who, id_in (slice_get ks q))) same own.0
 own_there who ks (x ∷ ps) (suc i) p own e = own_there who ks ps i p own.1 e
+
+-- what stands at a position of an own live transfer
+pub own_found : (held : Held) (index p : ℕ) (r : Option Found) → ArePositions held.who (keys_of held.entries) held.positions → slice_get held.positions index ≡ Some p → FindsAt held p r → FindsOwn held index r
+own_found held index p None are there past =
+    absurd (omega (arith, past, within_at (length (keys_of held.entries)) held.positions index p are.0 there, length-map held.entries (λ (e : Key × Transfer). e.0)))
+own_found held index p (Some f) are there found =
+    let key : slice_get (keys_of held.entries) p ≡ Some (f.from, f.id) =
+    key_at held.entries p (f.from, f.id) f.transfer (ap (slice_get held.entries) (sym found.0) ∙ found.1.row) in
+    let own = own_there held.who (keys_of held.entries) held.positions index p are.1 there in
+    let from : f.from ≡ held.who = ap (λ (k : Key). k.0) (same_Some (f.from, f.id) (held.who, id_in (slice_get (keys_of held.entries) p)) (sym key ∙ own)) in
+    (from, id_there (keys_of held.entries) held.positions index p (f.from, f.id) there key, found.1)
 
 above_at : (p : ℕ) (qs : List ℕ) (j : ℕ) → AreAbove p qs → j < length qs → p < get_or qs j 0
 above_at p [] j above below = absurd (omega (arith, below))

@@ -7,7 +7,7 @@ use Rattle.inst_transfers.specs.declared.transfer.Found.{Found}
 use Rattle.inst_transfers.specs.declared.transfer.Side.{Side}
 use Rattle.inst_transfers.specs.declared.transfer.Side.TheVariants.{Own, Other}
 use Rattle.inst_transfers.specs.declared.transfer.Transfer.{Transfer}
-use Rattle.inst_transfers.specs.State.{Key, same_key, State, outcome_in}
+use Rattle.inst_transfers.specs.State.{Key, same_key, State}
 
 -- the entries of the table in the order in which they came; the positions in it of the participant's own live transfers;
 -- the sums; for how many more there is room
@@ -85,13 +85,14 @@ state_in held = record {
   waiting = held.waiting;
 }
 
--- whether nothing is booked of the participant's own transfer with the identifier of this key
-abbrev pub waits_for : ℕ → List (Key × Transfer) → Option Key → Bool
-waits_for who entries None = false
-waits_for who entries (Some key) = is_none (outcome_in (found_at entries (who, key.1)))
+-- whether nothing is booked of the transfer in a row
+abbrev pub waits_row : Option (Key × Transfer) → Bool
+waits_row None = false
+waits_row (Some e) = is_none e.1.outcome
 
-abbrev pub waits_at : ℕ → List (Key × Transfer) → ℕ → Bool
-waits_at who entries p = waits_for who entries (slice_get (keys_of entries) p)
+-- whether nothing is booked of the transfer at the position
+abbrev pub waits_at : List (Key × Transfer) → ℕ → Bool
+waits_at entries p = waits_row (slice_get entries p)
 
 -- what was found is what the table holds at its key, and it holds it at the position
 pub record IsFound (held : Held) (f : Found) : Type 0 where
@@ -107,6 +108,11 @@ Finds held from id (Some f) = (f.from ≡ from) × (f.id ≡ id) × IsFound held
 abbrev pub FindsAt : Held → ℕ → Option Found → Type 0
 FindsAt held position None = length held.entries ≤ position
 FindsAt held position (Some f) = (f.position ≡ position) × IsFound held f
+
+-- what stands at the index of the participant's own live transfers
+abbrev pub FindsOwn : Held → ℕ → Option Found → Type 0
+FindsOwn held index None = slice_get (state_in held).own index ≡ None
+FindsOwn held index (Some f) = (f.from ≡ held.who) × (slice_get (state_in held).own index ≡ Some f.id) × IsFound held f
 
 -- the sums of an own transfer hold its amount, and those of another leave room for it
 abbrev pub CoversSide : State → ℕ → Side → Type 0

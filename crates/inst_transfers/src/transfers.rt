@@ -4,7 +4,7 @@ ghost use Rattle.std.specs.Map.{keys_of};
 ghost use Rattle.inst_journal.specs.declared.event.Event.{Event};
 ghost use Rattle.inst_journal.specs.Sums.{if_accepted};
 ghost use Rattle.inst_transfers.specs.State.{nothing, step};
-ghost use Rattle.inst_transfers.specs.Held.{Finds, FindsAt, IsFound, Covers, AreApart, found_at, rows_in, state_in, waits_at};
+ghost use Rattle.inst_transfers.specs.Held.{Finds, FindsAt, FindsOwn, IsFound, Covers, AreApart, found_at, rows_in, state_in, waits_at};
 
 use crate::transfer::{Found, Side, Transfer};
 use indexmap::IndexMap;
@@ -180,22 +180,22 @@ impl Transfers {
         ensures state { state_in self.new ≡ step self.old.who (state_in self.old) Event.Opened }
         ensures entries { self.new.entries ≡ self.old.entries }
     {
-        let who = self.who;
         let table = &self.table;
+        // That the keys are distinct is known where the table's length is read.
+        let _ = table.len();
         self.own.retain(
             |position: &usize| -> bool
-                ensures { result ≡ waits_at who table.entry.now.entries position.now }
-            { waits(who, table, *position) },
+                ensures { result ≡ waits_at table.entry.now.entries position.now }
+            { waits(table, *position) },
         );
     }
 
-    /// The identifier of the participant's own live transfer at this place.
-    pub fn own_at(&self, index: u16) -> Option<Ident>
-        ensures { result ≡ slice_get (state_in self.now).own index }
+    /// The participant's own live transfer at this place. It looks nothing up by its key.
+    pub fn own_at(&self, index: u16) -> Option<Found>
+        ensures { FindsOwn self.now index result }
     {
         let position = *self.own.get(usize::from(index))?;
-        let (key, _) = self.table.get_index(position)?;
-        Some(key.1)
+        self.at(position)
     }
 
     /// The index of the place of the participant's own transfer that was found, where it is live. It takes a
@@ -244,16 +244,13 @@ impl Transfers {
     }
 }
 
-/// Whether nothing is booked of the participant's own transfer at this position.
-fn waits(who: u8, table: &IndexMap<(u8, Ident), Transfer>, position: usize) -> bool
-    ensures { result ≡ waits_at who table.now.entries position }
+/// Whether nothing is booked of the transfer at this position.
+fn waits(table: &IndexMap<(u8, Ident), Transfer>, position: usize) -> bool
+    ensures { result ≡ waits_at table.now.entries position }
 {
-    let Some((key, _)) = table.get_index(position) else {
-        return false;
-    };
-    match table.get(&(who, key.1)) {
-        Some(transfer) => !transfer.outcome.is_some(),
-        None => true,
+    match table.get_index(position) {
+        Some((_, transfer)) => transfer.outcome.is_none(),
+        None => false,
     }
 }
 

@@ -1,5 +1,5 @@
 //! What a participant's history has, read off what stands beside it.
-ghost use Rattle.std.specs.Prelude.{◌≡◌, ℕ, ◌<◌, ◌^◌, length, slice_get, Some};
+ghost use Rattle.std.specs.Prelude.{◌≡◌, ℕ, ◌<◌, ◌^◌, length, slice_get, Some, None, IfSome, IfNone};
 ghost use Rattle.inst_settings.specs.Lawful.{IsSettings};
 ghost use Rattle.inst_journal.specs.Booked.{first_some, is_taken, is_forwarded, booked};
 ghost use Rattle.inst_journal.specs.Keys.{fundings, is_submission_repeat, is_fund_repeat, is_defund_repeat, has_reference};
@@ -74,11 +74,25 @@ impl Ledger {
         Some(found.transfer)
     }
 
+    /// The participant's own live transfer at this place. It looks nothing up by its key.
+    pub fn own_found(&self, index: u16) -> Option<Found>
+        ensures none { IfNone result (slice_get (own_ids self.now.book.who self.now.book.events) index ≡ None) }
+        ensures at { IfSome result (λ found. slice_get (own_ids self.now.book.who self.now.book.events) index ≡ Some found.id) }
+        ensures found { IfSome result (λ found. (found.from ≡ self.now.book.who) × IsFound self.now.table found) }
+        ensures right { IsRight self.now.book.who self.now.book.events (state_in self.now.table) }
+        ensures sound { IsSound self.now.book.settings self.now.book.who self.now.book.events }
+    {
+        self.table.own_at(index)
+    }
+
     /// The identifier of the participant's own live transfer at this place.
     pub fn own_at(&self, index: u16) -> Option<Ident>
         ensures { result ≡ slice_get (own_ids self.now.book.who self.now.book.events) index }
     {
-        self.table.own_at(index)
+        // The check is told of an enum inside a struct only where a function names it.
+        let _: Option<(Side, Transfer, Outcome)> = None;
+        let found = self.own_found(index)?;
+        Some(found.id)
     }
 
     /// The index of the place of the participant's own live transfer with this identifier.

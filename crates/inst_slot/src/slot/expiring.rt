@@ -1,27 +1,25 @@
 //! How the transfers of a slot expire.
 ghost use Rattle.std.specs.Prelude.{◌≡◌, Some};
 ghost use Rattle.inst_slot.specs.LawfulBoard.{IsLawfulBoard, KeepsOthers, AllAreAdopted};
-ghost use Rattle.inst_slot.specs.Telling.{unbooked_at, ExpiresFor, Expires};
-ghost use Rattle.inst_slot.specs.Waiting.{GivesNextDue};
+ghost use Rattle.inst_slot.specs.Answering.{over};
+ghost use Rattle.inst_slot.specs.Expiries.{IsUnbooked, FindsUnbooked};
+ghost use Rattle.inst_slot.specs.Indexed.{own_ids};
+ghost use Rattle.inst_slot.specs.Spots.{rows_of, AreSpots};
+ghost use Rattle.inst_slot.specs.Telling.{ExpiresFor, Expires};
+ghost use Rattle.inst_slot.specs.Waiting.{GivesNextDue, IsRight};
 
 use super::Slot;
-use super::telling::booked_event;
+use crate::arrivals::Spot;
+use crate::booking::book;
 use crate::finding::find;
-use inst_base::{Fault, Ident, Moment};
+use crate::waiting::Waiting;
+use inst_base::{Fault, Moment};
 use inst_board::{Board, Place, Wish};
+use inst_command::Outcome;
+use inst_ledger::Ledger;
+use inst_transfers::{Found, Side, Transfer};
 
 impl Slot {
-    /// The identifier of the participant's live transfer at this index, where nothing is booked of it.
-    fn unbooked_at(&self, index: u16) -> Option<Ident>
-        ensures { result ≡ unbooked_at self.now index }
-    {
-        let id = self.ledger.own_at(index)?;
-        if self.ledger.booked(self.who(), &id).is_some() {
-            return None;
-        }
-        Some(id)
-    }
-
     /// Of the own live transfers with nothing booked, the pair of a deadline and an index that comes next
     /// after this one, by deadline and then by index; of `None`, the first of all. The cost grows with the
     /// logarithm of their number.
@@ -29,36 +27,6 @@ impl Slot {
         ensures { GivesNextDue self.now pair result }
     {
         self.waiting.after(pair)
-    }
-
-    /// Lets the transfer with this identifier, which lies at the index, expire.
-    fn let_expire<B: Board>(
-        &mut self,
-        board: &mut B,
-        index: u16,
-        id: Ident,
-        at: Moment,
-    ) -> Result<bool, Fault>
-        requires lawful { IsLawfulBoard B.settings B.knows B.has_role board.old self.old }
-        requires unbooked { unbooked_at self.old index ≡ Some id }
-        ensures expires { ExpiresFor (B.settings board.old).margin B.knows B.has_role B.stood B.stays board.old self.old index at (Some id) result board.new self.new }
-        ensures stays { B.stays board.old board.new }
-    {
-        let place = Place {
-            owner: self.who(),
-            index,
-        };
-        let margin = self.ledger.settings().margin();
-        let found = find(&mut self.ledger, board, margin, place, Wish::Expire, at)?;
-        match found {
-            None => Ok(false),
-            Some(outcome) => {
-                let event = booked_event(self.who(), id, &outcome);
-                self.ledger.keep(event)?;
-                self.waiting.book(&self.ledger, place.owner, &event);
-                Ok(true)
-            }
-        }
     }
 
     /// Lets the participant's live transfer at this index expire at the reading `at`, and books what is
@@ -73,9 +41,66 @@ impl Slot {
         ensures adopted { AllAreAdopted self.old → AllAreAdopted self.new }
         ensures stays { B.stays board.old board.new }
     {
-        match self.unbooked_at(index) {
-            Some(id) => self.let_expire(board, index, id, at),
+        match unbooked_at(&self.ledger, index) {
+            Some(found) => let_expire(
+                &mut self.ledger,
+                &mut self.waiting,
+                board,
+                &found,
+                index,
+                at,
+                self.arrivals.as_slice(),
+            ),
             None => Ok(false),
+        }
+    }
+}
+
+/// The participant's own live transfer at this index, where nothing is booked of it. It looks nothing up by its key.
+fn unbooked_at(ledger: &Ledger, index: u16) -> Option<Found>
+    ensures { FindsUnbooked ledger.now index result }
+{
+    // The check is told of an enum inside a struct only where a function names it.
+    let _: Option<(Side, Transfer, Outcome)> = None;
+    let found = ledger.own_found(index)?;
+    if found.transfer.outcome.is_some() {
+        return None;
+    }
+    Some(found)
+}
+
+/// Lets the transfer that was found, which lies at the index, expire. All room is made before the board decides, and
+/// after the decision nothing fails.
+fn let_expire<B: Board>(
+    ledger: &mut Ledger,
+    waiting: &mut Waiting,
+    board: &mut B,
+    found: &Found,
+    index: u16,
+    at: Moment,
+    arrivals: &[Spot],
+) -> Result<bool, Fault>
+    requires lawful { IsLawfulBoard B.settings B.knows B.has_role board.old (over ledger.old.book arrivals.now) }
+    requires unbooked { IsUnbooked ledger.old index found.now }
+    requires spots { AreSpots (rows_of ledger.old.book.who ledger.old.book.events) arrivals.now }
+    requires right { IsRight ledger.old.book.settings ledger.old.book.who ledger.old.book.events (own_ids ledger.old.book.who ledger.old.book.events) waiting.old }
+    ensures expires { ExpiresFor (B.settings board.old).margin B.knows B.has_role B.stood B.stays board.old
+        (over ledger.old.book arrivals.now) index at (Some found.now.id) result board.new (over ledger.new.book arrivals.now) }
+    ensures right { IsRight ledger.new.book.settings ledger.new.book.who ledger.new.book.events (own_ids ledger.new.book.who ledger.new.book.events) waiting.new }
+    ensures spots { AreSpots (rows_of ledger.new.book.who ledger.new.book.events) arrivals.now }
+    ensures stays { B.stays board.old board.new }
+{
+    let _: Option<(Side, Transfer, Outcome)> = None;
+    let place = Place {
+        owner: ledger.who(),
+        index,
+    };
+    let margin = ledger.settings().margin();
+    match find(ledger, board, margin, place, Wish::Expire, at)? {
+        None => Ok(false),
+        Some(outcome) => {
+            book(ledger, waiting, found, index, &outcome)?;
+            Ok(true)
         }
     }
 }

@@ -4,7 +4,8 @@ ghost use Rattle.inst_journal.specs.Money.{position};
 ghost use Rattle.inst_slot.specs.OwnState.{own_state};
 
 use super::Slot;
-use inst_command::State;
+use inst_command::{Outcome, State};
+use inst_transfers::{Side, Transfer};
 
 impl Slot {
     /// The state that the participant's books tell of its own live transfer at this index: `Unused` where none was taken
@@ -12,10 +13,13 @@ impl Slot {
     pub fn own_state(&self, index: u16) -> State
         ensures { result ≡ own_state self.now.who self.now.events index }
     {
-        let Some(id) = self.ledger.own_at(index) else {
+        // The check is told of an enum inside a struct only where a function names it.
+        let _: Option<(Side, Transfer, Outcome)> = None;
+        let Some(found) = self.ledger.own_found(index) else {
             return State::Unused;
         };
-        match self.ledger.booked(self.who(), &id) {
+        let booked = found.transfer.outcome;
+        match booked {
             Some(outcome) => State::Decided(outcome),
             None => State::Pending,
         }

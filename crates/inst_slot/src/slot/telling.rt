@@ -11,7 +11,7 @@ use super::Slot;
 use crate::arrivals::Spot;
 use crate::booking::book;
 use crate::lesson::{Lesson, lesson_of};
-use inst_base::{Fault, Ident};
+use inst_base::Fault;
 use inst_board::{Board, Look, Place};
 use inst_command::{Entry, Outcome};
 use inst_journal::Event;
@@ -132,16 +132,5 @@ impl Slot {
                 Ok(true)
             }
         }
-    }
-}
-
-/// The event that books the outcome.
-pub(super) fn booked_event(from: u8, id: Ident, outcome: &Outcome) -> Event
-    ensures { result ≡ Event.Booked from id outcome.now }
-{
-    Event::Booked {
-        from,
-        id,
-        outcome: *outcome,
     }
 }
