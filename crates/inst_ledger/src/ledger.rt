@@ -99,13 +99,24 @@ impl Ledger {
         ensures only { IsOkUnless result Fault.Memory }
     {
         let mut ledger = Ledger::open(alloc, settings, who)?;
+        ledger.keep_all(journal)?;
+        ledger.keep(Event::Opened)?;
+        Ok(ledger)
+    }
+
+    /// Keeps all events of a history, the first ones. After `Memory` those are kept for which there was room.
+    fn keep_all(&mut self, journal: &Journal) -> Result<(), Fault>
+        requires blank { self.old.book.events ≡ [] }
+        requires sound { IsSound self.old.book.settings self.old.book.who journal.now.events }
+        ensures ok { OnOk result (self.new.book ≡ record self.old.book { events = journal.now.events }) }
+        ensures only { IsOkUnless result Fault.Memory }
+    {
         // The check is told of a type of another crate inside an event only where a function names it.
         let _: Option<Outcome> = None;
         for event in journal.events() {
-            ledger.keep(*event)?;
+            self.keep(*event)?;
         }
-        ledger.keep(Event::Opened)?;
-        Ok(ledger)
+        Ok(())
     }
 
     /// The participant's history. It is sound.

@@ -2,9 +2,9 @@ use Rattle.std.proofs.Common.{sym, subst}
 use Rattle.inst_journal.specs.Sound.{Fits}
 use Rattle.inst_ledger.specs.Book.{Book}
 use Rattle.inst_ledger.proofs.Opening.{fits_at_place}
-use Rattle.inst_ledger.proofs.ledger.Ledger.open_from.Goals as goal
+use Rattle.inst_ledger.proofs.ledger.Ledger.keep_all.Goals as goal
 
 pub keep-requires : goal.keep-requires
 keep-requires c =
     subst (λ (b : Book). Fits b.settings b.who b.events c.event-item.result) (sym c.loop-event.invariant)
-    (fits_at_place c.args.settings.now c.args.who c.args.journal.now.events c.events-event-items.result.now c.loop-event.event-index c.event-item.result c.events-event-items.ensures c.requires.sound c.loop-event-test.true c.event-item.is)
+    (fits_at_place c.args.self.now.book.settings c.args.self.now.book.who c.args.journal.now.events c.events-event-items.result.now c.loop-event.event-index c.event-item.result c.events-event-items.ensures c.requires.sound c.loop-event-test.true c.event-item.is)
