@@ -1,15 +1,17 @@
 -- The spots of what a history carries over an opening, as far as it is walked.
-use Rattle.std.proofs.Common.{◌≡◌, ℕ, ◌+◌, arith, List, [], ◌∷◌, ◌++◌, length, length-append, refl, sym, ap, ◌∙◌, subst, Option, Some, None}
+use Rattle.std.proofs.Common.{◌≡◌, ℕ, ◌+◌, ◌<◌, arith, get_or, take, drop, take-append-drop, List, [], ◌∷◌, ◌++◌, length, length-append, refl, sym, ap, ◌∙◌, subst, Option, Some, None}
 use Rattle.std.specs.List.{cons_option}
+use Rattle.std.proofs.lemmas.List.Elements.{filter_map-append}
 use Rattle.inst_command.specs.declared.entry.Entry.{Entry}
 use Rattle.inst_journal.specs.declared.event.Event.{Event}
 use Rattle.inst_journal.specs.declared.event.Event.TheVariants.{Funded, Defunded, Taken, Forwarded, Booked, Fetched, Opened}
 use Rattle.inst_transfers.specs.State.{row_of}
+use Rattle.inst_ledger.proofs.Inbox.{get_still, get_next}
 use Rattle.inst_ledger.proofs.Right.{rows_push}
 use Rattle.inst_slot.specs.declared.arrival.Arrival.{Arrival}
 use Rattle.inst_slot.specs.declared.arrivals.Spot.{Spot}
 use Rattle.inst_slot.specs.Opening.{unplaced}
-use Rattle.inst_slot.specs.Spots.{rows_of, arrivals_of, AreSpots}
+use Rattle.inst_slot.specs.Spots.{rows_of, no_entry, arrivals_of, AreSpots}
 use Rattle.inst_slot.proofs.Opening.{arrived_of}
 use Rattle.inst_slot.proofs.Spots.{arrivals_still, spots_still, arrivals_next, spots_next}
 
@@ -46,3 +48,16 @@ rows_none who (Defunded reference cents) taken forwarded = refl
 rows_none who (Booked from id outcome) taken forwarded = refl
 rows_none who (Fetched count) taken forwarded = refl
 rows_none who Opened taken forwarded = refl
+
+-- the row of an event that brings a transfer stands where the rows of the events before it end
+pub row_here : (who : ℕ) (J : List Event) (i : ℕ) (x : Event) (e : Entry) (n : ℕ) → take (i + 1) J ≡ take i J ++ x ∷ [] → row_of who x ≡ Some e → n ≡ length (rows_of who (take i J)) → (get_or (rows_of who J) n no_entry ≡ e) × (n < length (rows_of who J))
+row_here who J i x e n more row at =
+    let K : List Event = take i J in
+    let R : List Entry = rows_of who (drop (i + 1) J) in
+    let first : rows_of who (take (i + 1) J) ≡ rows_of who K ++ e ∷ [] = ap (rows_of who) more ∙ rows_push who K x ∙ ap (λ (o : Option Entry). rows_of who K ++ cons_option o []) row in
+    let whole : rows_of who J ≡ (rows_of who K ++ e ∷ []) ++ R =
+    ap (rows_of who) (sym (take-append-drop (i + 1) J)) ∙ filter_map-append (row_of who) (take (i + 1) J) (drop (i + 1) J) ∙ ap (λ (l : List Entry). l ++ R) first in
+    let below : n < length (rows_of who K ++ e ∷ []) = omega (arith, at, length-append (rows_of who K) (e ∷ [])) in (
+      ap (λ (l : List Entry). get_or l n no_entry) whole ∙ get_still (rows_of who K ++ e ∷ []) R n no_entry below ∙ ap (λ (m : ℕ). get_or (rows_of who K ++ e ∷ []) m no_entry) at ∙ get_next (rows_of who K) e no_entry,
+      omega (arith, below, ap length whole, length-append (rows_of who K ++ e ∷ []) R),
+    )

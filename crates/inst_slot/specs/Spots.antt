@@ -4,6 +4,9 @@ pub use Rattle.inst_transfers.specs.State.{rows_of}
 pub use Rattle.inst_ledger.specs.Inbox.{no_entry}
 use Rattle.std.specs.Prelude.{◌≡◌, ◌≢◌, ℕ, get_or, List, map, length, slice_get, Option, Some, None}
 use Rattle.inst_command.specs.declared.entry.Entry.{Entry}
+use Rattle.inst_command.specs.declared.outcome.Outcome.{Outcome}
+use Rattle.inst_journal.specs.declared.event.Event.{Event}
+use Rattle.inst_journal.specs.Booked.{booked}
 use Rattle.inst_transfers.specs.Held.{AreWithin, AreRising}
 use Rattle.inst_slot.specs.declared.arrival.Arrival.{Arrival}
 use Rattle.inst_slot.specs.declared.arrivals.Spot.{Spot}
@@ -17,6 +20,11 @@ arrivals_of rows spots = map (arrival_of rows) spots
 
 abbrev pub positions_of : List Spot → List ℕ
 positions_of spots = map (λ spot. spot.position) spots
+
+-- what is booked of the transfer at a position of the table
+abbrev pub booked_at : ℕ → List Event → ℕ → Option Outcome
+booked_at who J position =
+    booked (get_or (rows_of who J) position no_entry).from (get_or (rows_of who J) position no_entry).id J
 
 -- each spot is within the table, and they rise, as transfers arrive in its order
 abbrev pub AreSpots : List Entry → List Spot → Type 0

@@ -1,11 +1,11 @@
 //! The live transfers that were forwarded to a participant, found by what the one table of its transfers holds of them.
-ghost use Rattle.std.specs.Prelude.{◌≡◌, IfOk, map, IsOkUnless};
+ghost use Rattle.std.specs.Prelude.{◌≡◌, ◌<◌, IfOk, length, map, IsOkUnless};
 ghost use Rattle.std.specs.List.{list_any};
 ghost use Rattle.inst_journal.specs.Opened.{carried};
 ghost use Rattle.inst_transfers.specs.Held.{IsFound, AreRising};
 ghost use Rattle.inst_slot.specs.Book.{live_inbox, arrived_at};
 ghost use Rattle.inst_slot.specs.Opening.{unplaced, awaits, found_at};
-ghost use Rattle.inst_slot.specs.Spots.{rows_of, arrivals_of, positions_of, AreSpots, FindsSpot};
+ghost use Rattle.inst_slot.specs.Spots.{rows_of, arrivals_of, positions_of, booked_at, AreSpots, FindsSpot};
 
 use crate::Arrival;
 use crate::arrival::awaits;
@@ -83,6 +83,16 @@ pub(crate) fn find_at(
     true
 }
 
+/// What is booked of the transfer at this position of the table. It looks nothing up by its key.
+fn booked_at(ledger: &Ledger, position: usize) -> Option<Outcome>
+    requires { position < length (rows_of ledger.now.book.who ledger.now.book.events) }
+    ensures { result ≡ booked_at ledger.now.book.who ledger.now.book.events position }
+{
+    // The check is told of an enum inside a struct only where a function names it.
+    let _: Option<(Side, Transfer, Outcome)> = None;
+    ledger.at(position).unwrap().transfer.outcome
+}
+
 /// The live transfers that were forwarded, in order of arrival, where the history ends with an opening.
 pub(crate) fn carried_arrivals(alloc: Global, ledger: &Ledger) -> Result<Vec<Spot>, Fault>
     requires { carried ledger.now.book.events ≡ ledger.now.book.events }
@@ -97,8 +107,8 @@ pub(crate) fn carried_arrivals(alloc: Global, ledger: &Ledger) -> Result<Vec<Spo
     for event in ledger.journal().events() {
         match event {
             Event::Taken { .. } => position += 1,
-            Event::Forwarded { from, id, .. } => {
-                if ledger.booked(*from, id).is_none() {
+            Event::Forwarded { .. } => {
+                if booked_at(ledger, position).is_none() {
                     let index = None;
                     spots.push(Spot { position, index })?;
                 }
