@@ -1,0 +1,42 @@
+use Rattle.std.proofs.Common.{length, inl, ◌∙◌, ap, subst, arith, IsTrue}
+use Rattle.std.proofs.lemmas.List.{length-drop}
+use Rattle.inst_log.proofs.Lines.{all_lines, AllLines-append}
+use Rattle.inst_log.proofs.Crash.{stage_crash, staged_is, gate_crash, opened_is, new_end, closed_at, tail_is, head_is, long_batch}
+use Rattle.inst_log.proofs.log.Log.append.Goals as goal
+
+-- neither part of a batch is empty
+pub write_synced-requires-clause-some : goal.write_synced-requires-clause-some
+write_synced-requires-clause-some g c =
+    omega (arith, ap length (tail_is c.args.batch.now), length-drop 1 c.args.batch.now, long_batch c.args.batch.now c.requires.batch)
+
+pub write_synced-requires-2-clause-some : goal.write_synced-requires-2-clause-some
+write_synced-requires-2-clause-some g c = omega (arith, ap length (head_is c.args.batch.now c.requires.batch))
+
+-- the first write leaves the lines as they were
+pub returns-in_err-write_synced-clause-any_moment : goal.returns-in_err-write_synced-clause-any_moment
+returns-in_err-write_synced-clause-any_moment g c clean left may =
+    let s = c.requires.settled (subst IsTrue c.write_synced.ensures.clean clean) in
+    inl (stage_crash _ _ s.closed _ _ _ s.durable c.write_synced.ensures.crash left may)
+
+-- the second leaves them with the batch or without
+pub returns-in_err-write_synced-2-clause-any_moment : goal.returns-in_err-write_synced-2-clause-any_moment
+returns-in_err-write_synced-2-clause-any_moment g c clean left may =
+    let s = c.requires.settled (subst IsTrue (c.write_synced-2.ensures.clean ∙ c.write_synced.ensures.clean) clean) in
+    let mid = staged_is _ _ s.closed _ c.requires.batch _ c.write_synced.ensures.others (λ _. c.in_ok-write_synced.ensures.written) in
+    gate_crash _ _ s.closed _ c.requires.batch _ _ _ mid c.in_ok-write_synced.ensures.durable c.write_synced-2.ensures.crash left may
+
+pub returns-clause-any_moment : goal.returns-clause-any_moment
+returns-clause-any_moment g c clean left may =
+    let s = c.requires.settled (subst IsTrue (c.write_synced-2.ensures.clean ∙ c.write_synced.ensures.clean) clean) in
+    let mid = staged_is _ _ s.closed _ c.requires.batch _ c.write_synced.ensures.others (λ _. c.in_ok-write_synced.ensures.written) in
+    gate_crash _ _ s.closed _ c.requires.batch _ _ _ mid c.in_ok-write_synced.ensures.durable c.write_synced-2.ensures.crash left may
+
+-- and then the batch is on the disk
+pub returns-clause-acknowledged : goal.returns-clause-acknowledged
+returns-clause-acknowledged g c clean =
+    let s = c.requires.settled (subst IsTrue (c.write_synced-2.ensures.clean ∙ c.write_synced.ensures.clean) clean) in
+    let old = g.D.Disk.seen c.args.self.now.disk in
+    let mid = staged_is _ _ s.closed _ c.requires.batch _ c.write_synced.ensures.others (λ _. c.in_ok-write_synced.ensures.written) in
+    let is = opened_is _ _ s.closed _ c.requires.batch _ _ mid c.write_synced-2.ensures.others (λ _. c.in_ok-write_synced-2.ensures.written) in
+    let at = closed_at _ _ _ 0 _ (AllLines-append _ _ (all_lines old) (all_lines c.args.batch.now)) is (omega arith) (new_end _ _ s.closed _ c.requires.batch) in
+    (record { closed = at.0; durable = c.in_ok-write_synced-2.ensures.durable }, at.1)

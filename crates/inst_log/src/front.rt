@@ -1,0 +1,45 @@
+// The lines with which bytes begin, and where they end.
+ghost use Rattle.std.specs.Prelude.{◌≡◌, ◌≢◌, ◌⊎◌, ◌<◌, ◌≤◌, [], length, slice_index, MatchBool, MatchOption};
+ghost use Rattle.inst_log.specs.Layout.{recovered, blocks, IsFirstLine, NoNewline, BreaksAt};
+
+use memchr::memchr;
+
+/// How many bytes the lines have.
+pub(crate) fn kept_len(bytes: &[u8]) -> usize
+    ensures len { result ≡ length (blocks (recovered bytes.now)) }
+    ensures within { result ≤ length bytes.now }
+{
+    let mut rest = bytes;
+    while let Some(len) = first_line(rest) {
+        rest = &rest[len..];
+    }
+    bytes.len() - rest.len()
+}
+
+/// How long the first line is, with its newline.
+fn first_line(bytes: &[u8]) -> Option<usize>
+    ensures { MatchOption result (recovered bytes.now ≡ []) (λ n. IsFirstLine bytes.now n) }
+{
+    if bytes.is_empty() || bytes[0] != b'{' {
+        return None;
+    }
+    match find_newline(bytes) {
+        Some(newline) => Some(newline + 1),
+        None => None,
+    }
+}
+
+/// Where the first newline stands.
+pub fn find_newline(bytes: &[u8]) -> Option<usize>
+    ensures { MatchOption result (NoNewline bytes.now) (λ n. BreaksAt bytes.now n) }
+{
+    memchr(b'\n', bytes)
+}
+
+/// A byte that is closed stands at `end`.
+pub(crate) fn is_closed(bytes: &[u8], end: usize) -> bool
+    ensures { MatchBool result ((end < length bytes.now) × (slice_index bytes.now end ≢ 123))
+        ((length bytes.now ≤ end) ⊎ (slice_index bytes.now end ≡ 123)) }
+{
+    end < bytes.len() && bytes[end] != b'{'
+}

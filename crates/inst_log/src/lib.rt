@@ -1,0 +1,21 @@
+//! The file of the lines that a hub has read, ahead of their replies: what is acknowledged is on the disk,
+//! whatever moment a crash comes at.
+#![tactic(auto)]
+
+mod answers;
+mod batch;
+mod delivery;
+mod error;
+mod front;
+mod log;
+mod recorder;
+mod recovery;
+mod synced;
+
+pub use answers::Answers;
+pub use batch::{close_batch, line_comes_back, push_line};
+pub use error::LogError;
+pub use front::find_newline;
+pub use log::Log;
+pub use recorder::Recorder;
+pub use recovery::recover;
