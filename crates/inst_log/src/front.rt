@@ -17,7 +17,7 @@ pub(crate) fn kept_len(bytes: &[u8]) -> usize
 }
 
 /// How long the first line is, with its newline.
-fn first_line(bytes: &[u8]) -> Option<usize>
+pub(crate) fn first_line(bytes: &[u8]) -> Option<usize>
     ensures { MatchOption result (recovered bytes.now ≡ []) (λ n. IsFirstLine bytes.now n) }
 {
     if bytes.is_empty() || bytes[0] != b'{' {

@@ -8,8 +8,9 @@ mod delivery;
 mod error;
 mod front;
 mod log;
+mod opening;
 mod recorder;
-mod recovery;
+mod repair;
 mod synced;
 
 pub use answers::Answers;
@@ -18,4 +19,3 @@ pub use error::LogError;
 pub use front::find_newline;
 pub use log::Log;
 pub use recorder::Recorder;
-pub use recovery::recover;

@@ -1,8 +1,8 @@
 // Whole lines and a closed byte. It is closed on the disk before anything is written behind it.
-ghost use Rattle.std.specs.Prelude.{◌≡◌, ◌⊎◌, ◌<◌, ◌≤◌, ◌^◌, ◌++◌, List, ℕ, length, IsTrue, OnOk, OnErr};
+ghost use Rattle.std.specs.Prelude.{◌≡◌, ◌<◌, ◌≤◌, ◌^◌, ◌++◌, List, ℕ, length, IsTrue, IfErr, OnOk};
 ghost use Rattle.sqlite_disk.specs.Disk.{MoreFaults};
 ghost use Rattle.inst_log.specs.Layout.{recovered, IsBatch};
-ghost use Rattle.inst_log.specs.Log.{IsSettled, IsBeforeOrAfter};
+ghost use Rattle.inst_log.specs.Log.{IsSettled, IsBeforeOrAfter, IsAtStage, HasCause};
 
 use crate::LogError;
 use crate::synced::write_synced;
@@ -32,12 +32,14 @@ impl<D: Disk> Log<D> {
         // A crash at any moment of the call leaves the lines from before it, with the batch or without.
         ensures any_moment { IsTrue (D.Disk.is_clean self.new.disk) → (c : List ℕ) → D.Disk.may_leave self.new.disk c
             → IsBeforeOrAfter (recovered (D.Disk.seen self.old.disk)) (recovered batch.now) c }
+        ensures stages { IsTrue (D.Disk.is_clean self.new.disk) → (c : List ℕ) → D.Disk.may_leave self.new.disk c
+            → IsAtStage (D.Disk.seen self.old.disk) self.old.end batch.now c }
 
         ensures usable { OnOk result (IsTrue (D.Disk.is_usable self.new.disk)) }
         ensures clean { D.Disk.is_clean self.new.disk ≡ D.Disk.is_clean self.old.disk }
 
         // It doesn't give up by itself.
-        ensures cause { OnErr result (MoreFaults (D.Disk.faults self.old.disk) (D.Disk.faults self.new.disk) ⊎ (2 ^ 62 ≤ self.old.end)) }
+        ensures cause { IfErr result (HasCause (MoreFaults (D.Disk.faults self.old.disk) (D.Disk.faults self.new.disk)) ⊥ (2 ^ 62 ≤ self.old.end)) }
     {
         if self.end >= MOST_BYTES {
             return Err(LogError::Full);

@@ -4,10 +4,11 @@ ghost use Rattle.std.specs.Io.KnownBytes.{Appends};
 ghost use Rattle.sqlite_disk.specs.Disk.{Only};
 ghost use Rattle.inst_log.specs.Layout.{recovered, IsBatch};
 ghost use Rattle.inst_log.specs.Log.{IsSettled};
+ghost use Rattle.inst_log.specs.Opening.{kept, Opens, OpensAlike};
 ghost use Rattle.inst_log.specs.Serving.{TellsKept, GoesOn, WritesPart, AllBatches, lines_of, owed};
 
 use crate::delivery::deliver;
-use crate::{Answers, Log, LogError, recover};
+use crate::{Answers, Log, LogError};
 use sqlite_disk::Disk;
 use std::alloc::Global;
 use std::io::Write;
@@ -21,65 +22,85 @@ pub struct Recorder<D: Disk, A: Answers + Drop> {
 }
 
 impl<D: Disk, A: Answers + Drop> Recorder<D, A> {
-    /// Opens a file that a crash may have left, hands out the replies to its lines but for the first `told` bytes,
-    /// and then answers batch after batch. The answers are to be at their beginning. At `Err`, open the log again.
+    /// Opens the log with these settings, a batch, hands out the replies to its lines but for the first `told` bytes, and
+    /// then answers batch after batch. The answers are to be at their beginning. At `Err`, open the log again; a log of
+    /// other settings and a file that is none are left as they are.
     pub fn run<W: Write>(
         &mut self,
         alloc: Global,
+        settings: &[u8],
         told: usize,
         batches: &[Vec<u8>],
         writer: &mut W,
     ) -> Result<(), LogError>
         requires usable { IsTrue (D.Disk.is_usable self.old.log.disk) }
         // After a restart, what is read is what is on the disk.
-        requires known { IsTrue (D.Disk.is_clean self.old.log.disk) → Only (D.Disk.seen self.old.log.disk) (D.Disk.may_leave self.old.log.disk) }
+        requires known { IsTrue (D.Disk.is_clean self.old.log.disk)
+            → Only (D.Disk.seen self.old.log.disk) (D.Disk.may_leave self.old.log.disk) }
+        requires settings { IsBatch settings.now }
         requires batches { AllBatches batches.now }
 
-        ensures acknowledged { OnOk result (IsTrue (D.Disk.is_clean self.new.log.disk) → IsSettled D.Disk.seen D.Disk.may_leave self.new.log
-            × (recovered (D.Disk.seen self.new.log.disk) ≡ recovered (D.Disk.seen self.old.log.disk) ++ lines_of batches.now)) }
-        ensures replied { OnOk result (IsTrue (D.Disk.is_clean self.new.log.disk) → Appends (W.Write.contents writer.old) (W.Write.contents writer.new)
-            (owed (A.Answers.replies self.old.answers) (recovered (D.Disk.seen self.old.log.disk)) told (lines_of batches.now))) }
+        ensures acknowledged { OnOk result (IsTrue (D.Disk.is_clean self.new.log.disk)
+            → IsSettled D.Disk.seen D.Disk.may_leave self.new.log
+            × (recovered (D.Disk.seen self.new.log.disk)
+            ≡ (recovered settings.now ++ kept settings.now (D.Disk.seen self.old.log.disk)) ++ lines_of batches.now)) }
+        ensures replied { OnOk result (IsTrue (D.Disk.is_clean self.new.log.disk)
+            → Appends (W.Write.contents writer.old) (W.Write.contents writer.new)
+            (owed (A.Answers.replies self.old.answers) (kept settings.now (D.Disk.seen self.old.log.disk)) told (lines_of batches.now))) }
 
         // At `Ok` and at `Err`: each file that a crash may leave has the lines that were there and a front of those read, among
         // them each line of whose reply a byte was handed to the writer.
-        ensures any_moment { IsTrue (D.Disk.is_clean self.new.log.disk) → TellsKept (D.Disk.may_leave self.new.log.disk)
-            (owed (A.Answers.replies self.old.answers) (recovered (D.Disk.seen self.old.log.disk)) told)
-            (recovered (D.Disk.seen self.old.log.disk)) (lines_of batches.now)
+        ensures any_moment { IsTrue (D.Disk.is_clean self.new.log.disk)
+            → TellsKept (kept settings.now) (D.Disk.may_leave self.new.log.disk)
+            (owed (A.Answers.replies self.old.answers) (kept settings.now (D.Disk.seen self.old.log.disk)) told)
+            (kept settings.now (D.Disk.seen self.old.log.disk)) (lines_of batches.now)
             (W.Write.contents writer.old) (W.Write.contents writer.new) }
+        // It opens again.
+        ensures opens { IsTrue (D.Disk.is_clean self.new.log.disk) → Opens settings.now (D.Disk.seen self.old.log.disk)
+            → (c : List ℕ) → D.Disk.may_leave self.new.log.disk c → Opens settings.now c }
         ensures clean { IsTrue (D.Disk.is_clean self.new.log.disk) → IsTrue (D.Disk.is_clean self.old.log.disk) }
     {
-        self.reopen(alloc, told, writer)?;
+        self.reopen(alloc, settings, told, writer)?;
         self.serve_all(batches, writer)
     }
 
-    /// Opens a file that a crash may have left, and hands out the replies to its lines but for the first `told` bytes.
+    /// Opens the log with these settings, and hands out the replies to its lines but for the first `told` bytes.
     fn reopen<W: Write>(
         &mut self,
         alloc: Global,
+        settings: &[u8],
         told: usize,
         writer: &mut W,
     ) -> Result<(), LogError>
         requires usable { IsTrue (D.Disk.is_usable self.old.log.disk) }
-        requires known { IsTrue (D.Disk.is_clean self.old.log.disk) → Only (D.Disk.seen self.old.log.disk) (D.Disk.may_leave self.old.log.disk) }
+        requires known { IsTrue (D.Disk.is_clean self.old.log.disk)
+            → Only (D.Disk.seen self.old.log.disk) (D.Disk.may_leave self.old.log.disk) }
+        requires settings { IsBatch settings.now }
 
-        ensures settled { OnOk result (IsTrue (D.Disk.is_clean self.new.log.disk) → IsSettled D.Disk.seen D.Disk.may_leave self.new.log
-            × (recovered (D.Disk.seen self.new.log.disk) ≡ recovered (D.Disk.seen self.old.log.disk))) }
-        ensures any_moment { IsTrue (D.Disk.is_clean self.new.log.disk) → (c : List ℕ) → D.Disk.may_leave self.new.log.disk c
-            → recovered c ≡ recovered (D.Disk.seen self.old.log.disk) }
-        ensures replied { OnOk result (IsTrue (D.Disk.is_clean self.new.log.disk) → Appends (W.Write.contents writer.old) (W.Write.contents writer.new)
-            (drop told (A.Answers.replies self.old.answers (recovered (D.Disk.seen self.old.log.disk))))) }
-        ensures told { OnOk result (IsTrue (D.Disk.is_clean self.new.log.disk) → told ≤ length (A.Answers.replies self.old.answers (recovered (D.Disk.seen self.old.log.disk)))) }
-        ensures part { IsTrue (D.Disk.is_clean self.new.log.disk) → WritesPart (W.Write.contents writer.old) (W.Write.contents writer.new)
-            (drop told (A.Answers.replies self.old.answers (recovered (D.Disk.seen self.old.log.disk)))) }
+        ensures settled { OnOk result (IsTrue (D.Disk.is_clean self.new.log.disk)
+            → IsSettled D.Disk.seen D.Disk.may_leave self.new.log
+            × (recovered (D.Disk.seen self.new.log.disk)
+            ≡ recovered settings.now ++ kept settings.now (D.Disk.seen self.old.log.disk))) }
+        ensures any_moment { IsTrue (D.Disk.is_clean self.new.log.disk) → (c : List ℕ)
+            → D.Disk.may_leave self.new.log.disk c → OpensAlike settings.now (D.Disk.seen self.old.log.disk) c }
+        ensures replied { OnOk result (IsTrue (D.Disk.is_clean self.new.log.disk)
+            → Appends (W.Write.contents writer.old) (W.Write.contents writer.new)
+            (drop told (A.Answers.replies self.old.answers (kept settings.now (D.Disk.seen self.old.log.disk))))) }
+        ensures told { OnOk result (IsTrue (D.Disk.is_clean self.new.log.disk)
+            → told ≤ length (A.Answers.replies self.old.answers (kept settings.now (D.Disk.seen self.old.log.disk)))) }
+        ensures part { IsTrue (D.Disk.is_clean self.new.log.disk)
+            → WritesPart (W.Write.contents writer.old) (W.Write.contents writer.new)
+            (drop told (A.Answers.replies self.old.answers (kept settings.now (D.Disk.seen self.old.log.disk)))) }
         ensures on { OnOk result (IsTrue (D.Disk.is_clean self.new.log.disk)
-            → GoesOn (A.Answers.replies self.old.answers) (recovered (D.Disk.seen self.old.log.disk)) (A.Answers.replies self.new.answers)) }
+            → GoesOn (A.Answers.replies self.old.answers) (kept settings.now (D.Disk.seen self.old.log.disk))
+            (A.Answers.replies self.new.answers)) }
         ensures usable { OnOk result (IsTrue (D.Disk.is_usable self.new.log.disk)) }
         ensures clean { IsTrue (D.Disk.is_clean self.new.log.disk) → IsTrue (D.Disk.is_clean self.old.log.disk) }
     {
-        let text = recover(alloc, &mut self.log.disk)?;
-        self.log.end = text.len();
+        let text = self.log.open(alloc, settings)?;
         self.out.clear();
-        self.answers.answer(text.as_slice(), &mut self.out)?;
+        self.answers
+            .answer(&text[settings.len() - 1..], &mut self.out)?;
         if told > self.out.len() {
             return Err(LogError::Told);
         }
@@ -99,7 +120,7 @@ impl<D: Disk, A: Answers + Drop> Recorder<D, A> {
         ensures on { OnOk result (GoesOn (A.Answers.replies self.old.answers) (recovered batch.now) (A.Answers.replies self.new.answers)) }
 
         // At `Ok` and at `Err`: each file that a crash may leave has each line of whose reply a byte was handed to the writer.
-        ensures any_moment { IsTrue (D.Disk.is_clean self.new.log.disk) → TellsKept (D.Disk.may_leave self.new.log.disk)
+        ensures any_moment { IsTrue (D.Disk.is_clean self.new.log.disk) → TellsKept recovered (D.Disk.may_leave self.new.log.disk)
             (A.Answers.replies self.old.answers) (recovered (D.Disk.seen self.old.log.disk)) (recovered batch.now)
             (W.Write.contents writer.old) (W.Write.contents writer.new) }
 
@@ -129,7 +150,7 @@ impl<D: Disk, A: Answers + Drop> Recorder<D, A> {
         ensures on { OnOk result (GoesOn (A.Answers.replies self.old.answers) (lines_of batches.now) (A.Answers.replies self.new.answers)) }
 
         // At `Ok` and at `Err`: each file that a crash may leave has each line of whose reply a byte was handed to the writer.
-        ensures any_moment { IsTrue (D.Disk.is_clean self.new.log.disk) → TellsKept (D.Disk.may_leave self.new.log.disk)
+        ensures any_moment { IsTrue (D.Disk.is_clean self.new.log.disk) → TellsKept recovered (D.Disk.may_leave self.new.log.disk)
             (A.Answers.replies self.old.answers) (recovered (D.Disk.seen self.old.log.disk)) (lines_of batches.now)
             (W.Write.contents writer.old) (W.Write.contents writer.new) }
 

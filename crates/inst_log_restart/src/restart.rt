@@ -2,7 +2,8 @@
 ghost use Rattle.std.specs.Prelude.{◌≡◌, List, ℕ, IsTrue, IfOk};
 ghost use Rattle.sqlite_disk.specs.Disk.{Only};
 ghost use Rattle.sqlite_disk.specs.Fuse.{inner_of};
-ghost use Rattle.inst_log.specs.Layout.{recovered};
+ghost use Rattle.inst_log.specs.Layout.{IsBatch};
+ghost use Rattle.inst_log.specs.Opening.{kept};
 ghost use Rattle.inst_log.specs.Serving.{AllBatches, lines_of};
 ghost use Rattle.inst_log_restart.specs.Restart.{SaysOnce, Begins};
 
@@ -18,11 +19,13 @@ pub struct Twice<D: Disk> {
 }
 
 /// Runs a log over a machine that stops after `calls` calls of the disk, and comes back with any of the files that a
-/// crash then may leave. The log is run again, and told how many bytes of replies the reader has.
+/// crash then may leave. The log is run again, and told how many bytes of replies the reader has. The settings are a
+/// batch. An error is one of the second run or of the sync before it.
 pub fn run_twice<D: Crash + Drop, A: Answers + Drop>(
     alloc: Global,
     disk: D,
     calls: u64,
+    settings: &[u8],
     first: A,
     again: A,
     batches: &[Vec<u8>],
@@ -32,11 +35,12 @@ pub fn run_twice<D: Crash + Drop, A: Answers + Drop>(
     requires known { IsTrue (D.Disk.is_clean disk) → Only (D.Disk.seen disk) (D.Disk.may_leave disk) }
     requires same { A.Answers.replies again ≡ A.Answers.replies first }
     requires begins { Begins (A.Answers.replies first) }
+    requires settings { IsBatch settings.now }
     requires batches { AllBatches batches.now }
     requires more { AllBatches more.now }
     ensures { IfOk result (λ twice. IsTrue (D.Disk.is_clean (inner_of twice.disk)) → SaysOnce (A.Answers.replies first)
-        (recovered (D.Disk.seen disk)) (lines_of batches.now) (lines_of more.now) twice.told.items
-        (recovered (D.Disk.seen (inner_of twice.disk)))) }
+        (kept settings.now (D.Disk.seen disk)) (lines_of batches.now) (lines_of more.now) twice.told.items
+        (kept settings.now (D.Disk.seen (inner_of twice.disk)))) }
 {
     let mut told = Vec::new(alloc);
     let mut recorder = Recorder {
@@ -47,7 +51,7 @@ pub fn run_twice<D: Crash + Drop, A: Answers + Drop>(
         answers: first,
         out: Vec::new(alloc),
     };
-    let _ = recorder.run(alloc, 0, batches, &mut told);
+    let _ = recorder.run(alloc, settings, 0, batches, &mut told);
     let Recorder { log, .. } = recorder;
     let Log { mut disk, .. } = log;
     disk.crash();
@@ -57,7 +61,7 @@ pub fn run_twice<D: Crash + Drop, A: Answers + Drop>(
         answers: again,
         out: Vec::new(alloc),
     };
-    recorder.run(alloc, told.len(), more, &mut told)?;
+    recorder.run(alloc, settings, told.len(), more, &mut told)?;
     let Recorder { log, .. } = recorder;
     let Log { disk, .. } = log;
     Ok(Twice { told, disk })

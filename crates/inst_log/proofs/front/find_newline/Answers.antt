@@ -1,4 +1,4 @@
-use Rattle.inst_log.proofs.Repair.{breaks_from_search}
+use Rattle.inst_log.proofs.Mending.{breaks_from_search}
 use Rattle.inst_log.proofs.front.find_newline.Goals as goal
 
 pub returns : goal.returns

@@ -1,7 +1,7 @@
 use Rattle.std.proofs.Common.{length, inl, ◌∙◌, ap, subst, arith, IsTrue}
 use Rattle.std.proofs.lemmas.List.{length-drop}
 use Rattle.inst_log.proofs.Lines.{all_lines, AllLines-append}
-use Rattle.inst_log.proofs.Crash.{stage_crash, staged_is, gate_crash, opened_is, new_end, closed_at, tail_is, head_is, long_batch}
+use Rattle.inst_log.proofs.Crash.{stage_crash, stage_at, gate_at, staged_is, gate_crash, opened_is, new_end, closed_at, tail_is, head_is, long_batch}
 use Rattle.inst_log.proofs.log.Log.append.Goals as goal
 
 -- neither part of a batch is empty
@@ -30,6 +30,24 @@ returns-clause-any_moment g c clean left may =
     let s = c.requires.settled (subst IsTrue (c.write_synced-2.ensures.clean ∙ c.write_synced.ensures.clean) clean) in
     let mid = staged_is _ _ s.closed _ c.requires.batch _ c.write_synced.ensures.others (λ _. c.in_ok-write_synced.ensures.written) in
     gate_crash _ _ s.closed _ c.requires.batch _ _ _ mid c.in_ok-write_synced.ensures.durable c.write_synced-2.ensures.crash left may
+
+-- how far the batch is then
+pub returns-in_err-write_synced-clause-stages : goal.returns-in_err-write_synced-clause-stages
+returns-in_err-write_synced-clause-stages g c clean left may =
+    let s = c.requires.settled (subst IsTrue c.write_synced.ensures.clean clean) in
+    stage_at _ _ s.closed _ c.requires.batch _ _ s.durable c.write_synced.ensures.crash left may
+
+pub returns-in_err-write_synced-2-clause-stages : goal.returns-in_err-write_synced-2-clause-stages
+returns-in_err-write_synced-2-clause-stages g c clean left may =
+    let s = c.requires.settled (subst IsTrue (c.write_synced-2.ensures.clean ∙ c.write_synced.ensures.clean) clean) in
+    let mid = staged_is _ _ s.closed _ c.requires.batch _ c.write_synced.ensures.others (λ _. c.in_ok-write_synced.ensures.written) in
+    gate_at _ _ s.closed _ c.requires.batch _ _ _ mid c.in_ok-write_synced.ensures.durable c.write_synced-2.ensures.crash left may
+
+pub returns-clause-stages : goal.returns-clause-stages
+returns-clause-stages g c clean left may =
+    let s = c.requires.settled (subst IsTrue (c.write_synced-2.ensures.clean ∙ c.write_synced.ensures.clean) clean) in
+    let mid = staged_is _ _ s.closed _ c.requires.batch _ c.write_synced.ensures.others (λ _. c.in_ok-write_synced.ensures.written) in
+    gate_at _ _ s.closed _ c.requires.batch _ _ _ mid c.in_ok-write_synced.ensures.durable c.write_synced-2.ensures.crash left may
 
 -- and then the batch is on the disk
 pub returns-clause-acknowledged : goal.returns-clause-acknowledged

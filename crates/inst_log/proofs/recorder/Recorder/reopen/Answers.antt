@@ -1,46 +1,53 @@
-use Rattle.std.proofs.Common.{◌≡◌, ◌≤◌, length, rules}
+use Rattle.std.proofs.Common.{◌≡◌, ◌≤◌, ap, length, arith, rules}
 use Rattle.std.proofs.lemmas.Result.{on_ok_weaker}
 use Rattle.std.proofs.lemmas.List.{take_rest}
-use Rattle.inst_log.specs.Layout.{recovered}
-use Rattle.inst_log.proofs.Serve.{text_lines}
+use Rattle.inst_log.specs.Opening.{kept}
+use Rattle.inst_log.proofs.Serve.{text_behind}
 use Rattle.inst_log.proofs.recorder.Recorder.reopen.Goals as goal
+
+pub slice_bounds-answer-count : goal.slice_bounds-answer-count
+slice_bounds-answer-count g c = omega (arith, ap length c.deref.ensures.value, c.in_ok-text.ensures.front)
 
 pub returns-clause-replied : goal.returns-clause-replied
 returns-clause-replied g c =
     on_ok_weaker c.deliver.result (λ wrote clean.
     let replies = g.A.Answers.replies c.args.self.now.answers in
+    let settings = c.args.settings.now in
     let file = g.D.Disk.seen c.args.self.now.log.disk in
-    let text : recovered c.in_ok-text.text.items ≡ recovered file = text_lines file _ (c.in_ok-text.ensures.text clean) in
-    let slice : c.as_slice.result.now ≡ c.in_ok-text.text.items = c.as_slice.ensures.value in
-    let out : c.answer.new.out.items ≡ replies (recovered file) = rw (slice, text, c.clear.ensures.items) at c.in_ok-answer.ensures.replies in
-    let value : c.deref.result.now ≡ c.answer.new.out.items = c.deref.ensures.value in
-    rw (← out) (rw (value, take_rest c.answer.new.out.items c.args.told) at wrote)) c.deliver.ensures.ok
+    let lines = text_behind settings c.in_ok-text.text.items file c.requires.settings (c.in_ok-text.ensures.text clean) in
+    let value : c.deref.result.now ≡ c.in_ok-text.text.items = c.deref.ensures.value in
+    let out : c.answer.new.out.items ≡ replies (kept settings file) = rw (take_rest, value, lines, c.clear.ensures.items) at c.in_ok-answer.ensures.replies in
+    let value-2 : c.deref-2.result.now ≡ c.answer.new.out.items = c.deref-2.ensures.value in
+    rw (← out) (rw (value-2, take_rest c.answer.new.out.items c.args.told) at wrote)) c.deliver.ensures.ok
 
 pub returns-clause-told : goal.returns-clause-told
 returns-clause-told g c =
     on_ok_weaker c.deliver.result (λ wrote clean.
     let replies = g.A.Answers.replies c.args.self.now.answers in
+    let settings = c.args.settings.now in
     let file = g.D.Disk.seen c.args.self.now.log.disk in
-    let text : recovered c.in_ok-text.text.items ≡ recovered file = text_lines file _ (c.in_ok-text.ensures.text clean) in
-    let slice : c.as_slice.result.now ≡ c.in_ok-text.text.items = c.as_slice.ensures.value in
-    let out : c.answer.new.out.items ≡ replies (recovered file) = rw (slice, text, c.clear.ensures.items) at c.in_ok-answer.ensures.replies in
+    let lines = text_behind settings c.in_ok-text.text.items file c.requires.settings (c.in_ok-text.ensures.text clean) in
+    let value : c.deref.result.now ≡ c.in_ok-text.text.items = c.deref.ensures.value in
+    let out : c.answer.new.out.items ≡ replies (kept settings file) = rw (take_rest, value, lines, c.clear.ensures.items) at c.in_ok-answer.ensures.replies in
     let few : c.args.told ≤ length c.answer.new.out.items = search rules in
     rw (← out) few) c.deliver.ensures.ok
 
 pub returns-clause-part : goal.returns-clause-part
 returns-clause-part g c clean =
     let replies = g.A.Answers.replies c.args.self.now.answers in
+    let settings = c.args.settings.now in
     let file = g.D.Disk.seen c.args.self.now.log.disk in
-    let text : recovered c.in_ok-text.text.items ≡ recovered file = text_lines file _ (c.in_ok-text.ensures.text clean) in
-    let slice : c.as_slice.result.now ≡ c.in_ok-text.text.items = c.as_slice.ensures.value in
-    let out : c.answer.new.out.items ≡ replies (recovered file) = rw (slice, text, c.clear.ensures.items) at c.in_ok-answer.ensures.replies in
-    let value : c.deref.result.now ≡ c.answer.new.out.items = c.deref.ensures.value in
-    rw (← out) (rw (value, take_rest c.answer.new.out.items c.args.told) at c.deliver.ensures.part)
+    let lines = text_behind settings c.in_ok-text.text.items file c.requires.settings (c.in_ok-text.ensures.text clean) in
+    let value : c.deref.result.now ≡ c.in_ok-text.text.items = c.deref.ensures.value in
+    let out : c.answer.new.out.items ≡ replies (kept settings file) = rw (take_rest, value, lines, c.clear.ensures.items) at c.in_ok-answer.ensures.replies in
+    let value-2 : c.deref-2.result.now ≡ c.answer.new.out.items = c.deref-2.ensures.value in
+    rw (← out) (rw (value-2, take_rest c.answer.new.out.items c.args.told) at c.deliver.ensures.part)
 
 pub returns-clause-on : goal.returns-clause-on
 returns-clause-on g c =
     on_ok_weaker c.deliver.result (λ wrote clean.
+    let settings = c.args.settings.now in
     let file = g.D.Disk.seen c.args.self.now.log.disk in
-    let text : recovered c.in_ok-text.text.items ≡ recovered file = text_lines file _ (c.in_ok-text.ensures.text clean) in
-    let slice : c.as_slice.result.now ≡ c.in_ok-text.text.items = c.as_slice.ensures.value in
-    rw (slice, text) at c.in_ok-answer.ensures.on) c.deliver.ensures.ok
+    let lines = text_behind settings c.in_ok-text.text.items file c.requires.settings (c.in_ok-text.ensures.text clean) in
+    let value : c.deref.result.now ≡ c.in_ok-text.text.items = c.deref.ensures.value in
+    rw (take_rest, value, lines) at c.in_ok-answer.ensures.on) c.deliver.ensures.ok

@@ -1,55 +1,32 @@
-// What a file stands for after a crash, and the repair of its end.
+// The end of a file is repaired: closed, and nothing behind it. What the file stands for stays the same.
 ghost use Rattle.std.specs.Prelude.{◌≡◌, ◌<◌, ◌≤◌, ◌+◌, ◌^◌, List, ℕ, length, IsTrue, IfOk, OnOk};
 ghost use Rattle.sqlite_disk.specs.Disk.{Only, CountsFault};
 ghost use Rattle.inst_log.specs.Layout.{recovered, blocks, IsClosed, IsUnclosed};
 
-use crate::LogError;
 use crate::front::{is_closed, kept_len};
 use crate::synced::write_synced;
 use sqlite_disk::Disk;
-use std::alloc::Global;
 use std::io;
 
-/// Reads a file that a crash may have left, and repairs its end. It may crash too. What it answers are the
-/// lines, each with its newline.
-pub fn recover<D: Disk>(alloc: Global, disk: &mut D) -> Result<Vec<u8>, LogError>
+/// Repairs the end of a file that has these bytes, and tells where its lines end.
+pub(crate) fn repair<D: Disk>(disk: &mut D, bytes: &[u8]) -> io::Result<usize>
     requires usable { IsTrue (D.Disk.is_usable disk.old) }
-    // After a restart, what is read is what is on the disk.
+    requires bytes { IsTrue (D.Disk.is_clean disk.old) → bytes.now ≡ D.Disk.seen disk.old }
     requires known { IsTrue (D.Disk.is_clean disk.old) → Only (D.Disk.seen disk.old) (D.Disk.may_leave disk.old) }
-
-    ensures text { IfOk result (λ text. IsTrue (D.Disk.is_clean disk.new) → text.items ≡ blocks (recovered (D.Disk.seen disk.old))) }
-    ensures same { OnOk result (IsTrue (D.Disk.is_clean disk.new) → recovered (D.Disk.seen disk.new) ≡ recovered (D.Disk.seen disk.old)) }
-    ensures closed { IfOk result (λ text. IsTrue (D.Disk.is_clean disk.new) → IsClosed (D.Disk.seen disk.new) (length text.items)) }
+    ensures end { IfOk result (λ end. end ≡ length (blocks (recovered bytes.now))) }
+    ensures closed { IfOk result (λ end. IsTrue (D.Disk.is_clean disk.new) → IsClosed (D.Disk.seen disk.new) end
+        × (recovered (D.Disk.seen disk.new) ≡ recovered (D.Disk.seen disk.old))) }
     ensures durable { OnOk result (IsTrue (D.Disk.is_clean disk.new) → Only (D.Disk.seen disk.new) (D.Disk.may_leave disk.new)) }
-
-    // A crash at any moment of the call leaves the same lines.
     ensures any_moment { IsTrue (D.Disk.is_clean disk.new) → (c : List ℕ) → D.Disk.may_leave disk.new c
         → recovered c ≡ recovered (D.Disk.seen disk.old) }
-
     ensures usable { OnOk result (IsTrue (D.Disk.is_usable disk.new)) }
     ensures clean { IsTrue (D.Disk.is_clean disk.new) → IsTrue (D.Disk.is_clean disk.old) }
+    ensures cause { CountsFault result (D.Disk.faults disk.old) (D.Disk.faults disk.new) }
 {
-    let mut bytes = read_file(alloc, disk)?;
-    let end = kept_len(&bytes);
-    close(disk, &bytes, end)?;
+    let end = kept_len(bytes);
+    close(disk, bytes, end)?;
     cut(disk, bytes.len(), end)?;
-    bytes.truncate(end);
-    Ok(bytes)
-}
-
-/// All the bytes of a file.
-fn read_file<D: Disk>(alloc: Global, disk: &mut D) -> Result<Vec<u8>, LogError>
-    requires usable { IsTrue (D.Disk.is_usable disk.old) }
-    ensures bytes { IfOk result (λ bytes. IsTrue (D.Disk.is_clean disk.new) → bytes.items ≡ D.Disk.seen disk.old) }
-    ensures seen { D.Disk.seen disk.new ≡ D.Disk.seen disk.old }
-    ensures crash { (c : List ℕ) → D.Disk.may_leave disk.new c → D.Disk.may_leave disk.old c }
-    ensures usable { IsTrue (D.Disk.is_usable disk.new) }
-    ensures clean { IsTrue (D.Disk.is_clean disk.new) → IsTrue (D.Disk.is_clean disk.old) }
-{
-    let len = disk.len()?;
-    let mut bytes = vec![in alloc; 0; len]?;
-    disk.read_at(0, &mut bytes)?;
-    Ok(bytes)
+    Ok(end)
 }
 
 /// Writes the closed byte, if none stands there.

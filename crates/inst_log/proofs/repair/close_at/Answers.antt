@@ -1,8 +1,8 @@
 use Rattle.std.proofs.Common.{subst, IsTrue}
 use Rattle.std.proofs.lemmas.Result.{on_ok_weaker}
 use Rattle.sqlite_disk.specs.Disk.{Torn}
-use Rattle.inst_log.proofs.Repair.{torn_close, closed_now}
-use Rattle.inst_log.proofs.recovery.close_at.Goals as goal
+use Rattle.inst_log.proofs.Mending.{torn_close, closed_now}
+use Rattle.inst_log.proofs.repair.close_at.Goals as goal
 
 pub returns-clause-any_moment : goal.returns-clause-any_moment
 returns-clause-any_moment g c clean left may =
