@@ -4,6 +4,13 @@ ghost use Rattle.inst_log.specs.Layout.{recovered, blocks, IsFirstLine, NoNewlin
 
 use memchr::memchr;
 
+/// The whole lines with which bytes begin, each with its newline.
+pub fn whole_lines(bytes: &[u8]) -> &[u8]
+    ensures { result.now ≡ blocks (recovered bytes.now) }
+{
+    &bytes[..kept_len(bytes)]
+}
+
 /// How many bytes the lines have.
 pub(crate) fn kept_len(bytes: &[u8]) -> usize
     ensures len { result ≡ length (blocks (recovered bytes.now)) }

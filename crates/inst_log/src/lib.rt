@@ -14,8 +14,8 @@ mod repair;
 mod synced;
 
 pub use answers::Answers;
-pub use batch::{close_batch, line_comes_back, push_line};
+pub use batch::{close_batch, line_comes_back, line_of, push_line};
 pub use error::LogError;
-pub use front::find_newline;
+pub use front::{find_newline, whole_lines};
 pub use log::Log;
 pub use recorder::Recorder;
