@@ -1,0 +1,16 @@
+-- Lines behind lines.
+use Rattle.std.proofs.Common.{◌≡◌, ℕ, List, [], ◌∷◌, ◌++◌, Result, Ok, Err, OnOk, refl, sym, ◌∙◌, ap, append_assoc}
+use Rattle.inst_log.specs.Layout.{blocks}
+use Rattle.inst_log_restart.specs.Restart.{Begins}
+
+pub blocks-append : (a b : List (List ℕ)) → blocks (a ++ b) ≡ blocks a ++ blocks b
+blocks-append [] b = refl
+blocks-append (line ∷ lines) b =
+    ap (λ (l : List ℕ). line ++ 10 ∷ l) (blocks-append lines b) ∙ sym (append_assoc line (10 ∷ blocks lines) (blocks b))
+
+pub blocks_begin : Begins blocks
+blocks_begin a b = (blocks b, blocks-append a b)
+
+pub on_ok : {T E P : Type 0} (r : Result T E) → P → OnOk r P
+on_ok (Ok x) p = p
+on_ok (Err e) p = tt

@@ -1,0 +1,14 @@
+//! Tests of logs of lines: files that open and files that don't, lines that are escaped, and a machine that stops at each
+//! call of its disk, with what it wrote torn at each byte.
+#![tactic(auto)]
+
+#[cfg(test)]
+mod batches;
+#[cfg(test)]
+mod escapes;
+#[cfg(test)]
+mod openings;
+#[cfg(test)]
+mod runs;
+#[cfg(test)]
+mod stops;
