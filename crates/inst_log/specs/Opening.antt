@@ -1,5 +1,5 @@
--- With which settings a file opens, and what is left of it. Settings are a batch: the first lines of each log that opens
--- with them.
+-- With which settings a file opens, and what is left of it. Settings are a batch: the first lines of each log that
+-- opens with them.
 use Rattle.std.specs.Prelude.{◌≡◌, ◌≢◌, ◌⊎◌, ◌≤◌, ◌<◌, ℕ, max, List, [], ◌∷◌, ◌++◌, length, take, drop}
 use Rattle.sqlite_disk.specs.Disk.{Torn}
 use Rattle.inst_log.specs.Layout.{recovered}
@@ -14,8 +14,8 @@ kept settings file = drop (length (recovered settings)) (recovered file)
 abbrev pub Begins : List ℕ → List ℕ → Type 0
 Begins settings file = recovered file ≡ recovered settings ++ kept settings file
 
--- Nothing stands in the file but what the making of a log with these settings leaves, whatever moment it crashes at: at
--- most one byte, or the closed byte and no more than has its place there, or all but the first byte.
+-- Nothing stands in the file but what the making of a log with these settings leaves, whatever moment it crashes at:
+-- at most one byte, or the closed byte and no more than has its place there, or all but the first byte.
 abbrev pub IsNew : List ℕ → List ℕ → Type 0
 IsNew settings file = (length file ≤ 1) ⊎ (((take 1 file ≡ 0 ∷ []) × (length file ≤ length settings)) ⊎ (drop 1 file ≡ drop 1 settings))
 
@@ -36,8 +36,8 @@ IsBlanked old new = (take 1 new ≡ 0 ∷ []) × (length new ≤ max (length old
 abbrev pub IsBlanking : List ℕ → List ℕ → Type 0
 IsBlanking old c = (c ≡ old) ⊎ ((take 1 old ≢ 0 ∷ []) × Torn 0 1 old c)
 
--- Why a log was not opened: the disk failed, there was no memory, or the file does not open with these settings, and then
--- it is as it was.
+-- Why a log was not opened: the disk failed, there was no memory, or the file does not open with these settings, and
+-- then it is as it was.
 abbrev pub Unopened : List ℕ → List ℕ → Type 0 → Type 0 → Type 0 → LogError → Type 0
 Unopened settings file clean untouched failed OtherSettings = untouched × (clean → (0 < length (recovered file)) × (Begins settings file → ⊥))
 Unopened settings file clean untouched failed NoLog = untouched × (clean → (recovered file ≡ []) × (IsNew settings file → ⊥))

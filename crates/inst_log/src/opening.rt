@@ -14,10 +14,10 @@ use std::alloc::Global;
 use std::io;
 
 impl<D: Disk> Log<D> {
-    /// Opens the file that the disk has, whatever a crash left of it, and repairs its end. The settings are a batch: each
-    /// log begins with those that it was made with, and a new file gets them. What comes back are the file's lines, each
-    /// with its newline, the settings first. It may crash too. `OtherSettings` and `NoLog` leave the file as it is; after
-    /// any other error, open it again. Reads the whole file into memory.
+    /// Opens the file that the disk has, whatever a crash left of it, and repairs its end. The settings are a batch:
+    /// each log begins with those that it was made with, and a new file gets them. What comes back are the file's
+    /// lines, each with its newline, the settings first. It may crash too. `OtherSettings` and `NoLog` leave the file
+    /// as it is; after any other error, open it again. Reads the whole file into memory.
     pub fn open(&mut self, alloc: Global, settings: &[u8]) -> Result<Vec<u8>, LogError>
         requires usable { IsTrue (D.Disk.is_usable self.old.disk) }
         // After a restart, what is read is what is on the disk.

@@ -22,9 +22,9 @@ pub struct Recorder<D: Disk, A: Answers + Drop> {
 }
 
 impl<D: Disk, A: Answers + Drop> Recorder<D, A> {
-    /// Opens the log with these settings, a batch, hands out the replies to its lines but for the first `told` bytes, and
-    /// then answers batch after batch. The answers are to be at their beginning. At `Err`, open the log again; a log of
-    /// other settings and a file that is none are left as they are.
+    /// Opens the log with these settings, a batch, hands out the replies to its lines but for the first `told` bytes,
+    /// and then answers batch after batch. The answers are to be at their beginning. At `Err`, open the log again; a
+    /// log of other settings and a file that is none are left as they are.
     pub fn run<W: Write>(
         &mut self,
         alloc: Global,
@@ -48,8 +48,8 @@ impl<D: Disk, A: Answers + Drop> Recorder<D, A> {
             → Appends (W.Write.contents writer.old) (W.Write.contents writer.new)
             (owed (A.Answers.replies self.old.answers) (kept settings.now (D.Disk.seen self.old.log.disk)) told (lines_of batches.now))) }
 
-        // At `Ok` and at `Err`: each file that a crash may leave has the lines that were there and a front of those read, among
-        // them each line of whose reply a byte was handed to the writer.
+        // At `Ok` and at `Err`: each file that a crash may leave has the lines that were there and a front of those
+        // read, among them each line of whose reply a byte was handed to the writer.
         ensures any_moment { IsTrue (D.Disk.is_clean self.new.log.disk)
             → TellsKept (kept settings.now) (D.Disk.may_leave self.new.log.disk)
             (owed (A.Answers.replies self.old.answers) (kept settings.now (D.Disk.seen self.old.log.disk)) told)
@@ -119,7 +119,8 @@ impl<D: Disk, A: Answers + Drop> Recorder<D, A> {
             (A.Answers.replies self.old.answers (recovered batch.now))) }
         ensures on { OnOk result (GoesOn (A.Answers.replies self.old.answers) (recovered batch.now) (A.Answers.replies self.new.answers)) }
 
-        // At `Ok` and at `Err`: each file that a crash may leave has each line of whose reply a byte was handed to the writer.
+        // At `Ok` and at `Err`: each file that a crash may leave has each line of whose reply a byte was handed to the
+        // writer.
         ensures any_moment { IsTrue (D.Disk.is_clean self.new.log.disk) → TellsKept recovered (D.Disk.may_leave self.new.log.disk)
             (A.Answers.replies self.old.answers) (recovered (D.Disk.seen self.old.log.disk)) (recovered batch.now)
             (W.Write.contents writer.old) (W.Write.contents writer.new) }
@@ -149,7 +150,8 @@ impl<D: Disk, A: Answers + Drop> Recorder<D, A> {
             (A.Answers.replies self.old.answers (lines_of batches.now))) }
         ensures on { OnOk result (GoesOn (A.Answers.replies self.old.answers) (lines_of batches.now) (A.Answers.replies self.new.answers)) }
 
-        // At `Ok` and at `Err`: each file that a crash may leave has each line of whose reply a byte was handed to the writer.
+        // At `Ok` and at `Err`: each file that a crash may leave has each line of whose reply a byte was handed to the
+        // writer.
         ensures any_moment { IsTrue (D.Disk.is_clean self.new.log.disk) → TellsKept recovered (D.Disk.may_leave self.new.log.disk)
             (A.Answers.replies self.old.answers) (recovered (D.Disk.seen self.old.log.disk)) (lines_of batches.now)
             (W.Write.contents writer.old) (W.Write.contents writer.new) }

@@ -100,8 +100,8 @@ fn text_of(rt: &(impl Abort + AllocGlobal), bytes: &[u8]) -> Result<Vec<u8>, Fai
     Ok(log.open(alloc, &settings)?)
 }
 
-/// Says whether the text is that of a log with the settings, the lines that it had at first, and then a front of the two
-/// batches, of which so many are acknowledged.
+/// Says whether the text is that of a log with the settings, the lines that it had at first, and then a front of the
+/// two batches, of which so many are acknowledged.
 fn is_front(text: &[u8], kept: &[u8], acknowledged: usize) -> bool {
     let batches = match text.strip_prefix(TEXT_OF_SETTINGS) {
         Some(lines) => lines.strip_prefix(kept),
