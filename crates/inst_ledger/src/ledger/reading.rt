@@ -85,16 +85,6 @@ impl Ledger {
         self.table.own_at(index)
     }
 
-    /// The identifier of the participant's own live transfer at this place.
-    pub fn own_at(&self, index: u16) -> Option<Ident>
-        ensures { result ≡ slice_get (own_ids self.now.book.who self.now.book.events) index }
-    {
-        // The check is told of an enum inside a struct only where a function names it.
-        let _: Option<(Side, Transfer, Outcome)> = None;
-        let found = self.own_found(index)?;
-        Some(found.id)
-    }
-
     /// The index of the place of the participant's own live transfer with this identifier.
     pub fn own_index(&self, id: &Ident) -> Option<u16>
         ensures at { (k : ℕ) → slice_get (own_ids self.now.book.who self.now.book.events) k ≡ Some id.now → result ≡ Some k }
