@@ -26,18 +26,28 @@ participants_rule = record (new_rule (codes "participants")) { long = Some (code
 abbrev pub number_rule : List ℕ → List ℕ → Rule
 number_rule name value = record (new_rule name) { long = Some name; action = Some Set; parser = Some (Unsigned 0 (2 ^ 64 - 1)); defaults = value ∷ []; value_names = 1 }
 
--- a subcommand of this name, with the options of a hub
-abbrev pub hub_command : List ℕ → App
-hub_command name =
-    with_rule (with_rule (with_rule (with_rule (with_rule (with_rule (with_rule (with_rule (new_app name)
-    participants_rule)
+-- the options of what a participant has room for
+abbrev pub with_room : App → App
+with_room app = with_rule (with_rule app
     (number_rule (codes "places") (codes "256")))
-    (number_rule (codes "fundings") (codes "256")))
+    (number_rule (codes "fundings") (codes "256"))
+
+-- the options of time
+abbrev pub with_times : App → App
+with_times app = with_rule (with_rule (with_rule app
     (number_rule (codes "limit") (codes "10000")))
     (number_rule (codes "margin") (codes "0")))
-    (number_rule (codes "ahead") (codes "1000")))
+    (number_rule (codes "ahead") (codes "1000"))
+
+-- the options of the largest amount and the first moment
+abbrev pub with_bounds : App → App
+with_bounds app = with_rule (with_rule app
     (number_rule (codes "ceiling") (codes "99999999999")))
     (number_rule (codes "base") (codes "0"))
+
+-- a subcommand of this name, with the options of a hub
+abbrev pub hub_command : List ℕ → App
+hub_command name = with_bounds (with_times (with_room (with_rule (new_app name) participants_rule)))
 
 -- no option of the command is one of its subcommands' too
 abbrev pub IsLocal : Command → Type 0
@@ -54,13 +64,13 @@ drill_command =
     (number_rule (codes "transfers") (codes "200")))
     (number_rule (codes "openings") (codes "1"))
 
--- the whole command line: `run` and `play`, with the same options, and `drill`
+-- the subcommands `run` and `play`, with the same options
+abbrev pub with_runs : App → App
+with_runs app = with_subcommand (with_subcommand app (hub_command (codes "run")).top) (hub_command (codes "play")).top
+
+-- the whole command line: `run` and `play`, and `drill`
 abbrev pub command_line : App
-command_line =
-    with_subcommand (with_subcommand (with_subcommand bare_command_line
-    (hub_command (codes "run")).top)
-    (hub_command (codes "play")).top)
-    drill_command.top
+command_line = with_subcommand (with_runs bare_command_line) drill_command.top
 
 -- the option of this name has a text that is the number in digits, which may follow a plus
 abbrev pub Gives : List Row → List ℕ → ℕ → Type 0

@@ -3,7 +3,8 @@ ghost use Rattle.std.specs.Prelude.{map, codes};
 ghost use Rattle.std.specs.List.{list_all};
 ghost use Rattle.inst_base.specs.Text.{is_code};
 ghost use Rattle.clap.specs.Words.{app_of, first_of, found_of, rows_of, rule_of};
-ghost use Rattle.inst_main.specs.Options.{participants_rule, number_rule, hub_command, drill_command, IsLocal};
+ghost use Rattle.inst_main.specs.Options.{participants_rule, number_rule, with_room, with_times, with_bounds, hub_command};
+ghost use Rattle.inst_main.specs.Options.{drill_command, with_runs, IsLocal};
 ghost use Rattle.inst_main.specs.Options.{command_line as the_command_line, parts_of};
 ghost use Rattle.inst_main.specs.Options.{Gives, GivesNoneBelow, Chooses, ChooseNone, IsTask, IsDrill, AskForNone};
 ghost use Rattle.inst_main.specs.Program.{IsRefusal};
@@ -23,26 +24,32 @@ const VERSION: &str = "1.0.0";
 pub(crate) fn command_line<'a>(alloc: Global) -> Result<Command<'a>, AllocError>
     ensures { IfOk result (λ command. app_of command ≡ the_command_line) }
 {
+    let program = Command::new(alloc, "inst_main")
+        .version(VERSION)
+        .about("The clearing core of a hub for instant credit transfers")
+        .after_help(texts::PROGRAM)
+        .subcommand_required(true);
+    with_runs(alloc, program)?.subcommand(drill_command(alloc)?)
+}
+
+/// The subcommands `run` and `play`, with the options of a hub.
+fn with_runs<'a>(alloc: Global, program: Command<'a>) -> Result<Command<'a>, AllocError>
+    ensures shape { IfOk result (λ more. app_of more ≡ with_runs (app_of program.entry)) }
+{
     let run = hub_command(
         alloc,
         "run",
         "Answers each command line of standard input by one line on standard output",
         texts::RUN,
     )?;
+    let program = program.subcommand(run)?;
     let play = hub_command(
         alloc,
         "play",
         "The same for a script of steps: each line is one step, and nothing happens by itself",
         texts::PLAY,
     )?;
-    Command::new(alloc, "inst_main")
-        .version(VERSION)
-        .about("The clearing core of a hub for instant credit transfers")
-        .after_help(texts::PROGRAM)
-        .subcommand_required(true)
-        .subcommand(run)?
-        .subcommand(play)?
-        .subcommand(drill_command(alloc)?)
+    program.subcommand(play)
 }
 
 /// The subcommand `drill`: the options of a hub, and two of its own.
@@ -82,11 +89,21 @@ fn hub_command<'a>(
     ensures shape { IfOk result (λ command. app_of command ≡ hub_command name.now) }
     ensures local { IfOk result (λ command. IsLocal command) }
 {
-    Command::new(alloc, name)
+    let command = Command::new(alloc, name)
         .about(about)
         .long_about(long_about)
         .after_help(texts::MOMENTS)
-        .arg(participants(alloc))?
+        .arg(participants(alloc))?;
+    with_bounds(alloc, with_times(alloc, with_room(alloc, command)?)?)
+}
+
+/// The options of what a participant has room for.
+fn with_room<'a>(alloc: Global, command: Command<'a>) -> Result<Command<'a>, AllocError>
+    requires { IsLocal command }
+    ensures shape { IfOk result (λ more. app_of more ≡ with_room (app_of command.entry)) }
+    ensures local { IfOk result (λ more. IsLocal more) }
+{
+    command
         .arg(number(
             alloc,
             "places",
@@ -100,7 +117,16 @@ fn hub_command<'a>(
             "COUNT",
             "256",
             "Fund and defund commands of each participant, 1 to 1024",
-        ))?
+        ))
+}
+
+/// The options of time.
+fn with_times<'a>(alloc: Global, command: Command<'a>) -> Result<Command<'a>, AllocError>
+    requires { IsLocal command }
+    ensures shape { IfOk result (λ more. app_of more ≡ with_times (app_of command.entry)) }
+    ensures local { IfOk result (λ more. IsLocal more) }
+{
+    command
         .arg(number(
             alloc,
             "limit",
@@ -121,7 +147,16 @@ fn hub_command<'a>(
             "MS",
             "1000",
             "From the reading to a time stamp ahead of it, in milliseconds, 0 to 60000",
-        ))?
+        ))
+}
+
+/// The options of the largest amount and the first moment.
+fn with_bounds<'a>(alloc: Global, command: Command<'a>) -> Result<Command<'a>, AllocError>
+    requires { IsLocal command }
+    ensures shape { IfOk result (λ more. app_of more ≡ with_bounds (app_of command.entry)) }
+    ensures local { IfOk result (λ more. IsLocal more) }
+{
+    command
         .arg(number(
             alloc,
             "ceiling",
