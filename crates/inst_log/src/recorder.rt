@@ -1,11 +1,10 @@
 // Lines are answered into memory, kept on the disk, and only then is a byte of a reply handed out.
-ghost use Rattle.std.specs.Prelude.{◌≡◌, ◌≤◌, ◌++◌, List, ℕ, length, drop, IsTrue, OnOk};
-ghost use Rattle.std.specs.Io.KnownBytes.{Appends};
+ghost use Rattle.std.specs.Prelude.{◌≡◌, ◌≤◌, ◌++◌, [], List, ℕ, length, IsTrue, OnOk};
 ghost use Rattle.sqlite_disk.specs.Disk.{Only};
 ghost use Rattle.inst_log.specs.Layout.{recovered, IsBatch};
 ghost use Rattle.inst_log.specs.Log.{IsSettled};
 ghost use Rattle.inst_log.specs.Opening.{kept, Opens, OpensAlike};
-ghost use Rattle.inst_log.specs.Serving.{TellsKept, GoesOn, WritesPart, AllBatches, lines_of, owed};
+ghost use Rattle.inst_log.specs.Serving.{Replies, TellsKept, Tells, TellsPart, SaysOn, AllBatches, lines_of, Owing};
 
 use crate::delivery::deliver;
 use crate::{Answers, Log, LogError};
@@ -45,14 +44,14 @@ impl<D: Disk, A: Answers + Drop> Recorder<D, A> {
             × (recovered (D.Disk.seen self.new.log.disk)
             ≡ (recovered settings.now ++ kept settings.now (D.Disk.seen self.old.log.disk)) ++ lines_of batches.now)) }
         ensures replied { OnOk result (IsTrue (D.Disk.is_clean self.new.log.disk)
-            → Appends (W.Write.contents writer.old) (W.Write.contents writer.new)
-            (owed (A.Answers.replies self.old.answers) (kept settings.now (D.Disk.seen self.old.log.disk)) told (lines_of batches.now))) }
+            → Tells (Owing (A.Answers.says self.old.answers) (kept settings.now (D.Disk.seen self.old.log.disk)) told)
+            (lines_of batches.now) (W.Write.contents writer.old) (W.Write.contents writer.new)) }
 
         // At `Ok` and at `Err`: each file that a crash may leave has the lines that were there and a front of those
         // read, among them each line of whose reply a byte was handed to the writer.
         ensures any_moment { IsTrue (D.Disk.is_clean self.new.log.disk)
             → TellsKept (kept settings.now) (D.Disk.may_leave self.new.log.disk)
-            (owed (A.Answers.replies self.old.answers) (kept settings.now (D.Disk.seen self.old.log.disk)) told)
+            (Owing (A.Answers.says self.old.answers) (kept settings.now (D.Disk.seen self.old.log.disk)) told)
             (kept settings.now (D.Disk.seen self.old.log.disk)) (lines_of batches.now)
             (W.Write.contents writer.old) (W.Write.contents writer.new) }
         // It opens again.
@@ -84,16 +83,17 @@ impl<D: Disk, A: Answers + Drop> Recorder<D, A> {
         ensures any_moment { IsTrue (D.Disk.is_clean self.new.log.disk) → (c : List ℕ)
             → D.Disk.may_leave self.new.log.disk c → OpensAlike settings.now (D.Disk.seen self.old.log.disk) c }
         ensures replied { OnOk result (IsTrue (D.Disk.is_clean self.new.log.disk)
-            → Appends (W.Write.contents writer.old) (W.Write.contents writer.new)
-            (drop told (A.Answers.replies self.old.answers (kept settings.now (D.Disk.seen self.old.log.disk))))) }
+            → Tells (Owing (A.Answers.says self.old.answers) (kept settings.now (D.Disk.seen self.old.log.disk)) told)
+            [] (W.Write.contents writer.old) (W.Write.contents writer.new)) }
         ensures told { OnOk result (IsTrue (D.Disk.is_clean self.new.log.disk)
-            → told ≤ length (A.Answers.replies self.old.answers (kept settings.now (D.Disk.seen self.old.log.disk)))) }
+            → (replies : Replies) → A.Answers.says self.old.answers replies
+            → told ≤ length (replies (kept settings.now (D.Disk.seen self.old.log.disk)))) }
         ensures part { IsTrue (D.Disk.is_clean self.new.log.disk)
-            → WritesPart (W.Write.contents writer.old) (W.Write.contents writer.new)
-            (drop told (A.Answers.replies self.old.answers (kept settings.now (D.Disk.seen self.old.log.disk)))) }
+            → TellsPart (Owing (A.Answers.says self.old.answers)
+            (kept settings.now (D.Disk.seen self.old.log.disk)) told) [] (W.Write.contents writer.old) (W.Write.contents writer.new) }
         ensures on { OnOk result (IsTrue (D.Disk.is_clean self.new.log.disk)
-            → GoesOn (A.Answers.replies self.old.answers) (kept settings.now (D.Disk.seen self.old.log.disk))
-            (A.Answers.replies self.new.answers)) }
+            → SaysOn (A.Answers.says self.old.answers) (kept settings.now (D.Disk.seen self.old.log.disk))
+            (A.Answers.says self.new.answers)) }
         ensures usable { OnOk result (IsTrue (D.Disk.is_usable self.new.log.disk)) }
         ensures clean { IsTrue (D.Disk.is_clean self.new.log.disk) → IsTrue (D.Disk.is_clean self.old.log.disk) }
     {
@@ -115,14 +115,15 @@ impl<D: Disk, A: Answers + Drop> Recorder<D, A> {
 
         ensures acknowledged { OnOk result (IsTrue (D.Disk.is_clean self.new.log.disk) → IsSettled D.Disk.seen D.Disk.may_leave self.new.log
             × (recovered (D.Disk.seen self.new.log.disk) ≡ recovered (D.Disk.seen self.old.log.disk) ++ recovered batch.now)) }
-        ensures replied { OnOk result (Appends (W.Write.contents writer.old) (W.Write.contents writer.new)
-            (A.Answers.replies self.old.answers (recovered batch.now))) }
-        ensures on { OnOk result (GoesOn (A.Answers.replies self.old.answers) (recovered batch.now) (A.Answers.replies self.new.answers)) }
+        ensures replied { OnOk result (Tells (A.Answers.says self.old.answers) (recovered batch.now)
+            (W.Write.contents writer.old) (W.Write.contents writer.new)) }
+        ensures on { OnOk result (SaysOn (A.Answers.says self.old.answers) (recovered batch.now)
+            (A.Answers.says self.new.answers)) }
 
         // At `Ok` and at `Err`: each file that a crash may leave has each line of whose reply a byte was handed to the
         // writer.
         ensures any_moment { IsTrue (D.Disk.is_clean self.new.log.disk) → TellsKept recovered (D.Disk.may_leave self.new.log.disk)
-            (A.Answers.replies self.old.answers) (recovered (D.Disk.seen self.old.log.disk)) (recovered batch.now)
+            (A.Answers.says self.old.answers) (recovered (D.Disk.seen self.old.log.disk)) (recovered batch.now)
             (W.Write.contents writer.old) (W.Write.contents writer.new) }
 
         ensures usable { OnOk result (IsTrue (D.Disk.is_usable self.new.log.disk)) }
@@ -146,14 +147,15 @@ impl<D: Disk, A: Answers + Drop> Recorder<D, A> {
 
         ensures acknowledged { OnOk result (IsTrue (D.Disk.is_clean self.new.log.disk) → IsSettled D.Disk.seen D.Disk.may_leave self.new.log
             × (recovered (D.Disk.seen self.new.log.disk) ≡ recovered (D.Disk.seen self.old.log.disk) ++ lines_of batches.now)) }
-        ensures replied { OnOk result (Appends (W.Write.contents writer.old) (W.Write.contents writer.new)
-            (A.Answers.replies self.old.answers (lines_of batches.now))) }
-        ensures on { OnOk result (GoesOn (A.Answers.replies self.old.answers) (lines_of batches.now) (A.Answers.replies self.new.answers)) }
+        ensures replied { OnOk result (Tells (A.Answers.says self.old.answers) (lines_of batches.now)
+            (W.Write.contents writer.old) (W.Write.contents writer.new)) }
+        ensures on { OnOk result (SaysOn (A.Answers.says self.old.answers) (lines_of batches.now)
+            (A.Answers.says self.new.answers)) }
 
         // At `Ok` and at `Err`: each file that a crash may leave has each line of whose reply a byte was handed to the
         // writer.
         ensures any_moment { IsTrue (D.Disk.is_clean self.new.log.disk) → TellsKept recovered (D.Disk.may_leave self.new.log.disk)
-            (A.Answers.replies self.old.answers) (recovered (D.Disk.seen self.old.log.disk)) (lines_of batches.now)
+            (A.Answers.says self.old.answers) (recovered (D.Disk.seen self.old.log.disk)) (lines_of batches.now)
             (W.Write.contents writer.old) (W.Write.contents writer.new) }
 
         ensures usable { OnOk result (IsTrue (D.Disk.is_usable self.new.log.disk)) }

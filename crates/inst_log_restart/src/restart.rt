@@ -1,10 +1,10 @@
 // What the reader has of both runs are the replies of one run.
-ghost use Rattle.std.specs.Prelude.{◌≡◌, List, ℕ, IsTrue, IfOk};
+ghost use Rattle.std.specs.Prelude.{IsTrue, IfOk};
 ghost use Rattle.sqlite_disk.specs.Disk.{Only};
 ghost use Rattle.sqlite_disk.specs.Fuse.{inner_of};
 ghost use Rattle.inst_log.specs.Layout.{IsBatch};
 ghost use Rattle.inst_log.specs.Opening.{kept};
-ghost use Rattle.inst_log.specs.Serving.{AllBatches, lines_of};
+ghost use Rattle.inst_log.specs.Serving.{Replies, AllBatches, lines_of};
 ghost use Rattle.inst_log_restart.specs.Restart.{SaysOnce, Begins};
 
 use inst_log::{Answers, Log, LogError, Recorder};
@@ -33,12 +33,12 @@ pub fn run_twice<D: Crash + Drop, A: Answers + Drop>(
 ) -> Result<Twice<Fuse<D>>, LogError>
     requires usable { IsTrue (D.Disk.is_usable disk) }
     requires known { IsTrue (D.Disk.is_clean disk) → Only (D.Disk.seen disk) (D.Disk.may_leave disk) }
-    requires same { A.Answers.replies again ≡ A.Answers.replies first }
-    requires begins { Begins (A.Answers.replies first) }
+    requires same { (replies : Replies) → A.Answers.says first replies → A.Answers.says again replies }
+    requires begins { (replies : Replies) → A.Answers.says first replies → Begins replies }
     requires settings { IsBatch settings.now }
     requires batches { AllBatches batches.now }
     requires more { AllBatches more.now }
-    ensures { IfOk result (λ twice. IsTrue (D.Disk.is_clean (inner_of twice.disk)) → SaysOnce (A.Answers.replies first)
+    ensures { IfOk result (λ twice. IsTrue (D.Disk.is_clean (inner_of twice.disk)) → SaysOnce (A.Answers.says first)
         (kept settings.now (D.Disk.seen disk)) (lines_of batches.now) (lines_of more.now) twice.told.items
         (kept settings.now (D.Disk.seen (inner_of twice.disk)))) }
 {

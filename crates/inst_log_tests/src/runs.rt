@@ -1,6 +1,8 @@
 // Two runs of one log, of which the first is cut off after each call of its disk: each line is answered once.
-ghost use Rattle.std.specs.Prelude.{refl};
+ghost use Rattle.std.specs.Prelude.{◌≡◌, []};
+ghost use Rattle.std.proofs.Common.{ap};
 ghost use Rattle.inst_log.specs.Layout.{blocks};
+ghost use Rattle.inst_log.specs.Serving.{Replies};
 
 use crate::batches::{one, put, two};
 use inst_log::{Answers, whole_lines};
@@ -15,9 +17,9 @@ use std::test::Fail;
 struct Echo;
 
 impl Answers for Echo {
-    ghost replies = { λ _ lines. blocks lines };
+    ghost says = { λ _ replies. replies ≡ blocks };
 
-    ghost none = { λ _. refl };
+    ghost none = { λ _ _ is. ap (λ (f : Replies). f []) is };
 
     fn answer(&mut self, batch: &[u8], out: &mut Vec<u8>) -> Result<(), AllocError> {
         out.extend_from_slice(whole_lines(batch))

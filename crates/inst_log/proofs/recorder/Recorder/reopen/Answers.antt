@@ -1,8 +1,10 @@
-use Rattle.std.proofs.Common.{◌≡◌, ◌≤◌, ap, length, arith, rules}
+use Rattle.std.proofs.Common.{◌≡◌, ◌≤◌, ap, length, drop, arith, rules}
 use Rattle.std.proofs.lemmas.Result.{on_ok_weaker}
 use Rattle.std.proofs.lemmas.List.{take_rest}
+use Rattle.std.specs.Io.KnownBytes.{Appends}
 use Rattle.inst_log.specs.Opening.{kept}
-use Rattle.inst_log.proofs.Serve.{text_behind}
+use Rattle.inst_log.specs.Serving.{Owing, WritesPart}
+use Rattle.inst_log.proofs.Serve.{text_behind, all_told, part_told, owed_now}
 use Rattle.inst_log.proofs.recorder.Recorder.reopen.Goals as goal
 
 pub slice_bounds-answer-count : goal.slice_bounds-answer-count
@@ -11,37 +13,40 @@ slice_bounds-answer-count g c = omega (arith, ap length c.deref.ensures.value, c
 pub returns-clause-replied : goal.returns-clause-replied
 returns-clause-replied g c =
     on_ok_weaker c.deliver.result (λ wrote clean.
-    let replies = g.A.Answers.replies c.args.self.now.answers in
+    let says = g.A.Answers.says c.args.self.now.answers in
     let settings = c.args.settings.now in
-    let file = g.D.Disk.seen c.args.self.now.log.disk in
-    let lines = text_behind settings c.in_ok-text.text.items file c.requires.settings (c.in_ok-text.ensures.text clean) in
+    let first = kept settings (g.D.Disk.seen c.args.self.now.log.disk) in
+    let lines = text_behind settings c.in_ok-text.text.items (g.D.Disk.seen c.args.self.now.log.disk) c.requires.settings (c.in_ok-text.ensures.text clean) in
     let value : c.deref.result.now ≡ c.in_ok-text.text.items = c.deref.ensures.value in
-    let out : c.answer.new.out.items ≡ replies (kept settings file) = rw (take_rest, value, lines, c.clear.ensures.items) at c.in_ok-answer.ensures.replies in
     let value-2 : c.deref-2.result.now ≡ c.answer.new.out.items = c.deref-2.ensures.value in
-    rw (← out) (rw (value-2, take_rest c.answer.new.out.items c.args.told) at wrote)) c.deliver.ensures.ok
+    let out = rw (take_rest, value, lines, c.clear.ensures.items) at c.in_ok-answer.ensures.replies in
+    let told : Appends (g.W.Write.contents c.args.writer.now) (g.W.Write.contents c.deliver.new.writer) (drop c.args.told c.answer.new.out.items) =
+    rw (value-2, take_rest c.answer.new.out.items c.args.told) at wrote in
+    all_told (Owing says first c.args.told) _ _ _ _ told (owed_now says first c.args.told _ out)) c.deliver.ensures.ok
 
 pub returns-clause-told : goal.returns-clause-told
 returns-clause-told g c =
-    on_ok_weaker c.deliver.result (λ wrote clean.
-    let replies = g.A.Answers.replies c.args.self.now.answers in
+    on_ok_weaker c.deliver.result (λ wrote clean replies said.
     let settings = c.args.settings.now in
     let file = g.D.Disk.seen c.args.self.now.log.disk in
     let lines = text_behind settings c.in_ok-text.text.items file c.requires.settings (c.in_ok-text.ensures.text clean) in
     let value : c.deref.result.now ≡ c.in_ok-text.text.items = c.deref.ensures.value in
-    let out : c.answer.new.out.items ≡ replies (kept settings file) = rw (take_rest, value, lines, c.clear.ensures.items) at c.in_ok-answer.ensures.replies in
+    let out : c.answer.new.out.items ≡ replies (kept settings file) = rw (take_rest, value, lines, c.clear.ensures.items) at (c.in_ok-answer.ensures.replies replies said) in
     let few : c.args.told ≤ length c.answer.new.out.items = search rules in
     rw (← out) few) c.deliver.ensures.ok
 
 pub returns-clause-part : goal.returns-clause-part
 returns-clause-part g c clean =
-    let replies = g.A.Answers.replies c.args.self.now.answers in
+    let says = g.A.Answers.says c.args.self.now.answers in
     let settings = c.args.settings.now in
-    let file = g.D.Disk.seen c.args.self.now.log.disk in
-    let lines = text_behind settings c.in_ok-text.text.items file c.requires.settings (c.in_ok-text.ensures.text clean) in
+    let first = kept settings (g.D.Disk.seen c.args.self.now.log.disk) in
+    let lines = text_behind settings c.in_ok-text.text.items (g.D.Disk.seen c.args.self.now.log.disk) c.requires.settings (c.in_ok-text.ensures.text clean) in
     let value : c.deref.result.now ≡ c.in_ok-text.text.items = c.deref.ensures.value in
-    let out : c.answer.new.out.items ≡ replies (kept settings file) = rw (take_rest, value, lines, c.clear.ensures.items) at c.in_ok-answer.ensures.replies in
     let value-2 : c.deref-2.result.now ≡ c.answer.new.out.items = c.deref-2.ensures.value in
-    rw (← out) (rw (value-2, take_rest c.answer.new.out.items c.args.told) at c.deliver.ensures.part)
+    let out = rw (take_rest, value, lines, c.clear.ensures.items) at c.in_ok-answer.ensures.replies in
+    let told : WritesPart (g.W.Write.contents c.args.writer.now) (g.W.Write.contents c.deliver.new.writer) (drop c.args.told c.answer.new.out.items) =
+    rw (value-2, take_rest c.answer.new.out.items c.args.told) at c.deliver.ensures.part in
+    part_told (Owing says first c.args.told) _ _ _ _ told (owed_now says first c.args.told _ out)
 
 pub returns-clause-on : goal.returns-clause-on
 returns-clause-on g c =

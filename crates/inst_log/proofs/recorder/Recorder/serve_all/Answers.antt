@@ -1,7 +1,7 @@
-use Rattle.std.proofs.Common.{◌≡◌, ◌++◌, ◌∙◌, ◌+◌, ◌∷◌, [], List, ℕ, drop, ap, subst, append_assoc, IsTrue, rules}
-use Rattle.std.proofs.lemmas.List.{drop_more, drop_all}
+use Rattle.std.proofs.Common.{◌≡◌, refl, sym, ◌++◌, ◌∙◌, ◌+◌, ◌∷◌, [], List, ℕ, drop, ap, subst, append_assoc, IsTrue, rules}
+use Rattle.std.proofs.lemmas.List.{append-nil, drop_more, drop_all}
 use Rattle.inst_log.specs.Layout.{recovered}
-use Rattle.inst_log.proofs.Serve.{served_more, kept_on, kept_all}
+use Rattle.inst_log.proofs.Serve.{served_none, served_more, kept_on, kept_all}
 use Rattle.inst_log.proofs.recorder.Recorder.serve_all.Goals as goal
 
 pub returns-in_err-serve-clause-any_moment : goal.returns-in_err-serve-clause-any_moment
@@ -14,6 +14,15 @@ returns-in_err-serve-clause-any_moment g c clean =
     let next : drop i bs ≡ item ∷ drop (i + 1) bs = search (rules, drop_more) in
     let same : c.as_slice.result.now ≡ item.items = c.as_slice.ensures.value in
     kept_on _ _ _ _ _ _ _ _ _ item _ _ _ next s (s.kept was).1 (rw same at c.serve.ensures.any_moment clean)
+
+pub loop-batch-init : goal.loop-batch-init
+loop-batch-init g c =
+    let first = recovered (g.D.Disk.seen c.args.self.now.log.disk) in
+    record {
+      served = served_none _ _ _ _ (g.met.A.Answers.none c.args.self.now.answers) c.requires.batches (λ clean. (c.requires.settled clean, sym (append-nil first)));
+      usable = c.requires.usable;
+      clean = refl;
+    }
 
 pub loop-batch-preserved : goal.loop-batch-preserved
 loop-batch-preserved g c =

@@ -10,7 +10,7 @@ invariant-loop-batch g l =
     let seen = g.D.Disk.seen in
     let keeps = λ (done : List (List ℕ)). IsTrue (g.D.Disk.is_clean l.self.log.disk) → IsSettled seen g.D.Disk.may_leave l.self.log × (recovered (seen l.self.log.disk) ≡ recovered (seen l.fn.self.log.disk) ++ done) in
     record {
-      served : Served keeps (g.A.Answers.replies l.fn.self.answers) (g.A.Answers.replies l.self.answers) (g.W.Write.contents l.fn.writer) (g.W.Write.contents l.writer) l.batches (drop l.batch-index l.batches);
+      served : Served keeps (g.A.Answers.says l.fn.self.answers) (g.A.Answers.says l.self.answers) (g.W.Write.contents l.fn.writer) (g.W.Write.contents l.writer) l.batches (drop l.batch-index l.batches);
       usable : IsTrue (g.D.Disk.is_usable l.self.log.disk);
       clean : g.D.Disk.is_clean l.self.log.disk ≡ g.D.Disk.is_clean l.fn.self.log.disk;
     }
