@@ -3,6 +3,7 @@ use Rattle.std.proofs.Common.{◌≡◌, ℕ, List, Result, Err, sym, subst, IfE
 use Rattle.std.specs.Bool.{⊤}
 use Rattle.inst_log.specs.Log.{HasCause}
 use Rattle.inst_log.specs.Opening.{Unopened}
+use Rattle.inst_log.specs.Serving.{Unanswered}
 use Rattle.inst_log.specs.declared.error.LogError.{LogError}
 use Rattle.inst_log.specs.declared.error.LogError.TheVariants.{Disk, Memory, Full, Write, Told, OtherSettings, NoLog}
 
@@ -17,3 +18,13 @@ unopened settings file clean untouched failed fails Write so cause = absurd caus
 unopened settings file clean untouched failed fails Told so cause = absurd cause
 unopened settings file clean untouched failed fails OtherSettings so cause = absurd cause
 unopened settings file clean untouched failed fails NoLog so cause = absurd cause
+
+pub unanswered_so : (fails fails' : LogError → Type 0) (no_room no_room' too_few too_few' at_rest at_rest' : Type 0) (error : LogError) → ((e : LogError) → fails e → fails' e) → (no_room → no_room') → (too_few → too_few') → (at_rest → at_rest')
+    → Unanswered fails no_room too_few at_rest error → Unanswered fails' no_room' too_few' at_rest' error
+unanswered_so fails fails' no_room no_room' too_few too_few' at_rest at_rest' (Disk error) f r t a cause = f (Disk error) cause
+unanswered_so fails fails' no_room no_room' too_few too_few' at_rest at_rest' Memory f r t a cause = f Memory cause
+unanswered_so fails fails' no_room no_room' too_few too_few' at_rest at_rest' OtherSettings f r t a cause = f OtherSettings cause
+unanswered_so fails fails' no_room no_room' too_few too_few' at_rest at_rest' NoLog f r t a cause = f NoLog cause
+unanswered_so fails fails' no_room no_room' too_few too_few' at_rest at_rest' Full f r t a cause = r cause
+unanswered_so fails fails' no_room no_room' too_few too_few' at_rest at_rest' Told f r t a cause = t cause
+unanswered_so fails fails' no_room no_room' too_few too_few' at_rest at_rest' Write f r t a cause = a cause

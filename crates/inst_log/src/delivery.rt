@@ -1,5 +1,5 @@
 // Bytes are handed to a writer, and what was handed to it before a failure is known.
-ghost use Rattle.std.specs.Prelude.{OnOk, OnErr};
+ghost use Rattle.std.specs.Prelude.{OnOk, OnErr, IsOkUnless};
 ghost use Rattle.std.specs.Io.KnownBytes.{Appends};
 ghost use Rattle.inst_log.specs.Serving.{WritesPart};
 
@@ -10,6 +10,7 @@ use std::io::Write;
 pub(crate) fn deliver<W: Write>(writer: &mut W, bytes: &[u8]) -> Result<(), LogError>
     ensures ok { OnOk result (Appends (W.Write.contents writer.old) (W.Write.contents writer.new) bytes.now) }
     ensures part { WritesPart (W.Write.contents writer.old) (W.Write.contents writer.new) bytes.now }
+    ensures only { IsOkUnless result LogError.Write }
 {
     write_bytes(writer, bytes)?;
     match writer.flush() {
@@ -22,6 +23,7 @@ pub(crate) fn deliver<W: Write>(writer: &mut W, bytes: &[u8]) -> Result<(), LogE
 fn write_bytes<W: Write>(writer: &mut W, bytes: &[u8]) -> Result<(), LogError>
     ensures ok { OnOk result (Appends (W.Write.contents writer.old) (W.Write.contents writer.new) bytes.now) }
     ensures err { OnErr result (WritesPart (W.Write.contents writer.old) (W.Write.contents writer.new) bytes.now) }
+    ensures only { IsOkUnless result LogError.Write }
 {
     let mut rest = bytes;
     while !rest.is_empty() {

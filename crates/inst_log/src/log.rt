@@ -1,7 +1,7 @@
 // Whole lines and a closed byte. It is closed on the disk before anything is written behind it.
-ghost use Rattle.std.specs.Prelude.{◌≡◌, ◌<◌, ◌≤◌, ◌^◌, ◌++◌, List, ℕ, length, IsTrue, IfErr, OnOk};
+ghost use Rattle.std.specs.Prelude.{◌≡◌, ◌<◌, ◌≤◌, ◌+◌, ◌^◌, ◌++◌, List, ℕ, length, IsTrue, IfErr, OnOk};
 ghost use Rattle.sqlite_disk.specs.Disk.{MoreFaults};
-ghost use Rattle.inst_log.specs.Layout.{recovered, IsBatch};
+ghost use Rattle.inst_log.specs.Layout.{recovered, blocks, IsBatch};
 ghost use Rattle.inst_log.specs.Log.{IsSettled, IsBeforeOrAfter, IsAtStage, HasCause};
 
 use crate::LogError;
@@ -37,6 +37,8 @@ impl<D: Disk> Log<D> {
 
         ensures usable { OnOk result (IsTrue (D.Disk.is_usable self.new.disk)) }
         ensures clean { D.Disk.is_clean self.new.disk ≡ D.Disk.is_clean self.old.disk }
+        ensures calm { OnOk result (D.Disk.faults self.new.disk ≡ D.Disk.faults self.old.disk) }
+        ensures end { OnOk result (self.new.end ≡ self.old.end + length (blocks (recovered batch.now))) }
 
         // It doesn't give up by itself.
         ensures cause { IfErr result (HasCause (MoreFaults (D.Disk.faults self.old.disk) (D.Disk.faults self.new.disk)) ⊥ (2 ^ 62 ≤ self.old.end)) }

@@ -38,6 +38,7 @@ impl<D: Disk> Log<D> {
         ensures cause { IfErr result (λ error. Unopened settings.now (D.Disk.seen self.old.disk) (IsTrue (D.Disk.is_clean self.new.disk))
             (D.Disk.seen self.new.disk ≡ D.Disk.seen self.old.disk)
             (IsTrue (D.Disk.is_clean self.new.disk) → MoreFaults (D.Disk.faults self.old.disk) (D.Disk.faults self.new.disk)) error) }
+        ensures calm { OnOk result (D.Disk.faults self.new.disk ≡ D.Disk.faults self.old.disk) }
         ensures usable { OnOk result (IsTrue (D.Disk.is_usable self.new.disk)) }
         ensures clean { IsTrue (D.Disk.is_clean self.new.disk) → IsTrue (D.Disk.is_clean self.old.disk) }
     {
@@ -65,6 +66,7 @@ impl<D: Disk> Log<D> {
         ensures any_moment { IsTrue (D.Disk.is_clean self.new.disk) → (c : List ℕ) → D.Disk.may_leave self.new.disk c
             → recovered c ≡ recovered (D.Disk.seen self.old.disk) }
         ensures cause { IfErr result (HasCause (MoreFaults (D.Disk.faults self.old.disk) (D.Disk.faults self.new.disk)) ⊤ ⊥) }
+        ensures calm { OnOk result (D.Disk.faults self.new.disk ≡ D.Disk.faults self.old.disk) }
         ensures usable { OnOk result (IsTrue (D.Disk.is_usable self.new.disk)) }
         ensures clean { IsTrue (D.Disk.is_clean self.new.disk) → IsTrue (D.Disk.is_clean self.old.disk) }
     {
@@ -86,6 +88,7 @@ impl<D: Disk> Log<D> {
         ensures any_moment { IsTrue (D.Disk.is_clean self.new.disk) → (c : List ℕ) → D.Disk.may_leave self.new.disk c
             → Opens settings.now c × (kept settings.now c ≡ []) }
         ensures cause { IfErr result (HasCause (MoreFaults (D.Disk.faults self.old.disk) (D.Disk.faults self.new.disk)) ⊤ ⊥) }
+        ensures calm { OnOk result (D.Disk.faults self.new.disk ≡ D.Disk.faults self.old.disk) }
         ensures usable { OnOk result (IsTrue (D.Disk.is_usable self.new.disk)) }
         ensures clean { D.Disk.is_clean self.new.disk ≡ D.Disk.is_clean self.old.disk }
     {

@@ -1,10 +1,11 @@
 // Lines are answered into memory, kept on the disk, and only then is a byte of a reply handed out.
-ghost use Rattle.std.specs.Prelude.{◌≡◌, ◌≤◌, ◌++◌, [], List, ℕ, length, IsTrue, OnOk};
-ghost use Rattle.sqlite_disk.specs.Disk.{Only};
-ghost use Rattle.inst_log.specs.Layout.{recovered, IsBatch};
-ghost use Rattle.inst_log.specs.Log.{IsSettled};
-ghost use Rattle.inst_log.specs.Opening.{kept, Opens, OpensAlike};
+ghost use Rattle.std.specs.Prelude.{◌≡◌, ◌≤◌, ◌+◌, ◌^◌, ◌++◌, [], List, ℕ, length, IsTrue, IfErr, OnOk, ⊤};
+ghost use Rattle.sqlite_disk.specs.Disk.{Only, MoreFaults};
+ghost use Rattle.inst_log.specs.Layout.{recovered, blocks, IsBatch};
+ghost use Rattle.inst_log.specs.Log.{IsSettled, HasCause};
+ghost use Rattle.inst_log.specs.Opening.{kept, Opens, OpensAlike, Unopened};
 ghost use Rattle.inst_log.specs.Serving.{Replies, TellsKept, Tells, TellsPart, SaysOn, AllBatches, lines_of, Owing};
+ghost use Rattle.inst_log.specs.Serving.{HasFewer, Unanswered};
 
 use crate::delivery::deliver;
 use crate::{Answers, Log, LogError};
@@ -57,6 +58,16 @@ impl<D: Disk, A: Answers + Drop> Recorder<D, A> {
         // It opens again.
         ensures opens { IsTrue (D.Disk.is_clean self.new.log.disk) → Opens settings.now (D.Disk.seen self.old.log.disk)
             → (c : List ℕ) → D.Disk.may_leave self.new.log.disk c → Opens settings.now c }
+        ensures cause { IfErr result (Unanswered (Unopened settings.now (D.Disk.seen self.old.log.disk)
+            (IsTrue (D.Disk.is_clean self.new.log.disk))
+            (D.Disk.seen self.new.log.disk ≡ D.Disk.seen self.old.log.disk)
+            (IsTrue (D.Disk.is_clean self.new.log.disk)
+            → MoreFaults (D.Disk.faults self.old.log.disk) (D.Disk.faults self.new.log.disk)))
+            (IsTrue (D.Disk.is_clean self.new.log.disk) → 2 ^ 62 ≤ length (blocks ((recovered settings.now
+            ++ kept settings.now (D.Disk.seen self.old.log.disk)) ++ lines_of batches.now)))
+            (IsTrue (D.Disk.is_clean self.new.log.disk)
+            → HasFewer (A.Answers.says self.old.answers) (kept settings.now (D.Disk.seen self.old.log.disk)) told)
+            (IsTrue (D.Disk.is_clean self.new.log.disk) → IsSettled D.Disk.seen D.Disk.may_leave self.new.log)) }
         ensures clean { IsTrue (D.Disk.is_clean self.new.log.disk) → IsTrue (D.Disk.is_clean self.old.log.disk) }
     {
         self.reopen(alloc, settings, told, writer)?;
@@ -90,11 +101,23 @@ impl<D: Disk, A: Answers + Drop> Recorder<D, A> {
             → told ≤ length (replies (kept settings.now (D.Disk.seen self.old.log.disk)))) }
         ensures part { IsTrue (D.Disk.is_clean self.new.log.disk)
             → TellsPart (Owing (A.Answers.says self.old.answers)
-            (kept settings.now (D.Disk.seen self.old.log.disk)) told) [] (W.Write.contents writer.old) (W.Write.contents writer.new) }
+            (kept settings.now (D.Disk.seen self.old.log.disk)) told) []
+            (W.Write.contents writer.old) (W.Write.contents writer.new) }
         ensures on { OnOk result (IsTrue (D.Disk.is_clean self.new.log.disk)
             → SaysOn (A.Answers.says self.old.answers) (kept settings.now (D.Disk.seen self.old.log.disk))
             (A.Answers.says self.new.answers)) }
         ensures usable { OnOk result (IsTrue (D.Disk.is_usable self.new.log.disk)) }
+        ensures cause { IfErr result (Unanswered (Unopened settings.now (D.Disk.seen self.old.log.disk)
+            (IsTrue (D.Disk.is_clean self.new.log.disk))
+            (D.Disk.seen self.new.log.disk ≡ D.Disk.seen self.old.log.disk)
+            (IsTrue (D.Disk.is_clean self.new.log.disk)
+            → MoreFaults (D.Disk.faults self.old.log.disk) (D.Disk.faults self.new.log.disk)))
+            ⊥ (IsTrue (D.Disk.is_clean self.new.log.disk)
+            → HasFewer (A.Answers.says self.old.answers) (kept settings.now (D.Disk.seen self.old.log.disk)) told)
+            (IsTrue (D.Disk.is_clean self.new.log.disk) → IsSettled D.Disk.seen D.Disk.may_leave self.new.log
+            × (recovered (D.Disk.seen self.new.log.disk)
+            ≡ recovered settings.now ++ kept settings.now (D.Disk.seen self.old.log.disk)))) }
+        ensures calm { OnOk result (D.Disk.faults self.new.log.disk ≡ D.Disk.faults self.old.log.disk) }
         ensures clean { IsTrue (D.Disk.is_clean self.new.log.disk) → IsTrue (D.Disk.is_clean self.old.log.disk) }
     {
         let text = self.log.open(alloc, settings)?;
@@ -127,6 +150,14 @@ impl<D: Disk, A: Answers + Drop> Recorder<D, A> {
             (W.Write.contents writer.old) (W.Write.contents writer.new) }
 
         ensures usable { OnOk result (IsTrue (D.Disk.is_usable self.new.log.disk)) }
+        ensures cause { IfErr result (Unanswered (HasCause (MoreFaults (D.Disk.faults self.old.log.disk)
+            (D.Disk.faults self.new.log.disk)) ⊤ ⊥)
+            (2 ^ 62 ≤ self.old.log.end) ⊥
+            (IsTrue (D.Disk.is_clean self.new.log.disk) → IsSettled D.Disk.seen D.Disk.may_leave self.new.log
+            × (recovered (D.Disk.seen self.new.log.disk)
+            ≡ recovered (D.Disk.seen self.old.log.disk) ++ recovered batch.now))) }
+        ensures calm { OnOk result (D.Disk.faults self.new.log.disk ≡ D.Disk.faults self.old.log.disk) }
+        ensures end { OnOk result (self.new.log.end ≡ self.old.log.end + length (blocks (recovered batch.now))) }
         ensures clean { D.Disk.is_clean self.new.log.disk ≡ D.Disk.is_clean self.old.log.disk }
     {
         self.out.clear();
@@ -159,6 +190,10 @@ impl<D: Disk, A: Answers + Drop> Recorder<D, A> {
             (W.Write.contents writer.old) (W.Write.contents writer.new) }
 
         ensures usable { OnOk result (IsTrue (D.Disk.is_usable self.new.log.disk)) }
+        ensures cause { IfErr result (Unanswered (HasCause (MoreFaults (D.Disk.faults self.old.log.disk)
+            (D.Disk.faults self.new.log.disk)) ⊤ ⊥)
+            (2 ^ 62 ≤ self.old.log.end + length (blocks (lines_of batches.now))) ⊥
+            (IsTrue (D.Disk.is_clean self.new.log.disk) → IsSettled D.Disk.seen D.Disk.may_leave self.new.log)) }
         ensures clean { D.Disk.is_clean self.new.log.disk ≡ D.Disk.is_clean self.old.log.disk }
     {
         for batch in batches {

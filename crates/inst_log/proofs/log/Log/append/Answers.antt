@@ -2,6 +2,7 @@ use Rattle.std.proofs.Common.{length, inl, ◌∙◌, ap, subst, arith, IsTrue}
 use Rattle.std.proofs.lemmas.List.{length-drop}
 use Rattle.inst_log.proofs.Lines.{all_lines, AllLines-append}
 use Rattle.inst_log.proofs.Crash.{stage_crash, stage_at, gate_at, staged_is, gate_crash, opened_is, new_end, closed_at, tail_is, head_is, long_batch}
+use Rattle.inst_log.proofs.Beginning.{batch_length}
 use Rattle.inst_log.proofs.log.Log.append.Goals as goal
 
 -- neither part of a batch is empty
@@ -48,6 +49,9 @@ returns-clause-stages g c clean left may =
     let s = c.requires.settled (subst IsTrue (c.write_synced-2.ensures.clean ∙ c.write_synced.ensures.clean) clean) in
     let mid = staged_is _ _ s.closed _ c.requires.batch _ c.write_synced.ensures.others (λ _. c.in_ok-write_synced.ensures.written) in
     gate_at _ _ s.closed _ c.requires.batch _ _ _ mid c.in_ok-write_synced.ensures.durable c.write_synced-2.ensures.crash left may
+
+pub returns-clause-end : goal.returns-clause-end
+returns-clause-end g c = omega (arith, batch_length c.args.batch.now c.requires.batch)
 
 -- and then the batch is on the disk
 pub returns-clause-acknowledged : goal.returns-clause-acknowledged

@@ -1,4 +1,4 @@
-use Rattle.std.proofs.Common.{◌≡◌, ◌≤◌, ap, length, drop, arith, rules}
+use Rattle.std.proofs.Common.{◌≡◌, ◌<◌, ◌≤◌, ap, length, drop, arith, rules}
 use Rattle.std.proofs.lemmas.Result.{on_ok_weaker}
 use Rattle.std.proofs.lemmas.List.{take_rest}
 use Rattle.std.specs.Io.KnownBytes.{Appends}
@@ -9,6 +9,16 @@ use Rattle.inst_log.proofs.recorder.Recorder.reopen.Goals as goal
 
 pub slice_bounds-answer-count : goal.slice_bounds-answer-count
 slice_bounds-answer-count g c = omega (arith, ap length c.deref.ensures.value, c.in_ok-text.ensures.front)
+
+pub returns-then-told-len-clause-cause : goal.returns-then-told-len-clause-cause
+returns-then-told-len-clause-cause g c clean replies said =
+    let settings = c.args.settings.now in
+    let file = g.D.Disk.seen c.args.self.now.log.disk in
+    let lines = text_behind settings c.in_ok-text.text.items file c.requires.settings (c.in_ok-text.ensures.text clean) in
+    let value : c.deref.result.now ≡ c.in_ok-text.text.items = c.deref.ensures.value in
+    let out : c.answer.new.out.items ≡ replies (kept settings file) = rw (take_rest, value, lines, c.clear.ensures.items) at (c.in_ok-answer.ensures.replies replies said) in
+    let few : length c.answer.new.out.items < c.args.told = search rules in
+    rw (← out) few
 
 pub returns-clause-replied : goal.returns-clause-replied
 returns-clause-replied g c =

@@ -1,7 +1,13 @@
-use Rattle.std.proofs.Common.{[], subst, IsTrue}
-use Rattle.std.proofs.lemmas.Result.{on_ok_weaker}
-use Rattle.inst_log.specs.Opening.{kept}
-use Rattle.inst_log.specs.Serving.{lines_of, Owing}
+use Rattle.std.proofs.Common.{◌≡◌, ℕ, ◌≤◌, ◌+◌, ◌^◌, List, [], ◌++◌, length, length-append, ap, subst, arith, IsTrue}
+use Rattle.std.specs.Bool.{⊤}
+use Rattle.std.proofs.lemmas.Result.{on_ok_weaker, IfErr-weaker}
+use Rattle.sqlite_disk.specs.Disk.{MoreFaults}
+use Rattle.inst_log.specs.Layout.{recovered, blocks}
+use Rattle.inst_log.specs.Log.{IsSettled, HasCause}
+use Rattle.inst_log.specs.Opening.{kept, Unopened}
+use Rattle.inst_log.specs.Serving.{lines_of, Owing, HasFewer}
+use Rattle.inst_log.proofs.Lines.{blocks-append}
+use Rattle.inst_log.proofs.Causes.{unopened, unanswered_so}
 use Rattle.inst_log.proofs.Serve.{owing_on, tells_more, run_kept, run_opens, reopen_kept}
 use Rattle.inst_log.proofs.recorder.Recorder.run.Goals as goal
 
@@ -11,6 +17,29 @@ returns-in_err-reopen-clause-any_moment g c clean =
     let first = kept settings (g.D.Disk.seen c.args.self.now.log.disk) in
     reopen_kept (g.A.Answers.says c.args.self.now.answers) first c.args.told settings _ _ _ (lines_of c.args.batches.now)
     (c.reopen.ensures.part clean) (λ left may. (c.reopen.ensures.any_moment clean left may).lines)
+
+pub returns-clause-cause : goal.returns-clause-cause
+returns-clause-cause g c =
+    let settings = c.args.settings.now in
+    let old = c.args.self.now.log.disk in
+    let mid = c.reopen.new.self.log in
+    let new = c.serve_all.new.self.log in
+    let file = g.D.Disk.seen old in
+    let clean = IsTrue (g.D.Disk.is_clean new.disk) in
+    let same = g.D.Disk.seen new.disk ≡ file in
+    let failed = clean → MoreFaults (g.D.Disk.faults old) (g.D.Disk.faults new.disk) in
+    let lines = lines_of c.args.batches.now in
+    let before = HasCause (MoreFaults (g.D.Disk.faults mid.disk) (g.D.Disk.faults new.disk)) ⊤ ⊥ in
+    let few = clean → HasFewer (g.A.Answers.says c.args.self.now.answers) (kept settings file) c.args.told in
+    let full = clean → 2 ^ 62 ≤ length (blocks ((recovered settings ++ kept settings file) ++ lines)) in
+    let rests = clean → IsSettled g.D.Disk.seen g.D.Disk.may_leave new in
+    IfErr-weaker c.serve_all.result _ _ (λ error cause.
+    unanswered_so before (Unopened settings file clean same failed) (2 ^ 62 ≤ mid.end + length (blocks lines)) full ⊥ few rests rests error
+    (λ e fault. unopened settings file clean same (MoreFaults (g.D.Disk.faults mid.disk) (g.D.Disk.faults new.disk)) failed e (λ more is. subst (λ (n : ℕ). MoreFaults n (g.D.Disk.faults new.disk)) c.in_ok-reopen.ensures.calm more) fault)
+    (λ many is.
+    let (settled, stand) = c.in_ok-reopen.ensures.settled (subst IsTrue c.serve_all.ensures.clean is) in
+    omega (arith, many, settled.closed.ends, ap (λ (ls : List (List ℕ)). length (blocks ls)) stand, ap length (blocks-append (recovered settings ++ kept settings file) lines), length-append (blocks (recovered settings ++ kept settings file)) (blocks lines)))
+    (λ none. absurd none) (λ f. f) cause) c.serve_all.ensures.cause
 
 pub returns-clause-replied : goal.returns-clause-replied
 returns-clause-replied g c =

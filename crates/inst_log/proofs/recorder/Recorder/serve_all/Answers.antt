@@ -1,7 +1,14 @@
-use Rattle.std.proofs.Common.{◌≡◌, refl, sym, ◌++◌, ◌∙◌, ◌+◌, ◌∷◌, [], List, ℕ, drop, ap, subst, append_assoc, IsTrue, rules}
+use Rattle.std.proofs.Common.{◌≡◌, refl, sym, ◌++◌, ◌∙◌, ◌+◌, ◌∷◌, [], List, ℕ, drop, ap, subst, append_assoc, length, length-append, ◌≤◌, ◌^◌, IsTrue, arith, rules}
+use Rattle.std.specs.Bool.{⊤}
+use Rattle.std.proofs.lemmas.Result.{err_from_is_err_and}
 use Rattle.std.proofs.lemmas.List.{append-nil, drop_more, drop_all}
-use Rattle.inst_log.specs.Layout.{recovered}
-use Rattle.inst_log.proofs.Serve.{served_none, served_more, kept_on, kept_all}
+use Rattle.inst_log.specs.Layout.{recovered, blocks}
+use Rattle.sqlite_disk.specs.Disk.{MoreFaults}
+use Rattle.inst_log.specs.Log.{IsSettled, HasCause}
+use Rattle.inst_log.specs.Serving.{Unanswered, lines_of}
+use Rattle.inst_log.proofs.Lines.{blocks-append}
+use Rattle.inst_log.proofs.Causes.{err_passed, unanswered_so}
+use Rattle.inst_log.proofs.Serve.{served_len, served_none, served_more, kept_on, kept_all}
 use Rattle.inst_log.proofs.recorder.Recorder.serve_all.Goals as goal
 
 pub returns-in_err-serve-clause-any_moment : goal.returns-in_err-serve-clause-any_moment
@@ -13,14 +20,32 @@ returns-in_err-serve-clause-any_moment g c clean =
     let was = subst IsTrue c.serve.ensures.clean clean in
     let next : drop i bs ≡ item ∷ drop (i + 1) bs = search (rules, drop_more) in
     let same : c.as_slice.result.now ≡ item.items = c.as_slice.ensures.value in
-    kept_on _ _ _ _ _ _ _ _ _ item _ _ _ next s (s.kept was).1 (rw same at c.serve.ensures.any_moment clean)
+    kept_on _ _ _ _ _ _ _ _ _ item _ _ _ next s (s.kept.1 was).1 (rw same at c.serve.ensures.any_moment clean)
+
+pub returns-in_err-serve-clause-cause : goal.returns-in_err-serve-clause-cause
+returns-in_err-serve-clause-cause g c =
+    let s = c.loop-batch.invariant.served in
+    let old = c.args.self.now.log in
+    let mid = c.loop-batch.self.log in
+    let new = c.serve.new.self.log in
+    let clean = IsTrue (g.D.Disk.is_clean new.disk) in
+    let settled = IsSettled g.D.Disk.seen g.D.Disk.may_leave new in
+    let fails = HasCause (MoreFaults (g.D.Disk.faults old.disk) (g.D.Disk.faults new.disk)) ⊤ ⊥ in
+    let stand = recovered (g.D.Disk.seen new.disk) ≡ recovered (g.D.Disk.seen mid.disk) ++ recovered c.as_slice.result.now in
+    let full = 2 ^ 62 ≤ old.end + length (blocks (lines_of c.args.batches.now)) in
+    let error = c.in_err-serve.field-0.0 in
+    let cause = subst (λ (n : ℕ). Unanswered (HasCause (MoreFaults n (g.D.Disk.faults new.disk)) ⊤ ⊥) (2 ^ 62 ≤ mid.end) ⊥ (clean → settled × stand) error) c.loop-batch.invariant.calm c.in_err-serve.ensures.cause in
+    err_passed (Unanswered fails full ⊥ (clean → settled)) c.from_residual.result _ (err_from_is_err_and c.from_residual.result c.from_residual.ensures.1)
+    (unanswered_so fails fails (2 ^ 62 ≤ mid.end) full ⊥ ⊥ (clean → settled × stand) (clean → settled) error (λ e f. f)
+    (λ many. omega (arith, many, s.kept.0, served_len _ _ _ _ _ _ _ s)) (λ f. f) (λ f is. (f is).0) cause)
 
 pub loop-batch-init : goal.loop-batch-init
 loop-batch-init g c =
     let first = recovered (g.D.Disk.seen c.args.self.now.log.disk) in
     record {
-      served = served_none _ _ _ _ (g.met.A.Answers.none c.args.self.now.answers) c.requires.batches (λ clean. (c.requires.settled clean, sym (append-nil first)));
+      served = served_none _ _ _ _ (g.met.A.Answers.none c.args.self.now.answers) c.requires.batches (omega arith, λ clean. (c.requires.settled clean, sym (append-nil first)));
       usable = c.requires.usable;
+      calm = refl;
       clean = refl;
     }
 
@@ -34,12 +59,18 @@ loop-batch-preserved g c =
     let first = recovered (g.D.Disk.seen c.args.self.now.log.disk) in
     let same : c.as_slice.result.now ≡ item.items = c.as_slice.ensures.value in
     let acknowledged = rw same at c.in_ok-serve.ensures.acknowledged in
+    let lines = recovered item.items in
+    let end = rw same at c.in_ok-serve.ensures.end in
     record {
-      served = served_more _ _ _ _ _ _ _ _ _ _ _ item next s (rw same at c.in_ok-serve.ensures.replied) (rw same at c.in_ok-serve.ensures.on) (λ done keeps clean.
-          let was = subst IsTrue c.serve.ensures.clean clean in
-          let (settled, lines) = acknowledged clean in
-          (settled, lines ∙ ap (λ (ls : List (List ℕ)). ls ++ recovered item.items) (keeps was).1 ∙ append_assoc first done (recovered item.items)));
+      served = served_more _ _ _ _ _ _ _ _ _ _ _ item next s (rw same at c.in_ok-serve.ensures.replied) (rw same at c.in_ok-serve.ensures.on) (λ done keeps. (
+        omega (arith, keeps.0, end, ap length (blocks-append done lines), length-append (blocks done) (blocks lines)),
+        λ clean.
+            let was = subst IsTrue c.serve.ensures.clean clean in
+            let (settled, stand) = acknowledged clean in
+            (settled, stand ∙ ap (λ (ls : List (List ℕ)). ls ++ lines) (keeps.1 was).1 ∙ append_assoc first done lines),
+      ));
       usable = c.in_ok-serve.ensures.usable;
+      calm = c.in_ok-serve.ensures.calm ∙ c.loop-batch.invariant.calm;
       clean = c.serve.ensures.clean ∙ c.loop-batch.invariant.clean;
     }
 
@@ -47,4 +78,4 @@ pub returns-clause-any_moment : goal.returns-clause-any_moment
 returns-clause-any_moment g c clean =
     let s = c.loop-batch.invariant.served in
     let none : drop c.loop-batch.batch-index c.args.batches.now ≡ [] = drop_all c.loop-batch.batch-index c.args.batches.now (search rules) in
-    kept_all _ _ _ _ _ _ _ _ _ none s (λ left may. ap recovered ((s.kept clean).0.durable left may) ∙ (s.kept clean).1)
+    kept_all _ _ _ _ _ _ _ _ _ none s (λ left may. ap recovered ((s.kept.1 clean).0.durable left may) ∙ (s.kept.1 clean).1)
