@@ -46,3 +46,19 @@ Unopened settings file clean untouched failed Memory = Unit {0}
 Unopened settings file clean untouched failed Full = ⊥
 Unopened settings file clean untouched failed Write = ⊥
 Unopened settings file clean untouched failed Told = ⊥
+
+-- the first line, and so many behind it
+pub record BeginsBy (first : List ℕ) (behind : ℕ) (lines : List (List ℕ)) : Type 0 where
+  pub rest : List (List ℕ)
+  pub split : lines ≡ first ∷ rest
+  pub count : behind ≡ length rest
+
+-- why a log was not read
+abbrev pub Unread : List ℕ → Type 0 → Type 0 → LogError → Type 0
+Unread file clean failed (Disk error) = clean → failed
+Unread file clean failed Memory = Unit {0}
+Unread file clean failed NoLog = clean → recovered file ≡ []
+Unread file clean failed OtherSettings = ⊥
+Unread file clean failed Full = ⊥
+Unread file clean failed Write = ⊥
+Unread file clean failed Told = ⊥

@@ -9,6 +9,8 @@ mod escapes;
 #[cfg(test)]
 mod openings;
 #[cfg(test)]
+mod readings;
+#[cfg(test)]
 mod runs;
 #[cfg(test)]
 mod stops;
