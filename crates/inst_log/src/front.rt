@@ -23,8 +23,8 @@ pub(crate) fn kept_len(bytes: &[u8]) -> usize
     bytes.len() - rest.len()
 }
 
-/// How long the first line is, with its newline.
-pub(crate) fn first_line(bytes: &[u8]) -> Option<usize>
+/// How long the first line is, with its newline, if one stands there.
+pub fn first_line(bytes: &[u8]) -> Option<usize>
     ensures { MatchOption result (recovered bytes.now ≡ []) (λ n. IsFirstLine bytes.now n) }
 {
     if bytes.is_empty() || bytes[0] != b'{' {

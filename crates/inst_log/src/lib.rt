@@ -17,7 +17,7 @@ mod synced;
 pub use answers::Answers;
 pub use batch::{close_batch, line_comes_back, line_of, push_line};
 pub use error::LogError;
-pub use front::{find_newline, whole_lines};
+pub use front::{find_newline, first_line, whole_lines};
 pub use log::Log;
 pub use reading::{Reading, read};
 pub use recorder::Recorder;

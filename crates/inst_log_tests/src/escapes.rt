@@ -1,6 +1,6 @@
 // How lines stand in the file, and that they come back.
 use crate::batches::add;
-use inst_log::line_of;
+use inst_log::{first_line, line_of};
 use std::test::Fail;
 
 /// A line, and what the file has of it.
@@ -24,6 +24,7 @@ fn lines_come_back(rt: HostRuntime) -> Result<(), Fail> {
     for (line, raw) in ROWS {
         let mut text = Vec::new(rt.alloc());
         add(&rt, &mut text, line)?;
+        assert_eq!(rt; first_line(&text), Some(text.len()));
         let (newline, front) = text.as_slice().split_last().expect(&rt, "a newline");
         assert_eq!(rt; *newline, b'\n');
         assert_eq!(rt; front, *raw);
