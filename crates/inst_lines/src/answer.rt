@@ -1,38 +1,53 @@
 //! The answer to one line: all that a session knows of the world.
-ghost use Rattle.std.specs.Prelude.{◌≡◌, ◌≢◌, ◌≤◌, ◌++◌, ◌∷◌, [], true, length, take, IfOk, OnErr, OnOk, IsErrOf, IsOkUnless};
+ghost use Rattle.std.specs.Prelude.{◌≡◌, ◌≢◌, ◌++◌, ◌∷◌, [], true, false, IfOk, OnErr, OnOk, IsErrOf, IsOkUnless};
 ghost use Rattle.serde_json.specs.Written.{compact_text};
 ghost use Rattle.inst_json.specs.Replies.{answer_data, answer_can_be_written};
 ghost use Rattle.inst_json.specs.Lines.{command_of_line, step_of_line};
-ghost use Rattle.inst_lines.specs.LineBuffer.{held};
 ghost use Rattle.inst_lines.specs.Lines.{newline};
 ghost use Rattle.inst_lines.specs.Answers.{AnswersLine};
 ghost use Rattle.inst_lines.specs.Answering.{Keeps, Past, is_refusal, answering, RepliesToLine, RepliesToRead};
 ghost use Rattle.inst_lines.specs.Answering.{command_answer, after_command, script_answer, after_script, line_answer, after_line};
 
-use crate::line_buffer::LineBuffer;
+use crate::line_buffer::is_too_long;
 use crate::mode::Mode;
 use inst_agenda::{Runner, follow_up};
 use inst_base::Fault;
 use inst_command::{Answer, Reply};
 use inst_json::LineReader;
 use inst_settings::Settings;
+use std::alloc::AllocError;
 
-/// Appends the answer to the line that ends by this many of the bytes that are held, and a newline, to
-/// `out`, and says whether it is a refusal. `Memory` comes where there is no room.
-pub(crate) fn answer(
+/// Appends the answer to a line, whose newline is not among its bytes, and a newline to `out`, and says whether it is a
+/// refusal. A line of more than 4,096 bytes is refused. After an error a front of the answer may stand in `out`, and
+/// the runner may have gone on: let both go.
+pub fn answer_line(
     reader: &mut LineReader,
     mode: Mode,
     runner: &mut Runner,
-    input: &LineBuffer,
-    len: usize,
+    line: &[u8],
+    out: &mut Vec<u8>,
+) -> Result<bool, AllocError>
+    ensures { IfOk result (λ refused. AnswersLine (answering mode) (Keeps mode) false line.now
+        runner.old runner.new out.old.items out.new.items refused) }
+{
+    answer_part(reader, mode, runner, false, line, out).map_err(|_| AllocError)
+}
+
+/// Appends the answer to a line, and a newline, to `out`, and says whether it is a refusal. This part of the line is
+/// held, and where it is long a front of it was let go. `Memory` comes where there is no room.
+pub(crate) fn answer_part(
+    reader: &mut LineReader,
+    mode: Mode,
+    runner: &mut Runner,
+    is_long: bool,
+    part: &[u8],
     out: &mut Vec<u8>,
 ) -> Result<bool, Fault>
-    requires { len ≤ length (held input.now) }
-    ensures ok { IfOk result (λ refused. AnswersLine (answering mode) (Keeps mode) input.now.is_long (take len (held input.now))
+    ensures ok { IfOk result (λ refused. AnswersLine (answering mode) (Keeps mode) is_long part.now
         runner.old runner.new out.old.items out.new.items refused) }
     ensures fault { OnErr result (IsErrOf result Fault.Memory) }
 {
-    let answer = answer_to(reader, mode, runner, input, len)?;
+    let answer = answer_to(reader, mode, runner, is_long, part)?;
     append_answer(runner.settings(), &answer, out)
 }
 
@@ -41,20 +56,18 @@ fn answer_to(
     reader: &mut LineReader,
     mode: Mode,
     runner: &mut Runner,
-    input: &LineBuffer,
-    len: usize,
+    is_long: bool,
+    part: &[u8],
 ) -> Result<Answer, Fault>
-    requires { len ≤ length (held input.now) }
-    ensures ok { IfOk result (λ answer. RepliesToLine mode input.now.is_long (take len (held input.now)) runner.old runner.new answer) }
+    ensures ok { IfOk result (λ answer. RepliesToLine mode is_long part.now runner.old runner.new answer) }
     ensures only { IsOkUnless result Fault.Memory }
 {
-    if input.is_too_long(len) {
+    if is_too_long(is_long, part.len()) {
         return Ok(Answer::Reply(Reply::Refused(Fault::LineTooLong)));
     }
-    let line = &input.as_slice()[..len];
     match mode {
-        Mode::Run => answer_command(reader, runner, line),
-        Mode::Play => answer_step(reader, runner, line),
+        Mode::Run => answer_command(reader, runner, part),
+        Mode::Play => answer_step(reader, runner, part),
     }
 }
 

@@ -9,6 +9,8 @@ mod replies;
 mod run;
 mod session;
 
+pub use answer::answer_line;
 pub use limits::{MOST_BYTES, MOST_LINE_BYTES, MOST_LINES};
+pub use mode::Mode;
 pub use run::{play_lines, run_lines};
 pub use session::Counts;

@@ -3,7 +3,7 @@ ghost use Rattle.std.specs.Prelude.{◌≡◌, ◌≤◌, ◌<◌, ◌+◌, [], 
 ghost use Rattle.std.specs.Prelude.{OnErr, false, length, drop, vec_len};
 ghost use Rattle.std.specs.Io.{ReadsAtMost};
 ghost use Rattle.std.specs.Io.KnownBytes.{ReadConsumes};
-ghost use Rattle.inst_lines.specs.Limits.{most_bytes, buffer_bytes};
+ghost use Rattle.inst_lines.specs.Limits.{most_bytes, most_line_bytes, buffer_bytes};
 ghost use Rattle.inst_lines.specs.Lines.{NoNewline, BreaksAt};
 
 use crate::limits::{BUFFER_BYTES, MOST_BYTES, MOST_LINE_BYTES};
@@ -29,7 +29,6 @@ pub struct LineBuffer {
 
 impl LineBuffer {
     ghost use Rattle.inst_lines.specs.Answers.{MakesRoom};
-    ghost use Rattle.inst_lines.specs.Limits.{most_line_bytes};
     ghost use Rattle.inst_lines.specs.LineBuffer.{held, Fills, FillFails};
 
     /// An empty buffer.
@@ -88,11 +87,11 @@ impl LineBuffer {
         self.is_long || self.start < self.end
     }
 
-    /// Whether a line is too long that ends by this many of the bytes that are held.
-    pub fn is_too_long(&self, len: usize) -> bool
-        ensures { result ≡ (self.now.is_long || nat_lt most_line_bytes len) }
+    /// Whether the front of a line was let go of which the rest is held.
+    pub fn lacks_front(&self) -> bool
+        ensures { result ≡ self.now.is_long }
     {
-        self.is_long || len > MOST_LINE_BYTES
+        self.is_long
     }
 
     /// Lets go of a line of which this many bytes are held, and of its newline.
@@ -114,7 +113,7 @@ impl LineBuffer {
         ensures room { self.new.end ≤ most_line_bytes }
         ensures taken { self.new.taken ≡ self.old.taken }
     {
-        if self.is_too_long(self.len()) {
+        if is_too_long(self.is_long, self.len()) {
             self.is_long = true;
             self.start = 0;
             self.end = 0;
@@ -124,6 +123,13 @@ impl LineBuffer {
             self.start = 0;
         }
     }
+}
+
+/// Whether a line is too long of which this many bytes are held, and a front was let go where it is long already.
+pub(crate) fn is_too_long(is_long: bool, len: usize) -> bool
+    ensures { result ≡ (is_long || nat_lt most_line_bytes len) }
+{
+    is_long || len > MOST_LINE_BYTES
 }
 
 /// Reads into `buf`, and says how many bytes: `ReadFault` comes where the read fails.

@@ -1,6 +1,6 @@
 /// What a line stands for.
 #[derive(Clone, Copy, Debug, PartialEq, Eq)]
-pub(crate) enum Mode {
+pub enum Mode {
     /// A command. All transfers are followed up after it.
     Run,
     /// One step, and nothing else happens.

@@ -2,7 +2,7 @@
 ghost use Rattle.inst_lines.specs.Limits.{most_lines};
 ghost use Rattle.std.specs.Prelude.{◌≡◌, ◌≤◌, ◌<◌, ◌⊎◌, [], OnOk, IfOk, OnErr, IfErr, IsErrOf, MatchBool, false, length};
 
-use crate::answer::answer;
+use crate::answer::answer_part;
 use crate::limits::MOST_LINES;
 use crate::line_buffer::{LineBuffer, find_newline};
 use crate::mode::Mode;
@@ -71,12 +71,12 @@ impl Session {
         ensures ok { OnOk result (TakesLine (answering mode) (Keeps mode) len self.old self.new runner.old runner.new) }
         ensures fault { OnErr result (IsErrOf result Fault.Memory) }
     {
-        let is_refused = answer(
+        let is_refused = answer_part(
             &mut self.reader,
             mode,
             runner,
-            &self.input,
-            len,
+            self.input.lacks_front(),
+            &self.input.as_slice()[..len],
             &mut self.replies.bytes,
         )?;
         self.input.drop_line(len);

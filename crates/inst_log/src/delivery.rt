@@ -6,8 +6,8 @@ ghost use Rattle.inst_log.specs.Serving.{WritesPart};
 use crate::LogError;
 use std::io::Write;
 
-/// Writes these bytes, and flushes.
-pub(crate) fn deliver<W: Write>(writer: &mut W, bytes: &[u8]) -> Result<(), LogError>
+/// Writes these bytes, and flushes. At `Err` a front of them was written.
+pub fn deliver<W: Write>(writer: &mut W, bytes: &[u8]) -> Result<(), LogError>
     ensures ok { OnOk result (Appends (W.Write.contents writer.old) (W.Write.contents writer.new) bytes.now) }
     ensures part { WritesPart (W.Write.contents writer.old) (W.Write.contents writer.new) bytes.now }
     ensures only { IsOkUnless result LogError.Write }

@@ -16,6 +16,7 @@ mod synced;
 
 pub use answers::Answers;
 pub use batch::{close_batch, line_comes_back, line_of, push_line};
+pub use delivery::deliver;
 pub use error::LogError;
 pub use front::{find_newline, first_line, whole_lines};
 pub use log::Log;

@@ -1,12 +1,13 @@
 // Lines are answered into memory, kept on the disk, and only then is a byte of a reply handed out.
 ghost use Rattle.std.specs.Prelude.{◌≡◌, ◌≤◌, ◌+◌, ◌^◌, ◌++◌, [], List, ℕ, length, IsTrue, IfErr, OnOk, ⊤};
 ghost use Rattle.sqlite_disk.specs.Disk.{Only, MoreFaults};
-ghost use Rattle.inst_log.specs.Layout.{recovered, blocks, IsBatch};
+ghost use Rattle.inst_log.specs.Layout.{recovered, blocks, IsBatch, IsWhole};
 ghost use Rattle.inst_log.specs.Log.{IsSettled, HasCause};
 ghost use Rattle.inst_log.specs.Opening.{kept, Opens, OpensAlike, Unopened};
 ghost use Rattle.inst_log.specs.Serving.{Replies, TellsKept, Tells, TellsPart, SaysOn, AllBatches, lines_of, Owing};
 ghost use Rattle.inst_log.specs.Serving.{HasFewer, Unanswered};
 
+use crate::batch::close_batch;
 use crate::delivery::deliver;
 use crate::{Answers, Log, LogError};
 use sqlite_disk::Disk;
@@ -164,6 +165,39 @@ impl<D: Disk, A: Answers + Drop> Recorder<D, A> {
         self.answers.answer(batch, &mut self.out)?;
         self.log.append(batch)?;
         deliver(writer, &self.out)
+    }
+
+    /// Closes a batch, and answers its lines, if it has any. At `Err`, open the log again.
+    pub fn serve_lines<W: Write>(&mut self, batch: &mut Vec<u8>, writer: &mut W) -> Result<(), LogError>
+        requires usable { IsTrue (D.Disk.is_usable self.old.log.disk) }
+        requires settled { IsTrue (D.Disk.is_clean self.old.log.disk) → IsSettled D.Disk.seen D.Disk.may_leave self.old.log }
+        requires whole { IsWhole batch.old.items }
+
+        ensures acknowledged { OnOk result (IsTrue (D.Disk.is_clean self.new.log.disk) → IsSettled D.Disk.seen D.Disk.may_leave self.new.log
+            × (recovered (D.Disk.seen self.new.log.disk) ≡ recovered (D.Disk.seen self.old.log.disk) ++ recovered batch.old.items)) }
+        ensures replied { OnOk result (Tells (A.Answers.says self.old.answers) (recovered batch.old.items)
+            (W.Write.contents writer.old) (W.Write.contents writer.new)) }
+        ensures on { OnOk result (SaysOn (A.Answers.says self.old.answers) (recovered batch.old.items)
+            (A.Answers.says self.new.answers)) }
+        ensures any_moment { IsTrue (D.Disk.is_clean self.new.log.disk) → TellsKept recovered (D.Disk.may_leave self.new.log.disk)
+            (A.Answers.says self.old.answers) (recovered (D.Disk.seen self.old.log.disk)) (recovered batch.old.items)
+            (W.Write.contents writer.old) (W.Write.contents writer.new) }
+
+        ensures usable { OnOk result (IsTrue (D.Disk.is_usable self.new.log.disk)) }
+        ensures cause { IfErr result (Unanswered (HasCause (MoreFaults (D.Disk.faults self.old.log.disk)
+            (D.Disk.faults self.new.log.disk)) ⊤ ⊥)
+            (2 ^ 62 ≤ self.old.log.end) ⊥
+            (IsTrue (D.Disk.is_clean self.new.log.disk) → IsSettled D.Disk.seen D.Disk.may_leave self.new.log
+            × (recovered (D.Disk.seen self.new.log.disk)
+            ≡ recovered (D.Disk.seen self.old.log.disk) ++ recovered batch.old.items))) }
+        ensures calm { OnOk result (D.Disk.faults self.new.log.disk ≡ D.Disk.faults self.old.log.disk) }
+        ensures clean { D.Disk.is_clean self.new.log.disk ≡ D.Disk.is_clean self.old.log.disk }
+    {
+        if batch.is_empty() {
+            return Ok(());
+        }
+        close_batch(batch)?;
+        self.serve(batch, writer)
     }
 
     /// Answers batch after batch. At `Err`, open the log again.

@@ -15,7 +15,7 @@ pub returns-in_err-reopen-clause-any_moment : goal.returns-in_err-reopen-clause-
 returns-in_err-reopen-clause-any_moment g c clean =
     let settings = c.args.settings.now in
     let first = kept settings (g.D.Disk.seen c.args.self.now.log.disk) in
-    reopen_kept (g.A.Answers.says c.args.self.now.answers) first c.args.told settings _ _ _ (lines_of c.args.batches.now)
+    reopen_kept (Owing (g.A.Answers.says c.args.self.now.answers) first c.args.told) first settings _ _ _ (lines_of c.args.batches.now)
     (c.reopen.ensures.part clean) (λ left may. (c.reopen.ensures.any_moment clean left may).lines)
 
 pub returns-clause-cause : goal.returns-clause-cause
@@ -59,7 +59,7 @@ returns-clause-any_moment g c clean =
     let old = g.A.Answers.says c.args.self.now.answers in
     let mid = g.A.Answers.says c.reopen.new.self.answers in
     let first = kept settings (g.D.Disk.seen c.args.self.now.log.disk) in
-    run_kept old first c.args.told settings _ mid _ _ _ _ (lines_of c.args.batches.now)
+    run_kept (Owing old first c.args.told) first settings _ mid _ _ _ _ (lines_of c.args.batches.now)
     (owing_on old first c.args.told mid (c.in_ok-reopen.ensures.on was) (c.in_ok-reopen.ensures.told was))
     (c.in_ok-reopen.ensures.replied was) (c.in_ok-reopen.ensures.settled was).1 (c.serve_all.ensures.any_moment clean)
 
@@ -68,5 +68,5 @@ returns-clause-opens g c clean opens left may =
     let settings = c.args.settings.now in
     let first = kept settings (g.D.Disk.seen c.args.self.now.log.disk) in
     let was = subst IsTrue c.serve_all.ensures.clean clean in
-    run_opens (g.A.Answers.says c.args.self.now.answers) first c.args.told settings _ (g.A.Answers.says c.reopen.new.self.answers) _ _ _ (lines_of c.args.batches.now)
+    run_opens (Owing (g.A.Answers.says c.args.self.now.answers) first c.args.told) first settings _ (g.A.Answers.says c.reopen.new.self.answers) _ _ _ (lines_of c.args.batches.now)
     (c.in_ok-reopen.ensures.settled was).1 (c.serve_all.ensures.any_moment clean) left may

@@ -1,0 +1,49 @@
+-- A line is answered as what stands for it in a log.
+use Rattle.std.proofs.Common.{◌≡◌, ◌⊎◌, inl, inr, ℕ, ◌+◌, ◌<◌, ◌≤◌, Bool, true, false, List, [], ◌∷◌, ◌++◌, map, length, take, refl, sym, ◌∙◌, ap, arith, if◌then◌else◌}
+use Rattle.std.proofs.lemmas.Bool.{cases_Bool, ltb-true, ltb-false, lt-ltb}
+use Rattle.std.proofs.lemmas.List.{take_all, length-take-le}
+use Rattle.inst_lines.specs.declared.mode.Mode.{Mode}
+use Rattle.inst_lines.specs.Limits.{most_line_bytes}
+use Rattle.inst_lines.specs.Lines.{newline}
+use Rattle.inst_lines.specs.Answers.{Answerer, is_too_long, reply_to, state_after_line, output}
+use Rattle.inst_lines.specs.Answering.{Past, answering}
+use Rattle.inst_log.specs.Escape.{line_of}
+use Rattle.inst_log.proofs.Batching.{comes_back}
+use Rattle.inst_logged.specs.Answering.{replies_at}
+use Rattle.inst_logged.specs.Input.{cut, logged}
+
+-- a line that is cut was too long, and still is
+cut_line : (line : List ℕ) → (cut line ≡ line) ⊎ ((is_too_long line ≡ true) × (is_too_long (cut line) ≡ true))
+cut_line line = elim (cases_Bool (is_too_long line)) [
+  | inl long ↦
+      let more : most_line_bytes < length line = ltb-true most_line_bytes (length line) long in
+      let len : length (cut line) ≡ most_line_bytes + 1 = length-take-le (most_line_bytes + 1) line (omega arith) in
+      inr (long, lt-ltb most_line_bytes (length (cut line)) (omega arith))
+  | inr short ↦
+      let few : length line ≤ most_line_bytes = ltb-false most_line_bytes (length line) short in
+      inl (take_all (most_line_bytes + 1) line (omega arith))
+]
+
+reply_alike : {S : Type 0} (a : Answerer S) (s : S) (line : List ℕ) → reply_to a s (cut line) ≡ reply_to a s line
+reply_alike {S} a s line = elim (cut_line line) [
+  | inl same ↦ ap (reply_to a s) same
+  | inr long ↦ ap (λ (t : Bool). if t then a.too_long else a.reply s (cut line)) long.1 ∙ sym (ap (λ (t : Bool). if t then a.too_long else a.reply s line) long.0)
+]
+
+state_alike : {S : Type 0} (a : Answerer S) (s : S) (line : List ℕ) → state_after_line a s (cut line) ≡ state_after_line a s line
+state_alike {S} a s line = elim (cut_line line) [
+  | inl same ↦ ap (state_after_line a s) same
+  | inr long ↦ ap (λ (t : Bool). if t then s else a.next s (cut line)) long.1 ∙ sym (ap (λ (t : Bool). if t then s else a.next s line) long.0)
+]
+
+answers_alike : {S : Type 0} (a : Answerer S) (s : S) (lines : List (List ℕ)) → output a s (map line_of (map logged lines)) ≡ output a s lines
+answers_alike a s [] = refl
+answers_alike {S} a s (line ∷ lines) =
+    let rest = map line_of (map logged lines) in
+    ap (λ (l : List ℕ). (reply_to a s l ++ newline ∷ []) ++ output a (state_after_line a s l) rest) (comes_back (cut line))
+    ∙ ap (λ (r : List ℕ). (r ++ newline ∷ []) ++ output a (state_after_line a s (cut line)) rest) (reply_alike a s line)
+    ∙ ap (λ (t : S). (reply_to a s line ++ newline ∷ []) ++ output a t rest) (state_alike a s line)
+    ∙ ap (λ (l : List ℕ). (reply_to a s line ++ newline ∷ []) ++ l) (answers_alike a (state_after_line a s line) lines)
+
+pub lines_answer_alike : (mode : Mode) (past : Past) (lines : List (List ℕ)) → replies_at mode past (map logged lines) ≡ output (answering mode) past lines
+lines_answer_alike mode past lines = answers_alike (answering mode) past lines

@@ -1,0 +1,10 @@
+mod Alike
+mod Answering
+mod Coming
+mod Cutting
+mod Heading
+mod Intaking
+mod Owing
+mod Reopening
+mod Running
+mod Turning

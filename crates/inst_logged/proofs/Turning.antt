@@ -1,0 +1,29 @@
+-- What a read brought, behind a part of a line.
+use Rattle.std.proofs.Common.{◌≡◌, inl, inr, ℕ, Bool, true, false, List, [], ◌++◌, map, Option, refl, ap, ◌∙◌}
+use Rattle.std.specs.Prelude.{MatchBool}
+use Rattle.inst_log.specs.Layout.{recovered}
+use Rattle.inst_logged.specs.Input.{cut, logged, lines_from, last_line}
+use Rattle.inst_logged.specs.Intake.{held, TakesIn, TakesLast}
+use Rattle.inst_logged.specs.Logged.{Turned, Ended, Came}
+use Rattle.inst_logged.specs.declared.intake.Intake.{Intake}
+
+pub turned_of : (old new : Intake) (before after part : List ℕ) (left left' : Option (List ℕ)) (more : Bool) → before ≡ [] → held old ≡ cut part
+    → MatchBool more (TakesIn old new before after left left') (TakesLast old before after left left')
+    → MatchBool more (Turned part new (recovered after) left left') (Ended part (recovered after) left left')
+turned_of old new before after part left left' true none same t = record {
+  read = t.read;
+  some = t.some;
+  consumes = t.consumes;
+  lines_are = t.lines_are part same ∙ ap (λ (b : List ℕ). recovered b ++ map logged (lines_from part t.read)) none;
+  held_is = t.held_is part same;
+}
+turned_of old new before after part left left' false none same t = record {
+  consumes = t.consumes;
+  at_end = t.at_end;
+  lines_are = t.lines_are part same ∙ ap (λ (b : List ℕ). recovered b ++ map logged (last_line part)) none;
+}
+
+pub came_of : (part : List ℕ) (new : Intake) (lines : List (List ℕ)) (left left' : Option (List ℕ)) (more : Bool)
+    → MatchBool more (Turned part new lines left left') (Ended part lines left left') → Came part lines left left'
+came_of part new lines left left' true t = record { read = t.read; consumes = t.consumes; lines_are = inl t.lines_are }
+came_of part new lines left left' false t = record { read = []; consumes = t.consumes; lines_are = inr (refl, (t.at_end, t.lines_are)) }

@@ -1,0 +1,14 @@
+use Rattle.std.proofs.Common.{◌≡◌, IsTrue}
+use Rattle.inst_log.specs.Layout.{NoNewline}
+use Rattle.inst_logged.specs.Intake.{held}
+use Rattle.inst_logged.specs.Logged.{HasCome}
+use Rattle.inst_logged.proofs.hub.LoggedHub.serve_all.Given as goal
+
+abbrev pub invariant-loop : goal.invariant-loop
+invariant-loop g l = record {
+  come : HasCome g.D.Disk.seen g.D.Disk.may_leave (IsTrue (g.D.Disk.is_clean l.self.recorder.log.disk)) l.fn.self.recorder l.self.recorder
+      l.self.intake (g.R.Read.remaining l.fn.reader) (g.R.Read.remaining l.reader) (g.W.Write.contents l.fn.writer) (g.W.Write.contents l.writer);
+  usable : IsTrue (g.D.Disk.is_usable l.self.recorder.log.disk);
+  clean : g.D.Disk.is_clean l.self.recorder.log.disk ≡ g.D.Disk.is_clean l.fn.self.recorder.log.disk;
+  part : NoNewline (held l.self.intake);
+}

@@ -1,0 +1,51 @@
+use Rattle.std.proofs.Common.{◌≡◌, ◌+◌, ◌-◌, ◌<◌, ◌≤◌, ℕ, [], ◌++◌, List, map, length, take, sym, ◌∙◌, ap, subst, arith, rules}
+use Rattle.std.proofs.lemmas.List.{with_items_is, length-take-le, length-drop}
+use borrow.Rule.Slice.PartMut.{put_mid}
+use Rattle.inst_lines.proofs.BufferLemmas.{length-put_mid}
+use Rattle.inst_log.specs.Layout.{recovered, NoNewline}
+use Rattle.inst_logged.specs.Input.{cut, logged, lines_from, rest_from}
+use Rattle.inst_logged.specs.Intake.{held}
+use Rattle.inst_logged.proofs.Cutting.{quiet_held}
+use Rattle.inst_logged.proofs.Intaking.{read_behind, lines_taken, rest_taken}
+use Rattle.inst_logged.proofs.intake.Intake.read.Goals as goal
+
+pub returns-clause-lines : goal.returns-clause-lines
+returns-clause-lines g c =
+    let old = c.args.self.now in
+    let xs = c.deref_mut.result.now in
+    let new = c.read_bytes.new.buf in
+    let n = c.in_ok-count.count in
+    let k = length xs - old.len in
+    let before = recovered c.args.batch.now.items in
+    let size : length xs ≡ 65536 = c.deref_mut.ensures.len ∙ old.size in
+    let within : old.len ≤ length xs = omega (arith, old.within) in
+    let room : length new ≡ k = c.read_bytes.auto.buf ∙ length-take-le _ _ (omega (arith, length-drop old.len xs)) in
+    let few : n ≤ length new = omega (arith, c.in_ok-count.ensures.bound) in
+    let bytes_are = ap (take (old.len + n)) (with_items_is old.bytes (put_mid old.len k xs new) (length-put_mid xs new old.len k (omega arith) room ∙ c.deref_mut.ensures.len))
+    ∙ read_behind xs new old.len k n within few ∙ ap (λ (l : List ℕ). take old.len l ++ take n new) c.deref_mut.ensures.value in
+    record {
+      read = take n new;
+      some = omega (arith, length-take-le n new few);
+      consumes = c.in_ok-count.ensures.bytes.0;
+      lines_are = λ part same.
+          c.in_ok-take_lines.ensures.lines ∙ ap (λ (l : List ℕ). before ++ map logged (lines_from [] l)) bytes_are
+          ∙ ap (λ (ls : List (List ℕ)). before ++ ls) (lines_taken part (held old) (take n new) same c.requires.part);
+      held_is = λ part same.
+          c.in_ok-take_lines.ensures.held ∙ ap (λ (l : List ℕ). cut (rest_from [] l)) bytes_are
+          ∙ rest_taken part (held old) (take n new) same c.requires.part;
+    }
+
+pub returns-clause-part : goal.returns-clause-part
+returns-clause-part g c =
+    let old = c.args.self.now in
+    let xs = c.deref_mut.result.now in
+    let new = c.read_bytes.new.buf in
+    let n = c.in_ok-count.count in
+    let k = length xs - old.len in
+    let size : length xs ≡ 65536 = c.deref_mut.ensures.len ∙ old.size in
+    let within : old.len ≤ length xs = omega (arith, old.within) in
+    let room : length new ≡ k = c.read_bytes.auto.buf ∙ length-take-le _ _ (omega (arith, length-drop old.len xs)) in
+    let few : n ≤ length new = omega (arith, c.in_ok-count.ensures.bound) in
+    let bytes_are = ap (take (old.len + n)) (with_items_is old.bytes (put_mid old.len k xs new) (length-put_mid xs new old.len k (omega arith) room ∙ c.deref_mut.ensures.len))
+    ∙ read_behind xs new old.len k n within few ∙ ap (λ (l : List ℕ). take old.len l ++ take n new) c.deref_mut.ensures.value in
+    quiet_held (held old ++ take n new) _ (c.in_ok-take_lines.ensures.held ∙ ap (λ (l : List ℕ). cut (rest_from [] l)) bytes_are)

@@ -1,0 +1,16 @@
+use Rattle.std.proofs.Common.{◌≡◌, ◌≤◌, ◌-◌, [], ◌++◌, map, length, drop}
+use Rattle.inst_log.specs.Layout.{recovered, IsWhole}
+use Rattle.inst_logged.specs.Input.{lines_from, rest_from, logged}
+use Rattle.inst_logged.proofs.intake.push_lines.Given as goal
+
+abbrev pub invariant-loop-len : goal.invariant-loop-len
+invariant-loop-len l = record {
+  within : length l.rest ≤ length l.bytes;
+  suffix : drop (length l.bytes - length l.rest) l.bytes ≡ l.rest;
+  whole : IsWhole l.batch.items;
+  lines : recovered l.batch.items ++ map logged (lines_from [] l.rest) ≡ recovered l.fn.batch.items ++ map logged (lines_from [] l.bytes);
+  rest : rest_from [] l.rest ≡ rest_from [] l.bytes;
+}
+
+abbrev pub decreases-loop-len : goal.decreases-loop-len
+decreases-loop-len l = length l.rest

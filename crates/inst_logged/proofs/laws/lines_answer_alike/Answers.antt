@@ -1,0 +1,5 @@
+use Rattle.inst_logged.proofs.Alike.{lines_answer_alike}
+use Rattle.inst_logged.proofs.laws.lines_answer_alike.Goals as goal
+
+pub returns : goal.returns
+returns c = lines_answer_alike

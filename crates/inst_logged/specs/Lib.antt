@@ -1,0 +1,7 @@
+pub mod Answering
+pub mod LineAnswers
+pub mod Header
+pub mod Input
+pub mod Intake
+pub mod Logged
+pub mod Refused

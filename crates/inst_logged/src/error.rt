@@ -1,0 +1,31 @@
+ghost use Rattle.std.specs.Prelude.{◌≡◌};
+ghost use Rattle.inst_logged.specs.declared.error.LoggedError.TheVariants.{Log, Read};
+ghost use Rattle.inst_log.specs.declared.error.LogError.TheVariants.{Memory};
+
+use inst_log::LogError;
+use std::alloc::AllocError;
+
+/// Why a hub with a log ended. Open the log again.
+#[derive(Clone, Copy, Debug)]
+pub enum LoggedError {
+    /// What went wrong with the log or with the replies.
+    Log(LogError),
+    /// A read of the lines failed.
+    Read,
+}
+
+impl From<LogError> for LoggedError {
+    ghost from_gives = { λ error result. result ≡ Log error };
+
+    fn from(error: LogError) -> LoggedError {
+        LoggedError::Log(error)
+    }
+}
+
+impl From<AllocError> for LoggedError {
+    ghost from_gives = { λ _ result. result ≡ Log Memory };
+
+    fn from(_: AllocError) -> LoggedError {
+        LoggedError::Log(LogError::Memory)
+    }
+}

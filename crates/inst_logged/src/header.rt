@@ -1,0 +1,122 @@
+// The line with which a log begins.
+ghost use Rattle.std.specs.Prelude.{◌≡◌, ◌++◌, true, false, nat_lt, IfOk, OnOk, string_bytes};
+ghost use Rattle.inst_settings.specs.Settings.{is_participant};
+ghost use Rattle.inst_command.specs.LineText.{code_numbered};
+ghost use Rattle.inst_log.specs.Layout.{IsBatch};
+ghost use Rattle.inst_logged.specs.Header.{header, header_line, field, mode_field, participants_field, mode_word, listed, comma_if, quoted};
+
+use inst_lines::Mode;
+use inst_log::{close_batch, find_newline, push_line};
+use inst_settings::Settings;
+use std::alloc::{AllocError, Global};
+
+/// The first batch of a log of such a hub: one line, with its settings and what its lines stand for.
+pub fn first_batch(alloc: Global, mode: Mode, settings: &Settings) -> Result<Vec<u8>, AllocError>
+    ensures batch { IfOk result (λ batch. IsBatch batch.items) }
+    ensures items { IfOk result (λ batch. batch.items ≡ header mode settings.now) }
+{
+    let line = header_line(alloc, mode, settings)?;
+    let mut batch = Vec::new(alloc);
+    match find_newline(line.as_bytes()) {
+        None => push_line(&mut batch, line.as_bytes())?,
+        // No name, no number and no code has a newline: this is never reached.
+        Some(_) => return Err(AllocError),
+    }
+    close_batch(&mut batch)?;
+    Ok(batch)
+}
+
+/// The settings and what the lines stand for, as a line of compact JSON.
+fn header_line(alloc: Global, mode: Mode, settings: &Settings) -> Result<String, AllocError>
+    ensures { IfOk result (λ text. string_bytes text ≡ header_line mode settings.now) }
+{
+    let mut text = String::new(alloc);
+    push_field(&mut text, "{\"ahead\":", u64::from(settings.ahead()))?;
+    push_field(&mut text, ",\"base\":", settings.base())?;
+    push_field(&mut text, ",\"ceiling\":", settings.ceiling())?;
+    push_field(&mut text, ",\"fundings\":", u64::from(settings.fundings()))?;
+    push_field(&mut text, ",\"limit\":", u64::from(settings.limit()))?;
+    push_mode(&mut text, mode)?;
+    push_field(&mut text, ",\"margin\":", u64::from(settings.margin()))?;
+    push_participants(&mut text, settings)?;
+    push_field(&mut text, ",\"places\":", u64::from(settings.places()))?;
+    text.push_str(",\"version\":1}")?;
+    Ok(text)
+}
+
+/// Puts a name and a number at the end of a text.
+fn push_field(text: &mut String, name: &str, number: u64) -> Result<(), AllocError>
+    ensures { OnOk result (string_bytes text.new ≡ string_bytes text.old ++ field name.now number) }
+{
+    text.push_str(name)?;
+    let digits = number.to_string(*text.allocator())?;
+    text.push_str(&digits)
+}
+
+fn push_mode(text: &mut String, mode: Mode) -> Result<(), AllocError>
+    ensures { OnOk result (string_bytes text.new ≡ string_bytes text.old ++ mode_field mode) }
+{
+    text.push_str(",\"log\":\"")?;
+    text.push_str(mode_word(mode))?;
+    text.push_str("\"")
+}
+
+fn mode_word(mode: Mode) -> &'static str
+    ensures { result.now ≡ mode_word mode }
+{
+    match mode {
+        Mode::Run => "run",
+        Mode::Play => "play",
+    }
+}
+
+fn push_participants(text: &mut String, settings: &Settings) -> Result<(), AllocError>
+    ensures { OnOk result (string_bytes text.new ≡ string_bytes text.old ++ participants_field settings.now.codes) }
+{
+    text.push_str(",\"participants\":[")?;
+    push_codes(text, settings)?;
+    text.push_str("]")
+}
+
+/// Puts the codes of the participants at the end of a text, each between quotes, with commas between them.
+fn push_codes(text: &mut String, settings: &Settings) -> Result<(), AllocError>
+    ensures { OnOk result (string_bytes text.new ≡ string_bytes text.old ++ listed false settings.now.codes) }
+{
+    for number in 0..settings.participants() {
+        push_code(text, settings, number as u8)?;
+    }
+    Ok(())
+}
+
+/// Puts a participant's code at the end of a text, between quotes, with a comma before it unless it is the first.
+fn push_code(text: &mut String, settings: &Settings, number: u8) -> Result<(), AllocError>
+    requires { is_participant settings.now number ≡ true }
+    ensures { OnOk result (string_bytes text.new
+        ≡ string_bytes text.old ++ (comma_if (nat_lt 0 number) ++ quoted (code_numbered settings.now number))) }
+{
+    let code = code_text(settings, number);
+    push_comma(text, number)?;
+    text.push_str("\"")?;
+    text.push_str(code)?;
+    text.push_str("\"")
+}
+
+fn push_comma(text: &mut String, number: u8) -> Result<(), AllocError>
+    ensures { OnOk result (string_bytes text.new ≡ string_bytes text.old ++ comma_if (nat_lt 0 number)) }
+{
+    if number > 0 {
+        text.push_str(",")?;
+    }
+    Ok(())
+}
+
+/// The code of the participant with this number.
+fn code_text(settings: &Settings, number: u8) -> &str
+    requires { is_participant settings.now number ≡ true }
+    ensures { result.now ≡ code_numbered settings.now number }
+{
+    match settings.code(number) {
+        Some(code) => code.text(),
+        None => unreachable!(),
+    }
+}

@@ -1,0 +1,237 @@
+// A hub with a log: its opening, and whole runs of lines.
+ghost use Rattle.std.specs.Prelude.{◌≡◌, ◌≤◌, ◌<◌, ◌++◌, [], List, ℕ, length, take, drop, IsTrue, IfOk, IfErr, OnOk, MatchBool, MatchOption};
+ghost use Rattle.std.specs.Io.KnownBytes.{IsAtEnd};
+ghost use Rattle.sqlite_disk.specs.Disk.{Only};
+ghost use Rattle.inst_log.specs.Layout.{recovered, IsBatch, NoNewline};
+ghost use Rattle.inst_log.specs.Log.{IsSettled};
+ghost use Rattle.inst_log.specs.Opening.{kept, Opens, OpensAlike};
+ghost use Rattle.inst_log.specs.Serving.{Tells, TellsPart, SaysOn};
+ghost use Rattle.inst_logged.specs.Header.{header};
+ghost use Rattle.inst_logged.specs.Input.{cut};
+ghost use Rattle.inst_logged.specs.Intake.{held};
+ghost use Rattle.inst_logged.specs.Answering.{SaysLines, told_of};
+ghost use Rattle.inst_logged.specs.Refused.{IsRefused, IsStrange};
+ghost use Rattle.inst_logged.specs.Logged.{Are, owed, settings_at, IsUnbegun, Turned, Ended, Came, IsInput, CameIn};
+ghost use Rattle.inst_logged.specs.Logged.{ServedOn, KeptOn, HasLogged, SurvivesACrash};
+
+use crate::intake::Intake;
+use crate::{LineAnswers, LoggedError, first_batch};
+use inst_base::Fault;
+use inst_lines::Mode;
+use inst_log::{Answers, Log, LogError, Recorder, deliver};
+use inst_settings::Settings;
+use sqlite_disk::Disk;
+use std::alloc::Global;
+use std::io::{Read, Write};
+
+/// A hub in one thread that keeps each line before it hands out a byte of its reply.
+#[derive(Drop)]
+pub struct LoggedHub<D: Disk> {
+    recorder: Recorder<D, LineAnswers>,
+    intake: Intake,
+    batch: Vec<u8>,
+}
+
+impl<D: Disk + Drop> LoggedHub<D> {
+    /// A hub of these settings that has answered nothing, with the disk of its log, of which nothing is read yet.
+    /// `Memory` where there is no room for its slots and places.
+    pub fn new(
+        alloc: Global,
+        mode: Mode,
+        settings: &Settings,
+        disk: D,
+    ) -> Result<LoggedHub<D>, Fault>
+        ensures unbegun { IfOk result (λ hub. IsUnbegun hub.recorder.answers hub.intake) }
+        ensures mode { IfOk result (λ hub. hub.recorder.answers.mode ≡ mode) }
+        ensures settings { IfOk result (λ hub. settings_at hub.recorder.answers ≡ settings.now) }
+        ensures disk { IfOk result (λ hub. hub.recorder.log.disk ≡ disk) }
+    {
+        let answers = LineAnswers::open(alloc, mode, settings)?;
+        let intake = Intake::new(alloc)?;
+        Ok(LoggedHub {
+            recorder: Recorder {
+                log: Log { disk, end: 0 },
+                answers,
+                out: Vec::new(alloc),
+            },
+            intake,
+            batch: Vec::new(alloc),
+        })
+    }
+
+    /// The disk of its log.
+    pub fn into_disk(self) -> D
+        ensures { result ≡ self.recorder.log.disk }
+    {
+        let LoggedHub { recorder, .. } = self;
+        let Recorder { log, .. } = recorder;
+        let Log { disk, .. } = log;
+        disk
+    }
+
+    /// Opens the log, or makes it where the disk is empty, and answers its lines again. Of these replies the reader has
+    /// those to the first `told` lines, or all: the others are handed out. Then each line that the reader gives is
+    /// answered, once it is on the disk. At `Err`, open the log again by another hub. `OtherSettings`, `NoLog` and `Told`
+    /// come before anything is handed out. Reads the whole log into memory.
+    pub fn run<R: Read, W: Write>(
+        &mut self,
+        alloc: Global,
+        told: Option<u64>,
+        reader: &mut R,
+        writer: &mut W,
+    ) -> Result<(), LoggedError>
+        requires unbegun { IsUnbegun self.old.recorder.answers self.old.intake }
+        requires usable { IsTrue (D.Disk.is_usable self.old.recorder.log.disk) }
+        // After a restart, what is read is what is on the disk.
+        requires known { IsTrue (D.Disk.is_clean self.old.recorder.log.disk)
+            → Only (D.Disk.seen self.old.recorder.log.disk) (D.Disk.may_leave self.old.recorder.log.disk) }
+
+        ensures end { OnOk result (IsAtEnd (R.remaining reader.new)) }
+        ensures logged { OnOk result (IsTrue (D.Disk.is_clean self.new.recorder.log.disk)
+            → HasLogged self.old.recorder.answers.mode (settings_at self.old.recorder.answers) told
+            (D.Disk.seen self.old.recorder.log.disk) (D.Disk.seen self.new.recorder.log.disk)
+            (R.remaining reader.old) (R.remaining reader.new) (W.contents writer.old) (W.contents writer.new)) }
+        ensures settled { OnOk result (IsTrue (D.Disk.is_clean self.new.recorder.log.disk)
+            → IsSettled D.Disk.seen D.Disk.may_leave self.new.recorder.log) }
+
+        // At `Ok` and at `Err`: whatever moment the machine stops at.
+        ensures any_moment { IsTrue (D.Disk.is_clean self.new.recorder.log.disk)
+            → SurvivesACrash self.old.recorder.answers.mode (settings_at self.old.recorder.answers) told
+            (D.Disk.seen self.old.recorder.log.disk) (D.Disk.may_leave self.new.recorder.log.disk)
+            (R.remaining reader.old) (R.remaining reader.new) (W.contents writer.old) (W.contents writer.new) }
+        ensures opens { IsTrue (D.Disk.is_clean self.new.recorder.log.disk)
+            → Opens (header self.old.recorder.answers.mode (settings_at self.old.recorder.answers)) (D.Disk.seen self.old.recorder.log.disk)
+            → (c : List ℕ) → D.Disk.may_leave self.new.recorder.log.disk c
+            → Opens (header self.old.recorder.answers.mode (settings_at self.old.recorder.answers)) c }
+        // A log that isn't taken: nothing was read and nothing handed out, and one of another hub is as it was.
+        ensures refused { IfErr result (λ error. IsRefused error → (reader.new ≡ reader.old) × (writer.new ≡ writer.old)) }
+        ensures strange { IfErr result (λ error. IsStrange error
+            → D.Disk.seen self.new.recorder.log.disk ≡ D.Disk.seen self.old.recorder.log.disk) }
+        ensures clean { IsTrue (D.Disk.is_clean self.new.recorder.log.disk) → IsTrue (D.Disk.is_clean self.old.recorder.log.disk) }
+    {
+        let answers = &self.recorder.answers;
+        let header = first_batch(alloc, answers.mode, answers.runner.settings())?;
+        self.reopen(alloc, &header, told, writer)?;
+        self.serve_all(reader, writer)
+    }
+
+    /// Opens the log with this header, and hands out the replies to its lines but for those to the first `told`.
+    fn reopen<W: Write>(
+        &mut self,
+        alloc: Global,
+        header: &[u8],
+        told: Option<u64>,
+        writer: &mut W,
+    ) -> Result<(), LoggedError>
+        requires unbegun { IsUnbegun self.old.recorder.answers self.old.intake }
+        requires usable { IsTrue (D.Disk.is_usable self.old.recorder.log.disk) }
+        requires known { IsTrue (D.Disk.is_clean self.old.recorder.log.disk)
+            → Only (D.Disk.seen self.old.recorder.log.disk) (D.Disk.may_leave self.old.recorder.log.disk) }
+        requires header { IsBatch header.now }
+        ensures settled { OnOk result (IsTrue (D.Disk.is_clean self.new.recorder.log.disk)
+            → IsSettled D.Disk.seen D.Disk.may_leave self.new.recorder.log
+            × (recovered (D.Disk.seen self.new.recorder.log.disk)
+            ≡ recovered header.now ++ kept header.now (D.Disk.seen self.old.recorder.log.disk))) }
+        ensures any_moment { IsTrue (D.Disk.is_clean self.new.recorder.log.disk) → (c : List ℕ)
+            → D.Disk.may_leave self.new.recorder.log.disk c → OpensAlike header.now (D.Disk.seen self.old.recorder.log.disk) c }
+        ensures replied { OnOk result (IsTrue (D.Disk.is_clean self.new.recorder.log.disk)
+            → Tells (Are (owed self.old.recorder.answers.mode (settings_at self.old.recorder.answers)
+            (kept header.now (D.Disk.seen self.old.recorder.log.disk))
+            (told_of told (kept header.now (D.Disk.seen self.old.recorder.log.disk))))) []
+            (W.contents writer.old) (W.contents writer.new)) }
+        ensures part { IsTrue (D.Disk.is_clean self.new.recorder.log.disk)
+            → TellsPart (Are (owed self.old.recorder.answers.mode (settings_at self.old.recorder.answers)
+            (kept header.now (D.Disk.seen self.old.recorder.log.disk))
+            (told_of told (kept header.now (D.Disk.seen self.old.recorder.log.disk))))) []
+            (W.contents writer.old) (W.contents writer.new) }
+        // What is answered next is what is owed behind these.
+        ensures on { OnOk result (IsTrue (D.Disk.is_clean self.new.recorder.log.disk)
+            → SaysOn (Are (owed self.old.recorder.answers.mode (settings_at self.old.recorder.answers)
+            (kept header.now (D.Disk.seen self.old.recorder.log.disk))
+            (told_of told (kept header.now (D.Disk.seen self.old.recorder.log.disk))))) []
+            (SaysLines self.new.recorder.answers.mode self.new.recorder.answers.runner)) }
+        ensures refused { IfErr result (λ error. IsRefused error → writer.new ≡ writer.old) }
+        ensures strange { IfErr result (λ error. IsStrange error
+            → D.Disk.seen self.new.recorder.log.disk ≡ D.Disk.seen self.old.recorder.log.disk) }
+        ensures intake { self.new.intake ≡ self.old.intake }
+        ensures usable { OnOk result (IsTrue (D.Disk.is_usable self.new.recorder.log.disk)) }
+        ensures clean { IsTrue (D.Disk.is_clean self.new.recorder.log.disk) → IsTrue (D.Disk.is_clean self.old.recorder.log.disk) }
+    {
+        let recorder = &mut self.recorder;
+        let text = recorder.log.open(alloc, header)?;
+        let lines = &text[header.len() - 1..];
+        recorder.out.clear();
+        let Some(start) = recorder
+            .answers
+            .answer_told(lines, told, &mut recorder.out)?
+        else {
+            return Err(LoggedError::Log(LogError::Told));
+        };
+        recorder.out.clear();
+        recorder.answers.answer(&lines[start..], &mut recorder.out)?;
+        deliver(writer, &recorder.out)?;
+        Ok(())
+    }
+
+    /// Answers each line that the reader gives, once it is on the disk.
+    fn serve_all<R: Read, W: Write>(
+        &mut self,
+        reader: &mut R,
+        writer: &mut W,
+    ) -> Result<(), LoggedError>
+        requires usable { IsTrue (D.Disk.is_usable self.old.recorder.log.disk) }
+        requires settled { IsTrue (D.Disk.is_clean self.old.recorder.log.disk)
+            → IsSettled D.Disk.seen D.Disk.may_leave self.old.recorder.log }
+        requires nothing { held self.old.intake ≡ [] }
+        ensures ok { OnOk result (ServedOn D.Disk.seen D.Disk.may_leave (IsTrue (D.Disk.is_clean self.new.recorder.log.disk))
+            (IsInput (R.remaining reader.old) (R.remaining reader.new))
+            self.old.recorder self.new.recorder (W.contents writer.old) (W.contents writer.new)) }
+        ensures any_moment { IsTrue (D.Disk.is_clean self.new.recorder.log.disk)
+            → KeptOn (D.Disk.may_leave self.new.recorder.log.disk) (CameIn (R.remaining reader.old) (R.remaining reader.new))
+            (SaysLines self.old.recorder.answers.mode self.old.recorder.answers.runner)
+            (recovered (D.Disk.seen self.old.recorder.log.disk)) (W.contents writer.old) (W.contents writer.new) }
+        ensures end { OnOk result (IsAtEnd (R.remaining reader.new)) }
+        ensures unrefused { IfErr result (λ error. ¬ IsRefused error) }
+        ensures clean { D.Disk.is_clean self.new.recorder.log.disk ≡ D.Disk.is_clean self.old.recorder.log.disk }
+    {
+        for _ in 0..u64::MAX {
+            if !self.turn(reader, writer)? {
+                return Ok(());
+            }
+        }
+        Err(LoggedError::Log(LogError::Full))
+    }
+
+    /// Reads once, and answers the lines that end there, once they are on the disk; at the end of the input, the last
+    /// line too. Says whether the input may go on.
+    fn turn<R: Read, W: Write>(
+        &mut self,
+        reader: &mut R,
+        writer: &mut W,
+    ) -> Result<bool, LoggedError>
+        requires usable { IsTrue (D.Disk.is_usable self.old.recorder.log.disk) }
+        requires settled { IsTrue (D.Disk.is_clean self.old.recorder.log.disk)
+            → IsSettled D.Disk.seen D.Disk.may_leave self.old.recorder.log }
+        requires part { NoNewline (held self.old.intake) }
+        ensures ok { (part : List ℕ) → held self.old.intake ≡ cut part → IfOk result (λ more.
+            ServedOn D.Disk.seen D.Disk.may_leave (IsTrue (D.Disk.is_clean self.new.recorder.log.disk))
+            (λ lines. MatchBool more (Turned part self.new.intake lines (R.remaining reader.old) (R.remaining reader.new))
+            (Ended part lines (R.remaining reader.old) (R.remaining reader.new)))
+            self.old.recorder self.new.recorder (W.contents writer.old) (W.contents writer.new)) }
+        ensures any_moment { IsTrue (D.Disk.is_clean self.new.recorder.log.disk) → (part : List ℕ)
+            → held self.old.intake ≡ cut part
+            → KeptOn (D.Disk.may_leave self.new.recorder.log.disk)
+            (λ lines. Came part lines (R.remaining reader.old) (R.remaining reader.new))
+            (SaysLines self.old.recorder.answers.mode self.old.recorder.answers.runner)
+            (recovered (D.Disk.seen self.old.recorder.log.disk)) (W.contents writer.old) (W.contents writer.new) }
+        ensures part { OnOk result (NoNewline (held self.new.intake)) }
+        ensures unrefused { IfErr result (λ error. ¬ IsRefused error) }
+        ensures usable { OnOk result (IsTrue (D.Disk.is_usable self.new.recorder.log.disk)) }
+        ensures clean { D.Disk.is_clean self.new.recorder.log.disk ≡ D.Disk.is_clean self.old.recorder.log.disk }
+    {
+        self.batch.clear();
+        let more = self.intake.read(reader, &mut self.batch)?;
+        self.recorder.serve_lines(&mut self.batch, writer)?;
+        Ok(more)
+    }
+}

@@ -1,0 +1,121 @@
+// Bytes that were read, on their way into a log.
+ghost use Rattle.std.specs.Prelude.{◌≡◌, ◌+◌, ◌≤◌, ◌++◌, [], map, take, vec_len, List, ℕ, IfOk, IfErr, OnOk, OnErr, IsOkUnless, MatchBool};
+ghost use Rattle.std.specs.Io.{ReadsAtMost};
+ghost use Rattle.std.specs.Io.KnownBytes.{Consumes, ReadConsumes};
+ghost use Rattle.inst_lines.specs.Limits.{buffer_bytes, most_line_bytes};
+ghost use Rattle.inst_log.specs.Layout.{recovered, IsWhole, NoNewline};
+ghost use Rattle.inst_log.specs.Escape.{raw_of};
+ghost use Rattle.inst_logged.specs.Input.{cut, logged, last_line, lines_from, rest_from, CutsLines};
+
+use crate::LoggedError;
+use inst_lines::MOST_LINE_BYTES;
+use inst_log::{find_newline, push_line};
+use std::alloc::{AllocError, Global};
+use std::io::Read;
+
+/// The bytes that there is room for.
+const BUFFER_BYTES: usize = 65_536;
+
+/// The most bytes that are held of a line: one more than a line may have.
+const MOST_HELD: usize = MOST_LINE_BYTES + 1;
+
+/// The part of a line that was read and is in no log yet: of a line that is too long its first 4,097 bytes.
+#[derive(Drop)]
+pub struct Intake {
+    bytes: Vec<u8>,
+    len: usize,
+    ghost size: { vec_len bytes ≡ buffer_bytes },
+    ghost within: { len ≤ most_line_bytes + 1 },
+}
+
+impl Intake {
+    ghost use Rattle.inst_logged.specs.Intake.{held, TakesIn, TakesLast};
+    ghost use Rattle.inst_logged.specs.Refused.{IsRefused};
+
+    /// Nothing was read yet.
+    pub(crate) fn new(alloc: Global) -> Result<Intake, AllocError>
+        ensures { IfOk result (λ intake. held intake ≡ []) }
+    {
+        let bytes = vec![in alloc; 0; BUFFER_BYTES]?;
+        Ok(Intake { bytes, len: 0 })
+    }
+
+    /// Reads once, and adds the lines that end there to a batch that is not closed; at the end of the input, the last
+    /// line too, if it lacks its newline. Says whether the input may go on. After an error let the batch go.
+    pub(crate) fn read<R: Read>(
+        &mut self,
+        reader: &mut R,
+        batch: &mut Vec<u8>,
+    ) -> Result<bool, LoggedError>
+        requires part { NoNewline (held self.old) }
+        requires whole { IsWhole batch.old.items }
+        ensures lines { IfOk result (λ more. MatchBool more
+            (TakesIn self.old self.new batch.old.items batch.new.items (R.remaining reader.old) (R.remaining reader.new))
+            (TakesLast self.old batch.old.items batch.new.items (R.remaining reader.old) (R.remaining reader.new))) }
+        ensures err { OnErr result ((read : List ℕ) × Consumes (R.remaining reader.old) (R.remaining reader.new) read) }
+        ensures part { OnOk result (NoNewline (held self.new)) }
+        ensures whole { OnOk result (IsWhole batch.new.items) }
+        ensures unrefused { IfErr result (λ error. ¬ IsRefused error) }
+    {
+        let count = read_bytes(reader, &mut self.bytes[self.len..])?;
+        if count == 0 {
+            self.take_last(batch)?;
+            return Ok(false);
+        }
+        self.take_lines(self.len + count, batch)?;
+        Ok(true)
+    }
+
+    /// Adds what is held to a batch as a line, if it isn't empty.
+    fn take_last(&mut self, batch: &mut Vec<u8>) -> Result<(), AllocError>
+        requires part { NoNewline (held self.old) }
+        requires whole { IsWhole batch.old.items }
+        ensures lines { OnOk result (recovered batch.new.items ≡ recovered batch.old.items ++ map raw_of (last_line (held self.old))) }
+        ensures whole { OnOk result (IsWhole batch.new.items) }
+        ensures part { OnOk result (held self.new ≡ []) }
+    {
+        if self.len > 0 {
+            push_line(batch, &self.bytes[..self.len])?;
+        }
+        self.len = 0;
+        Ok(())
+    }
+
+    /// Adds the lines that end among the first bytes to a batch, and holds what stands behind them.
+    fn take_lines(&mut self, end: usize, batch: &mut Vec<u8>) -> Result<(), AllocError>
+        requires within { end ≤ buffer_bytes }
+        requires whole { IsWhole batch.old.items }
+        ensures lines { OnOk result (recovered batch.new.items
+            ≡ recovered batch.old.items ++ map logged (lines_from [] (take end self.old.bytes.items))) }
+        ensures whole { OnOk result (IsWhole batch.new.items) }
+        ensures held { OnOk result (held self.new ≡ cut (rest_from [] (take end self.old.bytes.items))) }
+    {
+        let start = push_lines(&self.bytes[..end], batch)?;
+        let len = (end - start).min(MOST_HELD);
+        self.bytes.copy_within(start..start + len, 0);
+        self.len = len;
+        Ok(())
+    }
+}
+
+/// Adds the lines that end among these bytes to a batch that is not closed, and tells where the last one ends.
+fn push_lines(bytes: &[u8], batch: &mut Vec<u8>) -> Result<usize, AllocError>
+    requires { IsWhole batch.old.items }
+    ensures { IfOk result (λ start. CutsLines bytes.now start batch.old.items batch.new.items) }
+{
+    let mut rest = bytes;
+    while let Some(len) = find_newline(rest) {
+        push_line(batch, &rest[..len.min(MOST_HELD)])?;
+        rest = &rest[len + 1..];
+    }
+    Ok(bytes.len() - rest.len())
+}
+
+/// Reads into `buf`, and says how many bytes.
+fn read_bytes<R: Read>(reader: &mut R, buf: &mut [u8]) -> Result<usize, LoggedError>
+    ensures bound { ReadsAtMost result buf.new }
+    ensures bytes { ReadConsumes (R.remaining reader.old) (R.remaining reader.new) result buf.new }
+    ensures fault { IsOkUnless result LoggedError.Read }
+{
+    reader.read(buf).map_err(|_| LoggedError::Read)
+}

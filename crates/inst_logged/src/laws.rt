@@ -1,0 +1,12 @@
+//! What a log has of lines. Each law is a function without a body whose contract says it.
+ghost use Rattle.std.specs.Prelude.{◌≡◌, List, ℕ, map};
+ghost use Rattle.inst_lines.specs.declared.mode.Mode.{Mode};
+ghost use Rattle.inst_lines.specs.Answers.{output};
+ghost use Rattle.inst_lines.specs.Answering.{Past, answering};
+ghost use Rattle.inst_logged.specs.Input.{logged};
+ghost use Rattle.inst_logged.specs.Answering.{replies_at};
+
+/// Lines are answered as what stands for them in a log, whatever a hub has gone through.
+pub fn lines_answer_alike()
+    ensures { (mode : Mode) (past : Past) (lines : List (List ℕ)) → replies_at mode past (map logged lines) ≡ output (answering mode) past lines }
+{}

@@ -1,0 +1,16 @@
+//! A hub in one thread with a log: each line is on the disk before a byte of its reply is handed out, and a hub that
+//! was cut off at any moment goes on where its log ends.
+#![tactic(auto)]
+
+mod error;
+mod header;
+mod hub;
+mod intake;
+mod laws;
+mod line_answers;
+
+pub use error::LoggedError;
+pub use header::first_batch;
+pub use hub::LoggedHub;
+pub use laws::lines_answer_alike;
+pub use line_answers::LineAnswers;
