@@ -53,7 +53,7 @@ undone words (Drill transfers openings) s unread unwritten left left' held held'
           (ending.Fault fault)
       by_cause (inl bad) =
           let none = undrillable chosen.0 chosen.1 s transfers openings chosen.3 chosen.4 bad.2 in
-          inl ((after.0, bad.1), inr (bad.0, refused words chosen.0 chosen.1 whole chosen.2 none))
+          inl ((after.0, bad.1), inr (bad.0, inl (refused words chosen.0 chosen.1 whole chosen.2 none)))
       by_cause (inr failed) =
           let asks : AskForADrill words = record {
             settings = s;
@@ -63,7 +63,7 @@ undone words (Drill transfers openings) s unread unwritten left left' held held'
             openings = openings;
             chosen = chosen;
           } in
-          inr (inr (failed, (after.0, asks)))
+          inr (inr (inl (failed, (after.0, asks))))
 
 -- and told as an ending
 pub undone_err : {A : Type 0} (words : List (List ℕ)) (task : Task) (s : HubSettings) (unread unwritten : Type 0)

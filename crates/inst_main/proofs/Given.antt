@@ -57,6 +57,7 @@ unbegun words error (ending.Words other) (inl memory) h = absurd (h.1 memory)
 unbegun words error (ending.Words other) (inr among) h =
     subst (λ kind. (kind ≢ OutOfMemory) × IsAmong kind (faults_of words)) (sym h.0) (h.1, among)
 unbegun words error (ending.Fault fault) has h = inl h.0
+unbegun words error (ending.Log _) has h = elim h [ ]
 
 pub failed : {A : Type 0} (words : List (List ℕ)) (r : Result A Ending) (fault : Fault) → IsErrAnd r (λ e. e ≡ ending.Fault fault) → IsUnbegun words (ending.Fault fault) → IfErr r (IsUnbegun words)
 failed words (Ok x) fault h unbegun = tt

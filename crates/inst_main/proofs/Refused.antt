@@ -1,5 +1,5 @@
 -- Options that choose no settings that a hub can have, and the faults that say so.
-use Rattle.std.proofs.Common.{◌≡◌, ◌<◌, ◌≤◌, ◌^◌, ℕ, Bool, true, false, List, length, map, get_or, Option, Some, None, Result, Ok, Err, option_map, IfErr, OnErr, OkIff, IsErrAnd, IsOkUnless, is_ok, Bor, ◌⊎◌, codes, refl, sym, ap, ap₂, subst, ◌∙◌, inl, inr, arith}
+use Rattle.std.proofs.Common.{◌≡◌, ⊎_elim, ◌<◌, ◌≤◌, ◌^◌, ℕ, Bool, true, false, List, length, map, get_or, Option, Some, None, Result, Ok, Err, option_map, IfErr, OnErr, OkIff, IsErrAnd, IsOkUnless, is_ok, Bor, ◌⊎◌, codes, refl, sym, ap, ap₂, subst, ◌∙◌, inl, inr, arith}
 use Rattle.std.specs.List.{list_all}
 use Rattle.std.specs.Str.Parse.{digits_value, without_leading_plus}
 use Rattle.std.proofs.lemmas.Bool.{cases_lt}
@@ -12,11 +12,13 @@ use Rattle.inst_base.specs.declared.fault.Fault.TheVariants.{BadSettings}
 use Rattle.inst_settings.specs.Settings.{HubSettings, same_text}
 use Rattle.inst_settings.specs.Lawful.{IsSettings, are_different}
 use Rattle.inst_drill.specs.Plan.{MayDrill}
-use Rattle.inst_main.specs.Options.{AreChosen, AreGood, AreRefused, AreWhole, AskForNone, ChooseNone, Chooses, Gives, GivesNoneBelow, IsTask, MayDo, command_line, parts_of}
+use Rattle.inst_main.specs.Options.{AreChosen, AreGood, AreRefused, AreWhole, IsWish, IsWished, SpeaksOfALog, AskForNone, ChooseNone, Chooses, Gives, GivesNoneBelow, IsTask, MayDo, command_line, parts_of}
 use Rattle.inst_main.specs.Program.{IsRefusal, IsUnbegun}
 use Rattle.inst_main.specs.declared.program.Ending.TheVariants as ending
 use Rattle.inst_main.specs.declared.task.Task.{Task}
 use Rattle.inst_main.specs.declared.task.Task.TheVariants.{Run, Play, Drill}
+use Rattle.inst_main.specs.declared.task.Wish.{Wish}
+use Rattle.inst_main.specs.declared.task.Wish.TheVariants.{Do, Keep, Show}
 
 -- the number of an option is one
 pub given_one : (rows : List Row) (name : List ℕ) (n m : ℕ) → Gives rows name n → Gives rows name m → n ≡ m
@@ -189,9 +191,18 @@ refused words name rows whole at none = record { whole = whole; none = none_chos
       none task s is (subst (λ (r : List Row). Chooses r s) same chosen.4)
 
 pub unsettled : (words : List (List ℕ)) (name : List ℕ) (rows : List Row) (fault : Fault) → AreWhole words → subcommand_of command_line words ≡ Some (name, rows) →
-    IsRefusal (AskForNone name rows) fault → IsUnbegun words (ending.Fault fault)
+    IsRefusal (AskForNone name rows ⊎ SpeaksOfALog name rows) fault → IsUnbegun words (ending.Fault fault)
 unsettled words name rows fault whole at (inl memory) = inl memory
-unsettled words name rows fault whole at (inr bad) = inr (bad.0, refused words name rows whole at bad.1)
+unsettled words name rows fault whole at (inr bad) =
+    inr (bad.0, ⊎_elim (λ none. inl (refused words name rows whole at none)) (λ speaks. inr (whole, (name, rows, at, speaks))) bad.1)
+
+-- what the subcommand and its options ask for is what the words do
+pub wished_of : (words : List (List ℕ)) (name : List ℕ) (rows : List Row) (wish : Wish) → AreWhole words → subcommand_of command_line words ≡ Some (name, rows) →
+    IsWish name rows wish → IsWished words wish
+wished_of words name rows (Do task s) whole at is = (is.0, whole, (name, rows, at, is.1, is.2))
+wished_of words name rows (Keep mode s log) whole at is =
+    (is.0, (whole, (name, rows, at, inr (inl (log.path.now, is.3.0)))), (name, rows, at, is.1, is.2))
+wished_of words name rows (Show path) whole at is = (whole, (name, rows, at, inl is))
 
 -- the name and the rows of a subcommand, found one by one
 pub both_of : {B : Type 0} (X : Option B) (n : B → List ℕ) (r : B → List Row) (name : List ℕ) (rows : List Row) → Some name ≡ option_map n X

@@ -1,3 +1,4 @@
 pub mod Options
 pub mod Rows
 pub mod Program
+pub mod LogFault

@@ -1,5 +1,5 @@
 -- The options of the program's command line, and the settings that their values choose. They are this hub's own choice.
-use Rattle.std.specs.Prelude.{◌≢◌, ◌⊎◌, ◌≡◌, ◌==◌, ◌≤◌, ◌-◌, ◌^◌, ℕ, true, false, List, ◌∷◌, [], Some, codes}
+use Rattle.std.specs.Prelude.{◌≢◌, ◌⊎◌, ◌≡◌, ◌==◌, ◌≤◌, ◌-◌, ◌^◌, ℕ, true, false, List, ◌∷◌, [], Option, Some, None, codes}
 use Rattle.std.specs.List.{list_all, slice_split}
 use Rattle.std.specs.Str.Parse.{IsNumeral, digits_value, without_leading_plus}
 use Rattle.clap.specs.Words.{App, IsAmong, Kinds, fault_of, Row, Rule, Text, first_of, one_of, new_app, new_rule}
@@ -15,8 +15,13 @@ use Rattle.inst_base.specs.Text.{is_code}
 use Rattle.inst_settings.specs.Settings.{HubSettings, same_text}
 use Rattle.inst_settings.specs.Lawful.{IsSettings}
 use Rattle.inst_drill.specs.Plan.{MayDrill}
+use Rattle.inst_lines.specs.declared.mode.Mode.{Mode}
+use Rattle.inst_lines.specs.declared.mode.Mode.TheVariants as mode
 use Rattle.inst_main.specs.declared.task.Task.{Task}
 use Rattle.inst_main.specs.declared.task.Task.TheVariants.{Run, Play, Drill}
+use Rattle.inst_main.specs.declared.task.LogOptions.{LogOptions}
+use Rattle.inst_main.specs.declared.task.Wish.{Wish}
+use Rattle.inst_main.specs.declared.task.Wish.TheVariants.{Do, Keep, Show}
 
 -- the participants' codes, which must be given
 abbrev pub participants_rule : Rule
@@ -25,6 +30,18 @@ participants_rule = record (new_rule (codes "participants")) { long = Some (code
 -- a whole number of 64 bits, and what it is where it isn't given
 abbrev pub number_rule : List ℕ → List ℕ → Rule
 number_rule name value = record (new_rule name) { long = Some name; action = Some Set; parser = Some (Unsigned 0 (2 ^ 64 - 1)); defaults = value ∷ []; value_names = 1 }
+
+-- the file of a log, which the subcommand `log` must name
+abbrev pub file_rule : Rule
+file_rule = record (new_rule (codes "file")) { required = true; action = Some Set; value_names = 1 }
+
+-- the file of a run's log
+abbrev pub log_rule : Rule
+log_rule = record (new_rule (codes "log")) { long = Some (codes "log"); action = Some Set; value_names = 1 }
+
+-- how many replies are there already, as a whole number of 64 bits
+abbrev pub told_rule : Rule
+told_rule = record (new_rule (codes "told")) { long = Some (codes "told"); action = Some Set; parser = Some (Unsigned 0 (2 ^ 64 - 1)); value_names = 1 }
 
 -- the options of what a participant has room for
 abbrev pub with_room : App → App
@@ -64,13 +81,21 @@ drill_command =
     (number_rule (codes "transfers") (codes "200")))
     (number_rule (codes "openings") (codes "1"))
 
+-- a subcommand that answers lines: the options of a hub, and those of its log
+abbrev pub run_command : List ℕ → App
+run_command name = with_rule (with_rule (hub_command name) log_rule) told_rule
+
 -- the subcommands `run` and `play`, with the same options
 abbrev pub with_runs : App → App
-with_runs app = with_subcommand (with_subcommand app (hub_command (codes "run")).top) (hub_command (codes "play")).top
+with_runs app = with_subcommand (with_subcommand app (run_command (codes "run")).top) (run_command (codes "play")).top
 
--- the whole command line: `run` and `play`, and `drill`
+-- the subcommand `log`
+abbrev pub log_command : App
+log_command = with_rule (new_app (codes "log")) file_rule
+
+-- the whole command line: `run` and `play`, `drill`, and `log`
 abbrev pub command_line : App
-command_line = with_subcommand (with_runs bare_command_line) drill_command.top
+command_line = with_subcommand (with_subcommand (with_runs bare_command_line) drill_command.top) log_command.top
 
 -- the option of this name has a text that is the number in digits, which may follow a plus
 abbrev pub Gives : List Row → List ℕ → ℕ → Type 0
@@ -81,6 +106,25 @@ Gives rows name n =
 -- the option of this name has no text that is a number below this one
 abbrev pub GivesNoneBelow : ℕ → List Row → List ℕ → Type 0
 GivesNoneBelow bound rows name = (n : ℕ) → Gives rows name n → bound ≤ n
+
+-- the option has a text
+abbrev pub IsGiven : List ℕ → List Row → Type 0
+IsGiven name rows = (text : Text) × (first_of name rows ≡ Some text)
+
+-- the options name this log and say so much of what was told, or name none
+abbrev pub GivesLog : List Row → Option LogOptions → Type 0
+GivesLog rows None = first_of (codes "log") rows ≡ None
+GivesLog rows (Some log) =
+    (first_of (codes "log") rows ≡ Some log.path.now) × ((n : ℕ) → log.told ≡ Some n → Gives rows (codes "told") n)
+
+-- the options say what was told, and name no log
+abbrev pub TellsOfNoLog : List Row → Type 0
+TellsOfNoLog rows = (first_of (codes "log") rows ≡ None) × IsGiven (codes "told") rows
+
+-- the subcommand is `log`, or an option is of a log
+abbrev pub SpeaksOfALog : List ℕ → List Row → Type 0
+SpeaksOfALog name rows =
+    (same_text name (codes "log") ≡ true) ⊎ (IsGiven (codes "log") rows ⊎ IsGiven (codes "told") rows)
 
 -- the options give a drill's numbers
 abbrev pub IsDrill : List Row → Task → Type 0
@@ -152,6 +196,28 @@ AreWhole words = faults_of words ≡ []
 abbrev pub AreChosen : List (List ℕ) → Task → HubSettings → Type 0
 AreChosen words task s = (name : List ℕ) × (rows : List Row) × (subcommand_of command_line words ≡ Some (name, rows))
     × IsTask name rows task × Chooses rows s
+
+-- the task that answers lines so
+abbrev pub task_of_lines : Mode → Task
+task_of_lines mode.Run = Run
+task_of_lines mode.Play = Play
+
+-- what the subcommand of this name asks for, with these options
+abbrev pub IsWish : List ℕ → List Row → Wish → Type 0
+IsWish name rows (Do task s) = IsSettings s × IsTask name rows task × Chooses rows s
+IsWish name rows (Keep mode s log) = IsSettings s × IsTask name rows (task_of_lines mode) × Chooses rows s × GivesLog rows (Some log)
+IsWish name rows (Show path) = same_text name (codes "log") ≡ true
+
+-- the words are a whole command line and speak of a log
+abbrev pub NameALog : List (List ℕ) → Type 0
+NameALog words = AreWhole words
+    × ((name : List ℕ) × (rows : List Row) × (subcommand_of command_line words ≡ Some (name, rows)) × SpeaksOfALog name rows)
+
+-- the words ask for this
+abbrev pub IsWished : List (List ℕ) → Wish → Type 0
+IsWished words (Do task s) = IsSettings s × AreWhole words × AreChosen words task s
+IsWished words (Keep mode s log) = IsSettings s × NameALog words × AreChosen words (task_of_lines mode) s
+IsWished words (Show path) = NameALog words
 
 -- the words are a whole command line, and ask for a drill at a hub
 pub record AskForADrill (words : List (List ℕ)) : Type 0 where

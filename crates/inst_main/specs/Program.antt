@@ -16,7 +16,8 @@ use Rattle.inst_lines.specs.Session.{FailsAfter}
 use Rattle.inst_drill.specs.declared.report.Report.{Report}
 use Rattle.inst_drill.specs.Plan.{MayDrill}
 use Rattle.inst_drill.specs.Report.{IsUnited, reports_text}
-use Rattle.inst_main.specs.Options.{AreChosen, AreRefused, AreWhole, faults_of}
+use Rattle.inst_main.specs.LogFault.{status_of_log}
+use Rattle.inst_main.specs.Options.{AreChosen, AreRefused, AreWhole, NameALog, faults_of}
 use Rattle.inst_main.specs.declared.task.Task.{Task}
 use Rattle.inst_main.specs.declared.task.Task.TheVariants.{Run, Play, Drill}
 use Rattle.inst_main.specs.declared.program.Ending.{Ending}
@@ -87,6 +88,21 @@ pub record HasDrilled (words : List (List ℕ)) (held held' : Option (List ℕ))
   pub chosen : AreChosen words (Drill transfers openings) settings
   pub told : Drills openings held held'
 
+-- a hub of the settings that the words choose, with the log that they name, answered all that the reader had left
+pub record HasKept (words : List (List ℕ)) (left' : Option (List ℕ)) : Type 0 where
+  pub mode : Mode
+  pub settings : HubSettings
+  pub lawful : IsSettings settings
+  pub chosen : AreChosen words (task_of mode) settings
+  pub log : NameALog words
+  pub at_end : IsAtEnd left'
+
+-- how a run with a log ends by itself, or the showing of one: where the log isn't taken, all is untouched
+abbrev pub IsUnkept : Type 0 → Ending → Type 0
+IsUnkept untouched (ending.Words error) = ⊥
+IsUnkept untouched (ending.Fault fault) = fault ≢ BadSettings
+IsUnkept untouched (ending.Log fault) = status_of_log fault ≡ 2 → untouched
+
 -- the task is done at a hub of these settings
 -- unread: the reader is as it was
 abbrev pub IsDone : Task → HubSettings → Type 0 →
@@ -112,15 +128,18 @@ IsUndone (Drill transfers openings) s unread unwritten left left' held held' fau
 abbrev pub IsOfKind : ErrorKind → Ending → Type 0
 IsOfKind kind (ending.Words error) = (kind_of error ≡ kind) × (kind ≢ OutOfMemory)
 IsOfKind kind (ending.Fault fault) = (fault ≡ Memory) × (kind ≡ OutOfMemory)
+IsOfKind kind (ending.Log fault) = ⊥
 
 -- why nothing begins: the words, memory, or words that choose no settings that a hub can have and do the task with
 abbrev pub IsUnbegun : List (List ℕ) → Ending → Type 0
 IsUnbegun words (ending.Words error) = (kind_of error ≢ OutOfMemory) × IsAmong (kind_of error) (faults_of words)
-IsUnbegun words (ending.Fault fault) = IsRefusal (AreRefused words) fault
+IsUnbegun words (ending.Fault fault) = IsRefusal (AreRefused words ⊎ NameALog words) fault
+IsUnbegun words (ending.Log fault) = ⊥
 
 -- nothing has begun and all is untouched, or a run has failed, or a drill
 abbrev pub IsEnding : List (List ℕ) → Type 0 → (Fault → Type 0) → Type 0 → Ending → Type 0
 IsEnding words untouched fails drilled (ending.Words error) = untouched × IsUnbegun words (ending.Words error)
 IsEnding words untouched fails drilled (ending.Fault fault) =
     (untouched × IsUnbegun words (ending.Fault fault))
-    ⊎ (fails fault ⊎ (((fault ≡ Memory) ⊎ (fault ≡ WriteFault)) × drilled))
+    ⊎ (fails fault ⊎ ((((fault ≡ Memory) ⊎ (fault ≡ WriteFault)) × drilled) ⊎ ((fault ≢ BadSettings) × NameALog words)))
+IsEnding words untouched fails drilled (ending.Log fault) = NameALog words × (status_of_log fault ≡ 2 → untouched)

@@ -1,12 +1,17 @@
-//! The program: lines on standard input, one answer for each on standard output; or a drill, which reads nothing.
+//! The program: lines on standard input, one answer for each on standard output, with a log or without; or a drill,
+//! which reads nothing.
 #![tactic(auto)]
 
+mod keeping;
+mod log_fault;
+mod logs;
 mod options;
 mod program;
 mod rows;
 mod task;
 mod texts;
 
+use logs::HostLogs;
 use program::program;
 use std::env;
 use std::io::IsTerminal;
@@ -24,6 +29,7 @@ fn main(rt: HostRuntime) -> ExitCode {
     let is_watched = errors.is_terminal();
     ExitCode::from(program(
         &rt,
+        &HostLogs { rt: &rt },
         alloc,
         words,
         &mut reader,

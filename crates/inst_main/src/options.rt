@@ -4,16 +4,18 @@ ghost use Rattle.std.specs.List.{list_all};
 ghost use Rattle.inst_base.specs.Text.{is_code};
 ghost use Rattle.clap.specs.Words.{app_of, first_of, found_of, rows_of, rule_of};
 ghost use Rattle.inst_main.specs.Options.{participants_rule, number_rule, with_room, with_times, with_bounds, hub_command};
-ghost use Rattle.inst_main.specs.Options.{drill_command, with_runs, IsLocal};
+ghost use Rattle.inst_main.specs.Options.{file_rule, log_rule, told_rule, log_command, run_command, drill_command, with_runs, IsLocal};
+ghost use Rattle.inst_main.specs.Options.{GivesLog, TellsOfNoLog, SpeaksOfALog, IsWish};
 ghost use Rattle.inst_main.specs.Options.{command_line as the_command_line, parts_of};
 ghost use Rattle.inst_main.specs.Options.{Gives, GivesNoneBelow, Chooses, ChooseNone, IsTask, IsDrill, AskForNone};
 ghost use Rattle.inst_main.specs.Program.{IsRefusal};
 ghost use Rattle.inst_settings.specs.Lawful.{IsSettings};
 
-use crate::task::Task;
+use crate::task::{LogOptions, Task, Wish};
 use crate::texts;
 use clap::{Arg, ArgAction, ArgMatches, Command};
 use inst_base::{Code, Fault};
+use inst_lines::Mode;
 use inst_settings::Settings;
 use std::alloc::{AllocError, Global};
 
@@ -29,27 +31,54 @@ pub(crate) fn command_line<'a>(alloc: Global) -> Result<Command<'a>, AllocError>
         .about("The clearing core of a hub for instant credit transfers")
         .after_help(texts::PROGRAM)
         .subcommand_required(true);
-    with_runs(alloc, program)?.subcommand(drill_command(alloc)?)
+    with_runs(alloc, program)?
+        .subcommand(drill_command(alloc)?)?
+        .subcommand(log_command(alloc)?)
 }
 
-/// The subcommands `run` and `play`, with the options of a hub.
+/// The subcommands `run` and `play`, with the options of a hub and of its log.
 fn with_runs<'a>(alloc: Global, program: Command<'a>) -> Result<Command<'a>, AllocError>
     ensures shape { IfOk result (λ more. app_of more ≡ with_runs (app_of program.entry)) }
 {
-    let run = hub_command(
+    let run = run_command(
         alloc,
         "run",
         "Answers each command line of standard input by one line on standard output",
         texts::RUN,
     )?;
     let program = program.subcommand(run)?;
-    let play = hub_command(
+    let play = run_command(
         alloc,
         "play",
         "The same for a script of steps: each line is one step, and nothing happens by itself",
         texts::PLAY,
     )?;
     program.subcommand(play)
+}
+
+/// The subcommand `log`, which names a file.
+fn log_command<'a>(alloc: Global) -> Result<Command<'a>, AllocError>
+    ensures shape { IfOk result (λ command. app_of command ≡ log_command) }
+    ensures local { IfOk result (λ command. IsLocal command) }
+{
+    Command::new(alloc, "log")
+        .about("Tells with which settings a log begins, and how many lines it has")
+        .long_about(texts::LOG)
+        .arg(log_file(alloc))
+}
+
+/// A subcommand that answers lines: the options of a hub, and those of its log.
+fn run_command<'a>(
+    alloc: Global,
+    name: &'a str,
+    about: &'a str,
+    long_about: &'a str,
+) -> Result<Command<'a>, AllocError>
+    ensures shape { IfOk result (λ command. app_of command ≡ run_command name.now) }
+    ensures local { IfOk result (λ command. IsLocal command) }
+{
+    let hub = hub_command(alloc, name, about, long_about)?;
+    hub.arg(log(alloc))?.arg(told(alloc))
 }
 
 /// The subcommand `drill`: the options of a hub, and two of its own.
@@ -185,6 +214,45 @@ fn participants<'a>(alloc: Global) -> Arg<'a>
         .help("1 to 256 different codes of 8 or 11 characters of A-Z 0-9, with commas between them")
 }
 
+/// The file that the subcommand `log` names.
+fn log_file<'a>(alloc: Global) -> Arg<'a>
+    ensures rule { rule_of result ≡ file_rule }
+    ensures local { result.global ≡ false }
+{
+    Arg::new(alloc, "file")
+        .required(true)
+        .action(ArgAction::Set)
+        .value_name("FILE")
+        .help("The file of the log")
+}
+
+fn log<'a>(alloc: Global) -> Arg<'a>
+    ensures rule { rule_of result ≡ log_rule }
+    ensures local { result.global ≡ false }
+{
+    Arg::new(alloc, "log")
+        .long("log")
+        .action(ArgAction::Set)
+        .value_name("FILE")
+        .help(
+            "Keeps each line in this file before its reply is written, and goes on behind the lines that it has",
+        )
+}
+
+fn told<'a>(alloc: Global) -> Arg<'a>
+    ensures rule { rule_of result ≡ told_rule }
+    ensures local { result.global ≡ false }
+{
+    Arg::new(alloc, "told")
+        .long("told")
+        .action(ArgAction::Set)
+        .value_parser(clap::value_parser!(u64))
+        .value_name("COUNT")
+        .help(
+            "How many replies of the log's lines are there already, if not all; the others are written first",
+        )
+}
+
 fn number<'a>(alloc: Global, name: &'a str, unit: &'a str, value: &'a str, help: &'a str) -> Arg<'a>
     ensures rule { rule_of result ≡ number_rule name.now value.now }
     ensures local { result.global ≡ false }
@@ -198,9 +266,35 @@ fn number<'a>(alloc: Global, name: &'a str, unit: &'a str, value: &'a str, help:
         .help(help)
 }
 
+/// What the subcommand of this name and its options ask for. `BadSettings` as from `task_and_settings` and `log_options`,
+/// and where a drill names a log.
+pub(crate) fn wish<'a>(
+    alloc: Global,
+    name: &str,
+    options: &ArgMatches<'a>,
+) -> Result<Wish<'a>, Fault>
+    ensures wish { IfOk result (IsWish name.now (rows_of (found_of options.now))) }
+    ensures fault { IfErr result (IsRefusal (AskForNone name.now (rows_of (found_of options.now))
+        ⊎ SpeaksOfALog name.now (rows_of (found_of options.now)))) }
+{
+    if name == "log" {
+        return Ok(Wish::Show(options.get_str("file").unwrap_or("")));
+    }
+    let (task, settings) = task_and_settings(alloc, name, options)?;
+    match log_options(options)? {
+        None => Ok(Wish::Do(task, settings)),
+        Some(log) => match task {
+            Task::Run => Ok(Wish::Keep(Mode::Run, settings, log)),
+            Task::Play => Ok(Wish::Keep(Mode::Play, settings, log)),
+            // A drill has no such option: this is never reached.
+            Task::Drill { .. } => Err(Fault::BadSettings),
+        },
+    }
+}
+
 /// What the subcommand of this name and its options ask for, and the settings of its hub. `BadSettings` as from
 /// `settings`, and then where a number of a drill is too large for any hub.
-pub(crate) fn task_and_settings(
+fn task_and_settings(
     alloc: Global,
     name: &str,
     options: &ArgMatches<'_>,
@@ -213,6 +307,22 @@ pub(crate) fn task_and_settings(
     let settings = settings(alloc, options)?;
     let task = task(name, options)?;
     Ok((task, settings))
+}
+
+/// The log that the options ask for. `BadSettings` where they say what was told and name no log.
+fn log_options<'a>(options: &ArgMatches<'a>) -> Result<Option<LogOptions<'a>>, Fault>
+    ensures log { IfOk result (GivesLog (rows_of (found_of options.now))) }
+    ensures none { OnErr result (TellsOfNoLog (rows_of (found_of options.now))) }
+    ensures fault { IsOkUnless result Fault.BadSettings }
+{
+    let told = options.get_one::<u64>("told");
+    let text = options.get_str("told");
+    let path = options.get_str("log");
+    match path {
+        Some(path) => Ok(Some(LogOptions { path, told })),
+        None if text.is_some() => Err(Fault::BadSettings),
+        None => Ok(None),
+    }
 }
 
 /// What the subcommand of this name does. The one that is neither `play` nor `drill` is `run`.

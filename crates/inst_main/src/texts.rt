@@ -18,6 +18,14 @@ A line in is a command, as in a run, or a step line; then its line out:
   {\"new\":true,\"reply\":\"step\"}
 docs/FORMATS.md has all commands, step lines, replies and refusals.";
 
+/// What `log` does, at length.
+pub(crate) const LOG: &str = "\
+Tells with which settings a log begins, and how many lines it has
+
+Two lines go to standard output; standard input isn't read, and the log is left as it is:
+  settings S    the first line of the log: settings, and whether its lines are of a run or of a play
+  lines N       N lines stand behind it";
+
 /// What `drill` does, at length.
 pub(crate) const DRILL: &str = "\
 Drills a hub by threads that race at a deadline, and tells by four lines how each opening ended

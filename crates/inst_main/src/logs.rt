@@ -1,0 +1,48 @@
+// Where the logs of runs are.
+ghost use Rattle.std.specs.Prelude.{IsTrue, IfOk};
+ghost use Rattle.sqlite_disk.specs.Disk.{Only};
+
+use crate::log_fault::LogFault;
+use sqlite_disk::{Disk, Files};
+use sqlite_std_file::{FileFrom, OpenError, Unknown};
+use std::fs;
+
+/// Opens logs by their names.
+pub(crate) trait Logs {
+    type Log: Disk + Drop;
+
+    /// Opens the log of this name for this program alone, and makes the file if it isn't there. What is read then is
+    /// what is on the disk.
+    fn open(&self, path: &str) -> Result<Self::Log, LogFault>
+        ensures usable { IfOk result (λ log. IsTrue (Self.Log.Disk.is_usable log)) }
+        ensures known { IfOk result (λ log. IsTrue (Self.Log.Disk.is_clean log)
+            → Only (Self.Log.Disk.seen log) (Self.Log.Disk.may_leave log)) };
+
+    /// Whether a file of this name is there. `DiskFault` where that can't be said.
+    fn has(&self, path: &str) -> Result<bool, LogFault>;
+}
+
+/// The files of the machine.
+#[derive(Clone, Copy)]
+pub(crate) struct HostLogs<'a> {
+    pub(crate) rt: &'a HostRuntime,
+}
+
+impl<'a> Logs for HostLogs<'a> {
+    type Log = FileFrom<Unknown>;
+
+    fn open(&self, path: &str) -> Result<FileFrom<Unknown>, LogFault> {
+        match sqlite_std_file::open(self.rt, path, Unknown) {
+            Ok(Files { log, db }) => {
+                drop(log);
+                Ok(db)
+            }
+            Err(OpenError::Busy) => Err(LogFault::LogInUse),
+            Err(_) => Err(LogFault::DiskFault),
+        }
+    }
+
+    fn has(&self, path: &str) -> Result<bool, LogFault> {
+        fs::exists(self.rt, path).map_err(|_| LogFault::DiskFault)
+    }
+}
