@@ -1,5 +1,5 @@
 // A hub with a log: its opening, and whole runs of lines.
-ghost use Rattle.std.specs.Prelude.{◌≡◌, ◌≤◌, ◌<◌, ◌++◌, [], List, ℕ, length, take, drop, IsTrue, IfOk, IfErr, OnOk, MatchBool, MatchOption};
+ghost use Rattle.std.specs.Prelude.{◌≡◌, ◌≤◌, ◌<◌, ◌++◌, [], List, ℕ, length, take, drop, IsTrue, IfOk, IfErr, OnOk, IsOkUnless, MatchBool, MatchOption};
 ghost use Rattle.std.specs.Io.KnownBytes.{IsAtEnd};
 ghost use Rattle.sqlite_disk.specs.Disk.{Only};
 ghost use Rattle.inst_log.specs.Layout.{recovered, IsBatch, NoNewline};
@@ -45,6 +45,7 @@ impl<D: Disk + Drop> LoggedHub<D> {
         ensures mode { IfOk result (λ hub. hub.recorder.answers.mode ≡ mode) }
         ensures settings { IfOk result (λ hub. settings_at hub.recorder.answers ≡ settings.now) }
         ensures disk { IfOk result (λ hub. hub.recorder.log.disk ≡ disk) }
+        ensures only { IsOkUnless result Fault.Memory }
     {
         let answers = LineAnswers::open(alloc, mode, settings)?;
         let intake = Intake::new(alloc)?;

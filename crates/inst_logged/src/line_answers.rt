@@ -1,5 +1,5 @@
 // A hub in one thread answers the lines of a log.
-ghost use Rattle.std.specs.Prelude.{◌≡◌, [], IfOk, IfSome, OnOk, MatchOption};
+ghost use Rattle.std.specs.Prelude.{◌≡◌, [], IfOk, IfSome, OnOk, IsOkUnless, MatchOption};
 ghost use Rattle.inst_log.specs.Layout.{recovered};
 ghost use Rattle.inst_logged.specs.Answering.{SaysLines, AnswersLines, AnswersNext, AnswersFirst, told_of};
 
@@ -27,6 +27,7 @@ impl LineAnswers {
     /// A hub that opens for the first time. `Memory` where there is no room for its slots and places.
     pub fn open(alloc: Global, mode: Mode, settings: &Settings) -> Result<LineAnswers, Fault>
         ensures opened { IfOk result (λ answers. HasOpened mode settings.now answers) }
+        ensures only { IsOkUnless result Fault.Memory }
     {
         let runner = Runner::open(alloc, settings)?;
         Ok(LineAnswers {
