@@ -10,14 +10,16 @@ use crate::program::Ending;
 use crate::task::LogOptions;
 use inst_base::Fault;
 use inst_lines::Mode;
-use inst_log::{LogError, read};
-use inst_logged::{LoggedError, LoggedHub};
+use inst_log::{LogError, read, whole_lines};
+use inst_logged::{LoggedError, LoggedHub, first_batch};
 use inst_settings::Settings;
+use sqlite_disk::Disk;
 use std::alloc::Global;
 use std::io::{Read, Write};
 
-/// Answers the lines of `reader`, each once it is in the log.
-pub(crate) fn keep<L: Logs, R: Read, W: Write>(
+/// Answers the lines of `reader`, each once it is in the log. Where the log begins with other settings, `errors` gets
+/// those and the ones that are given.
+pub(crate) fn keep<L: Logs, R: Read, W: Write, E: Write>(
     logs: &L,
     alloc: Global,
     mode: Mode,
@@ -25,6 +27,7 @@ pub(crate) fn keep<L: Logs, R: Read, W: Write>(
     log: LogOptions<'_>,
     reader: &mut R,
     writer: &mut W,
+    errors: &mut E,
 ) -> Result<(), Ending>
     ensures end { OnOk result (IsAtEnd (R.remaining reader.new)) }
     ensures err { IfErr result (IsUnkept ((reader.new ≡ reader.old) × (writer.new ≡ writer.old))) }
@@ -33,7 +36,35 @@ pub(crate) fn keep<L: Logs, R: Read, W: Write>(
     let mut hub = LoggedHub::new(alloc, mode, settings, disk)?;
     match hub.run(alloc, log.told, reader, writer) {
         Ok(()) => Ok(()),
-        Err(error) => Err(ending_of(error)),
+        Err(error) => {
+            if let LoggedError::Log(LogError::OtherSettings) = error {
+                tell_settings(alloc, mode, settings, hub.into_disk(), errors);
+            }
+            Err(ending_of(error))
+        }
+    }
+}
+
+/// Tells with which settings a log begins, and which are given. Nothing is told where that can't be read.
+fn tell_settings<D: Disk + Drop, E: Write>(
+    alloc: Global,
+    mode: Mode,
+    settings: &Settings,
+    mut log: D,
+    errors: &mut E,
+) {
+    if !log.may_be_used() {
+        return;
+    }
+    let (Ok(reading), Ok(batch)) = (read(alloc, &mut log), first_batch(alloc, mode, settings))
+    else {
+        return;
+    };
+    if let Ok(text) = String::from_utf8_lossy(alloc, &reading.first) {
+        let _ = writeln!(errors, "the log begins with {text}");
+    }
+    if let Ok(text) = String::from_utf8_lossy(alloc, whole_lines(&batch)) {
+        let _ = write!(errors, "the options give {text}");
     }
 }
 

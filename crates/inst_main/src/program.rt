@@ -183,7 +183,9 @@ fn serve<H: Threads + Wait + Sync, L: Logs, R: Read, W: Write, E: Write>(
 {
     match wished(alloc, words)? {
         Wish::Show(path) => show(logs, alloc, path, writer),
-        Wish::Keep(mode, settings, log) => keep(logs, alloc, mode, &settings, log, reader, writer),
+        Wish::Keep(mode, settings, log) => keep(
+            logs, alloc, mode, &settings, log, reader, writer, errors,
+        ),
         Wish::Do(task, settings) => {
             perform(
                 rt, alloc, task, settings, reader, writer, errors, is_watched,
