@@ -1,0 +1,150 @@
+// Hubs with logs on disks in memory, and what they write.
+ghost use Rattle.std.specs.Prelude.{◌≡◌, ◌≤◌, length, OnOk, IfSome, IsTrue};
+ghost use Rattle.sqlite_disk.specs.Disk.{Only};
+
+use inst_lines::{Mode, play_lines, run_lines};
+use inst_log::find_newline;
+use inst_logged::{LoggedError, LoggedHub};
+use inst_settings::Settings;
+use sqlite_disk::{Disk, Memory};
+use std::alloc::Global;
+use std::io::{self, Read};
+use std::test::Fail;
+
+/// Lines of each kind: what is taken, what is refused, what doesn't begin with a brace, and what is nothing at all.
+pub(crate) const LINES: &[&[u8]] = &[
+    br#"{"at":0,"cents":50000,"cmd":"fund","ref":"F1","who":"AAAADEFF"}"#,
+    br#"{"at":1000,"cents":20000,"cmd":"submit","id":"T1","stamp":1000,"to":"BBBBFRPP","who":"AAAADEFF"}"#,
+    br#"{"from":"AAAADEFF","place":0,"step":"deliver","who":"BBBBFRPP"}"#,
+    b"",
+    br#" {"at":1500,"cmd":"fetch","max":10,"who":"BBBBFRPP"}"#,
+    b"{\x01}",
+    br#"{"at":2000,"cmd":"confirm","from":"AAAADEFF","id":"T1","who":"BBBBFRPP"}"#,
+    b"}",
+    br#"{"at":2100,"cmd":"statement","count":10,"skip":0,"who":"AAAADEFF"}"#,
+    br#"{"at":2100,"cmd":"position","who":"BBBBFRPP"}"#,
+];
+
+/// These lines, each with its newline.
+pub(crate) fn text_of(alloc: Global, lines: &[&[u8]]) -> Result<Vec<u8>, Fail> {
+    let mut text = Vec::new(alloc);
+    for line in lines {
+        text.extend_from_slice(line)?;
+        text.push(b'\n')?;
+    }
+    Ok(text)
+}
+
+/// How long the first line of a text is, with its newline, if it has one.
+fn line_len(text: &[u8]) -> Option<usize>
+    ensures { IfSome result (λ len. len ≤ length text.now) }
+{
+    match find_newline(text) {
+        Some(newline) => Some(newline + 1),
+        None => None,
+    }
+}
+
+/// How many bytes the first lines of a text have, so many or all, with their newlines.
+pub(crate) fn front_len(text: &[u8], count: usize) -> usize
+    ensures { result ≤ length text.now }
+{
+    let mut rest = text;
+    for _ in 0..count {
+        match line_len(rest) {
+            Some(len) => rest = &rest[len..],
+            None => break,
+        }
+    }
+    text.len().saturating_sub(rest.len())
+}
+
+/// How many newlines a text has.
+pub(crate) fn newlines(text: &[u8]) -> usize {
+    text.iter().filter(|byte| **byte == b'\n').count()
+}
+
+/// What is written to this input by a run or a play that keeps nothing.
+pub(crate) fn plainly(
+    alloc: Global,
+    mode: Mode,
+    settings: &Settings,
+    input: &[u8],
+) -> Result<Vec<u8>, Fail> {
+    let mut reader = input;
+    let mut written = Vec::new(alloc);
+    match mode {
+        Mode::Run => run_lines(alloc, settings, &mut reader, &mut written)?,
+        Mode::Play => play_lines(alloc, settings, &mut reader, &mut written)?,
+    };
+    Ok(written)
+}
+
+/// Puts these bytes on an empty disk.
+pub(crate) fn put<D: Disk>(disk: &mut D, bytes: &[u8]) -> io::Result<()>
+    requires usable { IsTrue (D.Disk.is_usable disk.old) }
+    ensures known { OnOk result (Only (D.Disk.seen disk.new) (D.Disk.may_leave disk.new)) }
+    ensures usable { OnOk result (IsTrue (D.Disk.is_usable disk.new)) }
+{
+    disk.write_at(0, bytes)?;
+    disk.sync()
+}
+
+/// How a run ended, and its disk.
+#[derive(Drop)]
+pub(crate) struct Ended<D: Disk> {
+    pub(crate) outcome: Result<(), LoggedError>,
+    pub(crate) disk: D,
+}
+
+/// Runs a new hub with its log on this disk.
+pub(crate) fn serve_on<D: Disk + Drop, R: Read>(
+    alloc: Global,
+    mode: Mode,
+    settings: &Settings,
+    disk: D,
+    told: Option<u64>,
+    reader: &mut R,
+    written: &mut Vec<u8>,
+) -> Result<Ended<D>, Fail>
+    requires usable { IsTrue (D.Disk.is_usable disk) }
+    requires known { Only (D.Disk.seen disk) (D.Disk.may_leave disk) }
+{
+    let mut hub = LoggedHub::new(alloc, mode, settings, disk)?;
+    let outcome = hub.run(alloc, told, reader, written);
+    Ok(Ended {
+        outcome,
+        disk: hub.into_disk(),
+    })
+}
+
+/// Runs a new hub with a log that has these bytes.
+pub(crate) fn serve<R: Read>(
+    alloc: Global,
+    mode: Mode,
+    settings: &Settings,
+    log: &[u8],
+    told: Option<u64>,
+    reader: &mut R,
+    written: &mut Vec<u8>,
+) -> Result<Ended<Memory>, Fail> {
+    let mut disk = Memory::new(alloc);
+    put(&mut disk, log)?;
+    serve_on(alloc, mode, settings, disk, told, reader, written)
+}
+
+/// Runs a new hub to the end of this input, and gives the bytes of its log.
+pub(crate) fn go_on(
+    alloc: Global,
+    mode: Mode,
+    settings: &Settings,
+    log: &[u8],
+    told: Option<u64>,
+    input: &[u8],
+    written: &mut Vec<u8>,
+) -> Result<Vec<u8>, Fail> {
+    let mut reader = input;
+    let ended = serve(alloc, mode, settings, log, told, &mut reader, written)?;
+    ended.outcome?;
+    Ok(ended.disk.bytes().to_vec(alloc)?)
+}

@@ -1,0 +1,22 @@
+//! Tests of a hub with a log: a run that is cut after each line or stops at each call of its disk, and goes on; replies
+//! that are told again; lines of each length; logs that aren't taken, and a reader that fails.
+#![tactic(auto)]
+
+#[cfg(test)]
+mod cuts;
+#[cfg(test)]
+mod failing;
+#[cfg(test)]
+mod headers;
+#[cfg(test)]
+mod keeping;
+#[cfg(test)]
+mod lengths;
+#[cfg(test)]
+mod pieces;
+#[cfg(test)]
+mod refusals;
+#[cfg(test)]
+mod stops;
+#[cfg(test)]
+mod telling;

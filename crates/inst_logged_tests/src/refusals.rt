@@ -1,0 +1,113 @@
+// Logs that aren't taken: they are left as they are, and nothing is written.
+use crate::keeping::{LINES, go_on, serve, text_of};
+use inst_base::Code;
+use inst_lines::Mode;
+use inst_log::LogError;
+use inst_logged::LoggedError;
+use inst_rows::{settings, settings_with};
+use inst_settings::Settings;
+use std::alloc::Global;
+use std::process::Abort;
+use std::test::Fail;
+
+/// Files that are no logs.
+const NO_LOGS: &[&[u8]] = &[b"hello\n", b"{\"ahead\":1000}", b"no log, and no line"];
+
+/// The settings of the worked rows, but for the order of the participants.
+fn reordered(alloc: Global) -> Result<Settings, Fail> {
+    let codes = [
+        Code::new("AAAADEFF")?,
+        Code::new("CCCCITMM")?,
+        Code::new("BBBBFRPP")?,
+    ];
+    Ok(Settings::check(
+        codes.to_vec(alloc)?,
+        2,
+        4,
+        10_000,
+        0,
+        1_000,
+        99_999_999_999,
+        0,
+    )?)
+}
+
+/// Why a run with a file that has these bytes ends. It leaves the file and writes nothing.
+fn refusal(
+    rt: &(impl Abort + AllocGlobal),
+    mode: Mode,
+    settings: &Settings,
+    bytes: &[u8],
+) -> Result<LogError, Fail> {
+    let alloc = rt.alloc();
+    let mut reader: &[u8] = b"{}\n";
+    let mut written = Vec::new(alloc);
+    let ended = serve(
+        alloc,
+        mode,
+        settings,
+        bytes,
+        None,
+        &mut reader,
+        &mut written,
+    )?;
+    assert_eq!(rt; ended.disk.bytes(), bytes);
+    assert!(rt; written.is_empty());
+    match ended.outcome {
+        Err(LoggedError::Log(error)) => Ok(error),
+        _ => panic!(rt; "taken"),
+    }
+}
+
+fn is_of_others(
+    rt: &(impl Abort + AllocGlobal),
+    mode: Mode,
+    settings: &Settings,
+    log: &[u8],
+) -> Result<(), Fail> {
+    let error = refusal(rt, mode, settings, log)?;
+    assert!(rt; matches!(error, LogError::OtherSettings));
+    Ok(())
+}
+
+fn others_are_refused(
+    rt: &(impl Abort + AllocGlobal),
+    mode: Mode,
+    other: Mode,
+) -> Result<(), Fail> {
+    let alloc = rt.alloc();
+    let own = settings(alloc)?;
+    let input = text_of(alloc, LINES)?;
+    let log = go_on(alloc, mode, &own, b"", None, &input, &mut Vec::new(alloc))?;
+    is_of_others(rt, other, &own, &log)?;
+    is_of_others(rt, mode, &settings_with(alloc, 3, 0)?, &log)?;
+    is_of_others(rt, mode, &settings_with(alloc, 2, 1)?, &log)?;
+    is_of_others(rt, mode, &reordered(alloc)?, &log)
+}
+
+#[test]
+fn logs_of_others_are_left(rt: HostRuntime) -> Result<(), Fail> {
+    others_are_refused(&rt, Mode::Run, Mode::Play)?;
+    others_are_refused(&rt, Mode::Play, Mode::Run)
+}
+
+fn is_no_log(
+    rt: &(impl Abort + AllocGlobal),
+    mode: Mode,
+    settings: &Settings,
+    bytes: &[u8],
+) -> Result<(), Fail> {
+    let error = refusal(rt, mode, settings, bytes)?;
+    assert!(rt; matches!(error, LogError::NoLog), "{:?}", bytes);
+    Ok(())
+}
+
+#[test]
+fn files_that_are_no_logs_are_left(rt: HostRuntime) -> Result<(), Fail> {
+    let settings = settings(rt.alloc())?;
+    for bytes in NO_LOGS {
+        is_no_log(&rt, Mode::Run, &settings, bytes)?;
+        is_no_log(&rt, Mode::Play, &settings, bytes)?;
+    }
+    Ok(())
+}

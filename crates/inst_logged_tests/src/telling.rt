@@ -1,0 +1,89 @@
+// Replies that are handed out again, to a reader that has some of them.
+use crate::keeping::{LINES, front_len, go_on, plainly, serve, text_of};
+use inst_lines::Mode;
+use inst_log::LogError;
+use inst_logged::LoggedError;
+use inst_rows::settings;
+use inst_settings::Settings;
+use std::process::Abort;
+use std::test::Fail;
+
+/// What a whole run leaves.
+#[derive(Drop)]
+struct Whole {
+    log: Vec<u8>,
+    replies: Vec<u8>,
+}
+
+/// Compares what is written to a reader that has the replies to so many lines.
+fn tell(
+    rt: &(impl Abort + AllocGlobal),
+    mode: Mode,
+    settings: &Settings,
+    whole: &Whole,
+    told: usize,
+) -> Result<(), Fail> {
+    let alloc = rt.alloc();
+    let mut written = Vec::new(alloc);
+    go_on(
+        alloc,
+        mode,
+        settings,
+        &whole.log,
+        Some(told as u64),
+        b"",
+        &mut written,
+    )?;
+    let front = front_len(&whole.replies, told);
+    assert_eq!(rt; written.as_slice(), &whole.replies[front..], "{told}");
+    Ok(())
+}
+
+/// Tells of more replies than the log has lines.
+fn tell_too_many(
+    rt: &(impl Abort + AllocGlobal),
+    mode: Mode,
+    settings: &Settings,
+    log: &[u8],
+    told: u64,
+) -> Result<(), Fail> {
+    let mut reader: &[u8] = b"{}\n";
+    let mut written = Vec::new(rt.alloc());
+    let ended = serve(
+        rt.alloc(),
+        mode,
+        settings,
+        log,
+        Some(told),
+        &mut reader,
+        &mut written,
+    )?;
+    assert!(rt;
+        matches!(ended.outcome, Err(LoggedError::Log(LogError::Told))),
+        "{told}"
+    );
+    assert!(rt; written.is_empty());
+    assert_eq!(rt; ended.disk.bytes(), log);
+    Ok(())
+}
+
+fn tell_each(rt: &(impl Abort + AllocGlobal), mode: Mode) -> Result<(), Fail> {
+    let alloc = rt.alloc();
+    let settings = settings(alloc)?;
+    let input = text_of(alloc, LINES)?;
+    let mut written = Vec::new(alloc);
+    let log = go_on(alloc, mode, &settings, b"", Some(0), &input, &mut written)?;
+    let replies = plainly(alloc, mode, &settings, &input)?;
+    let whole = Whole { log, replies };
+    for told in 0..=LINES.len() {
+        tell(rt, mode, &settings, &whole, told)?;
+    }
+    tell_too_many(rt, mode, &settings, &whole.log, LINES.len() as u64 + 1)?;
+    tell_too_many(rt, mode, &settings, &whole.log, u64::MAX)
+}
+
+#[test]
+fn replies_are_told_again(rt: HostRuntime) -> Result<(), Fail> {
+    tell_each(&rt, Mode::Run)?;
+    tell_each(&rt, Mode::Play)
+}
