@@ -5,8 +5,8 @@ use inst_rows::settings;
 use std::process::Abort;
 use std::test::Fail;
 
-/// Compares what two runs write, of which the first gets so many of the lines and the second the others, with what one
-/// run writes that keeps nothing.
+/// Compares what two runs write, of which the first gets so many of the lines and the second the others, with what
+/// one run writes that keeps nothing.
 fn cut_after(rt: &(impl Abort + AllocGlobal), mode: Mode, count: usize) -> Result<(), Fail> {
     let alloc = rt.alloc();
     let settings = settings(alloc)?;

@@ -1,5 +1,5 @@
-//! Tests of a hub with a log: a run that is cut after each line or stops at each call of its disk, and goes on; replies
-//! that are told again; lines of each length; logs that aren't taken, and a reader that fails.
+//! Tests of a hub with a log: a run that is cut after each line or stops at each call of its disk, and goes on;
+//! replies that are told again; lines of each length; logs that aren't taken, and a reader that fails.
 #![tactic(auto)]
 
 #[cfg(test)]
