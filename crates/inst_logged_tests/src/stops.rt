@@ -1,6 +1,4 @@
 // A machine that stops at each call of its disk in turn, and another run that goes on from what is left.
-ghost use Rattle.std.specs.Prelude.{◌≤◌, length};
-
 use crate::keeping::{LINES, front_len, go_on, newlines, plainly, put, serve_on, text_of};
 use crate::pieces::Pieces;
 use inst_lines::Mode;
