@@ -168,7 +168,11 @@ impl<D: Disk, A: Answers + Drop> Recorder<D, A> {
     }
 
     /// Closes a batch, and answers its lines, if it has any. At `Err`, open the log again.
-    pub fn serve_lines<W: Write>(&mut self, batch: &mut Vec<u8>, writer: &mut W) -> Result<(), LogError>
+    pub fn serve_lines<W: Write>(
+        &mut self,
+        batch: &mut Vec<u8>,
+        writer: &mut W,
+    ) -> Result<(), LogError>
         requires usable { IsTrue (D.Disk.is_usable self.old.log.disk) }
         requires settled { IsTrue (D.Disk.is_clean self.old.log.disk) → IsSettled D.Disk.seen D.Disk.may_leave self.old.log }
         requires whole { IsWhole batch.old.items }
