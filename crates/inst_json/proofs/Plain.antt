@@ -75,7 +75,7 @@ escape-same name wanted plain h =
     let same : name ≡ wanted = (bytes_eq-Decides name wanted).0 h in
     ap escape same ∙ plain ∙ sym same
 
-escape-among : (name : List ℕ) (names : List (List ℕ)) → AllByRecursion (λ wanted. escape wanted ≡ wanted) names → list_any (same_text name) names ≡ true → escape name ≡ name
+pub escape-among : (name : List ℕ) (names : List (List ℕ)) → AllByRecursion (λ wanted. escape wanted ≡ wanted) names → list_any (same_text name) names ≡ true → escape name ≡ name
 escape-among name [] plain h = absurd (true≢false (sym h))
 escape-among name (first ∷ rest) plain h =
     elim (or_cases (same_text name first) (list_any (same_text name) rest) h) [

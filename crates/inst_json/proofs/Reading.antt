@@ -31,12 +31,12 @@ use Rattle.inst_json.specs.Replies.{items, entry_data, new_data, reply_data, sta
 use Rattle.inst_json.specs.Laws.{is_word, entry_has_words, has_words, IsReplyOf}
 
 -- what a value needs for its text to be read back as it
-record ReadsBack (d : Data) : Type 0 where
-  numbers : tree.HasNumbers (outline d)
-  again : of_json (outline d) ≡ Some d
-  shallow : tree.depth (outline d) ≤ 3
+pub record ReadsBack (d : Data) : Type 0 where
+  pub numbers : tree.HasNumbers (outline d)
+  pub again : of_json (outline d) ≡ Some d
+  pub shallow : tree.depth (outline d) ≤ 3
 
-from_parts : (d : Data) → ReadsBack d → read (compact_text d) ≡ Some d
+pub from_parts : (d : Data) → ReadsBack d → read (compact_text d) ≡ Some d
 from_parts d r =
     let ts = tree.json_tokens (outline d) in
     let lexed : tokens (compact_text d) ≡ ts = ap tokens (sym (print-outline d)) ∙ tokens-print ts (ArePrintable-json_tokens (outline d) r.numbers) in

@@ -43,7 +43,7 @@ pub(crate) fn time_stamp(settings: &Settings, ms: u64) -> Result<Moment, Fault>
 
 /// The number of the participant with this code, or `UnknownParticipant`.
 #[tactic(auto, unfolding(crate::specs::Checks::participant_of))]
-pub(crate) fn participant(settings: &Settings, code: &Code) -> Result<u8, Fault>
+pub fn participant(settings: &Settings, code: &Code) -> Result<u8, Fault>
     ensures value { result ≡ participant_of settings.now code.now }
     ensures fits { IfOk result (λ number. is_participant settings.now number ≡ true) }
 {

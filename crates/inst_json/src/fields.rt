@@ -12,7 +12,7 @@ use inst_settings::MOST_PLACES;
 
 /// The text in a field, or `BadField` where there is none.
 #[inline(always)]
-pub(crate) fn text(field: Field<'_>) -> Result<&str, Fault>
+pub fn text(field: Field<'_>) -> Result<&str, Fault>
     ensures { Gives (λ text. text.now) result (text_in (told field.entry)) }
 {
     match field {
@@ -23,7 +23,7 @@ pub(crate) fn text(field: Field<'_>) -> Result<&str, Fault>
 
 /// The whole number in a field, or `BadField` where there is none of 64 bits.
 #[inline(always)]
-pub(crate) fn whole(field: Field<'_>) -> Result<u64, Fault>
+pub fn whole(field: Field<'_>) -> Result<u64, Fault>
     ensures { result ≡ whole_in (told field.entry) }
 {
     match field {
@@ -45,7 +45,7 @@ pub(crate) fn is_there(field: Field<'_>) -> bool
 
 /// The participant's code in a field, or `BadField` where there is none.
 #[tactic(auto, unfolding(crate::specs::Fields::code_in))]
-pub(crate) fn code(field: Field<'_>) -> Result<Code, Fault>
+pub fn code(field: Field<'_>) -> Result<Code, Fault>
     ensures { result ≡ code_in (told field.entry) }
 {
     Code::new(text(field)?)
@@ -53,7 +53,7 @@ pub(crate) fn code(field: Field<'_>) -> Result<Code, Fault>
 
 /// The reason in a field, or `BadField` where there is none.
 #[tactic(auto, unfolding(crate::specs::Fields::reason_in))]
-pub(crate) fn reason(field: Field<'_>) -> Result<Reason, Fault>
+pub fn reason(field: Field<'_>) -> Result<Reason, Fault>
     ensures { result ≡ reason_in (told field.entry) }
 {
     Reason::new(text(field)?)
@@ -61,7 +61,7 @@ pub(crate) fn reason(field: Field<'_>) -> Result<Reason, Fault>
 
 /// How many entries or lines a field asks for, 1 to 100, or `BadField`.
 #[tactic(auto, unfolding(crate::specs::Fields::count_in))]
-pub(crate) fn count(field: Field<'_>) -> Result<u32, Fault>
+pub fn count(field: Field<'_>) -> Result<u32, Fault>
     ensures value { result ≡ count_in (told field.entry) }
     ensures fits { IfOk result (λ count. is_count count ≡ true) }
 {

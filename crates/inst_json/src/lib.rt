@@ -4,17 +4,19 @@
 mod asker;
 mod checks;
 mod command;
-mod fields;
+pub mod fields;
 pub mod laws;
 mod line;
 mod lists;
-mod piece;
+pub mod piece;
 mod read;
 mod reply;
 mod step;
 mod verb;
 mod write;
 
+pub use checks::participant;
+pub use line::field_at;
 pub use read::{LineReader, read_command, read_step};
-pub use reply::append_reply;
+pub use reply::{append_reply, code_text};
 pub use write::{write_answer, write_reply};

@@ -35,7 +35,7 @@ pub(crate) fn scan_line(line: &[u8]) -> Scanned<'_>
 }
 
 /// What a value has under a name.
-fn field_at<'v>(value: &'v Value, name: &str) -> Field<'v>
+pub fn field_at<'v>(value: &'v Value, name: &str) -> Field<'v>
     ensures { told result ≡ found (get name.now (view value.now)) }
 {
     let Some(member) = value.get(name) else {

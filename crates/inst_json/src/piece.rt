@@ -6,7 +6,7 @@ use std::alloc::AllocError;
 
 /// Puts a text at the end of `out`. It is inlined, so that a text that is known has no loop.
 #[inline(always)]
-pub(crate) fn push_text(out: &mut Vec<u8>, text: &str) -> Result<(), AllocError>
+pub fn push_text(out: &mut Vec<u8>, text: &str) -> Result<(), AllocError>
     ensures { OnOk result (out.new.items ≡ out.old.items ++ text.now) }
 {
     out.extend_from_slice(text.as_bytes())
@@ -14,7 +14,7 @@ pub(crate) fn push_text(out: &mut Vec<u8>, text: &str) -> Result<(), AllocError>
 
 /// Puts the decimal digits of a number at the end of `out`.
 #[inline(always)]
-pub(crate) fn push_number(out: &mut Vec<u8>, number: u64) -> Result<(), AllocError>
+pub fn push_number(out: &mut Vec<u8>, number: u64) -> Result<(), AllocError>
     ensures { OnOk result (out.new.items ≡ out.old.items ++ decimal number) }
 {
     let mut buffer = Buffer::new();

@@ -101,7 +101,7 @@ fn append_refused(out: &mut Vec<u8>, fault: Fault) -> Result<(), AllocError>
 }
 
 /// The code of the participant with this number.
-pub(crate) fn code_text(settings: &Settings, number: u8) -> &str
+pub fn code_text(settings: &Settings, number: u8) -> &str
     requires { is_participant settings.now number ≡ true }
     ensures value { result.now ≡ code_numbered settings.now number }
     ensures form { IsTrue (is_code result.now) }

@@ -20,5 +20,6 @@ pub use delivery::deliver;
 pub use error::LogError;
 pub use front::{find_newline, first_line, whole_lines};
 pub use log::Log;
-pub use reading::{Reading, read};
+pub use opening::read_file;
+pub use reading::{Reading, count_lines, read};
 pub use recorder::Recorder;

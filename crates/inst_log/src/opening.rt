@@ -121,7 +121,7 @@ fn blank<D: Disk>(disk: &mut D, bytes: &[u8]) -> io::Result<()>
 }
 
 /// All the bytes of a file.
-pub(crate) fn read_file<D: Disk>(alloc: Global, disk: &mut D) -> Result<Vec<u8>, LogError>
+pub fn read_file<D: Disk>(alloc: Global, disk: &mut D) -> Result<Vec<u8>, LogError>
     requires usable { IsTrue (D.Disk.is_usable disk.old) }
     ensures bytes { IfOk result (λ bytes. IsTrue (D.Disk.is_clean disk.new) → bytes.items ≡ D.Disk.seen disk.old) }
     ensures seen { D.Disk.seen disk.new ≡ D.Disk.seen disk.old }

@@ -45,7 +45,7 @@ pub fn read<D: Disk>(alloc: Global, disk: &mut D) -> Result<Reading, LogError>
 }
 
 /// How many lines the bytes begin with.
-fn count_lines(bytes: &[u8]) -> usize
+pub fn count_lines(bytes: &[u8]) -> usize
     ensures { result ≡ length (recovered bytes.now) }
 {
     let mut rest = bytes;

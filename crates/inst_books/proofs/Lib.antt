@@ -1,0 +1,9 @@
+pub mod Texts
+pub mod Forms
+pub mod Entries
+pub mod Printable
+pub mod Back
+pub mod Journals
+pub mod Whole
+pub mod Sound
+pub mod Saying

@@ -1,0 +1,18 @@
+use Rattle.std.proofs.Common.{length, ap, ◌∙◌, sym}
+use Rattle.std.proofs.lemmas.List.{length-map, length-replicate}
+use Rattle.inst_settings.specs.Settings.{participants}
+use Rattle.inst_journal.specs.History.{History}
+use Rattle.inst_log.specs.Layout.{recovered}
+use Rattle.inst_books.specs.Books.{all_events, with_lines}
+use Rattle.inst_books.proofs.Journals.{no_books_writable}
+use Rattle.inst_books.proofs.books.read_books.Goals as goal
+
+pub loop-len-init : goal.loop-len-init
+loop-len-init c =
+    let s = c.args.settings.now in
+    let journals = c.in_ok-journals.journals.items in
+    record {
+      one_each = sym (length-map journals (λ (h : History). h.events)) ∙ ap length c.in_ok-journals.ensures ∙ length-replicate (participants s) _;
+      writable = no_books_writable s (all_events journals) c.in_ok-journals.ensures;
+      rest = ap (with_lines s (recovered c.args.text.now)) c.in_ok-journals.ensures;
+    }

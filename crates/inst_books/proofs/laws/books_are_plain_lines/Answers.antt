@@ -1,0 +1,5 @@
+use Rattle.inst_books.proofs.Whole.{plain_lines}
+use Rattle.inst_books.proofs.laws.books_are_plain_lines.Goals as goal
+
+pub returns : goal.returns
+returns c = plain_lines

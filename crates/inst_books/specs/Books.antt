@@ -1,0 +1,71 @@
+-- The books of all participants as text: the lines of one book behind those of another, in the order of the
+-- participants' numbers, each with its newline. This hub's own choice.
+use Rattle.std.specs.Prelude.{◌≡◌, ◌⊎◌, ℕ, zero, suc, ◌+◌, ◌==◌, true, if◌then◌else◌, Result, Ok, Err}
+use Rattle.std.specs.Prelude.{List, [], ◌∷◌, ◌++◌, length, map, replicate}
+use Rattle.std.specs.List.{list_all}
+use Rattle.inst_settings.specs.Settings.{HubSettings, participants}
+use Rattle.inst_journal.specs.declared.event.Event.{Event}
+use Rattle.inst_journal.specs.History.{History}
+use Rattle.inst_log.specs.Layout.{recovered, blocks}
+use Rattle.inst_books.specs.declared.fault.BookFault.{BookFault}
+use Rattle.inst_books.specs.declared.fault.BookFault.TheVariants.{BadLine, Memory}
+use Rattle.inst_books.specs.Events.{event_line, event_can_be_written}
+use Rattle.inst_books.specs.Reading.{Entry, event_of_line}
+
+-- the events of each journal
+abbrev pub all_events : List History → List (List Event)
+all_events journals = map (λ journal. journal.events) journals
+
+-- each event of the books can be written
+abbrev pub AreWritable : HubSettings → List (List Event) → Type 0
+AreWritable s books = list_all (list_all (event_can_be_written s)) books ≡ true
+
+-- the lines of the books of the participants from `who` on
+abbrev pub lines_from : HubSettings → ℕ → List (List Event) → List (List ℕ)
+lines_from s who [] = []
+lines_from s who (book ∷ books) = map (event_line s who) book ++ lines_from s (who + 1) books
+
+-- the lines of all books
+abbrev pub book_lines : HubSettings → List (List Event) → List (List ℕ)
+book_lines s books = lines_from s 0 books
+
+-- all books as text
+unfoldable pub books_text : HubSettings → List (List Event) → List ℕ
+books_text s books = blocks (book_lines s books)
+
+-- books with no event, one for each participant
+abbrev pub no_books : HubSettings → List (List Event)
+no_books s = replicate (participants s) []
+
+-- the books, with one event more in that of the participant `who`
+abbrev pub with_event : ℕ → Event → List (List Event) → List (List Event)
+with_event who event [] = []
+with_event zero event (book ∷ books) = (book ++ event ∷ []) ∷ books
+with_event (suc who) event (book ∷ books) = book ∷ with_event who event books
+
+-- The event that a line says was put into its book, or it is told why not: memory was refused, or the line is a bad
+-- one.
+abbrev pub Keeps : Result Entry BookFault → Result (Unit {0}) BookFault → List (List Event) → List (List Event) →
+    Type 0
+Keeps (Ok entry) (Ok done) before after = after ≡ with_event entry.0 entry.1 before
+Keeps (Ok entry) (Err fault) before after = fault ≡ Memory
+Keeps (Err bad) (Ok done) before after = ⊥
+Keeps (Err bad) (Err fault) before after = (fault ≡ Memory) ⊎ (fault ≡ bad)
+
+-- an event that was read goes into its book, and then the others into theirs; the first bad line stands
+abbrev pub go_on : (List (List Event) → Result (List (List Event)) BookFault) → List (List Event) →
+    Result Entry BookFault → Result (List (List Event)) BookFault
+go_on others books (Ok entry) = others (with_event entry.0 entry.1 books)
+go_on others books (Err fault) = Err fault
+
+-- the books, with the events that these lines say put into them in order
+abbrev pub with_lines : HubSettings → List (List ℕ) → List (List Event) → Result (List (List Event)) BookFault
+with_lines s [] books = Ok books
+with_lines s (line ∷ lines) books = go_on (with_lines s lines) books (event_of_line s line)
+
+-- The books that a text tells, one for each participant. The text is whole lines, each of which begins as a line of a
+-- log does.
+unfoldable pub books_of_text : HubSettings → List ℕ → Result (List (List Event)) BookFault
+books_of_text s text =
+    if length (blocks (recovered text)) == length text then with_lines s (recovered text) (no_books s)
+    else Err BadLine

@@ -1,0 +1,5 @@
+pub mod Members
+pub mod Events
+pub mod Reading
+pub mod Books
+pub mod Laws

@@ -1,0 +1,143 @@
+//! The books of all participants as text, and from the text again.
+ghost use Rattle.std.specs.Prelude.{◌≡◌, ◌<◌, ◌++◌, true, [], length, map, replicate, IfOk, OnOk};
+ghost use Rattle.std.specs.List.{list_all};
+ghost use Rattle.inst_base.specs.Text.{is_code};
+ghost use Rattle.inst_settings.specs.Settings.{participants, is_participant};
+ghost use Rattle.inst_settings.specs.Lawful.{IsSettings};
+ghost use Rattle.inst_command.specs.LineText.{code_numbered};
+ghost use Rattle.inst_log.specs.Layout.{blocks};
+ghost use Rattle.inst_books.specs.Events.{event_line, event_can_be_written};
+ghost use Rattle.inst_books.specs.Laws.{event_has_form, AreBooksOf};
+ghost use Rattle.inst_books.specs.Reading.{GivesUnlessMemory, event_of_line};
+ghost use Rattle.inst_books.specs.Books.{all_events, books_text, books_of_text, no_books, with_event};
+ghost use Rattle.inst_books.specs.Books.{AreWritable, Keeps};
+
+use crate::write::append_event_in;
+use crate::{BookFault, read_event};
+use inst_command::Outcome;
+use inst_journal::{Event, Journal};
+use inst_json::code_text;
+use inst_log::{first_line, whole_lines};
+use inst_settings::Settings;
+use std::alloc::{AllocError, Global};
+
+/// Puts the lines of all books at the end of `out`, each with its newline: of one journal for each participant, in
+/// the order of their numbers. After an error a part of the text may stand at the end.
+#[tactic(auto, unfolding(crate::specs::Books::books_text))]
+pub fn append_books(
+    settings: &Settings,
+    journals: &[Journal],
+    out: &mut Vec<u8>,
+) -> Result<(), AllocError>
+    requires one_each { length journals.now ≡ participants settings.now }
+    requires writable { AreWritable settings.now (all_events journals.now) }
+    ensures text { OnOk result (out.new.items
+        ≡ out.old.items ++ books_text settings.now (all_events journals.now)) }
+
+    // So what was written is read as the books.
+    ensures books { OnOk result (IsSettings settings.now → AreBooksOf settings.now (all_events journals.now)) }
+{
+    for who in 0..settings.participants() {
+        append_book(
+            settings,
+            who as u8,
+            journals[usize::from(who)].events(),
+            out,
+        )?;
+    }
+    Ok(())
+}
+
+/// Puts the lines of one participant's book at the end of `out`, each with its newline.
+#[tactic(auto, unfolding(crate::specs::Events::event_line))]
+fn append_book(
+    settings: &Settings,
+    who: u8,
+    events: &[Event],
+    out: &mut Vec<u8>,
+) -> Result<(), AllocError>
+    requires book { is_participant settings.now who ≡ true }
+    requires writable { list_all (event_can_be_written settings.now) events.now ≡ true }
+    ensures text { OnOk result (out.new.items
+        ≡ out.old.items ++ blocks (map (event_line settings.now who) events.now)) }
+    ensures form { OnOk result (list_all event_has_form events.now ≡ true) }
+    ensures code { is_code (code_numbered settings.now who) ≡ true }
+{
+    let book = code_text(settings, who);
+    for event in events {
+        append_event_in(settings, book, event, out)?;
+        out.push(b'\n')?;
+    }
+    Ok(())
+}
+
+/// The journals that a text tells, one for each participant in the order of their numbers, or `BadLine` where a line
+/// is no event, a line begins with no brace or the end is no newline. The events of a book stand in the order of its
+/// lines, whatever lines of other books stand between them. `Memory` comes only where memory was refused. The text is
+/// passed over twice.
+#[tactic(auto, unfolding(crate::specs::Books::books_of_text))]
+pub fn read_books(
+    alloc: Global,
+    settings: &Settings,
+    text: &[u8],
+) -> Result<Vec<Journal>, BookFault>
+    ensures value { GivesUnlessMemory (λ journals. all_events journals.items) result
+        (books_of_text settings.now text.now) }
+
+    // So they can be written again.
+    ensures one_each { IfOk result (λ journals. length journals.items ≡ participants settings.now) }
+    ensures writable { IfOk result (λ journals. AreWritable settings.now (all_events journals.items)) }
+{
+    if whole_lines(text).len() != text.len() {
+        return Err(BookFault::BadLine);
+    }
+    let mut journals = no_journals(alloc, settings)?;
+    let mut rest = text;
+    while let Some(len) = first_line(rest) {
+        read_line(alloc, settings, &rest[..len - 1], &mut journals)?;
+        rest = &rest[len..];
+    }
+    Ok(journals)
+}
+
+/// Puts the event of a line at the end of its journal.
+fn read_line(
+    alloc: Global,
+    settings: &Settings,
+    line: &[u8],
+    journals: &mut [Journal],
+) -> Result<(), BookFault>
+    requires one_each { length journals.old ≡ participants settings.now }
+    requires writable { AreWritable settings.now (all_events journals.old) }
+    ensures kept { Keeps (event_of_line settings.now line.now) result
+        (all_events journals.old) (all_events journals.new) }
+    ensures writable { OnOk result (AreWritable settings.now (all_events journals.new)) }
+{
+    let _: Option<Outcome> = None;
+    let (who, event) = read_event(alloc, settings, line)?;
+    keep(journals, who, event)?;
+    Ok(())
+}
+
+/// Journals with no event, one for each participant.
+fn no_journals(alloc: Global, settings: &Settings) -> Result<Vec<Journal>, AllocError>
+    ensures { IfOk result (λ journals. all_events journals.items ≡ no_books settings.now) }
+{
+    let mut journals = Vec::new(alloc);
+    for _ in 0..settings.participants() {
+        journals.push(Journal::new(alloc))?;
+    }
+    Ok(journals)
+}
+
+/// Puts an event at the end of the participant's journal.
+fn keep(journals: &mut [Journal], who: u8, event: Event) -> Result<(), AllocError>
+    requires { who < length journals.old }
+    ensures { OnOk result (all_events journals.new ≡ with_event who event (all_events journals.old)) }
+{
+    let _: Option<Outcome> = None;
+    match journals[usize::from(who)].push(event) {
+        Ok(()) => Ok(()),
+        Err(_) => Err(AllocError),
+    }
+}

@@ -1,0 +1,46 @@
+//! The laws of books as text. Each is a function without a body whose contract is the law, so that the check
+//! proves it.
+ghost use Rattle.inst_books.specs.Laws.{AnEventReadsBack, AnEventIsAPlainLine, ALineTellsItsEvent};
+ghost use Rattle.inst_books.specs.Laws.{ASoundHistoryCanBeWritten, BooksReadBack};
+ghost use Rattle.inst_books.specs.Laws.{BooksArePlainLines, ATextTellsWhatItsLinesSay, ATextTellsItsBooks};
+
+/// What is written of an event is read as the event, in the same book.
+pub fn an_event_reads_back()
+    ensures { AnEventReadsBack }
+{}
+
+/// The line of an event begins with a brace, and has neither a newline nor a zero byte.
+pub fn an_event_is_a_plain_line()
+    ensures { AnEventIsAPlainLine }
+{}
+
+/// Two events with the same line are the same, and of one book.
+pub fn a_line_tells_its_event()
+    ensures { ALineTellsItsEvent }
+{}
+
+/// A sound history of a participant can be written.
+pub fn a_sound_history_can_be_written()
+    ensures { ASoundHistoryCanBeWritten }
+{}
+
+/// What is written of all books is read as the books.
+pub fn books_read_back()
+    ensures { BooksReadBack }
+{}
+
+/// Each line of books begins with a brace, and has neither a newline nor a zero byte: a log of these lines has them
+/// as they are.
+pub fn books_are_plain_lines()
+    ensures { BooksArePlainLines }
+{}
+
+/// What is read of a text is what its lines say, also where lines of several books stand between one another.
+pub fn a_text_tells_what_its_lines_say()
+    ensures { ATextTellsWhatItsLinesSay }
+{}
+
+/// Books with the same text are the same.
+pub fn a_text_tells_its_books()
+    ensures { ATextTellsItsBooks }
+{}

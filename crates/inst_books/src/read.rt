@@ -1,0 +1,161 @@
+//! From a line to the event that it says.
+ghost use Rattle.std.specs.Prelude.{◌≡◌, true, IfOk};
+ghost use Rattle.serde_json.specs.View.{view};
+ghost use Rattle.inst_base.specs.Fault.{IsUnlessMemory as IsUnlessNoMemory};
+ghost use Rattle.inst_settings.specs.Settings.{HubSettings, is_participant};
+ghost use Rattle.inst_json.specs.Lines.{json_of};
+ghost use Rattle.inst_json.specs.Refusals.{GivesUnlessMemory};
+ghost use Rattle.inst_books.specs.Events.{event_can_be_written};
+ghost use Rattle.inst_books.specs.Reading.{event_of_line, entry_of_line, entry_in, event_named, IsUnlessMemory};
+ghost use Rattle.inst_books.specs.Reading.{funded_in, defunded_in, taken_in, forwarded_in, booked_in, fetched_in};
+
+use crate::BookFault;
+use crate::fields::{amount, identifier, moment, outcome, participant_at};
+use inst_base::Fault;
+use inst_journal::Event;
+use inst_json::field_at;
+use inst_json::fields::{count, text};
+use inst_settings::Settings;
+use serde_json::Value;
+use std::alloc::Global;
+
+/// The event of a line without its newline, and the number of the participant in whose book it stands, or `BadLine`.
+/// The members may stand in any order, those that the event doesn't have are ignored, and of one given twice the last
+/// counts. `Memory` comes only where memory was refused. A line has a tree while it is read.
+pub fn read_event(alloc: Global, settings: &Settings, line: &[u8]) -> Result<(u8, Event), BookFault>
+    ensures value { IsUnlessMemory result (event_of_line settings.now line.now) }
+    ensures book { IfOk result (λ entry. is_participant settings.now entry.0 ≡ true) }
+    ensures writable { IfOk result (λ entry. event_can_be_written settings.now entry.1 ≡ true) }
+{
+    match entry_of_line(alloc, settings, line) {
+        Ok(entry) => Ok(entry),
+        Err(Fault::Memory) => Err(BookFault::Memory),
+        Err(_) => Err(BookFault::BadLine),
+    }
+}
+
+/// The event of a line and whose it is, or why the line is refused.
+#[tactic(auto, unfolding(crate::specs::Reading::entry_of_line))]
+fn entry_of_line(alloc: Global, settings: &Settings, line: &[u8]) -> Result<(u8, Event), Fault>
+    ensures value { IsUnlessNoMemory result (entry_of_line settings.now line.now) }
+    ensures book { IfOk result (λ entry. is_participant settings.now entry.0 ≡ true) }
+    ensures writable { IfOk result (λ entry. event_can_be_written settings.now entry.1 ≡ true) }
+{
+    let value = value_of_line(alloc, line)?;
+    entry(settings, &value)
+}
+
+/// The JSON value of a line, or `NotJson`.
+fn value_of_line(alloc: Global, line: &[u8]) -> Result<Value, Fault>
+    ensures { GivesUnlessMemory view result (json_of line.now) }
+{
+    match Value::from_slice(alloc, line) {
+        Ok(value) => Ok(value),
+        Err(error) if error.is_memory() => Err(Fault::Memory),
+        Err(_) => Err(Fault::NotJson),
+    }
+}
+
+/// The event of a line's object and whose it is, or the first of its refusals.
+#[tactic(auto, unfolding(crate::specs::Reading::entry_in))]
+fn entry(settings: &Settings, line: &Value) -> Result<(u8, Event), Fault>
+    ensures value { result ≡ entry_in settings.now (view line.now) }
+    ensures book { IfOk result (λ entry. is_participant settings.now entry.0 ≡ true) }
+    ensures writable { IfOk result (λ entry. event_can_be_written settings.now entry.1 ≡ true) }
+{
+    let who = participant_at(settings, line, "book")?;
+    let name = text(field_at(line, "event"))?;
+    let event = event_named(settings, line, name)?;
+    Ok((who, event))
+}
+
+/// The event that a name stands for.
+fn event_named(settings: &Settings, line: &Value, name: &str) -> Result<Event, Fault>
+    ensures value { result ≡ event_named settings.now (view line.now) name.now }
+    ensures writable { IfOk result (λ event. event_can_be_written settings.now event ≡ true) }
+{
+    match name {
+        "funded" => funded(line),
+        "defunded" => defunded(line),
+        "taken" => taken(settings, line),
+        "forwarded" => forwarded(settings, line),
+        "booked" => booked(settings, line),
+        "fetched" => fetched(line),
+        "opened" => Ok(Event::Opened),
+        _ => Err(Fault::BadField),
+    }
+}
+
+#[tactic(auto, unfolding(crate::specs::Reading::funded_in))]
+fn funded(line: &Value) -> Result<Event, Fault>
+    ensures value { result ≡ funded_in (view line.now) }
+    ensures writable { IfOk result (λ event. (s : HubSettings) → event_can_be_written s event ≡ true) }
+{
+    let reference = identifier(line, "ref")?;
+    let cents = amount(line, "cents")?;
+    Ok(Event::Funded { reference, cents })
+}
+
+#[tactic(auto, unfolding(crate::specs::Reading::defunded_in))]
+fn defunded(line: &Value) -> Result<Event, Fault>
+    ensures value { result ≡ defunded_in (view line.now) }
+    ensures writable { IfOk result (λ event. (s : HubSettings) → event_can_be_written s event ≡ true) }
+{
+    let reference = identifier(line, "ref")?;
+    let cents = amount(line, "cents")?;
+    Ok(Event::Defunded { reference, cents })
+}
+
+#[tactic(auto, unfolding(crate::specs::Reading::taken_in))]
+fn taken(settings: &Settings, line: &Value) -> Result<Event, Fault>
+    ensures value { result ≡ taken_in settings.now (view line.now) }
+    ensures writable { IfOk result (λ event. event_can_be_written settings.now event ≡ true) }
+{
+    let id = identifier(line, "id")?;
+    let to = participant_at(settings, line, "to")?;
+    let cents = amount(line, "cents")?;
+    let stamp = moment(settings, line, "stamp")?;
+    Ok(Event::Taken {
+        id,
+        to,
+        cents,
+        stamp,
+    })
+}
+
+#[tactic(auto, unfolding(crate::specs::Reading::forwarded_in))]
+fn forwarded(settings: &Settings, line: &Value) -> Result<Event, Fault>
+    ensures value { result ≡ forwarded_in settings.now (view line.now) }
+    ensures writable { IfOk result (λ event. event_can_be_written settings.now event ≡ true) }
+{
+    let from = participant_at(settings, line, "from")?;
+    let id = identifier(line, "id")?;
+    let cents = amount(line, "cents")?;
+    let deadline = moment(settings, line, "deadline")?;
+    Ok(Event::Forwarded {
+        from,
+        id,
+        cents,
+        deadline,
+    })
+}
+
+#[tactic(auto, unfolding(crate::specs::Reading::booked_in))]
+fn booked(settings: &Settings, line: &Value) -> Result<Event, Fault>
+    ensures value { result ≡ booked_in settings.now (view line.now) }
+    ensures writable { IfOk result (λ event. event_can_be_written settings.now event ≡ true) }
+{
+    let from = participant_at(settings, line, "from")?;
+    let id = identifier(line, "id")?;
+    let outcome = outcome(line)?;
+    Ok(Event::Booked { from, id, outcome })
+}
+
+#[tactic(auto, unfolding(crate::specs::Reading::fetched_in))]
+fn fetched(line: &Value) -> Result<Event, Fault>
+    ensures value { result ≡ fetched_in (view line.now) }
+    ensures writable { IfOk result (λ event. (s : HubSettings) → event_can_be_written s event ≡ true) }
+{
+    let count = count(field_at(line, "count"))?;
+    Ok(Event::Fetched { count })
+}
