@@ -14,25 +14,10 @@ ghost use Rattle.inst_close.specs.Closing.{IsNextOf};
 use crate::Books;
 use crate::widening::widened;
 use inst_base::{Code, Fault};
-use inst_command::Outcome;
 use inst_hub::{Hub, Teller};
-use inst_journal::{Event, Journal};
+use inst_journal::Journal;
+use inst_world::{MOST_OPENINGS, openings};
 use std::alloc::Global;
-
-/// How often books can be opened from.
-const MOST_OPENINGS: usize = 500;
-
-/// How often the journal was opened from.
-fn openings(journal: &Journal) -> usize
-    ensures { result ≡ openings journal.now.events }
-{
-    let _: Option<Outcome> = None;
-    journal
-        .events()
-        .iter()
-        .filter(|event| matches!(event, Event::Opened))
-        .count()
-}
 
 impl Books {
     /// Copies of the books, by number.

@@ -8,3 +8,4 @@ mod terms;
 mod totals;
 
 pub use ledger::Ledger;
+pub use terms::{Forwarding, Terms};

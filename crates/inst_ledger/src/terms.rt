@@ -3,15 +3,15 @@ use inst_base::{Cents, Moment};
 
 /// The terms of a taken submission.
 #[derive(Clone, Copy, Debug, PartialEq, Eq)]
-pub(crate) struct Terms {
-    pub(crate) to: u8,
-    pub(crate) cents: Cents,
-    pub(crate) stamp: Moment,
+pub struct Terms {
+    pub to: u8,
+    pub cents: Cents,
+    pub stamp: Moment,
 }
 
 /// What came with a forwarded transfer.
 #[derive(Clone, Copy, Debug, PartialEq, Eq)]
-pub(crate) struct Forwarding {
-    pub(crate) cents: Cents,
-    pub(crate) deadline: Moment,
+pub struct Forwarding {
+    pub cents: Cents,
+    pub deadline: Moment,
 }

@@ -1,7 +1,7 @@
 -- The journals of the participants can open where the books can.
-use Rattle.std.proofs.Common.{◌≡◌, ℕ, ◌<◌, true, false, List, [], sym, ap, subst, inl, inr, arith, Contains, ltb-false}
-use Rattle.std.proofs.lemmas.Bool.{cases_Bool}
-use Rattle.std.proofs.lemmas.Option.{slice_get_past}
+use Rattle.std.proofs.Common.{◌≡◌, ℕ, ◌+◌, ◌<◌, ◌≤◌, true, false, List, [], length, get_or, slice_get, Some, sym, ap, ◌∙◌, subst, inl, inr, arith, Contains, nat_lt, ltb-true, ltb-false}
+use Rattle.std.proofs.lemmas.Bool.{cases_Bool, cases_eq}
+use Rattle.std.proofs.lemmas.Option.{slice_get-get_or, slice_get_past}
 use Rattle.inst_base.specs.TimeLimit.{deadline_of}
 use Rattle.inst_settings.specs.Settings.{HubSettings, participants, is_participant}
 use Rattle.inst_command.specs.declared.outcome.Outcome.TheVariants.{Accepted}
@@ -10,16 +10,17 @@ use Rattle.inst_journal.specs.declared.event.Event.TheVariants.{Taken, Forwarded
 use Rattle.inst_journal.specs.History.{History}
 use Rattle.inst_journal.specs.Opened.{openings}
 use Rattle.inst_journal.specs.Sound.{IsSound}
+use Rattle.inst_model.specs.Closing.{AreClosed}
 use Rattle.inst_model.specs.Fit.{BooksFit, BooksAreClosed}
 use Rattle.inst_model.specs.Opening.{BooksCanOpen}
 use Rattle.inst_world.specs.NextOpening.{kept_by, books_of, CanOpenFrom, AreJournalsOf}
 use Rattle.inst_world.proofs.Promising.{fitting}
 
-module _ (s : HubSettings) (J : ℕ → List Event) (journals : List History) (can : BooksCanOpen s J) (are : AreJournalsOf s J journals) where
+module _ (s : HubSettings) (J : ℕ → List Event) (journals : List History) (can : AreClosed s J) (are : AreJournalsOf s J journals) where
   past : (p : ℕ) → is_participant s p ≡ false → books_of journals p ≡ []
   past p none = ap kept_by (slice_get_past journals p (omega (arith, ltb-false p (participants s) none, are.one_each)))
 
-  by_number : (P : List Event → Type 0) (p : ℕ) → P (J p) → P [] → P (books_of journals p)
+  pub by_number : (P : List Event → Type 0) (p : ℕ) → P (J p) → P [] → P (books_of journals p)
   by_number P p here nowhere = elim (cases_Bool (is_participant s p)) [
     | inl one ↦ subst P (sym (are.same p one)) here
     | inr none ↦ subst P (sym (past p none)) nowhere
@@ -75,12 +76,42 @@ module _ (s : HubSettings) (J : ℕ → List Event) (journals : List History) (c
         (λ p o told. nobody from o (back from (Booked from id o) (holder from (Taken id to cents stamp) held) (can.closed.originator_booked from id to cents stamp p o sent told))));
   }
 
-  pub can_open_from : CanOpenFrom s journals
-  can_open_from = record {
+  -- where none was opened from too often
+  pub few_can_open : ((p : ℕ) → openings (books_of journals p) < 500) → CanOpenFrom s journals
+  few_can_open few = record {
     one_each = are.one_each;
     books = record {
       sound = λ p. by_number (λ K. IsSound s p K) p (can.sound p) tt;
       closed = closed;
-      few = λ p. by_number (λ K. openings K < 500) p (can.few p) (omega arith);
+      few = few;
     };
   }
+
+pub can_open_from : (s : HubSettings) (J : ℕ → List Event) (journals : List History) → BooksCanOpen s J → AreJournalsOf s J journals → CanOpenFrom s journals
+can_open_from s J journals can are =
+    let closed : AreClosed s J = record { sound = can.sound; closed = can.closed } in
+    few_can_open s J journals closed are (λ p. by_number s J journals closed are (λ K. openings K < 500) p (can.few p) (omega arith))
+
+-- so far none of the journals was opened from too often, nor this one
+pub one_more_few : (journals : List History) (n : ℕ) (journal : History) → n < length journals → journal ≡ get_or journals n journal → openings journal.events < 500
+    → ((p : ℕ) → p < n → openings (books_of journals p) < 500) → (p : ℕ) → p < n + 1 → openings (books_of journals p) < 500
+one_more_few journals n journal below here few so p small = elim (cases_eq p n) [
+  | inl at ↦
+      let found : slice_get journals n ≡ Some journal = slice_get-get_or journals n journal below ∙ ap (λ (j : History). Some j) (sym here) in
+      subst (λ (J : List Event). openings J < 500) (sym (ap (λ (q : ℕ). books_of journals q) at ∙ ap kept_by found)) few
+  | inr other ↦ so p (omega (arith, small, other))
+]
+
+-- none of all was
+pub all_few : (journals : List History) (n : ℕ) → length journals ≤ n → ((p : ℕ) → p < n → openings (books_of journals p) < 500) → (p : ℕ) → openings (books_of journals p) < 500
+all_few journals n most so p = elim (cases_Bool (nat_lt p n)) [
+  | inl below ↦ so p (ltb-true p n below)
+  | inr past ↦ subst (λ (J : List Event). openings J < 500) (sym (ap kept_by (slice_get_past journals p (omega (arith, ltb-false p n past, most))))) (omega arith)
+]
+
+-- this one was
+pub not_few : (journals : List History) (n : ℕ) (journal : History) → n < length journals → journal ≡ get_or journals n journal → 500 ≤ openings journal.events
+    → ¬ ((p : ℕ) → openings (books_of journals p) < 500)
+not_few journals n journal below here many few =
+    let found : slice_get journals n ≡ Some journal = slice_get-get_or journals n journal below ∙ ap (λ (j : History). Some j) (sym here) in
+    omega (arith, many, subst (λ (J : List Event). openings J < 500) (ap kept_by found) (few n))

@@ -17,5 +17,6 @@ pub mod Carrying
 pub mod Reopening
 pub mod Carried
 pub mod Journals
+pub mod Closed
 pub mod Numbering
 pub mod Finding

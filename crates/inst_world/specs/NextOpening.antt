@@ -12,13 +12,17 @@ use Rattle.inst_journal.specs.declared.event.Event.{Event}
 use Rattle.inst_journal.specs.declared.event.Event.TheVariants.{Opened}
 use Rattle.inst_journal.specs.History.{History}
 use Rattle.inst_journal.specs.Opened.{live_taken}
+use Rattle.inst_command.specs.declared.step.Step.{Step}
+use Rattle.inst_model.specs.Closing.{closing}
+use Rattle.inst_model.specs.Hub.{history}
+use Rattle.inst_model.specs.Interleaving.{IsInterleaving}
 use Rattle.inst_model.specs.Opening.{Opening, BooksCanOpen}
 use Rattle.inst_model.specs.Opening.Opening.{FromBooks}
 use Rattle.inst_slot.specs.declared.arrival.Arrival.{Arrival}
 use Rattle.inst_slot.specs.Book.{Book, place_at, terms_to}
 use Rattle.inst_slot.specs.LawfulBoard.{IsLawfulBoard}
 use Rattle.inst_slot.specs.Opening.{opened_again, MayOpenAgain, IsOfOpening}
-use Rattle.inst_world.specs.HasRun.{Hub, settings_of, journal_of}
+use Rattle.inst_world.specs.HasRun.{Hub, HasRun, settings_of, journal_of}
 
 -- the events of a journal, where there is one
 abbrev pub kept_by : Option History → List Event
@@ -47,6 +51,14 @@ pub record AreJournalsOf (s : HubSettings) (J : ℕ → List Event) (journals : 
 abbrev pub JournalsCanOpen : Type 0
 JournalsCanOpen = (s : HubSettings) (J : ℕ → List Event) (journals : List History) → BooksCanOpen s J →
     AreJournalsOf s J journals → CanOpenFrom s journals
+
+-- the world was closed behind some steps since some opening
+abbrev pub HasClosed : Hub → Type 0
+HasClosed hub = (O : Opening) × (L : List Step) × IsInterleaving (settings_of hub) L × HasRun O (closing (settings_of hub) ++ L) hub
+
+-- the journals are the books of a hub that ran these steps since this opening, and was closed behind them
+abbrev pub AreCarried : HubSettings → Opening → List Step → List History → Type 0
+AreCarried s O L journals = AreJournalsOf s (history s O (closing s ++ L)) journals
 
 -- the books of the first n participants, opened again
 abbrev pub books_again : HubSettings → (ℕ → List Event) → ℕ → List Book

@@ -13,10 +13,12 @@ ghost use Rattle.inst_slot.specs.Book.{place_at};
 ghost use Rattle.inst_world.specs.HasRun.{IsHub, HasRun, Runs, IsOfModel, IsAsBefore, TakesMemory, journal_of};
 ghost use Rattle.inst_world.specs.Headline.{run_of, KeepsTheHeadline};
 
+mod closing;
 mod next_opening;
 
 use crate::slots;
 use crate::trace::Trace;
+pub use closing::{MOST_OPENINGS, may_open, openings};
 use inst_base::{Fault, Ident, Moment};
 use inst_board::{Board, Look, Place, PlainBoard};
 use inst_command::{Answer, Items, Step};

@@ -181,6 +181,13 @@ impl Ledger {
         after(self.inbox.as_slice(), self.read)
     }
 
+    /// How many forwarded transfers weren't handed out yet.
+    pub fn unread_count(&self) -> usize
+        ensures { result ≡ length (unread self.now.book.events) }
+    {
+        self.rest().len()
+    }
+
     /// What came with the transfers at these positions of the table. It looks nothing up by its key.
     fn entries(&self, alloc: Global, positions: &[usize]) -> Result<Vec<Entry>, Fault>
         requires within { AreWithin (length (rows_of self.now.book.who self.now.book.events)) positions.now }

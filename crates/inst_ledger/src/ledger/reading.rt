@@ -151,14 +151,14 @@ impl Ledger {
     }
 
     /// The terms of the taken submission with this identifier.
-    fn terms(&self, id: &Ident) -> Option<Terms>
+    pub fn terms(&self, id: &Ident) -> Option<Terms>
         ensures { result ≡ first_some (terms_of id.now) self.now.book.events }
     {
         terms_in(&self.transfer(self.who, id))
     }
 
     /// What came with this transfer, where it was forwarded.
-    fn forwarding(&self, from: u8, id: &Ident) -> Option<Forwarding>
+    pub fn forwarding(&self, from: u8, id: &Ident) -> Option<Forwarding>
         ensures { result ≡ first_some (forwarding_of (from, id.now)) self.now.book.events }
     {
         forwarding_in(&self.transfer(from, id))
@@ -209,7 +209,7 @@ impl Ledger {
     }
 
     /// Whether a funding reference is kept.
-    pub(crate) fn has_reference(&self, reference: &Ident) -> bool
+    pub fn has_reference(&self, reference: &Ident) -> bool
         ensures { result ≡ has_reference reference.now self.now.book.events }
     {
         self.funding(reference).is_some()

@@ -1,0 +1,12 @@
+use Rattle.std.proofs.Common.{◌≡◌, List, ◌++◌}
+use Rattle.inst_command.specs.declared.step.Step.{Step}
+use Rattle.inst_model.specs.Closing.{of_places}
+use Rattle.inst_model.specs.Opening.{Opening}
+use Rattle.inst_world.specs.HasRun.{HasRun}
+use Rattle.inst_world.proofs.world.World.tell_places.Given as goal
+
+abbrev pub invariant-loop-place : goal.invariant-loop-place
+invariant-loop-place l = record {
+  settings : l.self.board.settings ≡ l.fn.self.board.settings;
+  ran : (O : Opening) (L : List Step) → HasRun O L l.fn.self → HasRun O (of_places l.who l.from l.place ++ L) l.self;
+}

@@ -1,0 +1,127 @@
+//! How a hub in one thread is closed, and its books are carried to the next opening.
+ghost use Rattle.std.specs.Prelude.{◌≡◌, ◌<◌, ◌++◌, ℕ, List, true, false, None, IfOk, IfSome, OnOk, IsOkUnless};
+ghost use Rattle.inst_settings.specs.Settings.{is_participant, participants};
+ghost use Rattle.inst_command.specs.declared.step.Step.{Step};
+ghost use Rattle.inst_journal.specs.Opened.{openings};
+ghost use Rattle.inst_model.specs.Closing.{of_places, of_originators, closing};
+ghost use Rattle.inst_model.specs.Hub.{history};
+ghost use Rattle.inst_model.specs.Opening.{Opening};
+ghost use Rattle.inst_world.specs.HasRun.{HasRun};
+ghost use Rattle.inst_world.specs.NextOpening.{books_of, AreJournalsOf, CanOpenFrom, AreCarried, HasClosed};
+
+use super::World;
+use inst_base::Fault;
+use inst_command::{Outcome, Step};
+use inst_journal::{Event, Journal};
+use std::alloc::Global;
+
+/// How often books can be opened from.
+pub const MOST_OPENINGS: usize = 500;
+
+/// How often the journal was opened from. It walks over its events.
+pub fn openings(journal: &Journal) -> usize
+    ensures { result ≡ openings journal.now.events }
+{
+    let _: Option<Outcome> = None;
+    journal
+        .events()
+        .iter()
+        .filter(|event| matches!(event, Event::Opened))
+        .count()
+}
+
+/// Whether each journal can be opened from once more: it was opened from fewer than 500 times.
+pub fn may_open(journals: &[Journal]) -> bool
+    ensures few { result ≡ true → (p : ℕ) → openings (books_of journals.now p) < 500 }
+    ensures many { result ≡ false → ¬ ((p : ℕ) → openings (books_of journals.now p) < 500) }
+{
+    for journal in journals {
+        if openings(journal) >= MOST_OPENINGS {
+            return false;
+        }
+    }
+    true
+}
+
+impl World {
+    /// The participant is told of the places of the originator.
+    fn tell_places(&mut self, who: u8, from: u8, places: u16) -> Result<(), Fault>
+        requires who { is_participant self.old.board.settings who ≡ true }
+        requires from { is_participant self.old.board.settings from ≡ true }
+        ensures ran { OnOk result ((O : Opening) (L : List Step) → HasRun O L self.old → HasRun O (of_places who from places ++ L) self.new) }
+        ensures only { IsOkUnless result Fault.Memory }
+        ensures settings { self.new.board.settings ≡ self.old.board.settings }
+    {
+        for place in 0..places {
+            self.step(&Step::Learn { who, from, place })?;
+            let to = who;
+            self.step(&Step::Deliver { from, place, to })?;
+        }
+        Ok(())
+    }
+
+    /// The participant is told of the places of all originators.
+    fn tell_originators(&mut self, who: u8) -> Result<(), Fault>
+        requires who { is_participant self.old.board.settings who ≡ true }
+        ensures ran { OnOk result ((O : Opening) (L : List Step) → HasRun O L self.old →
+            HasRun O (of_originators who self.old.board.settings.places (participants self.old.board.settings) ++ L) self.new) }
+        ensures only { IsOkUnless result Fault.Memory }
+        ensures settings { self.new.board.settings ≡ self.old.board.settings }
+    {
+        let originators = self.settings().participants();
+        let places = self.settings().places();
+        for from in 0..originators {
+            self.tell_places(who, from as u8, places)?;
+        }
+        Ok(())
+    }
+
+    /// Closes the hub: each participant is told of each place, one after another. `Memory` leaves some untold; the hub
+    /// may then be closed again.
+    pub fn close(&mut self) -> Result<(), Fault>
+        ensures ran { OnOk result ((O : Opening) (L : List Step) → HasRun O L self.old → HasRun O (closing self.old.board.settings ++ L) self.new) }
+        ensures closed { OnOk result (HasClosed self.new) }
+        ensures only { IsOkUnless result Fault.Memory }
+        ensures settings { self.new.board.settings ≡ self.old.board.settings }
+    {
+        let participants = self.settings.participants();
+        for who in 0..participants {
+            self.tell_originators(who as u8)?;
+        }
+        Ok(())
+    }
+
+    /// Copies of all journals, in the order of the participants. `Memory` where there is no room.
+    pub fn journals(&self, alloc: Global) -> Result<Vec<Journal>, Fault>
+        ensures ok { IfOk result (λ journals. (O : Opening) (L : List Step) → HasRun O L self.now →
+            AreJournalsOf self.now.board.settings (history self.now.board.settings O L) journals.items) }
+        ensures only { IsOkUnless result Fault.Memory }
+    {
+        let mut journals = Vec::new(alloc);
+        let participants = self.settings().participants();
+        for who in 0..participants {
+            journals.push(self.journal(who as u8).copy()?)?;
+        }
+        Ok(journals)
+    }
+
+    /// Closes the hub, and copies its books for the next opening, or gives nothing where one was opened from 500 times
+    /// already. `Memory` as `close` has it.
+    pub fn carry(&mut self, alloc: Global) -> Result<Option<Vec<Journal>>, Fault>
+        ensures books { IfOk result (λ books. IfSome books (λ journals. (O : Opening) (L : List Step) → HasRun O L self.old →
+            AreCarried self.old.board.settings O L journals.items)) }
+        ensures can { IfOk result (λ books. IfSome books (λ journals. CanOpenFrom self.old.board.settings journals.items)) }
+        ensures few { IfOk result (λ books. books ≡ None → (O : Opening) (L : List Step) → HasRun O L self.old →
+            ¬ ((p : ℕ) → openings (history self.old.board.settings O (closing self.old.board.settings ++ L) p) < 500)) }
+        ensures ran { OnOk result ((O : Opening) (L : List Step) → HasRun O L self.old → HasRun O (closing self.old.board.settings ++ L) self.new) }
+        ensures only { IsOkUnless result Fault.Memory }
+        ensures settings { self.new.board.settings ≡ self.old.board.settings }
+    {
+        self.close()?;
+        let journals = self.journals(alloc)?;
+        if !may_open(&journals) {
+            return Ok(None);
+        }
+        Ok(Some(journals))
+    }
+}
