@@ -1,0 +1,4 @@
+pub mod Tallying
+pub mod Deciding
+pub mod Agreeing
+pub mod Replaying

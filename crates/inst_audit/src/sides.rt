@@ -1,0 +1,137 @@
+//! Whether both sides of each transfer agree.
+ghost use Rattle.std.specs.Prelude.{◌≡◌, ◌↔◌, ◌≤◌, ℕ, IsTrue, length};
+ghost use Rattle.std.specs.List.{All};
+ghost use Rattle.inst_journal.specs.Booked.{first_some, booked};
+ghost use Rattle.inst_ledger.specs.Kept.{terms_of, forwarding_of};
+ghost use Rattle.inst_audit.specs.Agreeing.{IsReleased, IsReceived, IsSent, Agrees, histories_of};
+
+use inst_base::{Cents, Ident, Moment};
+use inst_command::Outcome;
+use inst_journal::Event;
+use inst_ledger::{Forwarding, Ledger, Terms};
+
+/// Whether an end is booked that releases the amount.
+fn is_released(outcome: &Option<Outcome>) -> bool
+    ensures { IsTrue result ↔ IsReleased outcome.now }
+{
+    matches!(outcome, Some(Outcome::Rejected(_) | Outcome::TimedOut))
+}
+
+/// Whether both have booked the same, or neither anything.
+fn is_same(one: &Option<Outcome>, other: &Option<Outcome>) -> bool
+    ensures { IsTrue result ↔ (one.now ≡ other.now) }
+{
+    one == other
+}
+
+/// Whether what came to the beneficiary agrees with what was submitted, and what was booked `there` with what its
+/// originator has booked `here`. The deadline is in milliseconds past the base.
+fn is_received(
+    came: &Option<Forwarding>,
+    cents: Cents,
+    deadline: u64,
+    here: &Option<Outcome>,
+    there: &Option<Outcome>,
+) -> bool
+    ensures { IsTrue result ↔ IsReceived cents deadline here.now there.now came.now }
+{
+    match came {
+        Some(forwarding) => {
+            forwarding.cents == cents
+                && forwarding.deadline.past_base() == deadline
+                && is_same(there, here)
+        }
+        None => is_released(here),
+    }
+}
+
+/// Whether the terms of a submission agree with what came to the beneficiary `to`.
+fn is_sent(sent: &Option<Terms>, limit: u32, to: u8, cents: Cents, deadline: Moment) -> bool
+    ensures { IsTrue result ↔ IsSent limit to cents deadline sent.now }
+{
+    match sent {
+        Some(terms) => {
+            terms.to == to
+                && terms.cents == cents
+                && terms.stamp.past_base() + u64::from(limit) == deadline.past_base()
+        }
+        None => false,
+    }
+}
+
+/// What came of the transfer to the participant `who`.
+fn forwarding(ledgers: &[Ledger], who: u8, from: u8, id: &Ident) -> Option<Forwarding>
+    ensures { result ≡ first_some (forwarding_of (from, id.now)) (histories_of ledgers.now who) }
+{
+    ledgers.get(usize::from(who))?.forwarding(from, id)
+}
+
+/// The terms that the participant `who` has submitted the transfer on.
+fn terms(ledgers: &[Ledger], who: u8, id: &Ident) -> Option<Terms>
+    ensures { result ≡ first_some (terms_of id.now) (histories_of ledgers.now who) }
+{
+    ledgers.get(usize::from(who))?.terms(id)
+}
+
+/// The outcome that the participant `who` has booked for the transfer.
+fn booked(ledgers: &[Ledger], who: u8, from: u8, id: &Ident) -> Option<Outcome>
+    ensures { result ≡ booked from id.now (histories_of ledgers.now who) }
+{
+    ledgers.get(usize::from(who))?.booked(from, id)
+}
+
+/// Whether what the event of the participant `who` says of a transfer agrees with what the other side has. It
+/// costs three looks at a table at most.
+fn agrees(ledgers: &[Ledger], limit: u32, who: u8, event: &Event) -> bool
+    ensures { IsTrue result ↔ Agrees limit (histories_of ledgers.now) who event.now }
+{
+    match event {
+        Event::Taken {
+            id,
+            to,
+            cents,
+            stamp,
+        } => is_received(
+            &forwarding(ledgers, *to, who, id),
+            *cents,
+            stamp.past_base() + u64::from(limit),
+            &booked(ledgers, who, who, id),
+            &booked(ledgers, *to, who, id),
+        ),
+        Event::Forwarded {
+            from,
+            id,
+            cents,
+            deadline,
+        } => is_sent(&terms(ledgers, *from, id), limit, who, *cents, *deadline),
+        Event::Funded { .. }
+        | Event::Defunded { .. }
+        | Event::Booked { .. }
+        | Event::Fetched { .. }
+        | Event::Opened => true,
+    }
+}
+
+/// Whether each of these events of the participant `who` agrees with the other side.
+fn all_agree(ledgers: &[Ledger], limit: u32, who: u8, events: &[Event]) -> bool
+    ensures { IsTrue result ↔ All (Agrees limit (histories_of ledgers.now) who) events.now }
+{
+    // The check is told of a type of another crate inside an event only where a function names it.
+    let _: Option<Outcome> = None;
+    events
+        .iter()
+        .all(|event| agrees(ledgers, limit, who, event))
+}
+
+/// Whether all that the ledgers have of each transfer agrees, event by event.
+pub(crate) fn books_agree(ledgers: &[Ledger], limit: u32) -> bool
+    requires { length ledgers.now ≤ 256 }
+    ensures { IsTrue result ↔ ((p : ℕ) → All (Agrees limit (histories_of ledgers.now) p) (histories_of ledgers.now p)) }
+{
+    for (who, ledger) in ledgers.iter().enumerate() {
+        if !all_agree(ledgers, limit, who as u8, ledger.journal().events()) {
+            return false;
+        }
+    }
+    true
+}

@@ -1,0 +1,64 @@
+//! What is counted of a history beside what a ledger keeps.
+ghost use Rattle.std.specs.Prelude.{◌≡◌, ℕ, ◌+◌, ◌-◌, ◌<◌, ◌≤◌, ◌^◌, slice_index, slice_set};
+
+/// One for each number that a participant may have.
+const NUMBERS: usize = 256;
+
+/// How many transfers came from each originator, by its number, and how often the hub was opened.
+#[derive(Clone, Copy, Debug, Drop)]
+pub(crate) struct Tally {
+    /// Those that are live.
+    pub(crate) live: [usize; NUMBERS],
+    /// Those with nothing booked.
+    pub(crate) waiting: [usize; NUMBERS],
+    pub(crate) openings: usize,
+}
+
+impl Tally {
+    /// Of an empty history.
+    pub(crate) fn new() -> Tally
+        ensures live { (from : ℕ) → from < 256 → slice_index result.live from ≡ 0 }
+        ensures waiting { (from : ℕ) → from < 256 → slice_index result.waiting from ≡ 0 }
+        ensures openings { result.openings ≡ 0 }
+    {
+        Tally {
+            live: [0; NUMBERS],
+            waiting: [0; NUMBERS],
+            openings: 0,
+        }
+    }
+
+    /// A transfer came from this originator.
+    pub(crate) fn arrive(&mut self, from: u8)
+        requires live { slice_index self.old.live from + 1 < 2 ^ 64 }
+        requires waiting { slice_index self.old.waiting from + 1 < 2 ^ 64 }
+        ensures live { self.new.live ≡ slice_set self.old.live from (slice_index self.old.live from + 1) }
+        ensures waiting { self.new.waiting ≡ slice_set self.old.waiting from (slice_index self.old.waiting from + 1) }
+        ensures openings { self.new.openings ≡ self.old.openings }
+    {
+        self.live[usize::from(from)] += 1;
+        self.waiting[usize::from(from)] += 1;
+    }
+
+    /// The outcome of a transfer that came from this originator is booked.
+    pub(crate) fn settle(&mut self, from: u8)
+        requires { 1 ≤ slice_index self.old.waiting from }
+        ensures live { self.new.live ≡ self.old.live }
+        ensures waiting { self.new.waiting ≡ slice_set self.old.waiting from (slice_index self.old.waiting from - 1) }
+        ensures openings { self.new.openings ≡ self.old.openings }
+    {
+        self.waiting[usize::from(from)] -= 1;
+    }
+
+    /// The hub was opened: what has nothing booked is live, and nothing else.
+    pub(crate) fn begin(&mut self)
+        requires { self.old.openings + 1 < 2 ^ 64 }
+        ensures live { self.new.live ≡ self.old.waiting }
+        ensures waiting { self.new.waiting ≡ self.old.waiting }
+        ensures openings { self.new.openings ≡ self.old.openings + 1 }
+    {
+        let waiting = self.waiting;
+        self.live = waiting;
+        self.openings += 1;
+    }
+}
