@@ -1,8 +1,8 @@
 -- How far a hub with a log has come.
-use Rattle.std.proofs.Common.{◌≡◌, ⊎_elim, inl, inr, ℕ, ◌+◌, ◌≤◌, List, [], ◌++◌, map, Option, length, take, drop, append_assoc, length-append, refl, sym, ◌∙◌, ap, subst, arith}
+use Rattle.std.proofs.Common.{◌≡◌, ⊎_elim, inl, inr, ℕ, ◌+◌, List, [], ◌++◌, map, Option, length, take, append_assoc, length-append, refl, sym, ◌∙◌, ap, subst, arith}
 use Rattle.std.proofs.Math.Seq.{take-append-add}
 use Rattle.std.proofs.lemmas.List.{append-nil, map-append}
-use Rattle.std.specs.Io.KnownBytes.{Appends, Consumes, IsAtEnd}
+use Rattle.std.specs.Io.KnownBytes.{Consumes}
 use Rattle.inst_lines.specs.Lines.{lines_of, whole_lines_of}
 use Rattle.inst_lines.proofs.ProgressLemmas.{Consumes-append, Consumes-keeps}
 use Rattle.inst_log.specs.Layout.{recovered}
@@ -14,7 +14,7 @@ use Rattle.inst_log.proofs.Serve.{on_more, tells_more, kept_after}
 use Rattle.inst_logged.specs.Answering.{SaysLines}
 use Rattle.inst_logged.specs.Intake.{held}
 use Rattle.inst_logged.specs.Input.{cut, logged, lines_from, rest_from, last_line}
-use Rattle.inst_logged.specs.Logged.{Turned, Ended, Came, IsInput, CameIn, AreLinesOf, ServedOn, KeptOn, HasCome}
+use Rattle.inst_logged.specs.Logged.{Turned, Ended, Came, IsInput, CameIn, ServedOn, KeptOn, HasCome}
 use Rattle.inst_logged.specs.declared.line_answers.LineAnswers.{LineAnswers}
 use Rattle.inst_logged.specs.declared.intake.Intake.{Intake}
 use Rattle.inst_logged.proofs.Cutting.{lines_append, rest_append, lines_of-from, whole_lines_of-from}

@@ -1,12 +1,12 @@
 -- What a read adds to a batch, and what is held behind it.
-use Rattle.std.proofs.Common.{◌≡◌, ⊎_elim, ℕ, ◌+◌, ◌-◌, ◌<◌, ◌≤◌, min, List, [], ◌∷◌, ◌++◌, map, length, take, drop, append_assoc, length-append, refl, sym, ap, subst, ◌∙◌, arith}
+use Rattle.std.proofs.Common.{◌≡◌, ⊎_elim, ℕ, ◌+◌, ◌-◌, ◌<◌, ◌≤◌, min, List, [], ◌∷◌, ◌++◌, map, length, take, drop, append_assoc, refl, sym, ap, subst, ◌∙◌, arith}
 use Rattle.std.proofs.lemmas.List.{take-take, take_all, take_at, take-append-le, length-take, length-take-le, length-drop, drop-drop}
 use Rattle.std.proofs.lemmas.Slice.{between_is}
 use Rattle.std.proofs.Math.Seq.{take-append-add}
 use borrow.Rule.Slice.PartMut.{put_mid, post_of}
 use lib.Seq.{paste}
 use Rattle.std.proofs.lemmas.Bool.{cases_lt}
-use Rattle.inst_log.specs.Layout.{recovered, NoNewline, BreaksAt}
+use Rattle.inst_log.specs.Layout.{NoNewline, BreaksAt}
 use Rattle.inst_log.specs.Escape.{raw_of}
 use Rattle.inst_logged.specs.Input.{lines_from, rest_from, last_line, cut, logged}
 use Rattle.inst_logged.proofs.Cutting.{lines_behind, rest_behind, lines_beyond, rest_beyond, lines_alike, rest_alike, cut_twice, NoNewline-take}

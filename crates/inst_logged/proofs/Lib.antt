@@ -1,10 +1,13 @@
 mod Alike
 mod Answering
+mod Causes
 mod Coming
 mod Cutting
 mod Heading
+mod Opened
 mod Intaking
 mod Owing
 mod Reopening
 mod Running
 mod Turning
+mod Written

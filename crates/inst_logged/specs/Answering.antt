@@ -1,5 +1,8 @@
 -- What a hub in one thread says to lines as a log has them. That a log has lines so is this hub's own choice.
 use Rattle.std.specs.Prelude.{◌≡◌, ◌≤◌, ◌-◌, ℕ, List, [], ◌∷◌, map, ◌++◌, length, take, drop, Option, Some, None}
+use Rattle.inst_settings.specs.Settings.{HubSettings}
+use Rattle.inst_journal.specs.History.{History}
+use Rattle.inst_world.specs.NextOpening.{opening_from, AreCarried}
 use Rattle.inst_agenda.specs.declared.runner.Runner.{Runner}
 use Rattle.inst_lines.specs.declared.mode.Mode.{Mode}
 use Rattle.inst_lines.specs.Answers.{output, state_after}
@@ -7,6 +10,10 @@ use Rattle.inst_lines.specs.Answering.{Past, Keeps, answering}
 use Rattle.inst_log.specs.Layout.{recovered, IsFirstLine}
 use Rattle.inst_log.specs.Escape.{line_of}
 use Rattle.inst_log.specs.Serving.{Replies}
+
+-- of a hub that opens again from these journals
+abbrev pub opened_from : HubSettings → List History → Past
+opened_from s journals = record { settings = s; opening = opening_from journals; steps = [] }
 
 -- the replies to the lines that come next, at a hub that has gone through this
 abbrev pub replies_at : Mode → Past → Replies
@@ -26,6 +33,11 @@ pub record SaysLines (mode : Mode) (runner : Runner) (replies : Replies) : Type 
 pub record AnswersLines (mode : Mode) (old new : Runner) (out_old out_new : List ℕ) (lines : List (List ℕ)) : Type 0 where
   pub replies : (past : Past) → Keeps mode past old → out_new ≡ out_old ++ replies_at mode past lines
   pub state : (past : Past) → Keeps mode past old → Keeps mode (past_after mode past lines) new
+
+-- the journals are the books of a hub that had gone through this, answered these lines and was closed
+abbrev pub AreBooksAfter : Mode → Past → List (List ℕ) → List History → Type 0
+AreBooksAfter mode past lines journals =
+    let after = past_after mode past lines in AreCarried after.settings after.opening after.steps journals
 
 -- the first lines of a batch were answered, and the others are left
 pub record AnswersFront (mode : Mode) (old new : Runner) (out_old out_new batch rest : List ℕ) : Type 0 where

@@ -1,9 +1,11 @@
 -- With which line a log begins: the settings of its hub, and what its lines stand for. This hub's own choice.
-use Rattle.std.specs.Prelude.{ℕ, Bool, true, false, List, [], ◌∷◌, ◌++◌, codes, decimal, if◌then◌else◌}
+use Rattle.std.specs.Prelude.{ℕ, Bool, true, false, List, [], ◌∷◌, ◌++◌, length, Option, None, Some, codes, decimal, if◌then◌else◌}
 use Rattle.inst_settings.specs.Settings.{HubSettings}
 use Rattle.inst_lines.specs.declared.mode.Mode.{Mode}
 use Rattle.inst_lines.specs.declared.mode.Mode.TheVariants.{Run, Play}
-use Rattle.inst_log.specs.Layout.{at_rest}
+use Rattle.inst_journal.specs.History.{History}
+use Rattle.inst_books.specs.Books.{all_events, books_text}
+use Rattle.inst_log.specs.Layout.{recovered, at_rest}
 use Rattle.inst_log.specs.Escape.{raw_of}
 
 -- what the lines stand for, as a word
@@ -36,14 +38,25 @@ mode_field mode = codes ",\"log\":\"" ++ mode_word mode ++ codes "\""
 abbrev pub participants_field : List (List ℕ) → List ℕ
 participants_field participants = codes ",\"participants\":[" ++ listed false participants ++ codes "]"
 
+-- how many lines of books stand behind the settings, with its name, where the hub opened from books
+abbrev pub books_field : Option ℕ → List ℕ
+books_field None = []
+books_field (Some count) = field (codes ",\"books\":") count
+
 -- the settings and what the lines stand for, as a line of compact JSON, its keys in the order of their bytes
-abbrev pub header_line : Mode → HubSettings → List ℕ
-header_line mode s =
-    field (codes "{\"ahead\":") s.ahead ++ field (codes ",\"base\":") s.base ++ field (codes ",\"ceiling\":") s.ceiling
+abbrev pub header_line : Mode → HubSettings → Option ℕ → List ℕ
+header_line mode s books =
+    field (codes "{\"ahead\":") s.ahead ++ field (codes ",\"base\":") s.base ++ books_field books ++ field (codes ",\"ceiling\":") s.ceiling
     ++ field (codes ",\"fundings\":") s.fundings ++ field (codes ",\"limit\":") s.limit ++ mode_field mode
     ++ field (codes ",\"margin\":") s.margin ++ participants_field s.codes ++ field (codes ",\"places\":") s.places
     ++ codes ",\"version\":1}"
 
 -- the first batch of a log
 unfoldable pub header : Mode → HubSettings → List ℕ
-header mode s = at_rest (raw_of (header_line mode s) ∷ [])
+header mode s = at_rest (raw_of (header_line mode s None) ∷ [])
+
+-- the first batch of a log of a hub that opened again from these journals: its settings, and a line for each event of its
+-- books
+unfoldable pub header_from : Mode → HubSettings → List History → List ℕ
+header_from mode s journals =
+    let books = recovered (books_text s (all_events journals)) in at_rest (raw_of (header_line mode s (Some (length books))) ∷ books)

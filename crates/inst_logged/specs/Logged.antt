@@ -1,43 +1,48 @@
 -- What a hub with a log leaves on the disk and hands to the writer, whatever moment a crash comes at. This hub's own
 -- choice.
-use Rattle.std.specs.Prelude.{◌≡◌, ◌⊎◌, ◌≤◌, ◌<◌, ℕ, List, [], ◌++◌, map, length, take, drop, Option}
+use Rattle.std.specs.Prelude.{◌≡◌, ◌⊎◌, ◌<◌, ℕ, List, [], ◌++◌, map, length, take, drop, Option}
 use Rattle.std.specs.Io.KnownBytes.{Appends, Consumes, IsAtEnd}
-use Rattle.inst_settings.specs.Settings.{HubSettings}
 use Rattle.inst_lines.specs.declared.mode.Mode.{Mode}
 use Rattle.inst_lines.specs.Lines.{lines_of, whole_lines_of}
-use Rattle.inst_lines.specs.Answering.{opened}
-use Rattle.inst_log.specs.Layout.{recovered}
+use Rattle.inst_settings.specs.Settings.{HubSettings}
+use Rattle.inst_journal.specs.History.{History}
+use Rattle.inst_world.specs.NextOpening.{CanOpenFrom}
+use Rattle.inst_lines.specs.Answering.{Past, opened}
+use Rattle.inst_log.specs.Layout.{recovered, IsBatch}
 use Rattle.inst_log.specs.Log.{IsSettled}
 use Rattle.inst_log.specs.Opening.{kept}
 use Rattle.inst_log.specs.Serving.{Replies, Tells, TellsKept, SaysOn}
 use Rattle.inst_log.specs.declared.recorder.Recorder.{Recorder}
-use Rattle.inst_world.specs.HasRun.{settings_of}
-use Rattle.inst_logged.specs.Header.{header}
-use Rattle.inst_logged.specs.Answering.{replies_at, SaysLines, told_of}
+use Rattle.inst_logged.specs.Header.{header, header_from}
+use Rattle.inst_logged.specs.Answering.{replies_at, SaysLines, opened_from, told_of}
 use Rattle.inst_logged.specs.LineAnswers.{HasOpened}
 use Rattle.inst_logged.specs.Input.{cut, logged, lines_from, rest_from, last_line}
 use Rattle.inst_logged.specs.Intake.{held}
 use Rattle.inst_logged.specs.declared.line_answers.LineAnswers.{LineAnswers}
 use Rattle.inst_logged.specs.declared.intake.Intake.{Intake}
 
--- what is owed for lines behind the first ones of a log, at a hub that opened for the first time: all replies but those
--- to the lines that have been told
-abbrev pub owed : Mode → HubSettings → List (List ℕ) → ℕ → Replies
-owed mode s first told lines =
-    drop (length (replies_at mode (opened s) (take told first))) (replies_at mode (opened s) (first ++ lines))
+-- what is owed for lines behind the first ones of a log, at a hub that had gone through this before the first: all
+-- replies but those to the lines that have been told
+abbrev pub owed : Mode → Past → List (List ℕ) → ℕ → Replies
+owed mode past first told lines =
+    drop (length (replies_at mode past (take told first))) (replies_at mode past (first ++ lines))
 
 -- these replies and no others
 abbrev pub Are : Replies → Replies → Type 0
 Are these replies = (lines : List (List ℕ)) → replies lines ≡ these lines
 
--- the settings of the hub that answers
-abbrev pub settings_at : LineAnswers → HubSettings
-settings_at answers = settings_of answers.runner.world
-
--- a hub that has answered no line yet, and has read nothing
-pub record IsUnbegun (answers : LineAnswers) (intake : Intake) : Type 0 where
-  pub opened : HasOpened answers.mode (settings_at answers) answers
+-- these may be the first lines of a log, and no other was read
+pub record IsUnbegun (header : List ℕ) (intake : Intake) : Type 0 where
+  pub batch : IsBatch header
   pub nothing : held intake ≡ []
+
+-- A hub of these settings began for the first time, or from journals that it can open from, and a log of its lines begins
+-- so.
+abbrev pub HasBegun : Mode → HubSettings → List ℕ → LineAnswers → Type 0
+HasBegun mode s first answers =
+    (HasOpened mode (opened s) answers × (first ≡ header mode s))
+    ⊎ ((journals : List History) × CanOpenFrom s journals × HasOpened mode (opened_from s journals) answers
+    × (first ≡ header_from mode s journals))
 
 -- further bytes were read behind a part of a line, and these are the lines that end there, as a log has them
 pub record Turned (part : List ℕ) (intake : Intake) (lines : List (List ℕ)) (left left' : Option (List ℕ)) : Type 0 where
@@ -105,21 +110,21 @@ pub record KeptOn (may_leave : List ℕ → Type 0) (given : List (List ℕ) →
   pub kept : TellsKept recovered may_leave says stand lines before after
 
 -- all that the reader had left is in the log, behind the lines that were there, and what was owed was handed out
-pub record HasLogged (mode : Mode) (s : HubSettings) (told : Option ℕ) (old new : List ℕ) (left left' before after : Option (List ℕ)) : Type 0 where
+pub record HasLogged (mode : Mode) (past : Past) (header : List ℕ) (told : Option ℕ) (old new : List ℕ) (left left' before after : Option (List ℕ)) : Type 0 where
   pub bytes : List ℕ
   pub consumes : Consumes left left' bytes
   pub at_end : IsAtEnd left'
-  pub lines : recovered new ≡ recovered (header mode s) ++ (kept (header mode s) old ++ map logged (lines_of bytes))
-  pub replies : Appends before after (owed mode s (kept (header mode s) old) (told_of told (kept (header mode s) old)) (map logged (lines_of bytes)))
+  pub lines : recovered new ≡ recovered header ++ (kept header old ++ map logged (lines_of bytes))
+  pub replies : Appends before after (owed mode past (kept header old) (told_of told (kept header old)) (map logged (lines_of bytes)))
 
 -- Some bytes were read. Each file that a crash may leave has the lines that were in the log and then a front of those
 -- read, none skipped and none in part, and all that was handed to the writer is a front of what is owed for these.
-pub record SurvivesACrash (mode : Mode) (s : HubSettings) (told : Option ℕ) (old : List ℕ) (may_leave : List ℕ → Type 0)
+pub record SurvivesACrash (mode : Mode) (past : Past) (header : List ℕ) (told : Option ℕ) (old : List ℕ) (may_leave : List ℕ → Type 0)
     (left left' before after : Option (List ℕ)) : Type 0 where
   pub bytes : List ℕ
   pub consumes : Consumes left left' bytes
   pub lines : List (List ℕ)
   pub lines_are : AreLinesOf bytes left' lines
-  pub kept : TellsKept (kept (header mode s)) may_leave
-      (Are (owed mode s (kept (header mode s) old) (told_of told (kept (header mode s) old))))
-      (kept (header mode s) old) (map logged lines) before after
+  pub kept : TellsKept (kept header) may_leave
+      (Are (owed mode past (kept header old) (told_of told (kept header old))))
+      (kept header old) (map logged lines) before after

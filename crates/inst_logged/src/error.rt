@@ -12,6 +12,8 @@ pub enum LoggedError {
     Log(LogError),
     /// A read of the lines failed.
     Read,
+    /// The books that stand behind the log's settings are none that a hub can open from.
+    Books,
 }
 
 impl From<LogError> for LoggedError {

@@ -1,12 +1,16 @@
 // The line with which a log begins.
-ghost use Rattle.std.specs.Prelude.{◌≡◌, ◌++◌, true, false, nat_lt, IfOk, OnOk, string_bytes};
+ghost use Rattle.std.specs.Prelude.{◌≡◌, ◌++◌, ◌∷◌, [], None, true, false, nat_lt, IfOk, OnOk, string_bytes};
 ghost use Rattle.inst_settings.specs.Settings.{is_participant};
 ghost use Rattle.inst_command.specs.LineText.{code_numbered};
-ghost use Rattle.inst_log.specs.Layout.{IsBatch};
-ghost use Rattle.inst_logged.specs.Header.{header, header_line, field, mode_field, participants_field, mode_word, listed, comma_if, quoted};
+ghost use Rattle.inst_log.specs.Layout.{recovered, IsBatch, IsWhole};
+ghost use Rattle.inst_log.specs.Escape.{raw_of};
+ghost use Rattle.inst_world.specs.NextOpening.{CanOpenFrom};
+ghost use Rattle.inst_logged.specs.Header.{header, header_from, header_line, books_field, field, mode_field, participants_field, mode_word, listed, comma_if, quoted};
 
+use inst_books::append_books;
+use inst_journal::Journal;
 use inst_lines::Mode;
-use inst_log::{close_batch, find_newline, push_line};
+use inst_log::{close_batch, count_lines, find_newline, push_line, whole_lines};
 use inst_settings::Settings;
 use std::alloc::{AllocError, Global};
 
@@ -15,24 +19,65 @@ pub fn first_batch(alloc: Global, mode: Mode, settings: &Settings) -> Result<Vec
     ensures batch { IfOk result (λ batch. IsBatch batch.items) }
     ensures items { IfOk result (λ batch. batch.items ≡ header mode settings.now) }
 {
-    let line = header_line(alloc, mode, settings)?;
+    let mut batch = settings_line(alloc, mode, settings, None)?;
+    close_batch(&mut batch)?;
+    Ok(batch)
+}
+
+/// The first batch of a log of a hub that opened again from these journals, one for each participant by number: the line
+/// of its settings, and a line for each event of its books.
+pub fn first_batch_from(
+    alloc: Global,
+    mode: Mode,
+    settings: &Settings,
+    journals: &[Journal],
+) -> Result<Vec<u8>, AllocError>
+    requires { CanOpenFrom settings.now journals.now }
+    ensures batch { IfOk result (λ batch. IsBatch batch.items) }
+    ensures items { IfOk result (λ batch. batch.items ≡ header_from mode settings.now journals.now) }
+{
+    let mut books = Vec::new(alloc);
+    append_books(settings, journals, &mut books)?;
+    let mut batch = settings_line(alloc, mode, settings, Some(count_lines(&books) as u64))?;
+    batch.extend_from_slice(whole_lines(&books))?;
+    close_batch(&mut batch)?;
+    Ok(batch)
+}
+
+/// The line of the settings, with its newline, as a batch that isn't closed.
+fn settings_line(
+    alloc: Global,
+    mode: Mode,
+    settings: &Settings,
+    books: Option<u64>,
+) -> Result<Vec<u8>, AllocError>
+    ensures whole { IfOk result (λ batch. IsWhole batch.items) }
+    ensures lines { IfOk result (λ batch. recovered batch.items ≡ raw_of (header_line mode settings.now books) ∷ []) }
+{
+    let line = header_line(alloc, mode, settings, books)?;
     let mut batch = Vec::new(alloc);
     match find_newline(line.as_bytes()) {
         None => push_line(&mut batch, line.as_bytes())?,
         // No name, no number and no code has a newline: this is never reached.
         Some(_) => return Err(AllocError),
     }
-    close_batch(&mut batch)?;
     Ok(batch)
 }
 
-/// The settings and what the lines stand for, as a line of compact JSON.
-fn header_line(alloc: Global, mode: Mode, settings: &Settings) -> Result<String, AllocError>
-    ensures { IfOk result (λ text. string_bytes text ≡ header_line mode settings.now) }
+/// The settings and what the lines stand for, and how many lines of books come behind, if any do, as a line of compact
+/// JSON.
+pub(crate) fn header_line(
+    alloc: Global,
+    mode: Mode,
+    settings: &Settings,
+    books: Option<u64>,
+) -> Result<String, AllocError>
+    ensures { IfOk result (λ text. string_bytes text ≡ header_line mode settings.now books) }
 {
     let mut text = String::new(alloc);
     push_field(&mut text, "{\"ahead\":", u64::from(settings.ahead()))?;
     push_field(&mut text, ",\"base\":", settings.base())?;
+    push_books(&mut text, books)?;
     push_field(&mut text, ",\"ceiling\":", settings.ceiling())?;
     push_field(&mut text, ",\"fundings\":", u64::from(settings.fundings()))?;
     push_field(&mut text, ",\"limit\":", u64::from(settings.limit()))?;
@@ -51,6 +96,16 @@ fn push_field(text: &mut String, name: &str, number: u64) -> Result<(), AllocErr
     text.push_str(name)?;
     let digits = number.to_string(*text.allocator())?;
     text.push_str(&digits)
+}
+
+/// Puts how many lines of books there are at the end of a text, if there are books.
+fn push_books(text: &mut String, books: Option<u64>) -> Result<(), AllocError>
+    ensures { OnOk result (string_bytes text.new ≡ string_bytes text.old ++ books_field books) }
+{
+    match books {
+        Some(count) => push_field(text, ",\"books\":", count),
+        None => Ok(()),
+    }
 }
 
 fn push_mode(text: &mut String, mode: Mode) -> Result<(), AllocError>

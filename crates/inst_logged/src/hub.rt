@@ -6,17 +6,24 @@ ghost use Rattle.inst_log.specs.Layout.{recovered, IsBatch, NoNewline};
 ghost use Rattle.inst_log.specs.Log.{IsSettled};
 ghost use Rattle.inst_log.specs.Opening.{kept, Opens, OpensAlike};
 ghost use Rattle.inst_log.specs.Serving.{Tells, TellsPart, SaysOn};
-ghost use Rattle.inst_logged.specs.Header.{header};
+ghost use Rattle.inst_lines.specs.Answering.{Past, Keeps, opened};
+ghost use Rattle.inst_world.specs.HasRun.{settings_of};
+ghost use Rattle.inst_world.specs.NextOpening.{CanOpenFrom};
+ghost use Rattle.inst_logged.specs.Header.{header, header_from};
 ghost use Rattle.inst_logged.specs.Input.{cut};
 ghost use Rattle.inst_logged.specs.Intake.{held};
-ghost use Rattle.inst_logged.specs.Answering.{SaysLines, told_of};
-ghost use Rattle.inst_logged.specs.Refused.{IsRefused, IsStrange};
-ghost use Rattle.inst_logged.specs.Logged.{Are, owed, settings_at, IsUnbegun, Turned, Ended, Came, IsInput, CameIn};
+ghost use Rattle.inst_logged.specs.Answering.{SaysLines, opened_from, told_of};
+ghost use Rattle.inst_logged.specs.Refused.{IsRefused, IsStrange, IsCause};
+ghost use Rattle.inst_logged.specs.Logged.{Are, owed, IsUnbegun, Turned, Ended, Came, IsInput, CameIn};
 ghost use Rattle.inst_logged.specs.Logged.{ServedOn, KeptOn, HasLogged, SurvivesACrash};
 
+mod closing;
+mod finding;
+
 use crate::intake::Intake;
-use crate::{LineAnswers, LoggedError, first_batch};
+use crate::{LineAnswers, LoggedError, first_batch, first_batch_from};
 use inst_base::Fault;
+use inst_journal::Journal;
 use inst_lines::Mode;
 use inst_log::{Answers, Log, LogError, Recorder, deliver};
 use inst_settings::Settings;
@@ -30,6 +37,8 @@ pub struct LoggedHub<D: Disk> {
     recorder: Recorder<D, LineAnswers>,
     intake: Intake,
     batch: Vec<u8>,
+    /// The first lines of its log.
+    header: Vec<u8>,
 }
 
 impl<D: Disk + Drop> LoggedHub<D> {
@@ -41,13 +50,57 @@ impl<D: Disk + Drop> LoggedHub<D> {
         settings: &Settings,
         disk: D,
     ) -> Result<LoggedHub<D>, Fault>
-        ensures unbegun { IfOk result (λ hub. IsUnbegun hub.recorder.answers hub.intake) }
+        ensures unbegun { IfOk result (λ hub. IsUnbegun hub.header.items hub.intake) }
+        ensures header { IfOk result (λ hub. hub.header.items ≡ header mode settings.now) }
         ensures mode { IfOk result (λ hub. hub.recorder.answers.mode ≡ mode) }
-        ensures settings { IfOk result (λ hub. settings_at hub.recorder.answers ≡ settings.now) }
+        ensures opened { IfOk result (λ hub. Keeps mode (opened settings.now) hub.recorder.answers.runner) }
+        ensures settings { IfOk result (λ hub. settings_of hub.recorder.answers.runner.world ≡ settings.now) }
         ensures disk { IfOk result (λ hub. hub.recorder.log.disk ≡ disk) }
         ensures only { IsOkUnless result Fault.Memory }
     {
         let answers = LineAnswers::open(alloc, mode, settings)?;
+        let header = first_batch(alloc, mode, settings)?;
+        LoggedHub::begin(alloc, answers, header, disk)
+    }
+
+    /// A hub of these settings that opens again from these journals, one for each participant by number, and has answered
+    /// nothing, with the disk of its log, of which nothing is read yet. `Memory` where there is no room for a copy of
+    /// them and for the places.
+    pub fn new_from(
+        alloc: Global,
+        mode: Mode,
+        settings: &Settings,
+        journals: &[Journal],
+        disk: D,
+    ) -> Result<LoggedHub<D>, Fault>
+        requires journals { CanOpenFrom settings.now journals.now }
+        ensures unbegun { IfOk result (λ hub. IsUnbegun hub.header.items hub.intake) }
+        ensures header { IfOk result (λ hub. hub.header.items ≡ header_from mode settings.now journals.now) }
+        ensures mode { IfOk result (λ hub. hub.recorder.answers.mode ≡ mode) }
+        ensures opened { IfOk result (λ hub. Keeps mode (opened_from settings.now journals.now) hub.recorder.answers.runner) }
+        ensures settings { IfOk result (λ hub. settings_of hub.recorder.answers.runner.world ≡ settings.now) }
+        ensures disk { IfOk result (λ hub. hub.recorder.log.disk ≡ disk) }
+        ensures only { IsOkUnless result Fault.Memory }
+    {
+        let answers = LineAnswers::open_from(alloc, mode, settings, journals)?;
+        let header = first_batch_from(alloc, mode, settings, journals)?;
+        LoggedHub::begin(alloc, answers, header, disk)
+    }
+
+    /// A hub with this state and the first lines of its log.
+    fn begin(
+        alloc: Global,
+        answers: LineAnswers,
+        header: Vec<u8>,
+        disk: D,
+    ) -> Result<LoggedHub<D>, Fault>
+        requires batch { IsBatch header.items }
+        ensures unbegun { IfOk result (λ hub. IsUnbegun hub.header.items hub.intake) }
+        ensures header { IfOk result (λ hub. hub.header ≡ header) }
+        ensures answers { IfOk result (λ hub. hub.recorder.answers ≡ answers) }
+        ensures disk { IfOk result (λ hub. hub.recorder.log.disk ≡ disk) }
+        ensures only { IsOkUnless result Fault.Memory }
+    {
         let intake = Intake::new(alloc)?;
         Ok(LoggedHub {
             recorder: Recorder {
@@ -57,7 +110,15 @@ impl<D: Disk + Drop> LoggedHub<D> {
             },
             intake,
             batch: Vec::new(alloc),
+            header,
         })
+    }
+
+    /// The settings of the hub.
+    pub fn settings(&self) -> &Settings
+        ensures { result.now ≡ settings_of self.now.recorder.answers.runner.world }
+    {
+        self.recorder.answers.runner.settings()
     }
 
     /// The disk of its log.
@@ -81,7 +142,7 @@ impl<D: Disk + Drop> LoggedHub<D> {
         reader: &mut R,
         writer: &mut W,
     ) -> Result<(), LoggedError>
-        requires unbegun { IsUnbegun self.old.recorder.answers self.old.intake }
+        requires unbegun { IsUnbegun self.old.header.items self.old.intake }
         requires usable { IsTrue (D.Disk.is_usable self.old.recorder.log.disk) }
         // After a restart, what is read is what is on the disk.
         requires known { IsTrue (D.Disk.is_clean self.old.recorder.log.disk)
@@ -89,7 +150,8 @@ impl<D: Disk + Drop> LoggedHub<D> {
 
         ensures end { OnOk result (IsAtEnd (R.remaining reader.new)) }
         ensures logged { OnOk result (IsTrue (D.Disk.is_clean self.new.recorder.log.disk)
-            → HasLogged self.old.recorder.answers.mode (settings_at self.old.recorder.answers) told
+            → (past : Past) → Keeps self.old.recorder.answers.mode past self.old.recorder.answers.runner
+            → HasLogged self.old.recorder.answers.mode past self.old.header.items told
             (D.Disk.seen self.old.recorder.log.disk) (D.Disk.seen self.new.recorder.log.disk)
             (R.remaining reader.old) (R.remaining reader.new) (W.contents writer.old) (W.contents writer.new)) }
         ensures settled { OnOk result (IsTrue (D.Disk.is_clean self.new.recorder.log.disk)
@@ -97,68 +159,72 @@ impl<D: Disk + Drop> LoggedHub<D> {
 
         // At `Ok` and at `Err`: whatever moment the machine stops at.
         ensures any_moment { IsTrue (D.Disk.is_clean self.new.recorder.log.disk)
-            → SurvivesACrash self.old.recorder.answers.mode (settings_at self.old.recorder.answers) told
+            → (past : Past) → Keeps self.old.recorder.answers.mode past self.old.recorder.answers.runner
+            → SurvivesACrash self.old.recorder.answers.mode past self.old.header.items told
             (D.Disk.seen self.old.recorder.log.disk) (D.Disk.may_leave self.new.recorder.log.disk)
             (R.remaining reader.old) (R.remaining reader.new) (W.contents writer.old) (W.contents writer.new) }
         ensures opens { IsTrue (D.Disk.is_clean self.new.recorder.log.disk)
-            → Opens (header self.old.recorder.answers.mode (settings_at self.old.recorder.answers)) (D.Disk.seen self.old.recorder.log.disk)
-            → (c : List ℕ) → D.Disk.may_leave self.new.recorder.log.disk c
-            → Opens (header self.old.recorder.answers.mode (settings_at self.old.recorder.answers)) c }
+            → Opens self.old.header.items (D.Disk.seen self.old.recorder.log.disk)
+            → (c : List ℕ) → D.Disk.may_leave self.new.recorder.log.disk c → Opens self.old.header.items c }
         // A log that isn't taken: nothing was read and nothing handed out, and one of another hub is as it was.
         ensures refused { IfErr result (λ error. IsRefused error → (reader.new ≡ reader.old) × (writer.new ≡ writer.old)) }
         ensures strange { IfErr result (λ error. IsStrange error
             → D.Disk.seen self.new.recorder.log.disk ≡ D.Disk.seen self.old.recorder.log.disk) }
+        ensures cause { IfErr result (λ error. IsTrue (D.Disk.is_clean self.new.recorder.log.disk)
+            → IsCause self.old.header.items told (D.Disk.seen self.old.recorder.log.disk) error) }
         ensures clean { IsTrue (D.Disk.is_clean self.new.recorder.log.disk) → IsTrue (D.Disk.is_clean self.old.recorder.log.disk) }
     {
-        let answers = &self.recorder.answers;
-        let header = first_batch(alloc, answers.mode, answers.runner.settings())?;
-        self.reopen(alloc, &header, told, writer)?;
+        self.reopen(alloc, told, writer)?;
         self.serve_all(reader, writer)
     }
 
-    /// Opens the log with this header, and hands out the replies to its lines but for those to the first `told`.
+    /// Opens the log with its first lines, and hands out the replies to its lines but for those to the first `told`.
     fn reopen<W: Write>(
         &mut self,
         alloc: Global,
-        header: &[u8],
         told: Option<u64>,
         writer: &mut W,
     ) -> Result<(), LoggedError>
-        requires unbegun { IsUnbegun self.old.recorder.answers self.old.intake }
         requires usable { IsTrue (D.Disk.is_usable self.old.recorder.log.disk) }
         requires known { IsTrue (D.Disk.is_clean self.old.recorder.log.disk)
             → Only (D.Disk.seen self.old.recorder.log.disk) (D.Disk.may_leave self.old.recorder.log.disk) }
-        requires header { IsBatch header.now }
+        requires header { IsBatch self.old.header.items }
         ensures settled { OnOk result (IsTrue (D.Disk.is_clean self.new.recorder.log.disk)
             → IsSettled D.Disk.seen D.Disk.may_leave self.new.recorder.log
             × (recovered (D.Disk.seen self.new.recorder.log.disk)
-            ≡ recovered header.now ++ kept header.now (D.Disk.seen self.old.recorder.log.disk))) }
+            ≡ recovered self.old.header.items ++ kept self.old.header.items (D.Disk.seen self.old.recorder.log.disk))) }
         ensures any_moment { IsTrue (D.Disk.is_clean self.new.recorder.log.disk) → (c : List ℕ)
-            → D.Disk.may_leave self.new.recorder.log.disk c → OpensAlike header.now (D.Disk.seen self.old.recorder.log.disk) c }
+            → D.Disk.may_leave self.new.recorder.log.disk c → OpensAlike self.old.header.items (D.Disk.seen self.old.recorder.log.disk) c }
         ensures replied { OnOk result (IsTrue (D.Disk.is_clean self.new.recorder.log.disk)
-            → Tells (Are (owed self.old.recorder.answers.mode (settings_at self.old.recorder.answers)
-            (kept header.now (D.Disk.seen self.old.recorder.log.disk))
-            (told_of told (kept header.now (D.Disk.seen self.old.recorder.log.disk))))) []
+            → (past : Past) → Keeps self.old.recorder.answers.mode past self.old.recorder.answers.runner
+            → Tells (Are (owed self.old.recorder.answers.mode past
+            (kept self.old.header.items (D.Disk.seen self.old.recorder.log.disk))
+            (told_of told (kept self.old.header.items (D.Disk.seen self.old.recorder.log.disk))))) []
             (W.contents writer.old) (W.contents writer.new)) }
         ensures part { IsTrue (D.Disk.is_clean self.new.recorder.log.disk)
-            → TellsPart (Are (owed self.old.recorder.answers.mode (settings_at self.old.recorder.answers)
-            (kept header.now (D.Disk.seen self.old.recorder.log.disk))
-            (told_of told (kept header.now (D.Disk.seen self.old.recorder.log.disk))))) []
+            → (past : Past) → Keeps self.old.recorder.answers.mode past self.old.recorder.answers.runner
+            → TellsPart (Are (owed self.old.recorder.answers.mode past
+            (kept self.old.header.items (D.Disk.seen self.old.recorder.log.disk))
+            (told_of told (kept self.old.header.items (D.Disk.seen self.old.recorder.log.disk))))) []
             (W.contents writer.old) (W.contents writer.new) }
         // What is answered next is what is owed behind these.
         ensures on { OnOk result (IsTrue (D.Disk.is_clean self.new.recorder.log.disk)
-            → SaysOn (Are (owed self.old.recorder.answers.mode (settings_at self.old.recorder.answers)
-            (kept header.now (D.Disk.seen self.old.recorder.log.disk))
-            (told_of told (kept header.now (D.Disk.seen self.old.recorder.log.disk))))) []
+            → (past : Past) → Keeps self.old.recorder.answers.mode past self.old.recorder.answers.runner
+            → SaysOn (Are (owed self.old.recorder.answers.mode past
+            (kept self.old.header.items (D.Disk.seen self.old.recorder.log.disk))
+            (told_of told (kept self.old.header.items (D.Disk.seen self.old.recorder.log.disk))))) []
             (SaysLines self.new.recorder.answers.mode self.new.recorder.answers.runner)) }
         ensures refused { IfErr result (λ error. IsRefused error → writer.new ≡ writer.old) }
         ensures strange { IfErr result (λ error. IsStrange error
             → D.Disk.seen self.new.recorder.log.disk ≡ D.Disk.seen self.old.recorder.log.disk) }
+        ensures cause { IfErr result (λ error. IsTrue (D.Disk.is_clean self.new.recorder.log.disk)
+            → IsCause self.old.header.items told (D.Disk.seen self.old.recorder.log.disk) error) }
         ensures intake { self.new.intake ≡ self.old.intake }
         ensures usable { OnOk result (IsTrue (D.Disk.is_usable self.new.recorder.log.disk)) }
         ensures clean { IsTrue (D.Disk.is_clean self.new.recorder.log.disk) → IsTrue (D.Disk.is_clean self.old.recorder.log.disk) }
     {
         let recorder = &mut self.recorder;
+        let header = self.header.as_slice();
         let text = recorder.log.open(alloc, header)?;
         let lines = &text[header.len() - 1..];
         recorder.out.clear();

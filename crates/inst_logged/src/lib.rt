@@ -2,6 +2,7 @@
 //! was cut off at any moment goes on where its log ends.
 #![tactic(auto)]
 
+mod beginning;
 mod error;
 mod header;
 mod hub;
@@ -9,8 +10,9 @@ mod intake;
 mod laws;
 mod line_answers;
 
+pub use beginning::{Beginning, read_beginning};
 pub use error::LoggedError;
-pub use header::first_batch;
+pub use header::{first_batch, first_batch_from};
 pub use hub::LoggedHub;
 pub use laws::lines_answer_alike;
 pub use line_answers::LineAnswers;

@@ -1,14 +1,16 @@
 // A hub in one thread answers the lines of a log.
-ghost use Rattle.std.specs.Prelude.{◌≡◌, [], IfOk, IfSome, OnOk, IsOkUnless, MatchOption};
+ghost use Rattle.std.specs.Prelude.{◌≡◌, ◌<◌, [], length, IfOk, OnOk, IsOkUnless, MatchOption};
 ghost use Rattle.inst_log.specs.Layout.{recovered};
 ghost use Rattle.inst_logged.specs.Answering.{SaysLines, AnswersLines, AnswersNext, AnswersFirst, told_of};
 
 use inst_agenda::Runner;
 use inst_base::Fault;
+use inst_journal::Journal;
 use inst_json::LineReader;
 use inst_lines::{Mode, answer_line};
 use inst_log::{Answers, first_line, line_of};
 use inst_settings::Settings;
+use inst_world::World;
 use std::alloc::{AllocError, Global};
 
 /// A hub that answers lines, each as a log has it.
@@ -22,14 +24,38 @@ pub struct LineAnswers {
 }
 
 impl LineAnswers {
+    ghost use Rattle.inst_lines.specs.Answering.{opened};
+    ghost use Rattle.inst_world.specs.NextOpening.{CanOpenFrom};
     ghost use Rattle.inst_logged.specs.LineAnswers.{HasOpened};
+    ghost use Rattle.inst_logged.specs.Answering.{opened_from};
 
     /// A hub that opens for the first time. `Memory` where there is no room for its slots and places.
     pub fn open(alloc: Global, mode: Mode, settings: &Settings) -> Result<LineAnswers, Fault>
-        ensures opened { IfOk result (λ answers. HasOpened mode settings.now answers) }
+        ensures opened { IfOk result (λ answers. HasOpened mode (opened settings.now) answers) }
         ensures only { IsOkUnless result Fault.Memory }
     {
         let runner = Runner::open(alloc, settings)?;
+        Ok(LineAnswers {
+            reader: LineReader::new(alloc),
+            mode,
+            runner,
+        })
+    }
+
+    /// A hub that opens again from these journals, one for each participant by number. `Memory` where there is no room
+    /// for a copy of them and for the places.
+    pub fn open_from(
+        alloc: Global,
+        mode: Mode,
+        settings: &Settings,
+        journals: &[Journal],
+    ) -> Result<LineAnswers, Fault>
+        requires journals { CanOpenFrom settings.now journals.now }
+        ensures opened { IfOk result (λ answers. HasOpened mode (opened_from settings.now journals.now) answers) }
+        ensures only { IsOkUnless result Fault.Memory }
+    {
+        let world = World::open_from(alloc, settings, journals)?;
+        let runner = Runner::new(alloc, world)?;
         Ok(LineAnswers {
             reader: LineReader::new(alloc),
             mode,
@@ -45,7 +71,9 @@ impl LineAnswers {
         told: Option<u64>,
         out: &mut Vec<u8>,
     ) -> Result<Option<usize>, AllocError>
-        ensures ok { IfOk result (λ start. IfSome start (λ n. AnswersFirst self.old.mode self.old.runner self.new.runner
+        ensures ok { IfOk result (λ start. MatchOption start
+            (length (recovered lines.now) < told_of told (recovered lines.now))
+            (λ n. AnswersFirst self.old.mode self.old.runner self.new.runner
             out.old.items out.new.items lines.now n (told_of told (recovered lines.now)))) }
         ensures mode { self.new.mode ≡ self.old.mode }
     {
@@ -65,7 +93,8 @@ impl LineAnswers {
         count: u64,
         out: &mut Vec<u8>,
     ) -> Result<Option<usize>, AllocError>
-        ensures ok { IfOk result (λ start. IfSome start (λ n. AnswersFirst self.old.mode self.old.runner self.new.runner
+        ensures ok { IfOk result (λ start. MatchOption start (length (recovered lines.now) < count)
+            (λ n. AnswersFirst self.old.mode self.old.runner self.new.runner
             out.old.items out.new.items lines.now n count)) }
         ensures mode { self.new.mode ≡ self.old.mode }
     {
@@ -80,7 +109,7 @@ impl LineAnswers {
     }
 
     /// Answers the lines of a log.
-    fn answer_all(&mut self, lines: &[u8], out: &mut Vec<u8>) -> Result<(), AllocError>
+    pub(crate) fn answer_all(&mut self, lines: &[u8], out: &mut Vec<u8>) -> Result<(), AllocError>
         ensures ok { OnOk result (AnswersLines self.old.mode self.old.runner self.new.runner
             out.old.items out.new.items (recovered lines.now)) }
         ensures mode { self.new.mode ≡ self.old.mode }

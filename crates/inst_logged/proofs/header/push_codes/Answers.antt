@@ -1,4 +1,4 @@
-use Rattle.std.proofs.Common.{◌≡◌, ◌++◌, List, ℕ, length, drop, sym, ◌∙◌, ap, arith, rules}
+use Rattle.std.proofs.Common.{rules}
 use Rattle.inst_logged.proofs.Heading.{listed_next, listed_all}
 use Rattle.inst_logged.proofs.header.push_codes.Goals as goal
 

@@ -1,8 +1,8 @@
-use Rattle.std.proofs.Common.{◌≡◌, ℕ, ◌+◌, ◌≤◌, ◌∷◌, [], ◌++◌, List, map, length, drop, take, sym, ◌∙◌, ap, subst, arith, rules}
+use Rattle.std.proofs.Common.{◌≡◌, ℕ, ◌+◌, ◌≤◌, ◌++◌, List, map, length, take, sym, ◌∙◌, ap, subst, arith}
 use Rattle.std.proofs.lemmas.List.{take_rest, length-drop, append-nil}
 use Rattle.inst_log.specs.Layout.{recovered, NoNewline}
 use Rattle.inst_log.specs.Escape.{raw_of}
-use Rattle.inst_logged.specs.Input.{logged, lines_from}
+use Rattle.inst_logged.specs.Input.{logged}
 use Rattle.inst_logged.proofs.Cutting.{lines_none, rest_none}
 use Rattle.inst_logged.proofs.Intaking.{quiet_line, lines_pushed, rest_next, suffix_more}
 use Rattle.inst_logged.proofs.intake.push_lines.Goals as goal

@@ -1,4 +1,4 @@
-use Rattle.std.proofs.Common.{◌≡◌, [], ◌∙◌, refl, sym, subst, IsTrue}
+use Rattle.std.proofs.Common.{[], ◌∙◌, refl, sym, subst, IsTrue}
 use Rattle.std.proofs.lemmas.Bool.{MatchBool-at_true, MatchBool-at_false}
 use Rattle.inst_log.specs.Layout.{NoNewline}
 use Rattle.inst_logged.specs.Input.{rest_from}

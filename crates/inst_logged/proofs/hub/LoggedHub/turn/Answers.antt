@@ -1,4 +1,4 @@
-use Rattle.std.proofs.Common.{◌≡◌, inl, refl, ap, List, [], ℕ, map}
+use Rattle.std.proofs.Common.{inl, refl, ap, [], map}
 use Rattle.inst_log.specs.Layout.{recovered}
 use Rattle.inst_log.proofs.Serve.{kept_before}
 use Rattle.inst_logged.specs.Input.{logged, lines_from}

@@ -1,6 +1,6 @@
-use Rattle.std.proofs.Common.{◌≡◌, ◌-◌, ◌≤◌, ℕ, List, [], length, drop, refl, ap, ◌∙◌, arith}
+use Rattle.std.proofs.Common.{◌≡◌, ◌-◌, ℕ, [], length, drop, refl, ap, ◌∙◌, arith}
 use Rattle.std.proofs.lemmas.List.{take_rest, length-drop}
-use Rattle.inst_logged.proofs.Answering.{answers_none, front_next, front_first}
+use Rattle.inst_logged.proofs.Answering.{answers_none, front_next}
 use Rattle.inst_logged.proofs.Intaking.{suffix_more}
 use Rattle.inst_logged.proofs.line_answers.LineAnswers.answer_first.Goals as goal
 

@@ -1,4 +1,4 @@
-use Rattle.std.proofs.Common.{◌≡◌, ◌≤◌, ◌-◌, ℕ, length, drop}
+use Rattle.std.proofs.Common.{◌≡◌, ◌≤◌, ◌-◌, length, drop}
 use Rattle.inst_logged.specs.Answering.{AnswersFront}
 use Rattle.inst_logged.proofs.line_answers.LineAnswers.answer_first.Given as goal
 

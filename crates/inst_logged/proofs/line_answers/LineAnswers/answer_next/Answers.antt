@@ -1,4 +1,3 @@
-use Rattle.std.proofs.Common.{rules}
 use Rattle.inst_logged.proofs.Answering.{answers_one}
 use Rattle.inst_logged.proofs.line_answers.LineAnswers.answer_next.Goals as goal
 

@@ -1,5 +1,5 @@
 use Rattle.std.proofs.lemmas.Result.{on_ok_weaker}
-use Rattle.inst_logged.proofs.Answering.{says_so, says_on}
+use Rattle.inst_logged.proofs.Answering.{says_on}
 use Rattle.inst_logged.proofs.line_answers.LineAnswersAnswers.answer.Goals as goal
 
 pub returns-clause-on : goal.returns-clause-on

@@ -1,0 +1,54 @@
+-- A hub with a log that opened from journals, and what it has run.
+use Rattle.std.proofs.Common.{◌≡◌, ◌∙◌, ℕ, [], List, Option, Some, None, IfSome, Result, Ok, Err, IfOk, MatchResult, IsErrAnd, inr, ap, sym, subst}
+use Rattle.inst_base.specs.declared.fault.Fault.{Fault}
+use Rattle.inst_settings.specs.Settings.{HubSettings}
+use Rattle.inst_command.specs.declared.step.Step.{Step}
+use Rattle.inst_journal.specs.History.{History}
+use Rattle.inst_model.specs.Opening.{Opening}
+use Rattle.inst_world.specs.HasRun.{Hub, HasRun, settings_of}
+use Rattle.inst_world.specs.NextOpening.{opening_from, AreCarried, CanOpenFrom}
+use Rattle.inst_agenda.specs.declared.runner.Runner.{Runner}
+use Rattle.inst_agenda.specs.Watching.{Watches}
+use Rattle.inst_lines.specs.declared.mode.Mode.{Mode}
+use Rattle.inst_lines.specs.declared.mode.Mode.TheVariants.{Run, Play}
+use Rattle.inst_lines.specs.Answering.{Past, Keeps}
+use Rattle.inst_logged.specs.Answering.{opened_from}
+use Rattle.inst_logged.specs.Header.{header_from}
+use Rattle.inst_logged.specs.Logged.{HasBegun}
+use Rattle.inst_logged.specs.declared.line_answers.LineAnswers.{LineAnswers}
+
+pub keeps_again : (mode : Mode) (s : HubSettings) (journals : List History) (world : Hub) (runner : Runner) → world.board.settings ≡ s → HasRun (opening_from journals) [] world
+    → runner.world ≡ world → ((O : Opening) (L : List Step) → HasRun O L world → Watches O L runner.world runner.agenda) → Keeps mode (opened_from s journals) runner
+keeps_again Run s journals world runner settings run same watches =
+    record { settings_are = ap settings_of same ∙ settings; watches = watches (opening_from journals) [] run }
+keeps_again Play s journals world runner settings run same watches =
+    record { settings_are = ap settings_of same ∙ settings; ran = subst (HasRun (opening_from journals) []) (sym same) run }
+
+-- what a hub has gone through it has run
+pub has_run : (mode : Mode) (past : Past) (runner : Runner) → Keeps mode past runner → (settings_of runner.world ≡ past.settings) × HasRun past.opening past.steps runner.world
+has_run Run past runner keeps = (keeps.settings_are, keeps.watches.ran)
+has_run Play past runner keeps = (keeps.settings_are, keeps.ran)
+
+-- the books that a hub carries are those of what it has gone through
+pub are_carried : (mode : Mode) (past : Past) (runner : Runner) (journals : List History) → Keeps mode past runner
+    → ((O : Opening) (L : List Step) → HasRun O L runner.world → AreCarried (settings_of runner.world) O L journals) → AreCarried past.settings past.opening past.steps journals
+are_carried mode past runner journals keeps are =
+    let (settings, run) = has_run mode past runner keeps in
+    subst (λ (s : HubSettings). AreCarried s past.opening past.steps journals) settings (are past.opening past.steps run)
+
+pub some_weaker : {A : Type 0} (o : Option A) (P Q : A → Type 0) → ((x : A) → P x → Q x) → IfSome o P → IfSome o Q
+some_weaker None P Q more is = tt
+some_weaker (Some x) P Q more is = more x is
+
+-- what holds of a value holds of it where another error takes the place of the one
+pub ok_kept : {A E D : Type 0} (r : Result A E) (q : Result A D) (F : E → D → Type 0) (P : A → Type 0) → MatchResult r (λ x. q ≡ Ok x) (λ e. IsErrAnd q (F e)) → IfOk r P → IfOk q P
+ok_kept (Ok x) q F P is here = subst (λ r. IfOk r P) (sym is) here
+ok_kept (Err e) (Ok x) F P is here = absurd is
+ok_kept (Err e) (Err d) F P is here = tt
+
+-- a hub that opened from these journals began so
+pub begun_from : {H : Type 0} (first : H → List ℕ) (answers : H → LineAnswers) (mode : Mode) (s : HubSettings) (journals : List History) → CanOpenFrom s journals → (r : Result H Fault)
+    → IfOk r (λ h. first h ≡ header_from mode s journals) → IfOk r (λ h. (answers h).mode ≡ mode) → IfOk r (λ h. Keeps mode (opened_from s journals) (answers h).runner)
+    → IfOk r (λ h. HasBegun mode s (first h) (answers h))
+begun_from first answers mode s journals can (Ok h) head of keeps = inr (journals, can, record { mode_is = of; keeps = keeps }, head)
+begun_from first answers mode s journals can (Err e) head of keeps = tt

@@ -1,0 +1,153 @@
+// What the first line of a log says, read again.
+use crate::header::header_line;
+use inst_base::{Code, Fault};
+use inst_lines::Mode;
+use inst_log::first_line;
+use inst_settings::Settings;
+use serde_json::Value;
+use std::alloc::{AllocError, Global};
+
+/// What the first line of a log says.
+#[derive(Drop)]
+pub struct Beginning {
+    /// What its lines stand for.
+    pub mode: Mode,
+    /// The settings of its hub.
+    pub settings: Settings,
+    /// How many lines of books stand behind it, where the hub opened from books.
+    pub books: Option<u64>,
+}
+
+/// What the first line of a log says, or nothing where no log begins so.
+pub fn read_beginning(alloc: Global, line: &[u8]) -> Result<Option<Beginning>, AllocError> {
+    let value = match Value::from_slice(alloc, line) {
+        Ok(value) => value,
+        Err(error) if error.is_memory() => return Err(AllocError),
+        Err(_) => return Ok(None),
+    };
+    let (Some(mode), Some(settings)) = (mode_of(&value), settings_of(alloc, &value)?) else {
+        return Ok(None);
+    };
+    let books = value.get("books").and_then(Value::as_u64);
+    Ok(Some(Beginning {
+        mode,
+        settings,
+        books,
+    }))
+}
+
+fn mode_of(value: &Value) -> Option<Mode> {
+    match value.get("log")?.as_str()? {
+        "run" => Some(Mode::Run),
+        "play" => Some(Mode::Play),
+        _ => None,
+    }
+}
+
+fn settings_of(alloc: Global, value: &Value) -> Result<Option<Settings>, AllocError> {
+    let (Some(codes), Some(numbers)) = (codes_of(alloc, value)?, numbers_of(value)) else {
+        return Ok(None);
+    };
+    let checked = Settings::check(
+        codes,
+        numbers.places,
+        numbers.fundings,
+        numbers.limit,
+        numbers.margin,
+        numbers.ahead,
+        numbers.ceiling,
+        numbers.base,
+    );
+    match checked {
+        Ok(settings) => Ok(Some(settings)),
+        Err(Fault::Memory) => Err(AllocError),
+        Err(_) => Ok(None),
+    }
+}
+
+/// The codes of the participants.
+fn codes_of(alloc: Global, value: &Value) -> Result<Option<Vec<Code>>, AllocError> {
+    let Some(listed) = value.get("participants").and_then(Value::as_array) else {
+        return Ok(None);
+    };
+    let mut codes = Vec::new(alloc);
+    for code in listed {
+        match code.as_str().and_then(|text| Code::new(text).ok()) {
+            Some(code) => codes.push(code)?,
+            None => return Ok(None),
+        }
+    }
+    Ok(Some(codes))
+}
+
+/// The numbers among the settings.
+#[derive(Clone, Copy)]
+struct Numbers {
+    places: u16,
+    fundings: u16,
+    limit: u32,
+    margin: u32,
+    ahead: u32,
+    ceiling: u64,
+    base: u64,
+}
+
+fn numbers_of(value: &Value) -> Option<Numbers> {
+    Some(Numbers {
+        places: u16::try_from(number(value, "places")?).ok()?,
+        fundings: u16::try_from(number(value, "fundings")?).ok()?,
+        limit: medium(value, "limit")?,
+        margin: medium(value, "margin")?,
+        ahead: medium(value, "ahead")?,
+        ceiling: number(value, "ceiling")?,
+        base: number(value, "base")?,
+    })
+}
+
+fn number(value: &Value, name: &str) -> Option<u64> {
+    value.get(name)?.as_u64()
+}
+
+fn medium(value: &Value, name: &str) -> Option<u32> {
+    u32::try_from(number(value, name)?).ok()
+}
+
+/// The text of the books that stand behind the settings in the file of a log, or nothing where it begins otherwise: with
+/// other settings than these, for a hub that opens for the first time, or with fewer lines than it says.
+pub(crate) fn books_behind<'a>(
+    alloc: Global,
+    mode: Mode,
+    settings: &Settings,
+    bytes: &'a [u8],
+) -> Result<Option<&'a [u8]>, AllocError> {
+    let Some(len) = first_line(bytes) else {
+        return Ok(None);
+    };
+    let line = &bytes[..len - 1];
+    let Some(count) = books_of(alloc, line)? else {
+        return Ok(None);
+    };
+    let expected = header_line(alloc, mode, settings, Some(count))?;
+    if expected.as_bytes() != line {
+        return Ok(None);
+    }
+    Ok(first_lines(&bytes[len..], count))
+}
+
+/// How many lines of books a first line tells of.
+fn books_of(alloc: Global, line: &[u8]) -> Result<Option<u64>, AllocError> {
+    match Value::from_slice(alloc, line) {
+        Ok(value) => Ok(value.get("books").and_then(Value::as_u64)),
+        Err(error) if error.is_memory() => Err(AllocError),
+        Err(_) => Ok(None),
+    }
+}
+
+/// The first lines, so many, or nothing where there are fewer.
+fn first_lines(bytes: &[u8], count: u64) -> Option<&[u8]> {
+    let mut rest = bytes;
+    for _ in 0..count {
+        rest = &rest[first_line(rest)?..];
+    }
+    Some(&bytes[..bytes.len() - rest.len()])
+}

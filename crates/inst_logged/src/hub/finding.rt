@@ -1,0 +1,71 @@
+// Which hub a log is of.
+ghost use Rattle.std.specs.Prelude.{◌≡◌, IsTrue, IfOk};
+ghost use Rattle.sqlite_disk.specs.Disk.{Only};
+ghost use Rattle.inst_world.specs.NextOpening.{CanOpenFrom};
+ghost use Rattle.inst_logged.specs.Logged.{IsUnbegun, HasBegun};
+
+use super::LoggedHub;
+use crate::LoggedError;
+use crate::beginning::books_behind;
+use inst_audit::can_open;
+use inst_base::Fault;
+use inst_books::{BookFault, read_books};
+use inst_journal::Journal;
+use inst_lines::Mode;
+use inst_log::{LogError, read_file};
+use inst_settings::Settings;
+use sqlite_disk::Disk;
+use std::alloc::Global;
+
+impl<D: Disk + Drop> LoggedHub<D> {
+    /// The hub that the log on this disk is of: one that opens again from the books that stand behind the log's settings,
+    /// or for the first time where none stand there. `Books` where they are none that a hub of these settings can open
+    /// from. It has answered nothing. Reads the whole log into memory, and lets it go.
+    pub fn of_log(
+        alloc: Global,
+        mode: Mode,
+        settings: &Settings,
+        mut disk: D,
+    ) -> Result<LoggedHub<D>, LoggedError>
+        requires usable { IsTrue (D.Disk.is_usable disk) }
+        requires known { IsTrue (D.Disk.is_clean disk) → Only (D.Disk.seen disk) (D.Disk.may_leave disk) }
+        ensures unbegun { IfOk result (λ hub. IsUnbegun hub.header.items hub.intake) }
+        ensures begun { IfOk result (λ hub. HasBegun mode settings.now hub.header.items hub.recorder.answers) }
+        ensures seen { IfOk result (λ hub. D.Disk.seen hub.recorder.log.disk ≡ D.Disk.seen disk) }
+        ensures usable { IfOk result (λ hub. IsTrue (D.Disk.is_usable hub.recorder.log.disk)) }
+        ensures known { IfOk result (λ hub. IsTrue (D.Disk.is_clean hub.recorder.log.disk)
+            → Only (D.Disk.seen hub.recorder.log.disk) (D.Disk.may_leave hub.recorder.log.disk)) }
+    {
+        let bytes = read_file(alloc, &mut disk)?;
+        let Some(text) = books_behind(alloc, mode, settings, &bytes)? else {
+            return LoggedHub::new(alloc, mode, settings, disk).map_err(unmade);
+        };
+        let journals = journals_of(alloc, settings, text)?;
+        LoggedHub::new_from(alloc, mode, settings, &journals, disk).map_err(unmade)
+    }
+}
+
+/// The journals that the text of books tells, from which a hub can open.
+fn journals_of(alloc: Global, settings: &Settings, text: &[u8]) -> Result<Vec<Journal>, LoggedError>
+    ensures { IfOk result (λ journals. CanOpenFrom settings.now journals.items) }
+{
+    let journals = read_books(alloc, settings, text).map_err(unread)?;
+    match can_open(alloc, settings, &journals) {
+        Ok(true) => Ok(journals),
+        Ok(false) => Err(LoggedError::Books),
+        Err(fault) => Err(unmade(fault)),
+    }
+}
+
+/// Nothing but memory is ever missing.
+fn unmade(_: Fault) -> LoggedError {
+    LoggedError::Log(LogError::Memory)
+}
+
+/// Why books weren't read.
+fn unread(fault: BookFault) -> LoggedError {
+    match fault {
+        BookFault::BadLine => LoggedError::Books,
+        BookFault::Memory => LoggedError::Log(LogError::Memory),
+    }
+}
