@@ -18,7 +18,7 @@ use Rattle.inst_main.specs.declared.program.Ending.TheVariants as ending
 use Rattle.inst_main.specs.declared.task.Task.{Task}
 use Rattle.inst_main.specs.declared.task.Task.TheVariants.{Run, Play, Drill}
 use Rattle.inst_main.specs.declared.task.Wish.{Wish}
-use Rattle.inst_main.specs.declared.task.Wish.TheVariants.{Do, Keep, Show}
+use Rattle.inst_main.specs.declared.task.Wish.TheVariants.{Do, Keep, Show, Next}
 
 -- the number of an option is one
 pub given_one : (rows : List Row) (name : List ℕ) (n m : ℕ) → Gives rows name n → Gives rows name m → n ≡ m
@@ -202,7 +202,8 @@ pub wished_of : (words : List (List ℕ)) (name : List ℕ) (rows : List Row) (w
 wished_of words name rows (Do task s) whole at is = (is.0, whole, (name, rows, at, is.1, is.2))
 wished_of words name rows (Keep mode s log) whole at is =
     (is.0, (whole, (name, rows, at, inr (inl (log.path.now, is.3.0)))), (name, rows, at, is.1, is.2))
-wished_of words name rows (Show path) whole at is = (whole, (name, rows, at, inl is))
+wished_of words name rows (Show path) whole at is = (whole, (name, rows, at, inl (inl is)))
+wished_of words name rows (Next from to) whole at is = (whole, (name, rows, at, inl (inr is)))
 
 -- the name and the rows of a subcommand, found one by one
 pub both_of : {B : Type 0} (X : Option B) (n : B → List ℕ) (r : B → List Row) (name : List ℕ) (rows : List Row) → Some name ≡ option_map n X

@@ -21,7 +21,7 @@ use Rattle.inst_main.specs.declared.task.Task.{Task}
 use Rattle.inst_main.specs.declared.task.Task.TheVariants.{Run, Play, Drill}
 use Rattle.inst_main.specs.declared.task.LogOptions.{LogOptions}
 use Rattle.inst_main.specs.declared.task.Wish.{Wish}
-use Rattle.inst_main.specs.declared.task.Wish.TheVariants.{Do, Keep, Show}
+use Rattle.inst_main.specs.declared.task.Wish.TheVariants.{Do, Keep, Show, Next}
 
 -- the participants' codes, which must be given
 abbrev pub participants_rule : Rule
@@ -38,6 +38,10 @@ file_rule = record (new_rule (codes "file")) { required = true; action = Some Se
 -- the file of a run's log
 abbrev pub log_rule : Rule
 log_rule = record (new_rule (codes "log")) { long = Some (codes "log"); action = Some Set; value_names = 1 }
+
+-- the file of a log, which the subcommand `next` must name by this option
+abbrev pub named_rule : List ℕ → Rule
+named_rule name = record (new_rule name) { long = Some name; required = true; action = Some Set; value_names = 1 }
 
 -- how many replies are there already, as a whole number of 64 bits
 abbrev pub told_rule : Rule
@@ -93,9 +97,17 @@ with_runs app = with_subcommand (with_subcommand app (run_command (codes "run"))
 abbrev pub log_command : App
 log_command = with_rule (new_app (codes "log")) file_rule
 
--- the whole command line: `run` and `play`, `drill`, and `log`
+-- the subcommand `next`
+abbrev pub next_command : App
+next_command = with_rule (with_rule (new_app (codes "next")) (named_rule (codes "log"))) (named_rule (codes "to"))
+
+-- the subcommands `log` and `next`, which read nothing
+abbrev pub with_logs : App → App
+with_logs app = with_subcommand (with_subcommand app log_command.top) next_command.top
+
+-- the whole command line: `run` and `play`, `drill`, `log` and `next`
 abbrev pub command_line : App
-command_line = with_subcommand (with_subcommand (with_runs bare_command_line) drill_command.top) log_command.top
+command_line = with_logs (with_subcommand (with_runs bare_command_line) drill_command.top)
 
 -- the option of this name has a text that is the number in digits, which may follow a plus
 abbrev pub Gives : List Row → List ℕ → ℕ → Type 0
@@ -121,10 +133,11 @@ GivesLog rows (Some log) =
 abbrev pub TellsOfNoLog : List Row → Type 0
 TellsOfNoLog rows = (first_of (codes "log") rows ≡ None) × IsGiven (codes "told") rows
 
--- the subcommand is `log`, or an option is of a log
+-- the subcommand is `log` or `next`, or an option is of a log
 abbrev pub SpeaksOfALog : List ℕ → List Row → Type 0
 SpeaksOfALog name rows =
-    (same_text name (codes "log") ≡ true) ⊎ (IsGiven (codes "log") rows ⊎ IsGiven (codes "told") rows)
+    ((same_text name (codes "log") ≡ true) ⊎ (same_text name (codes "next") ≡ true))
+    ⊎ (IsGiven (codes "log") rows ⊎ IsGiven (codes "told") rows)
 
 -- the options give a drill's numbers
 abbrev pub IsDrill : List Row → Task → Type 0
@@ -207,6 +220,7 @@ abbrev pub IsWish : List ℕ → List Row → Wish → Type 0
 IsWish name rows (Do task s) = IsSettings s × IsTask name rows task × Chooses rows s
 IsWish name rows (Keep mode s log) = IsSettings s × IsTask name rows (task_of_lines mode) × Chooses rows s × GivesLog rows (Some log)
 IsWish name rows (Show path) = same_text name (codes "log") ≡ true
+IsWish name rows (Next from to) = same_text name (codes "next") ≡ true
 
 -- the words are a whole command line and speak of a log
 abbrev pub NameALog : List (List ℕ) → Type 0
@@ -218,6 +232,7 @@ abbrev pub IsWished : List (List ℕ) → Wish → Type 0
 IsWished words (Do task s) = IsSettings s × AreWhole words × AreChosen words task s
 IsWished words (Keep mode s log) = IsSettings s × NameALog words × AreChosen words (task_of_lines mode) s
 IsWished words (Show path) = NameALog words
+IsWished words (Next from to) = NameALog words
 
 -- the words are a whole command line, and ask for a drill at a hub
 pub record AskForADrill (words : List (List ℕ)) : Type 0 where

@@ -14,10 +14,14 @@ pub(crate) enum LogFault {
     ToldAhead,
     /// Another program has the log open.
     LogInUse,
+    /// The books that the log begins with are none that a hub can open from.
+    BadBooks,
+    /// The books were opened from 500 times, so there is no next opening.
+    LastOpening,
 }
 
 impl LogFault {
-    /// The number that the program's fault line shows, from 19 to 23.
+    /// The number that the program's fault line shows, from 19 to 25.
     pub(crate) fn number(self) -> u8
         ensures { result ≡ number_of self }
     {
@@ -34,6 +38,8 @@ impl LogFault {
             LogFault::NoLog => "NoLog",
             LogFault::ToldAhead => "ToldAhead",
             LogFault::LogInUse => "LogInUse",
+            LogFault::BadBooks => "BadBooks",
+            LogFault::LastOpening => "LastOpening",
         }
     }
 

@@ -4,7 +4,7 @@ ghost use Rattle.std.specs.List.{list_all};
 ghost use Rattle.inst_base.specs.Text.{is_code};
 ghost use Rattle.clap.specs.Words.{app_of, first_of, found_of, rows_of, rule_of};
 ghost use Rattle.inst_main.specs.Options.{participants_rule, number_rule, with_room, with_times, with_bounds, hub_command};
-ghost use Rattle.inst_main.specs.Options.{file_rule, log_rule, told_rule, log_command, run_command, drill_command, with_runs, IsLocal};
+ghost use Rattle.inst_main.specs.Options.{file_rule, log_rule, told_rule, named_rule, log_command, next_command, run_command, drill_command, with_runs, with_logs, IsLocal};
 ghost use Rattle.inst_main.specs.Options.{GivesLog, TellsOfNoLog, SpeaksOfALog, IsWish};
 ghost use Rattle.inst_main.specs.Options.{command_line as the_command_line, parts_of};
 ghost use Rattle.inst_main.specs.Options.{Gives, GivesNoneBelow, Chooses, ChooseNone, IsTask, IsDrill, AskForNone};
@@ -31,9 +31,8 @@ pub(crate) fn command_line<'a>(alloc: Global) -> Result<Command<'a>, AllocError>
         .about("The clearing core of a hub for instant credit transfers")
         .after_help(texts::PROGRAM)
         .subcommand_required(true);
-    with_runs(alloc, program)?
-        .subcommand(drill_command(alloc)?)?
-        .subcommand(log_command(alloc)?)
+    let program = with_runs(alloc, program)?.subcommand(drill_command(alloc)?)?;
+    with_logs(alloc, program)
 }
 
 /// The subcommands `run` and `play`, with the options of a hub and of its log.
@@ -54,6 +53,36 @@ fn with_runs<'a>(alloc: Global, program: Command<'a>) -> Result<Command<'a>, All
         texts::PLAY,
     )?;
     program.subcommand(play)
+}
+
+/// The subcommands `log` and `next`, which read nothing.
+fn with_logs<'a>(alloc: Global, program: Command<'a>) -> Result<Command<'a>, AllocError>
+    ensures shape { IfOk result (λ more. app_of more ≡ with_logs (app_of program.entry)) }
+{
+    let log = log_command(alloc)?;
+    let program = program.subcommand(log)?;
+    let next = next_command(alloc)?;
+    program.subcommand(next)
+}
+
+/// The subcommand `next`, which names two files.
+fn next_command<'a>(alloc: Global) -> Result<Command<'a>, AllocError>
+    ensures shape { IfOk result (λ command. app_of command ≡ next_command) }
+    ensures local { IfOk result (λ command. IsLocal command) }
+{
+    Command::new(alloc, "next")
+        .about("Closes the hub of a log, and begins another log with its books: the next opening")
+        .long_about(texts::NEXT)
+        .arg(named_log(
+            alloc,
+            "log",
+            "The log of the hub that is closed; it is left as it is",
+        ))?
+        .arg(named_log(
+            alloc,
+            "to",
+            "The log that begins with its books; the file is made",
+        ))
 }
 
 /// The subcommand `log`, which names a file.
@@ -239,6 +268,19 @@ fn log<'a>(alloc: Global) -> Arg<'a>
         )
 }
 
+/// A file that the subcommand `next` names.
+fn named_log<'a>(alloc: Global, name: &'a str, help: &'a str) -> Arg<'a>
+    ensures rule { rule_of result ≡ named_rule name.now }
+    ensures local { result.global ≡ false }
+{
+    Arg::new(alloc, name)
+        .long(name)
+        .required(true)
+        .action(ArgAction::Set)
+        .value_name("FILE")
+        .help(help)
+}
+
 fn told<'a>(alloc: Global) -> Arg<'a>
     ensures rule { rule_of result ≡ told_rule }
     ensures local { result.global ≡ false }
@@ -279,6 +321,10 @@ pub(crate) fn wish<'a>(
 {
     if name == "log" {
         return Ok(Wish::Show(options.get_str("file").unwrap_or("")));
+    }
+    if name == "next" {
+        let from = options.get_str("log").unwrap_or("");
+        return Ok(Wish::Next(from, options.get_str("to").unwrap_or("")));
     }
     let (task, settings) = task_and_settings(alloc, name, options)?;
     match log_options(options)? {

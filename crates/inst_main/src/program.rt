@@ -7,7 +7,7 @@ ghost use Rattle.inst_main.specs.Options.{AreRefused, AskForADrill, AskForHelp, 
 ghost use Rattle.inst_main.specs.Program.{status_of, Serves, Fails, HasKept, HasDrilled, IsDone, IsUndone};
 ghost use Rattle.inst_main.specs.Program.{IsEnding, IsUnbegun, IsOfKind};
 
-use crate::keeping::{keep, show};
+use crate::keeping::{keep, next, show};
 use crate::log_fault::LogFault;
 use crate::logs::Logs;
 use crate::options::{command_line, wish};
@@ -68,7 +68,7 @@ impl From<LogFault> for Ending {
 /// Does what the words of the command line say, the program's name first. `run` answers each line of
 /// `reader`, a command, by one line to `writer`, and follows up all transfers after it; `play` does the
 /// same for a script, where each line is one step and nothing happens by itself. They have the same options; with a
-/// log, each line is in it before its reply is written, and the lines that it has come first. `log` tells what one has.
+/// log, each line is in it before its reply is written, and the lines that it has come first. `log` tells what one has, and `next` begins one with the books of another.
 /// `drill` has two more, reads nothing, and drills a hub of these settings by threads: `writer` gets what each
 /// opening came to, and `errors` how far it is, where `is_watched`.
 /// Answers the exit status: 0 at the end of the input or of the drill and after
@@ -183,6 +183,7 @@ fn serve<H: Threads + Wait + Sync, L: Logs, R: Read, W: Write, E: Write>(
 {
     match wished(alloc, words)? {
         Wish::Show(path) => show(logs, alloc, path, writer),
+        Wish::Next(from, to) => next(logs, alloc, from, to),
         Wish::Keep(mode, settings, log) => keep(
             logs, alloc, mode, &settings, log, reader, writer, errors,
         ),

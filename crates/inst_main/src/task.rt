@@ -30,4 +30,6 @@ pub(crate) enum Wish<'a> {
     Keep(Mode, Settings, LogOptions<'a>),
     /// What the log of this name has.
     Show(&'a str),
+    /// A log of the first name is closed, and one of the second name begins with its books.
+    Next(&'a str, &'a str),
 }

@@ -26,6 +26,15 @@ Two lines go to standard output; standard input isn't read, and the log is left 
   settings S    the first line of the log: settings, and whether its lines are of a run or of a play
   lines N       N lines stand behind it";
 
+/// What `next` does, at length.
+pub(crate) const NEXT: &str = "\
+Closes the hub of a log, and begins another log with its books: the next opening
+
+The log that --log names is read, its lines are answered once more, and the hub is closed: each participant is told of
+each outcome. The log that --to names begins with the same settings and the books, one event a line, and a run with it
+goes on: what was pending is pending, identifiers stay taken, what was decided gives its place back. Nothing is
+written to standard output, standard input isn't read, and the first log is left as it is.";
+
 /// What `drill` does, at length.
 pub(crate) const DRILL: &str = "\
 Drills a hub by threads that race at a deadline, and tells by four lines how each opening ended

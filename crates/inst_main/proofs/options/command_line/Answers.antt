@@ -2,7 +2,7 @@ use Rattle.std.proofs.Common.{rules, ◌≡◌, ◌∙◌, ap, ap₂, codes, tru
 use Rattle.std.proofs.lemmas.Result.{IfOk-weaker}
 use Rattle.clap.specs.Words.{App, app_of, new_app, with_subcommand}
 use Rattle.clap.specs.Simple.{app_of_fields, on_top}
-use Rattle.inst_main.specs.Options.{bare_command_line, drill_command, log_command, with_runs}
+use Rattle.inst_main.specs.Options.{bare_command_line, drill_command, with_runs, with_logs}
 use Rattle.inst_main.proofs.options.command_line.Goals as goal
 
 pub returns : goal.returns
@@ -12,7 +12,6 @@ returns c =
     ap app_of_fields c.subcommand_required-program.ensures ∙ ap (on_top (λ top. record top { subcommand_required = true })) (ap app_of_fields c.after_help.ensures ∙ ap app_of_fields c.about.ensures ∙ ap app_of_fields c.version.ensures ∙ ap (on_top (λ top. record top { has_version = true })) named_top) in
     let runs : app_of c.in_ok-with_runs.field-0 ≡ with_runs bare_command_line = c.in_ok-with_runs.ensures.shape ∙ ap with_runs top in
     let drill_is : app_of c.in_ok-drill_command.field-0 ≡ drill_command = search rules in
-    let log_is : app_of c.in_ok-log_command.field-0 ≡ log_command = search rules in
-    let drilled : app_of c.in_ok-subcommand.field-0 ≡ with_subcommand (with_runs bare_command_line) drill_command.top =
-    c.in_ok-subcommand.ensures.shape c.in_ok-drill_command.ensures.local ∙ ap₂ with_subcommand runs (ap (λ (a : App). a.top) drill_is) in
-    IfOk-weaker c.subcommand-2.result _ _ (λ command adds. adds.shape c.in_ok-log_command.ensures.local ∙ ap₂ with_subcommand drilled (ap (λ (a : App). a.top) log_is)) c.subcommand-2.ensures
+    let drilled : app_of c.in_ok-program.program ≡ with_subcommand (with_runs bare_command_line) drill_command.top =
+    c.in_ok-program.ensures.shape c.in_ok-drill_command.ensures.local ∙ ap₂ with_subcommand runs (ap (λ (a : App). a.top) drill_is) in
+    IfOk-weaker c.with_logs.result _ _ (λ command is. is ∙ ap with_logs drilled) c.with_logs.ensures.shape
