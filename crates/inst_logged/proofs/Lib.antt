@@ -9,5 +9,6 @@ mod Intaking
 mod Owing
 mod Reopening
 mod Running
+mod Telling
 mod Turning
 mod Written

@@ -14,5 +14,5 @@ pub use beginning::{Beginning, read_beginning};
 pub use error::LoggedError;
 pub use header::{first_batch, first_batch_from};
 pub use hub::LoggedHub;
-pub use laws::lines_answer_alike;
+pub use laws::{headers_tell_their_settings, lines_answer_alike};
 pub use line_answers::LineAnswers;
