@@ -68,7 +68,8 @@ impl From<LogFault> for Ending {
 /// Does what the words of the command line say, the program's name first. `run` answers each line of
 /// `reader`, a command, by one line to `writer`, and follows up all transfers after it; `play` does the
 /// same for a script, where each line is one step and nothing happens by itself. They have the same options; with a
-/// log, each line is in it before its reply is written, and the lines that it has come first. `log` tells what one has, and `next` begins one with the books of another.
+/// log, each line is in it before its reply is written, and the lines that it has come first. `log` tells what one has,
+/// and `next` begins one with the books of another.
 /// `drill` has two more, reads nothing, and drills a hub of these settings by threads: `writer` gets what each
 /// opening came to, and `errors` how far it is, where `is_watched`.
 /// Answers the exit status: 0 at the end of the input or of the drill and after
