@@ -1,10 +1,7 @@
 // Logs that begin with the books of others.
-ghost use Rattle.std.specs.Prelude.{IsTrue, IfOk};
-ghost use Rattle.sqlite_disk.specs.Disk.{Only};
-
 use crate::keeping::{put, text_of};
 use inst_lines::Mode;
-use inst_logged::{LoggedError, LoggedHub};
+use inst_logged::LoggedHub;
 use inst_rows::settings;
 use inst_settings::Settings;
 use sqlite_disk::Memory;
@@ -68,16 +65,6 @@ const REPLIES: &[&[u8]] = &[
     br#"{"available":20300,"position":20300,"reply":"position","reserved":0}"#,
 ];
 
-/// A disk with these bytes.
-fn disk_of(alloc: Global, bytes: &[u8]) -> Result<Memory, Fail>
-    ensures usable { IfOk result (λ disk. IsTrue (Memory.Disk.is_usable disk)) }
-    ensures known { IfOk result (λ disk. Only (Memory.Disk.seen disk) (Memory.Disk.may_leave disk)) }
-{
-    let mut disk = Memory::new(alloc);
-    put(&mut disk, bytes)?;
-    Ok(disk)
-}
-
 /// A log of these lines.
 fn log_of(alloc: Global, lines: &[&[u8]]) -> Result<Vec<u8>, Fail> {
     let mut log = text_of(alloc, lines)?;
@@ -93,19 +80,24 @@ fn run_on(
     input: &[u8],
     written: &mut Vec<u8>,
 ) -> Result<Vec<u8>, Fail> {
+    let mut disk = Memory::new(alloc);
+    put(&mut disk, log)?;
     let mut reader = input;
-    let mut hub = LoggedHub::of_log(alloc, Mode::Run, settings, disk_of(alloc, log)?)?;
+    let mut hub = LoggedHub::of_log(alloc, Mode::Run, settings, disk)?;
     hub.run(alloc, None, &mut reader, written)?;
     Ok(hub.into_disk().bytes().to_vec(alloc)?)
 }
 
 /// The log that begins with the books of this one.
 fn next(alloc: Global, settings: &Settings, log: &[u8]) -> Result<Option<Vec<u8>>, Fail> {
-    let mut hub = LoggedHub::of_log(alloc, Mode::Run, settings, disk_of(alloc, log)?)?;
+    let mut disk = Memory::new(alloc);
+    put(&mut disk, log)?;
+    let mut hub = LoggedHub::of_log(alloc, Mode::Run, settings, disk)?;
     let Some(books) = hub.close(alloc)? else {
         return Ok(None);
     };
-    let disk = disk_of(alloc, b"")?;
+    let mut disk = Memory::new(alloc);
+    put(&mut disk, b"")?;
     let mut next = LoggedHub::new_from(alloc, Mode::Run, hub.settings(), &books, disk)?;
     let mut nothing: &[u8] = b"";
     next.run(alloc, None, &mut nothing, &mut Vec::new(alloc))?;
