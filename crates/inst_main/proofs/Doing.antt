@@ -1,77 +1,96 @@
--- What a task that the words choose leaves, by its name: lines that are answered, or a drill.
-use Rattle.std.proofs.Common.{◌≡◌, ◌⊎◌, ℕ, List, Option, Result, Ok, Err, IfErr, IsErrAnd, inl, inr, sym, subst}
+-- What is left where the words' task is done, and where it ends otherwise.
+use Rattle.std.proofs.Common.{◌≡◌, ◌≢◌, ◌⊎◌, inl, inr, ℕ, List, Option, Some, None, Result, Ok, Err, IfErr, IsErrAnd, sym, subst}
 use Rattle.inst_base.specs.declared.fault.Fault.{Fault}
+use Rattle.inst_base.specs.declared.fault.Fault.TheVariants.{BadSettings, Memory, WriteFault}
 use Rattle.inst_settings.specs.Settings.{HubSettings}
 use Rattle.inst_settings.specs.Lawful.{IsSettings}
-use Rattle.inst_main.specs.Options.{AreChosen, AreWhole, AskForADrill}
-use Rattle.inst_main.specs.Program.{Fails, HasDrilled, IsDone, IsEnding, IsUndone, IsUndrilled, Serves}
-use Rattle.inst_main.specs.Program.Mode.{Running, Playing}
-use Rattle.inst_main.specs.declared.program.Ending.{Ending}
-use Rattle.inst_main.specs.declared.program.Ending.TheVariants as ending
-use Rattle.inst_main.specs.declared.task.Task.{Task}
-use Rattle.inst_main.specs.declared.task.Task.TheVariants.{Run, Play, Drill}
-use Rattle.inst_main.proofs.Refused.{refused, undrillable}
+use Rattle.inst_lines.specs.declared.mode.Mode.{Mode}
+use Rattle.inst_options.specs.Options.Task.{Drill}
+use Rattle.inst_options.specs.Asking.{AreChosen, AreWhole, NameALog, NameTheLog}
+use Rattle.inst_options.specs.declared.wish.LogOptions.{LogOptions}
+use Rattle.inst_main.specs.Program.{AskForADrill, AskForAnExplanation, Drills, Fails, IsAnswered, IsEnding, IsServed, IsUnanswered, IsUndrilled, IsUnexplained, IsUnkept, task_of}
+use Rattle.inst_main.specs.declared.ending.Ending.{Ending}
+use Rattle.inst_main.specs.declared.ending.Ending.TheVariants as ending
+use Rattle.inst_main.proofs.Refusing.{undrillable}
 
--- what is left where the task is done
-pub done : (words : List (List ℕ)) (task : Task) (s : HubSettings) (unread : Type 0)
-    (left left' held held' : Option (List ℕ)) →
-    IsSettings s → AreWhole words → AreChosen words task s → IsDone task s unread left left' held held' →
-    Serves words left left' held held' ⊎ (unread × HasDrilled words held held')
-done words Run s unread left left' held held' lawful whole chosen answers =
-    inl (record { mode = Running; settings = s; lawful = lawful; whole = whole; chosen = chosen; answers = answers })
-done words Play s unread left left' held held' lawful whole chosen answers =
-    inl (record { mode = Playing; settings = s; lawful = lawful; whole = whole; chosen = chosen; answers = answers })
-done words (Drill transfers openings) s unread left left' held held' lawful whole chosen told =
-    inr (
-      told.0,
-      record {
+-- lines were answered, with a log or without
+pub answered : (words : List (List ℕ)) (mode : Mode) (s : HubSettings) (log : Option LogOptions) (unread : Type 0)
+    (left left' held held' : Option (List ℕ)) → IsSettings s → AreWhole words → AreChosen words (task_of mode) s → NameTheLog words log →
+    IsAnswered mode s log left left' held held' → IsServed words unread left left' held held'
+answered words mode s None unread left left' held held' lawful whole chosen named answers =
+    inl (record { mode = mode; settings = s; lawful = lawful; whole = whole; chosen = chosen; answers = answers })
+answered words mode s (Some log) unread left left' held held' lawful whole chosen named end =
+    inr (inl (record { mode = mode; settings = s; lawful = lawful; chosen = chosen; log = named; at_end = end }))
+
+-- a drill is done
+pub drilled : (words : List (List ℕ)) (s : HubSettings) (transfers openings : ℕ) (unread : Type 0)
+    (left left' held held' : Option (List ℕ)) → IsSettings s → AreWhole words → AreChosen words (Drill transfers openings) s →
+    unread → Drills openings held held' → IsServed words unread left left' held held'
+drilled words s transfers openings unread left left' held held' lawful whole chosen still told =
+    inr (inr (
+      still,
+      inl (record {
         settings = s;
         lawful = lawful;
         whole = whole;
         transfers = transfers;
         openings = openings;
         chosen = chosen;
-        told = told.1;
-      },
-    )
+        told = told;
+      }),
+    ))
 
--- and where a fault ended it
-undone : (words : List (List ℕ)) (task : Task) (s : HubSettings) (unread unwritten : Type 0)
-    (left left' held held' : Option (List ℕ)) (fault : Fault) →
-    IsSettings s → AreWhole words → AreChosen words task s →
-    IsUndone task s unread unwritten left left' held held' fault →
-    IsEnding words (unread × unwritten) (Fails words left left' held held') (unread × AskForADrill words)
-    (ending.Fault fault)
-undone words Run s unread unwritten left left' held held' fault lawful whole chosen after =
-    inr (inl (record { mode = Running; settings = s; lawful = lawful; whole = whole; chosen = chosen; after = after }))
-undone words Play s unread unwritten left left' held held' fault lawful whole chosen after =
-    inr (inl (record { mode = Playing; settings = s; lawful = lawful; whole = whole; chosen = chosen; after = after }))
-undone words (Drill transfers openings) s unread unwritten left left' held held' fault lawful whole chosen after =
-    by_cause after.1 where
-      by_cause : IsUndrilled s transfers openings unwritten fault →
-          IsEnding words (unread × unwritten) (Fails words left left' held held') (unread × AskForADrill words)
-          (ending.Fault fault)
-      by_cause (inl bad) =
-          let none = undrillable chosen.0 chosen.1 s transfers openings chosen.3 chosen.4 bad.2 in
-          inl ((after.0, bad.1), inr (bad.0, inl (refused words chosen.0 chosen.1 whole chosen.2 none)))
-      by_cause (inr failed) =
-          let asks : AskForADrill words = record {
-            settings = s;
-            lawful = lawful;
-            whole = whole;
-            transfers = transfers;
-            openings = openings;
-            chosen = chosen;
-          } in
-          inr (inr (inl (failed, (after.0, asks))))
+-- a log wasn't taken, or its disk failed
+pub unkept : (words : List (List ℕ)) (unread unwritten untouched : Type 0) (fails : Fault → Type 0) (e : Ending) → NameALog words →
+    (untouched → unread × unwritten) → IsUnkept untouched e → IsEnding words unread unwritten fails e
+unkept words unread unwritten untouched fails (ending.Fault fault) named both is = inr (inr (inr (is, named)))
+unkept words unread unwritten untouched fails (ending.Log fault) named both is = (named, λ refused. both (is refused))
+unkept words unread unwritten untouched fails ending.Unexplained named both is = absurd is
 
--- and told as an ending
-pub undone_err : {A : Type 0} (words : List (List ℕ)) (task : Task) (s : HubSettings) (unread unwritten : Type 0)
-    (left left' held held' : Option (List ℕ)) (r : Result A Ending) (fault : Fault) →
-    IsErrAnd r (λ e. e ≡ ending.Fault fault) → IsSettings s → AreWhole words → AreChosen words task s →
-    IsUndone task s unread unwritten left left' held held' fault →
-    IfErr r (IsEnding words (unread × unwritten) (Fails words left left' held held') (unread × AskForADrill words))
-undone_err words task s unread unwritten left left' held held' (Ok x) fault is lawful whole chosen after = tt
-undone_err words task s unread unwritten left left' held held' (Err e) fault is lawful whole chosen after =
-    subst (IsEnding words (unread × unwritten) (Fails words left left' held held') (unread × AskForADrill words)) (sym is)
-    (undone words task s unread unwritten left left' held held' fault lawful whole chosen after)
+pub unkept_err : {A : Type 0} (words : List (List ℕ)) (unread unwritten untouched : Type 0) (fails : Fault → Type 0) (r : Result A Ending) → NameALog words →
+    (untouched → unread × unwritten) → IfErr r (IsUnkept untouched) → IfErr r (IsEnding words unread unwritten fails)
+unkept_err words unread unwritten untouched fails (Ok x) named both is = tt
+unkept_err words unread unwritten untouched fails (Err e) named both is = unkept words unread unwritten untouched fails e named both is
+
+-- lines weren't answered
+unanswered : (words : List (List ℕ)) (mode : Mode) (s : HubSettings) (log : Option LogOptions) (unread unwritten : Type 0)
+    (left left' held held' : Option (List ℕ)) (e : Ending) → IsSettings s → AreWhole words → AreChosen words (task_of mode) s → NameTheLog words log →
+    IsUnanswered mode s log (unread × unwritten) left left' held held' e → IsEnding words unread unwritten (Fails words left left' held held') e
+unanswered words mode s None unread unwritten left left' held held' (ending.Fault fault) lawful whole chosen named after =
+    inr (inl (record { mode = mode; settings = s; lawful = lawful; whole = whole; chosen = chosen; after = after }))
+unanswered words mode s None unread unwritten left left' held held' (ending.Log fault) lawful whole chosen named is = absurd is
+unanswered words mode s None unread unwritten left left' held held' ending.Unexplained lawful whole chosen named is = absurd is
+unanswered words mode s (Some log) unread unwritten left left' held held' e lawful whole chosen named is =
+    unkept words unread unwritten (unread × unwritten) (Fails words left left' held held') e named (λ both. both) is
+
+pub unanswered_err : {A : Type 0} (words : List (List ℕ)) (mode : Mode) (s : HubSettings) (log : Option LogOptions) (unread unwritten : Type 0)
+    (left left' held held' : Option (List ℕ)) (r : Result A Ending) → IsSettings s → AreWhole words → AreChosen words (task_of mode) s → NameTheLog words log →
+    IfErr r (IsUnanswered mode s log (unread × unwritten) left left' held held') → IfErr r (IsEnding words unread unwritten (Fails words left left' held held'))
+unanswered_err words mode s log unread unwritten left left' held held' (Ok x) lawful whole chosen named is = tt
+unanswered_err words mode s log unread unwritten left left' held held' (Err e) lawful whole chosen named is =
+    unanswered words mode s log unread unwritten left left' held held' e lawful whole chosen named is
+
+-- a drill that no hub of these settings can do, or that failed
+undrilled : (words : List (List ℕ)) (s : HubSettings) (transfers openings : ℕ) (unread unwritten : Type 0) (fails : Fault → Type 0) (fault : Fault) →
+    IsSettings s → AreWhole words → AreChosen words (Drill transfers openings) s → unread → IsUndrilled s transfers openings unwritten fault →
+    IsEnding words unread unwritten fails (ending.Fault fault)
+undrilled words s transfers openings unread unwritten fails fault lawful whole chosen still (inl bad) =
+    inl (bad.0, still, bad.1, undrillable words s transfers openings whole chosen bad.2)
+undrilled words s transfers openings unread unwritten fails fault lawful whole chosen still (inr failed) =
+    let asks : AskForADrill words = record { settings = s; lawful = lawful; whole = whole; transfers = transfers; openings = openings; chosen = chosen } in
+    inr (inr (inl (failed, still, inl asks)))
+
+pub undrilled_err : {A : Type 0} (words : List (List ℕ)) (s : HubSettings) (transfers openings : ℕ) (unread unwritten : Type 0) (fails : Fault → Type 0)
+    (r : Result A Ending) (fault : Fault) → IsErrAnd r (λ e. e ≡ ending.Fault fault) → IsSettings s → AreWhole words → AreChosen words (Drill transfers openings) s →
+    unread → IsUndrilled s transfers openings unwritten fault → IfErr r (IsEnding words unread unwritten fails)
+undrilled_err words s transfers openings unread unwritten fails (Ok x) fault is lawful whole chosen still after = tt
+undrilled_err words s transfers openings unread unwritten fails (Err e) fault is lawful whole chosen still after =
+    subst (IsEnding words unread unwritten fails) (sym is) (undrilled words s transfers openings unread unwritten fails fault lawful whole chosen still after)
+
+-- a fault wasn't explained
+pub unexplained_err : {A : Type 0} (words : List (List ℕ)) (unread unwritten : Type 0) (fails : Fault → Type 0) (r : Result A Ending) → AskForAnExplanation words →
+    unread → IfErr r (IsUnexplained unwritten) → IfErr r (IsEnding words unread unwritten fails)
+unexplained_err words unread unwritten fails (Ok x) asked still is = tt
+unexplained_err words unread unwritten fails (Err (ending.Fault fault)) asked still is = inr (inr (inl (inr is, still, inr asked)))
+unexplained_err words unread unwritten fails (Err (ending.Log fault)) asked still is = absurd is
+unexplained_err words unread unwritten fails (Err ending.Unexplained) asked still is = (still, is, asked)

@@ -1,5 +1,3 @@
-pub mod Given
-pub mod Refused
+pub mod Refusing
 pub mod Doing
-pub mod Naming
 pub mod Serving

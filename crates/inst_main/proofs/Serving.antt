@@ -1,33 +1,28 @@
 -- What the program does as the words ask for, and what it leaves by its exit status.
 use Rattle.std.proofs.Common.{◌≡◌, ◌≢◌, ◌⊎◌, inl, inr, ℕ, List, Option, Result, Ok, Err, IfErr, IsErrAnd, refl, sym, subst, arith}
-use Rattle.std.specs.Io.KnownBytes.{IsAtEnd}
 use Rattle.inst_base.specs.declared.fault.Fault.{Fault}
 use Rattle.inst_base.specs.declared.fault.Fault.TheVariants.{BadSettings, Memory, WriteFault}
-use Rattle.inst_settings.specs.Settings.{HubSettings}
-use Rattle.inst_settings.specs.Lawful.{IsSettings}
-use Rattle.inst_lines.specs.declared.mode.Mode.{Mode}
-use Rattle.inst_lines.specs.declared.mode.Mode.TheVariants.{Run, Play}
 use Rattle.inst_lines.specs.Answers.{Answerer}
 use Rattle.inst_lines.specs.Session.{Leaves}
-use Rattle.inst_main.specs.Options.{AreChosen, AreRefused, AreWrong, NameALog, task_of_lines}
-use Rattle.inst_main.specs.Program.{status_of, IsEnding, IsUnkept, Fails, HasKept}
-use Rattle.inst_main.specs.Program.Mode.{Running, Playing}
-use Rattle.inst_main.specs.declared.program.Ending.{Ending}
-use Rattle.inst_main.specs.declared.program.Ending.TheVariants as ending
+use Rattle.clap.specs.Words.{IsAmong, kind_of}
+use Rattle.clap.specs.declared.error.kind.ErrorKind.{ErrorKind}
+use Rattle.clap.specs.declared.error.kind.ErrorKind.TheVariants.{DisplayHelp, DisplayVersion}
+use Rattle.inst_faults.specs.LogFault.{status_of_log}
+use Rattle.inst_faults.specs.declared.log_fault.LogFault.{LogFault}
+use Rattle.inst_faults.specs.declared.log_fault.LogFault.TheVariants.{DiskFault}
+use Rattle.inst_options.specs.Asking.{AreUnfit, AreWrong, AskForHelp, IsNoWish, IsRefusal, NameALog, faults_of}
+use Rattle.inst_options.specs.declared.error.WordsError.{WordsError}
+use Rattle.inst_options.specs.declared.error.WordsError.TheVariants as error
+use Rattle.inst_main.specs.Program.{status_of, status_of_ending, status_of_error, status_of_kind, AreRefused, AskForADrill, AskForAnExplanation, IsEnding, IsUnkept, Fails}
+use Rattle.inst_main.specs.declared.ending.Ending.{Ending}
+use Rattle.inst_main.specs.declared.ending.Ending.TheVariants as ending
+use Rattle.inst_main.proofs.Refusing.{refused}
 
 -- one more way to be served
-pub served : (S K U H D N : Type 0) → S ⊎ (K ⊎ (U × (D ⊎ N))) → S ⊎ (K ⊎ (U × (H ⊎ (D ⊎ N))))
-served S K U H D N (inl s) = inl s
-served S K U H D N (inr (inl k)) = inr (inl k)
-served S K U H D N (inr (inr (u, d))) = inr (inr (u, inr d))
-
-pub done_so : (S K U D N : Type 0) → S ⊎ (U × D) → S ⊎ (K ⊎ (U × (D ⊎ N)))
-done_so S K U D N (inl s) = inl s
-done_so S K U D N (inr (u, d)) = inr (inr (u, inl d))
-
-pub kept_of : (words : List (List ℕ)) (mode : Mode) (s : HubSettings) (left' : Option (List ℕ)) → IsSettings s → NameALog words → AreChosen words (task_of_lines mode) s → IsAtEnd left' → HasKept words left'
-kept_of words Run s left' lawful log chosen end = record { mode = Running; settings = s; lawful = lawful; chosen = chosen; log = log; at_end = end }
-kept_of words Play s left' lawful log chosen end = record { mode = Playing; settings = s; lawful = lawful; chosen = chosen; log = log; at_end = end }
+pub served : (S K U H D : Type 0) → S ⊎ (K ⊎ (U × D)) → S ⊎ (K ⊎ (U × (H ⊎ D)))
+served S K U H D (inl s) = inl s
+served S K U H D (inr (inl k)) = inr (inl k)
+served S K U H D (inr (inr (u, d))) = inr (inr (u, inr d))
 
 -- want of memory before a run with a log
 pub unkept_memory : {A : Type 0} (untouched : Type 0) (r : Result A Ending) (fault : Fault) → IsErrAnd r (λ e. e ≡ ending.Fault fault) → fault ≡ Memory → IfErr r (IsUnkept untouched)
@@ -42,26 +37,95 @@ only_settings _ is = absurd (let no : 3 ≡ 2 = is in omega arith)
 no_settings : {S : Type 0} (a : Answerer S) (start : S) (before now : Option (List ℕ)) (bytes : List ℕ) (fault : Fault) → fault ≡ BadSettings → Leaves a start before bytes now fault → ⊥
 no_settings a start before now bytes fault is h = subst (Leaves a start before bytes now) is h
 
--- words that end with status 2 by a fault
-module _ (words : List (List ℕ)) (unread unwritten drilled : Type 0) (left left' held held' : Option (List ℕ)) (fault : Fault) (bad : fault ≡ BadSettings) where
-  of_unbegun : unread × unwritten → (fault ≡ Memory) ⊎ ((fault ≡ BadSettings) × (AreRefused words ⊎ NameALog words))
-      → unread × unwritten × (AreWrong words ⊎ (AreRefused words ⊎ NameALog words))
-  of_unbegun u (inl memory) = let no : ⊥ = cc (memory, bad) in absurd no
-  of_unbegun u (inr deserved) = (u.0, u.1, inr deserved.1)
+-- what the program says by its status
+-- R: the words are refused
+abbrev Refused : List (List ℕ) → Type 0
+Refused words = AreWrong words ⊎ (AreRefused words ⊎ (NameALog words ⊎ AskForAnExplanation words))
 
-  of_failed : (fault ≡ Memory) ⊎ (fault ≡ WriteFault) → ⊥
-  of_failed (inl memory) = let no : ⊥ = cc (memory, bad) in no
-  of_failed (inr write) = let no : ⊥ = cc (write, bad) in no
+abbrev Failed : List (List ℕ) → Type 0 → Type 0 → Option (List ℕ) → Option (List ℕ) → Option (List ℕ) → Option (List ℕ) → Type 0
+Failed words unread unwritten left left' held held' =
+    (unread × unwritten) ⊎ (((fault : Fault) × Fails words left left' held held' fault)
+    ⊎ ((unread × (AskForADrill words ⊎ AskForAnExplanation words)) ⊎ NameALog words))
 
-  of_ending : IsEnding words (unread × unwritten) (Fails words left left' held held') drilled (ending.Fault fault)
-      → unread × unwritten × (AreWrong words ⊎ (AreRefused words ⊎ NameALog words))
-  of_ending (inl (u, unbegun)) = of_unbegun u unbegun
-  of_ending (inr (inl f)) = absurd (no_settings _ _ _ _ f.after.bytes fault bad f.after.leaves)
-  of_ending (inr (inr (inl (failed, d)))) = absurd (of_failed failed)
-  of_ending (inr (inr (inr (other, log)))) = absurd (other bad)
+pub two_is_not_zero : ◌≡◌ {A = ℕ} 2 0 → ⊥
+two_is_not_zero is = omega (arith, is)
 
-pub refused_words : (words : List (List ℕ)) (unread unwritten drilled : Type 0) (left left' held held' : Option (List ℕ)) (fault : Fault) → status_of fault ≡ 2
-    → IsEnding words (unread × unwritten) (Fails words left left' held held') drilled (ending.Fault fault)
-    → unread × unwritten × (AreWrong words ⊎ (AreRefused words ⊎ NameALog words))
-refused_words words unread unwritten drilled left left' held held' fault is e =
-    of_ending words unread unwritten drilled left left' held held' fault (only_settings fault is) e
+three_is_not_zero : ◌≡◌ {A = ℕ} 3 0 → ⊥
+three_is_not_zero is = omega (arith, is)
+
+no_fault_is_zero : (fault : Fault) → status_of fault ≡ 0 → ⊥
+no_fault_is_zero BadSettings is = two_is_not_zero is
+no_fault_is_zero _ is = three_is_not_zero is
+
+no_log_fault_is_zero : (fault : LogFault) → status_of_log fault ≡ 0 → ⊥
+no_log_fault_is_zero DiskFault is = three_is_not_zero is
+no_log_fault_is_zero _ is = two_is_not_zero is
+
+-- words whose task wasn't done
+module _ (words : List (List ℕ)) (unread unwritten : Type 0) (left left' held held' : Option (List ℕ)) where
+  pub never_zero : (e : Ending) → status_of_ending e ≡ 0 → ⊥
+  never_zero (ending.Fault fault) is = no_fault_is_zero fault is
+  never_zero (ending.Log fault) is = no_log_fault_is_zero fault is
+  never_zero ending.Unexplained is = two_is_not_zero is
+
+  of_failed : (fault : Fault) → fault ≡ BadSettings → (fault ≡ Memory) ⊎ (fault ≡ WriteFault) → ⊥
+  of_failed fault bad (inl memory) = cc (memory, bad)
+  of_failed fault bad (inr write) = cc (write, bad)
+
+  of_fault : (fault : Fault) → fault ≡ BadSettings → IsEnding words unread unwritten (Fails words left left' held held') (ending.Fault fault)
+      → unread × unwritten × Refused words
+  of_fault fault bad (inl h) = (h.1, h.2, inr (inl h.3))
+  of_fault fault bad (inr (inl f)) = absurd (no_settings _ _ _ _ f.after.bytes fault bad f.after.leaves)
+  of_fault fault bad (inr (inr (inl h))) = absurd (of_failed fault bad h.0)
+  of_fault fault bad (inr (inr (inr h))) = absurd (h.0 bad)
+
+  pub refused_ending : (e : Ending) → status_of_ending e ≡ 2 → IsEnding words unread unwritten (Fails words left left' held held') e
+      → unread × unwritten × Refused words
+  refused_ending (ending.Fault fault) is h = of_fault fault (only_settings fault is) h
+  refused_ending (ending.Log fault) is h = let both = h.1 is in (both.0, both.1, inr (inr (inl h.0)))
+  refused_ending ending.Unexplained is h = (h.0, h.1, inr (inr (inr h.2)))
+
+  pub failed_ending : (e : Ending) → IsEnding words unread unwritten (Fails words left left' held held') e
+      → Failed words unread unwritten left left' held held'
+  failed_ending (ending.Fault fault) (inl h) = inl (h.1, h.2)
+  failed_ending (ending.Fault fault) (inr (inl f)) = inr (inl (fault, f))
+  failed_ending (ending.Fault fault) (inr (inr (inl h))) = inr (inr (inl (h.1, h.2)))
+  failed_ending (ending.Fault fault) (inr (inr (inr h))) = inr (inr (inr h.1))
+  failed_ending (ending.Log fault) h = inr (inr (inr h.0))
+  failed_ending ending.Unexplained h = inl (h.0, h.1)
+
+-- words that ask for nothing that can be done
+help_kind : (words : List (List ℕ)) (kind : ErrorKind) → IsAmong kind (faults_of words) → status_of_kind kind ≡ 0 → AskForHelp words
+help_kind words DisplayHelp among is = inl among
+help_kind words DisplayVersion among is = inr among
+help_kind words _ among is = absurd (two_is_not_zero is)
+
+pub helped : (words : List (List ℕ)) (e : WordsError) → IsNoWish words e → status_of_error e ≡ 0 → AskForHelp words
+helped words (error.Words e) none is = help_kind words (kind_of e) none.1 is
+helped words (error.Option bad) none is = absurd (two_is_not_zero is)
+helped words (error.Fault fault) none is = absurd (no_fault_is_zero fault is)
+
+wrong_kind : (words : List (List ℕ)) (kind : ErrorKind) → IsAmong kind (faults_of words) → status_of_kind kind ≡ 2 → AreWrong words
+wrong_kind words kind among is = (
+  kind,
+  among,
+  (λ help. let no : 0 ≡ 2 = subst (λ k. status_of_kind k ≡ 2) help is in omega arith),
+  (λ version. let no : 0 ≡ 2 = subst (λ k. status_of_kind k ≡ 2) version is in omega arith),
+)
+
+unfit_or_log : (words : List (List ℕ)) → AreUnfit words ⊎ NameALog words → Refused words
+unfit_or_log words (inl unfit) = inr (inl (refused words unfit))
+unfit_or_log words (inr log) = inr (inr (inl log))
+
+of_refusal : (words : List (List ℕ)) (fault : Fault) → fault ≡ BadSettings → IsRefusal (AreUnfit words ⊎ NameALog words) fault → Refused words
+of_refusal words fault bad (inl memory) = absurd (let no : ⊥ = cc (memory, bad) in no)
+of_refusal words fault bad (inr h) = unfit_or_log words h.1
+
+pub refused_error : (words : List (List ℕ)) (e : WordsError) → IsNoWish words e → status_of_error e ≡ 2 → Refused words
+refused_error words (error.Words e) none is = inl (wrong_kind words (kind_of e) none.1 is)
+refused_error words (error.Option bad) none is = unfit_or_log words none
+refused_error words (error.Fault fault) none is = of_refusal words fault (only_settings fault is) none
+
+pub unwritten_error : (status : ℕ) (same : Type 0) → same ⊎ (status ≡ 0) → (status ≡ 0 → ⊥) → same
+unwritten_error status same (inl is) other = is
+unwritten_error status same (inr zero) other = absurd (other zero)

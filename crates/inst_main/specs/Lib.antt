@@ -1,4 +1,1 @@
-pub mod Options
-pub mod Rows
 pub mod Program
-pub mod LogFault

@@ -1,57 +1,89 @@
 -- What the program leaves, by its exit status. Exit statuses are this hub's own choice.
-use Rattle.std.specs.Prelude.{◌≡◌, ◌≢◌, ◌⊎◌, ℕ, List, length, All, Option, IfSome}
+use Rattle.std.specs.Prelude.{◌≡◌, ◌≢◌, ◌⊎◌, ◌++◌, ◌∷◌, [], ℕ, List, length, All, Option, Some, None, IfSome, codes}
+use Rattle.std.specs.Fmt.{decimal}
 use Rattle.std.specs.Io.KnownBytes.{Appends, IsAtEnd}
-use Rattle.clap.specs.Words.{IsAmong, kind_of}
+use Rattle.clap.specs.Words.{kind_of}
 use Rattle.clap.specs.declared.error.kind.ErrorKind.{ErrorKind}
-use Rattle.clap.specs.declared.error.kind.ErrorKind.TheVariants.{OutOfMemory}
+use Rattle.clap.specs.declared.error.kind.ErrorKind.TheVariants.{DisplayHelp, DisplayVersion}
 use Rattle.inst_base.specs.declared.fault.Fault.{Fault}
 use Rattle.inst_base.specs.declared.fault.Fault.TheVariants.{BadSettings, Memory, WriteFault}
 use Rattle.inst_settings.specs.Settings.{HubSettings}
 use Rattle.inst_settings.specs.Lawful.{IsSettings}
-use Rattle.inst_lines.specs.Answers.{Answerer, output}
-use Rattle.inst_lines.specs.Answering.{Past, opened, running, playing}
+use Rattle.inst_lines.specs.Answers.{output}
+use Rattle.inst_lines.specs.Answering.{answering, opened}
 use Rattle.inst_lines.specs.Headline.{LinesKeepTheHeadline}
 use Rattle.inst_lines.specs.Lines.{lines_of}
 use Rattle.inst_lines.specs.Session.{FailsAfter}
+use Rattle.inst_lines.specs.declared.mode.Mode.{Mode}
+use Rattle.inst_lines.specs.declared.mode.Mode.TheVariants as mode
 use Rattle.inst_drill.specs.declared.report.Report.{Report}
 use Rattle.inst_drill.specs.Plan.{MayDrill}
 use Rattle.inst_drill.specs.Report.{IsUnited, reports_text}
-use Rattle.inst_main.specs.LogFault.{status_of_log}
-use Rattle.inst_main.specs.Options.{AreChosen, AreRefused, AreWhole, NameALog, faults_of}
-use Rattle.inst_main.specs.declared.task.Task.{Task}
-use Rattle.inst_main.specs.declared.task.Task.TheVariants.{Run, Play, Drill}
-use Rattle.inst_main.specs.declared.program.Ending.{Ending}
-use Rattle.inst_main.specs.declared.program.Ending.TheVariants as ending
+use Rattle.inst_faults.specs.AnyFault.{IsNamed, name_of, number_of}
+use Rattle.inst_faults.specs.LogFault.{status_of_log}
+use Rattle.inst_faults.specs.declared.any_fault.AnyFault.{AnyFault}
+use Rattle.inst_options.specs.Options.{AreGood, Task}
+use Rattle.inst_options.specs.Options.Task.{Run, Play, Drill}
+use Rattle.inst_options.specs.Asking.{AreChosen, AreWhole, AskToExplain, NameALog}
+use Rattle.inst_options.specs.declared.error.WordsError.{WordsError}
+use Rattle.inst_options.specs.declared.error.WordsError.TheVariants as error
+use Rattle.inst_options.specs.declared.wish.LogOptions.{LogOptions}
+use Rattle.inst_main.specs.declared.ending.Ending.{Ending}
+use Rattle.inst_main.specs.declared.ending.Ending.TheVariants as ending
 
 -- the exit status for a fault
 abbrev pub status_of : Fault → ℕ
 status_of BadSettings = 2
 status_of _ = 3
 
--- the faults that keep a run from beginning: want of memory, and bad settings where the settings deserve it
-abbrev pub IsRefusal : Type 0 → Fault → Type 0
-IsRefusal deserved fault = (fault ≡ Memory) ⊎ ((fault ≡ BadSettings) × deserved)
+-- for words that ask for nothing that can be done: 0 where they ask for a text
+abbrev pub status_of_kind : ErrorKind → ℕ
+status_of_kind DisplayHelp = 0
+status_of_kind DisplayVersion = 0
+status_of_kind _ = 2
 
--- the tasks that answer lines
-pub data Mode : Type 0 where
-  Running : Mode
-  Playing : Mode
+abbrev pub status_of_error : WordsError → ℕ
+status_of_error (error.Words e) = status_of_kind (kind_of e)
+status_of_error (error.Option bad) = 2
+status_of_error (error.Fault fault) = status_of fault
 
+-- and for words whose task wasn't done
+abbrev pub status_of_ending : Ending → ℕ
+status_of_ending (ending.Fault fault) = status_of fault
+status_of_ending (ending.Log fault) = status_of_log fault
+status_of_ending ending.Unexplained = 2
+
+-- a hub of these settings can do the task: lines it always answers
+abbrev pub MayDo : HubSettings → Task → Type 0
+MayDo s Run = Unit {0}
+MayDo s Play = Unit {0}
+MayDo s (Drill transfers openings) = MayDrill s transfers openings
+
+-- the words are a whole command line, and ask for a drill at a hub
+pub record AskForADrill (words : List (List ℕ)) : Type 0 where
+  pub settings : HubSettings
+  pub lawful : IsSettings settings
+  pub whole : AreWhole words
+  pub transfers : ℕ
+  pub openings : ℕ
+  pub chosen : AreChosen words (Drill transfers openings) settings
+
+-- the words are a whole command line and choose no settings that a hub can have and do the task with
+pub record AreRefused (words : List (List ℕ)) : Type 0 where
+  pub whole : AreWhole words
+  pub none : (task : Task) (s : HubSettings) → AreChosen words task s → ¬ (AreGood s × MayDo s task)
+
+-- what answers lines in this way is called
 abbrev pub task_of : Mode → Task
-task_of Running = Run
-task_of Playing = Play
-
--- how lines are answered for each of them
-abbrev pub answerer : Mode → Answerer Past
-answerer Running = running
-answerer Playing = playing
+task_of mode.Run = Run
+task_of mode.Play = Play
 
 -- a hub of these settings answered all that the reader had left, and wrote the replies alone
 -- headline: the run that these lines stand for keeps it
 pub record Answers (mode : Mode) (settings : HubSettings) (left left' held held' : Option (List ℕ)) : Type 0 where
   pub at_end : IsAtEnd left'
-  pub answered : IfSome left (λ bytes. Appends held held' (output (answerer mode) (opened settings) (lines_of bytes)))
-  pub headline : IfSome left (λ bytes. LinesKeepTheHeadline (answerer mode) settings (lines_of bytes))
+  pub answered : IfSome left (λ bytes. Appends held held' (output (answering mode) (opened settings) (lines_of bytes)))
+  pub headline : IfSome left (λ bytes. LinesKeepTheHeadline (answering mode) settings (lines_of bytes))
 
 -- a hub of the settings that the words choose answered, as the words ask for, all that the reader had left, and wrote
 -- the replies alone
@@ -70,7 +102,7 @@ pub record Fails (words : List (List ℕ)) (left left' held held' : Option (List
   pub lawful : IsSettings settings
   pub whole : AreWhole words
   pub chosen : AreChosen words (task_of mode) settings
-  pub after : FailsAfter (answerer mode) (opened settings) held held' left left' fault
+  pub after : FailsAfter (answering mode) (opened settings) held held' left left' fault
 
 -- a drill of so many openings wrote what each of them came to, and that alone
 abbrev pub Drills : ℕ → Option (List ℕ) → Option (List ℕ) → Type 0
@@ -97,49 +129,71 @@ pub record HasKept (words : List (List ℕ)) (left' : Option (List ℕ)) : Type 
   pub log : NameALog words
   pub at_end : IsAtEnd left'
 
+-- the words ask what a fault is, and the writer got its number and its name, what it usually means, and what to do
+abbrev pub explanation_text : ℕ → List ℕ → List ℕ → List ℕ → List ℕ
+explanation_text number name meaning advice =
+    decimal number ++ (codes " " ++ (name ++ (10 ∷ codes "It usually means: " ++ (meaning
+    ++ (10 ∷ codes "What to do: " ++ (advice ++ 10 ∷ []))))))
+
+abbrev pub Explains : List ℕ → Option (List ℕ) → Option (List ℕ) → Type 0
+Explains word held held' =
+    (fault : AnyFault) × (meaning : List ℕ) × (advice : List ℕ) × IsNamed word fault
+    × Appends held held' (explanation_text (number_of fault) (name_of fault) meaning advice)
+
+abbrev pub AskForAnExplanation : List (List ℕ) → Type 0
+AskForAnExplanation words = (word : List ℕ) × AskToExplain words word
+
+abbrev pub HasExplained : List (List ℕ) → Option (List ℕ) → Option (List ℕ) → Type 0
+HasExplained words held held' = (word : List ℕ) × AskToExplain words word × Explains word held held'
+
+-- how an explanation ends: no fault is named so, and nothing is written, or the writer failed
+abbrev pub IsUnexplained : Type 0 → Ending → Type 0
+IsUnexplained unwritten (ending.Fault fault) = fault ≡ WriteFault
+IsUnexplained unwritten (ending.Log fault) = ⊥
+IsUnexplained unwritten ending.Unexplained = unwritten
+
 -- how a run with a log ends by itself, or the showing of one: where the log isn't taken, all is untouched
 abbrev pub IsUnkept : Type 0 → Ending → Type 0
-IsUnkept untouched (ending.Words error) = ⊥
 IsUnkept untouched (ending.Fault fault) = fault ≢ BadSettings
 IsUnkept untouched (ending.Log fault) = status_of_log fault ≡ 2 → untouched
+IsUnkept untouched ending.Unexplained = ⊥
 
--- the task is done at a hub of these settings
--- unread: the reader is as it was
-abbrev pub IsDone : Task → HubSettings → Type 0 →
+-- the lines of the reader are answered at a hub of these settings, with this log
+abbrev pub IsAnswered : Mode → HubSettings → Option LogOptions →
     Option (List ℕ) → Option (List ℕ) → Option (List ℕ) → Option (List ℕ) → Type 0
-IsDone Run s unread left left' held held' = Answers Running s left left' held held'
-IsDone Play s unread left left' held held' = Answers Playing s left left' held held'
-IsDone (Drill transfers openings) s unread left left' held held' = unread × Drills openings held held'
+IsAnswered mode s None left left' held held' = Answers mode s left left' held held'
+IsAnswered mode s (Some log) left left' held held' = IsAtEnd left'
+
+-- they are not, and the program ends so
+abbrev pub IsUnanswered : Mode → HubSettings → Option LogOptions → Type 0 →
+    Option (List ℕ) → Option (List ℕ) → Option (List ℕ) → Option (List ℕ) → Ending → Type 0
+IsUnanswered mode s None untouched left left' held held' (ending.Fault fault) =
+    FailsAfter (answering mode) (opened s) held held' left left' fault
+IsUnanswered mode s None untouched left left' held held' (ending.Log fault) = ⊥
+IsUnanswered mode s None untouched left left' held held' ending.Unexplained = ⊥
+IsUnanswered mode s (Some log) untouched left left' held held' e = IsUnkept untouched e
 
 -- a drill is ended by this fault: a hub of these settings can't do it, which leaves all unwritten, or it has failed
 abbrev pub IsUndrilled : HubSettings → ℕ → ℕ → Type 0 → Fault → Type 0
 IsUndrilled s transfers openings unwritten fault =
     ((fault ≡ BadSettings) × unwritten × ¬ (MayDrill s transfers openings)) ⊎ ((fault ≡ Memory) ⊎ (fault ≡ WriteFault))
 
--- the task is ended by this fault
-abbrev pub IsUndone : Task → HubSettings → Type 0 → Type 0 →
-    Option (List ℕ) → Option (List ℕ) → Option (List ℕ) → Option (List ℕ) → Fault → Type 0
-IsUndone Run s unread unwritten left left' held held' fault = FailsAfter running (opened s) held held' left left' fault
-IsUndone Play s unread unwritten left left' held held' fault = FailsAfter playing (opened s) held held' left left' fault
-IsUndone (Drill transfers openings) s unread unwritten left left' held held' fault =
-    unread × IsUndrilled s transfers openings unwritten fault
+-- what the words ask for is done
+-- unread: the reader is as it was
+abbrev pub IsServed : List (List ℕ) → Type 0 →
+    Option (List ℕ) → Option (List ℕ) → Option (List ℕ) → Option (List ℕ) → Type 0
+IsServed words unread left left' held held' =
+    Serves words left left' held held'
+    ⊎ (HasKept words left'
+    ⊎ (unread × (HasDrilled words held held' ⊎ (NameALog words ⊎ HasExplained words held held'))))
 
--- an error of the words of this kind, and want of memory as a fault
-abbrev pub IsOfKind : ErrorKind → Ending → Type 0
-IsOfKind kind (ending.Words error) = (kind_of error ≡ kind) × (kind ≢ OutOfMemory)
-IsOfKind kind (ending.Fault fault) = (fault ≡ Memory) × (kind ≡ OutOfMemory)
-IsOfKind kind (ending.Log fault) = ⊥
-
--- why nothing begins: the words, memory, or words that choose no settings that a hub can have and do the task with
-abbrev pub IsUnbegun : List (List ℕ) → Ending → Type 0
-IsUnbegun words (ending.Words error) = (kind_of error ≢ OutOfMemory) × IsAmong (kind_of error) (faults_of words)
-IsUnbegun words (ending.Fault fault) = IsRefusal (AreRefused words ⊎ NameALog words) fault
-IsUnbegun words (ending.Log fault) = ⊥
-
--- nothing has begun and all is untouched, or a run has failed, or a drill
-abbrev pub IsEnding : List (List ℕ) → Type 0 → (Fault → Type 0) → Type 0 → Ending → Type 0
-IsEnding words untouched fails drilled (ending.Words error) = untouched × IsUnbegun words (ending.Words error)
-IsEnding words untouched fails drilled (ending.Fault fault) =
-    (untouched × IsUnbegun words (ending.Fault fault))
-    ⊎ (fails fault ⊎ ((((fault ≡ Memory) ⊎ (fault ≡ WriteFault)) × drilled) ⊎ ((fault ≢ BadSettings) × NameALog words)))
-IsEnding words untouched fails drilled (ending.Log fault) = NameALog words × (status_of_log fault ≡ 2 → untouched)
+-- a hub can't do the drill and all is untouched, or a run has failed, or what reads nothing
+abbrev pub IsEnding : List (List ℕ) → Type 0 → Type 0 → (Fault → Type 0) → Ending → Type 0
+IsEnding words unread unwritten fails (ending.Fault fault) =
+    ((fault ≡ BadSettings) × unread × unwritten × AreRefused words)
+    ⊎ (fails fault
+    ⊎ ((((fault ≡ Memory) ⊎ (fault ≡ WriteFault)) × unread × (AskForADrill words ⊎ AskForAnExplanation words))
+    ⊎ ((fault ≢ BadSettings) × NameALog words)))
+IsEnding words unread unwritten fails (ending.Log fault) =
+    NameALog words × (status_of_log fault ≡ 2 → unread × unwritten)
+IsEnding words unread unwritten fails ending.Unexplained = unread × unwritten × AskForAnExplanation words

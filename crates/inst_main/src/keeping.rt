@@ -6,15 +6,15 @@ ghost use Rattle.std.specs.Io.KnownBytes.{IsAtEnd};
 ghost use Rattle.inst_main.specs.Program.{IsUnkept};
 ghost use Rattle.inst_logged.specs.Refused.{IsRefused};
 
-use crate::log_fault::LogFault;
+use crate::ending::Ending;
 use crate::logs::Logs;
-use crate::program::Ending;
-use crate::task::LogOptions;
 use inst_base::Fault;
+use inst_faults::LogFault;
 use inst_journal::Journal;
 use inst_lines::Mode;
 use inst_log::{LogError, read, whole_lines};
 use inst_logged::{Beginning, LoggedError, LoggedHub, first_batch, read_beginning};
+use inst_options::LogOptions;
 use inst_settings::Settings;
 use sqlite_disk::Disk;
 use std::alloc::{AllocError, Global};

@@ -2,14 +2,11 @@
 //! which reads nothing.
 #![tactic(auto)]
 
+mod ending;
 mod keeping;
-mod log_fault;
 mod logs;
-mod options;
 mod program;
 mod rows;
-mod task;
-mod texts;
 
 use logs::HostLogs;
 use program::program;

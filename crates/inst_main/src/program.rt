@@ -1,69 +1,28 @@
-ghost use Rattle.std.specs.Prelude.{◌≡◌, ◌≢◌, ◌⊎◌, map, string_bytes, OnOk, IfOk, IfErr};
+ghost use Rattle.std.specs.Prelude.{◌≡◌, ◌≢◌, ◌⊎◌, ℕ, List, map, string_bytes, OnOk, IfErr};
 ghost use Rattle.std.specs.IoError.{error_kind};
-ghost use Rattle.clap.specs.Words.{kind_of};
 ghost use Rattle.inst_base.specs.declared.fault.Fault.{Fault as SomeFault};
-ghost use Rattle.inst_main.specs.LogFault.{status_of_log};
-ghost use Rattle.inst_main.specs.Options.{AreRefused, AskForADrill, AskForHelp, AreWrong, NameALog, IsWished};
-ghost use Rattle.inst_main.specs.Program.{status_of, Serves, Fails, HasKept, HasDrilled, IsDone, IsUndone};
-ghost use Rattle.inst_main.specs.Program.{IsEnding, IsUnbegun, IsOfKind};
+ghost use Rattle.inst_lines.specs.Answering.{answering, opened};
+ghost use Rattle.inst_lines.specs.Session.{FailsAfter};
+ghost use Rattle.inst_options.specs.Asking.{AskForHelp, AreWrong, IsWished, NameALog};
+ghost use Rattle.inst_main.specs.Program.{status_of, status_of_error, status_of_ending};
+ghost use Rattle.inst_main.specs.Program.{Answers, Serves, Fails, HasKept, HasDrilled, HasExplained};
+ghost use Rattle.inst_main.specs.Program.{AreRefused, AskForADrill, AskForAnExplanation, IsServed, IsEnding};
+ghost use Rattle.inst_main.specs.Program.{IsAnswered, IsUnanswered, Drills, IsUndrilled, Explains, IsUnexplained};
 
+use crate::ending::Ending;
 use crate::keeping::{keep, next, show};
-use crate::log_fault::LogFault;
 use crate::logs::Logs;
-use crate::options::{command_line, wish};
-use crate::task::{Task, Wish};
-use clap::Error;
 use clap::error::ErrorKind;
 use inst_base::Fault;
 use inst_drill::{Ungated, drill};
-use inst_lines::{play_lines, run_lines};
+use inst_faults::fault_of;
+use inst_lines::{Counts, Mode, play_lines, run_lines};
+use inst_options::{LogOptions, Wish, WordsError, wished};
 use inst_settings::Settings;
-use std::alloc::{AllocError, Global};
+use std::alloc::Global;
 use std::io::{self, ErrorKind as IoErrorKind, Read, Write};
 use std::sync::Wait;
 use std::thread::Threads;
-
-/// Why the program ends without having served its input.
-#[derive(Drop)]
-pub(crate) enum Ending {
-    /// The command line asks for help or is wrong; the text says so.
-    Words(Error),
-    /// Bad settings, or a run that failed.
-    Fault(Fault),
-    /// A log that wasn't taken, or failed.
-    Log(LogFault),
-}
-
-impl From<Fault> for Ending {
-    ghost use Rattle.inst_main.specs.declared.program.Ending.TheVariants as ending;
-
-    ghost from_gives = { λ fault result. result ≡ ending.Fault fault };
-
-    fn from(fault: Fault) -> Ending {
-        Ending::Fault(fault)
-    }
-}
-
-impl From<AllocError> for Ending {
-    ghost use Rattle.inst_base.specs.declared.fault.Fault.TheVariants.{Memory};
-    ghost use Rattle.inst_main.specs.declared.program.Ending.TheVariants as ending;
-
-    ghost from_gives = { λ _ result. result ≡ ending.Fault Memory };
-
-    fn from(_error: AllocError) -> Ending {
-        Ending::Fault(Fault::Memory)
-    }
-}
-
-impl From<LogFault> for Ending {
-    ghost use Rattle.inst_main.specs.declared.program.Ending.TheVariants as ending;
-
-    ghost from_gives = { λ fault result. result ≡ ending.Log fault };
-
-    fn from(fault: LogFault) -> Ending {
-        Ending::Log(fault)
-    }
-}
 
 /// Does what the words of the command line say, the program's name first. `run` answers each line of
 /// `reader`, a command, by one line to `writer`, and follows up all transfers after it; `play` does the
@@ -71,7 +30,7 @@ impl From<LogFault> for Ending {
 /// log, each line is in it before its reply is written, and the lines that it has come first. `log` tells what one has,
 /// and `next` begins one with the books of another.
 /// `drill` has two more, reads nothing, and drills a hub of these settings by threads: `writer` gets what each
-/// opening came to, and `errors` how far it is, where `is_watched`.
+/// opening came to, and `errors` how far it is, where `is_watched`. `explain` tells what a fault usually means.
 /// Answers the exit status: 0 at the end of the input or of the drill and after
 /// `--help`, 2 for a command line that is wrong, with a text on `errors`, and for bad settings, 3
 /// for a run or a drill that failed and where memory was wanting before it began. A fault is one line
@@ -96,24 +55,39 @@ pub(crate) fn program<H: Threads + Wait + Sync, L: Logs, R: Read, W: Write, E: W
         ⊎ (HasKept (map string_bytes words.items) (R.remaining reader.new)
         ⊎ ((reader.new ≡ reader.old) × (AskForHelp (map string_bytes words.items)
         ⊎ (HasDrilled (map string_bytes words.items) (W.contents writer.old) (W.contents writer.new)
-        ⊎ NameALog (map string_bytes words.items))))) }
+        ⊎ (NameALog (map string_bytes words.items)
+        ⊎ HasExplained (map string_bytes words.items) (W.contents writer.old) (W.contents writer.new)))))) }
 
     // The words are wrong, or they are whole and choose no settings that a hub can have and do the task with, or they
-    // name a log that isn't taken.
+    // name a log that isn't taken, or a fault that there isn't.
     ensures refused { result ≡ 2 → (reader.new ≡ reader.old) × (writer.new ≡ writer.old)
         × (AreWrong (map string_bytes words.items) ⊎ (AreRefused (map string_bytes words.items)
-        ⊎ NameALog (map string_bytes words.items))) }
+        ⊎ (NameALog (map string_bytes words.items) ⊎ AskForAnExplanation (map string_bytes words.items)))) }
 
-    // Memory was wanting before a run, or a run has failed, or a drill, which has read nothing, or a log.
+    // Memory was wanting before a run, or a run has failed, or what reads nothing: a drill, a log, or an explanation.
     ensures failed { result ≡ 3 → ((reader.new ≡ reader.old) × (writer.new ≡ writer.old))
         ⊎ (((fault : SomeFault) × Fails (map string_bytes words.items)
         (R.remaining reader.old) (R.remaining reader.new) (W.contents writer.old) (W.contents writer.new) fault)
-        ⊎ (((reader.new ≡ reader.old) × AskForADrill (map string_bytes words.items))
+        ⊎ (((reader.new ≡ reader.old) × (AskForADrill (map string_bytes words.items)
+        ⊎ AskForAnExplanation (map string_bytes words.items)))
         ⊎ NameALog (map string_bytes words.items))) }
 {
-    match serve(rt, logs, alloc, &words, reader, writer, errors, is_watched) {
-        Ok(()) => 0,
-        Err(Ending::Words(error)) => match error.kind() {
+    match wished(alloc, &words) {
+        Ok(wish) => match serve(rt, logs, alloc, wish, reader, writer, errors, is_watched) {
+            Ok(()) => 0,
+            Err(ending) => tell_ending(ending, errors),
+        },
+        Err(error) => tell_error(error, writer, errors),
+    }
+}
+
+/// Tells why the words ask for nothing, and answers the exit status. A text that they ask for goes to `writer`.
+fn tell_error<W: Write, E: Write>(error: WordsError<'_>, writer: &mut W, errors: &mut E) -> u8
+    ensures status { result ≡ status_of_error error.entry }
+    ensures written { (writer.new ≡ writer.old) ⊎ (result ≡ 0) }
+{
+    match error {
+        WordsError::Words(error) => match error.kind() {
             ErrorKind::DisplayHelp | ErrorKind::DisplayVersion => {
                 let _ = write!(writer, "{error}");
                 0
@@ -123,8 +97,16 @@ pub(crate) fn program<H: Threads + Wait + Sync, L: Logs, R: Read, W: Write, E: W
                 2
             }
         },
-        Err(Ending::Fault(fault)) => tell(fault, errors),
-        Err(Ending::Log(fault)) => tell_of_log(fault, errors),
+        WordsError::Option(bad) => {
+            let status = tell(Fault::BadSettings, errors);
+            let _ = writeln!(
+                errors,
+                "--{} is {} and may be {}",
+                bad.name, bad.value, bad.range
+            );
+            status
+        }
+        WordsError::Fault(fault) => tell(fault, errors),
     }
 }
 
@@ -143,6 +125,26 @@ pub fn words_failed<E: Write>(error: &io::Error, errors: &mut E) -> u8
     }
 }
 
+/// Tells why the program ends, and answers the exit status.
+fn tell_ending<E: Write>(ending: Ending, errors: &mut E) -> u8
+    ensures { result ≡ status_of_ending ending }
+{
+    match ending {
+        Ending::Fault(fault) => tell(fault, errors),
+        Ending::Log(fault) => {
+            let _ = writeln!(errors, "fault {} {}", fault.number(), fault.name());
+            fault.status()
+        }
+        Ending::Unexplained => {
+            let _ = writeln!(
+                errors,
+                "error: no fault has this number or name; numbers are 1 to 25"
+            );
+            2
+        }
+    }
+}
+
 /// Writes the line of a fault, and answers its exit status.
 fn tell<E: Write>(fault: Fault, errors: &mut E) -> u8
     ensures { result ≡ status_of fault }
@@ -151,111 +153,138 @@ fn tell<E: Write>(fault: Fault, errors: &mut E) -> u8
     if fault == Fault::BadSettings { 2 } else { 3 }
 }
 
-/// Writes the line of a fault of a log, and answers its exit status.
-fn tell_of_log<E: Write>(fault: LogFault, errors: &mut E) -> u8
-    ensures { result ≡ status_of_log fault }
-{
-    let _ = writeln!(errors, "fault {} {}", fault.number(), fault.name());
-    fault.status()
-}
-
-/// Does what the words ask for.
+/// Does what words ask for.
 fn serve<H: Threads + Wait + Sync, L: Logs, R: Read, W: Write, E: Write>(
     rt: &H,
     logs: &L,
     alloc: Global,
-    words: &[String],
+    wish: Wish<'_>,
     reader: &mut R,
     writer: &mut W,
     errors: &mut E,
     is_watched: bool,
 ) -> Result<(), Ending>
-    ensures ok { OnOk result (Serves (map string_bytes words.now)
-        (R.remaining reader.old) (R.remaining reader.new) (W.contents writer.old) (W.contents writer.new)
-        ⊎ (HasKept (map string_bytes words.now) (R.remaining reader.new)
-        ⊎ ((reader.new ≡ reader.old)
-        × (HasDrilled (map string_bytes words.now) (W.contents writer.old) (W.contents writer.new)
-        ⊎ NameALog (map string_bytes words.now))))) }
-    ensures err { IfErr result (IsEnding (map string_bytes words.now)
-        ((reader.new ≡ reader.old) × (writer.new ≡ writer.old))
-        (Fails (map string_bytes words.now) (R.remaining reader.old) (R.remaining reader.new)
-        (W.contents writer.old) (W.contents writer.new))
-        ((reader.new ≡ reader.old) × AskForADrill (map string_bytes words.now))) }
+    ensures ok { (words : List (List ℕ)) → IsWished words wish.entry → OnOk result (IsServed words (reader.new ≡ reader.old)
+        (R.remaining reader.old) (R.remaining reader.new) (W.contents writer.old) (W.contents writer.new)) }
+    ensures err { (words : List (List ℕ)) → IsWished words wish.entry → IfErr result (IsEnding words
+        (reader.new ≡ reader.old) (writer.new ≡ writer.old)
+        (Fails words (R.remaining reader.old) (R.remaining reader.new) (W.contents writer.old) (W.contents writer.new))) }
 {
-    match wished(alloc, words)? {
-        Wish::Show(path) => show(logs, alloc, path, writer),
-        Wish::Next(from, to) => next(logs, alloc, from, to),
-        Wish::Keep(mode, settings, log) => keep(
-            logs, alloc, mode, &settings, log, reader, writer, errors,
+    match wish {
+        Wish::Run(settings, log) => answer(
+            logs,
+            alloc,
+            Mode::Run,
+            &settings,
+            log,
+            reader,
+            writer,
+            errors,
         ),
-        Wish::Do(task, settings) => {
-            perform(
-                rt, alloc, task, settings, reader, writer, errors, is_watched,
+        Wish::Play(settings, log) => answer(
+            logs,
+            alloc,
+            Mode::Play,
+            &settings,
+            log,
+            reader,
+            writer,
+            errors,
+        ),
+        Wish::Drill(settings, transfers, openings) => {
+            drill_hub(
+                rt, alloc, settings, transfers, openings, writer, errors, is_watched,
             )?;
+            Ok(())
+        }
+        Wish::Log(path) => show(logs, alloc, path, writer),
+        Wish::Next(from, to) => next(logs, alloc, from, to),
+        Wish::Explain(word) => explain(word, writer),
+    }
+}
+
+/// Answers the lines of `reader` at a hub of these settings, with a log or without.
+fn answer<L: Logs, R: Read, W: Write, E: Write>(
+    logs: &L,
+    alloc: Global,
+    mode: Mode,
+    settings: &Settings,
+    log: Option<LogOptions<'_>>,
+    reader: &mut R,
+    writer: &mut W,
+    errors: &mut E,
+) -> Result<(), Ending>
+    ensures ok { OnOk result (IsAnswered mode settings.now log.entry
+        (R.remaining reader.old) (R.remaining reader.new) (W.contents writer.old) (W.contents writer.new)) }
+    ensures err { IfErr result (IsUnanswered mode settings.now log.entry
+        ((reader.new ≡ reader.old) × (writer.new ≡ writer.old))
+        (R.remaining reader.old) (R.remaining reader.new) (W.contents writer.old) (W.contents writer.new)) }
+{
+    match log {
+        Some(log) => keep(logs, alloc, mode, settings, log, reader, writer, errors),
+        None => {
+            answer_unkept(alloc, mode, settings, reader, writer)?;
             Ok(())
         }
     }
 }
 
-/// Does the task at a hub of these settings.
-fn perform<H: Threads + Wait + Sync, R: Read, W: Write, E: Write>(
+/// Answers the lines of `reader` at a hub of these settings, and keeps none.
+fn answer_unkept<R: Read, W: Write>(
+    alloc: Global,
+    mode: Mode,
+    settings: &Settings,
+    reader: &mut R,
+    writer: &mut W,
+) -> Result<Counts, Fault>
+    ensures ok { OnOk result (Answers mode settings.now
+        (R.remaining reader.old) (R.remaining reader.new) (W.contents writer.old) (W.contents writer.new)) }
+    ensures err { IfErr result (FailsAfter (answering mode) (opened settings.now)
+        (W.contents writer.old) (W.contents writer.new) (R.remaining reader.old) (R.remaining reader.new)) }
+{
+    match mode {
+        Mode::Run => run_lines(alloc, settings, reader, writer),
+        Mode::Play => play_lines(alloc, settings, reader, writer),
+    }
+}
+
+/// Drills a hub of these settings.
+fn drill_hub<H: Threads + Wait + Sync, W: Write, E: Write>(
     rt: &H,
     alloc: Global,
-    task: Task,
     settings: Settings,
-    reader: &mut R,
+    transfers: u16,
+    openings: u8,
     writer: &mut W,
     errors: &mut E,
     is_watched: bool,
 ) -> Result<(), Fault>
-    ensures ok { OnOk result (IsDone task settings (reader.new ≡ reader.old)
-        (R.remaining reader.old) (R.remaining reader.new) (W.contents writer.old) (W.contents writer.new)) }
-    ensures err { IfErr result (IsUndone task settings (reader.new ≡ reader.old) (writer.new ≡ writer.old)
-        (R.remaining reader.old) (R.remaining reader.new) (W.contents writer.old) (W.contents writer.new)) }
+    ensures ok { OnOk result (Drills openings (W.contents writer.old) (W.contents writer.new)) }
+    ensures err { IfErr result (IsUndrilled settings transfers openings (writer.new ≡ writer.old)) }
 {
-    match task {
-        Task::Run => {
-            run_lines(alloc, &settings, reader, writer)?;
-            Ok(())
-        }
-        Task::Play => {
-            play_lines(alloc, &settings, reader, writer)?;
-            Ok(())
-        }
-        Task::Drill {
-            transfers,
-            openings,
-        } => {
-            drill(
-                rt, alloc, settings, transfers, openings, &Ungated, writer, errors, is_watched,
-            )?;
-            Ok(())
-        }
-    }
+    drill(
+        rt, alloc, settings, transfers, openings, &Ungated, writer, errors, is_watched,
+    )?;
+    Ok(())
 }
 
-/// What the words ask for.
-fn wished<'a>(alloc: Global, words: &'a [String]) -> Result<Wish<'a>, Ending>
-    ensures ok { IfOk result (IsWished (map string_bytes words.now)) }
-    ensures err { IfErr result (IsUnbegun (map string_bytes words.now)) }
+/// Tells what the fault of this number or name usually means, and what to do.
+fn explain<W: Write>(word: &str, writer: &mut W) -> Result<(), Ending>
+    ensures ok { OnOk result (Explains word.now (W.contents writer.old) (W.contents writer.new)) }
+    ensures err { IfErr result (IsUnexplained (writer.new ≡ writer.old)) }
 {
-    let command = command_line(alloc)?;
-    let matches = match command.try_get_matches_from(words) {
-        Ok(matches) => matches,
-        Err(error) => return Err(ending_of(error)),
+    let Some(fault) = fault_of(word) else {
+        return Err(Ending::Unexplained);
     };
-    match matches.subcommand() {
-        Some((name, options)) => Ok(wish(alloc, name, options)?),
-        // A whole command line has a subcommand: this is never reached.
-        None => Err(Ending::Fault(Fault::BadSettings)),
+    match writeln!(
+        writer,
+        "{} {}\nIt usually means: {}\nWhat to do: {}",
+        fault.number(),
+        fault.name(),
+        fault.meaning(),
+        fault.advice()
+    ) {
+        Ok(()) => Ok(()),
+        Err(_) => Err(Ending::Fault(Fault::WriteFault)),
     }
-}
-
-fn ending_of(error: Error) -> Ending
-    ensures { IsOfKind (kind_of error) result }
-{
-    if error.kind() == ErrorKind::OutOfMemory {
-        return Ending::Fault(Fault::Memory);
-    }
-    Ending::Words(error)
 }

@@ -1,13 +1,10 @@
-//! Worked command lines, computed from the definitions. Each is a function without a body whose
-//! contract is the row, so that the check computes it.
-ghost use Rattle.inst_main.specs.Rows.{SmallHub, NoHub};
+//! A worked drill, computed from the definitions. A function without a body has the row for its contract, so that the
+//! check computes it.
+ghost use Rattle.inst_options.specs.Rows.{small_settings};
+ghost use Rattle.inst_options.specs.Options.Task.{Drill};
+ghost use Rattle.inst_main.specs.Program.{MayDo};
 
-/// Options that are given and options that aren't, and the settings that they choose.
-pub fn small_hub()
-    ensures { SmallHub }
-{}
-
-/// Words that are no whole command line, and what is wrong with them.
-pub fn no_hub()
-    ensures { NoHub }
+/// The small hub of the worked command lines can do two transfers in one opening.
+pub fn small_drill()
+    ensures { MayDo small_settings (Drill 2 1) }
 {}

@@ -1,12 +1,39 @@
-use Rattle.std.proofs.Common.{◌≡◌, sym, ◌∙◌, map, string_bytes}
-use Rattle.inst_main.proofs.Serving.{served, refused_words}
+use Rattle.std.proofs.Common.{◌≡◌, List, ℕ, inl, inr, map, string_bytes, refl, sym, ◌∙◌}
+use Rattle.inst_options.specs.Asking.{IsNoWish, IsWished}
+use Rattle.inst_main.proofs.Serving.{failed_ending, helped, refused_ending, refused_error, served, two_is_not_zero, unwritten_error}
 use Rattle.inst_main.proofs.program.program.Goals as goal
 
-pub returns-in-Ok-clause-served : goal.returns-in-Ok-clause-served
-returns-in-Ok-clause-served g c is =
-    let ok = rw c.deref.ensures.value at c.in-Ok.ensures.ok in
-    served _ _ _ _ _ _ ok
+pub returns-in-Ok-serve-clause-served : goal.returns-in-Ok-serve-clause-served
+returns-in-Ok-serve-clause-served g c is =
+    let words = map string_bytes c.args.words.items in
+    let wished : IsWished words c.in-Ok.wish = rw c.deref.ensures.value at c.in-Ok.ensures.ok in
+    served _ _ _ _ _ (c.in-Ok-serve.ensures.ok words wished)
 
-pub returns-in-Err-Fault-clause-refused : goal.returns-in-Err-Fault-clause-refused
-returns-in-Err-Fault-clause-refused g c is =
-    refused_words (map string_bytes c.args.words.items) _ _ _ _ _ _ _ c.in-Err-Fault.fault (sym c.tell.ensures ∙ is) (rw (c.in-Err-Fault.field-0-is, c.deref.ensures.value) at c.in-Err-Fault.ensures.err)
+pub returns-in-Ok-clause-refused : goal.returns-in-Ok-clause-refused
+returns-in-Ok-clause-refused g c is =
+    let words = map string_bytes c.args.words.items in
+    let wished : IsWished words c.in-Ok.wish = rw c.deref.ensures.value at c.in-Ok.ensures.ok in
+    refused_ending words (c.serve.new.reader ≡ c.args.reader.now) (c.serve.new.writer ≡ c.args.writer.now) _ _ _ _ c.in-Err-serve.ending
+    (sym c.tell_ending.ensures ∙ is) (c.in-Err-serve.ensures.err words wished)
+
+pub returns-in-Ok-clause-failed : goal.returns-in-Ok-clause-failed
+returns-in-Ok-clause-failed g c is =
+    let words = map string_bytes c.args.words.items in
+    let wished : IsWished words c.in-Ok.wish = rw c.deref.ensures.value at c.in-Ok.ensures.ok in
+    failed_ending words (c.serve.new.reader ≡ c.args.reader.now) (c.serve.new.writer ≡ c.args.writer.now) _ _ _ _ c.in-Err-serve.ending
+    (c.in-Err-serve.ensures.err words wished)
+
+pub returns-clause-served : goal.returns-clause-served
+returns-clause-served g c is =
+    let words = map string_bytes c.args.words.items in
+    let none : IsNoWish words c.in-Err.error = rw c.deref.ensures.value at c.in-Err.ensures.err in
+    inr (inr (refl, inl (helped words c.in-Err.error none (sym c.tell_error.ensures.status ∙ is))))
+
+pub returns-clause-refused : goal.returns-clause-refused
+returns-clause-refused g c is =
+    let words = map string_bytes c.args.words.items in
+    let none : IsNoWish words c.in-Err.error = rw c.deref.ensures.value at c.in-Err.ensures.err in (
+      refl,
+      unwritten_error c.tell_error.result (c.tell_error.new.writer ≡ c.args.writer.now) c.tell_error.ensures.written (λ zero. two_is_not_zero (sym is ∙ zero)),
+      refused_error words c.in-Err.error none (sym c.tell_error.ensures.status ∙ is),
+    )

@@ -1,23 +1,43 @@
-use Rattle.std.proofs.Common.{◌≡◌, inl, inr, map, string_bytes}
+use Rattle.std.proofs.Common.{◌≡◌, refl}
 use Rattle.std.proofs.lemmas.Result.{on_ok_weaker}
-use Rattle.inst_main.proofs.Doing.{done, undone_err}
-use Rattle.inst_main.proofs.Serving.{done_so, kept_of}
+use Rattle.inst_main.proofs.Doing.{answered, drilled, unanswered_err, undrilled_err, unexplained_err}
 use Rattle.inst_main.proofs.program.serve.Goals as goal
 
-pub returns-in_err-perform-in-Do-clause-err : goal.returns-in_err-perform-in-Do-clause-err
-returns-in_err-perform-in-Do-clause-err g c =
-    let wish = rw c.in-Do.is at c.in_ok-path.ensures.ok in
-    undone_err (map string_bytes c.args.words.now) c.in-Do.task c.in-Do.settings (c.perform.new.reader ≡ c.args.reader.now)
-    (c.perform.new.writer ≡ c.args.writer.now) _ _ _ _ c.from_residual-in_err-perform-in-Do.result c.in_err-perform-in-Do.field-0.0 c.from_residual-in_err-perform-in-Do.ensures.1
-    wish.0 wish.1 wish.2 c.in_err-perform-in-Do.ensures.err
+pub returns-in-Run-clause-ok : goal.returns-in-Run-clause-ok
+returns-in-Run-clause-ok g c words wished =
+    let is = rw c.in-Run.is at wished in
+    on_ok_weaker c.answer.result (λ done. answered words _ c.in-Run.settings c.in-Run.log (c.answer.new.reader ≡ c.args.reader.now) _ _ _ _ is.0 is.1 is.2 is.3 done) c.answer.ensures.ok
 
-pub returns-in-Keep-clause-ok : goal.returns-in-Keep-clause-ok
-returns-in-Keep-clause-ok g c =
-    let wish = rw c.in-Keep.is at c.in_ok-path.ensures.ok in
-    on_ok_weaker c.keep.result (λ end. inr (inl (kept_of (map string_bytes c.args.words.now) c.in-Keep.mode c.in-Keep.settings _ wish.0 wish.1 wish.2 end))) c.keep.ensures.end
+pub returns-in-Run-clause-err : goal.returns-in-Run-clause-err
+returns-in-Run-clause-err g c words wished =
+    let is = rw c.in-Run.is at wished in
+    unanswered_err words _ c.in-Run.settings c.in-Run.log (c.answer.new.reader ≡ c.args.reader.now) (c.answer.new.writer ≡ c.args.writer.now) _ _ _ _
+    c.answer.result is.0 is.1 is.2 is.3 c.answer.ensures.err
 
-pub returns-in_ok-perform-in-Do-clause-ok : goal.returns-in_ok-perform-in-Do-clause-ok
-returns-in_ok-perform-in-Do-clause-ok g c =
-    let wish = rw c.in-Do.is at c.in_ok-path.ensures.ok in
-    done_so _ _ _ _ _ (done (map string_bytes c.args.words.now) c.in-Do.task c.in-Do.settings (c.perform.new.reader ≡ c.args.reader.now) _ _ _ _
-    wish.0 wish.1 wish.2 c.in_ok-perform-in-Do.ensures.ok)
+pub returns-in-Play-clause-ok : goal.returns-in-Play-clause-ok
+returns-in-Play-clause-ok g c words wished =
+    let is = rw c.in-Play.is at wished in
+    on_ok_weaker c.answer-in-Play.result (λ done. answered words _ c.in-Play.settings c.in-Play.log (c.answer-in-Play.new.reader ≡ c.args.reader.now) _ _ _ _ is.0 is.1 is.2 is.3 done) c.answer-in-Play.ensures.ok
+
+pub returns-in-Play-clause-err : goal.returns-in-Play-clause-err
+returns-in-Play-clause-err g c words wished =
+    let is = rw c.in-Play.is at wished in
+    unanswered_err words _ c.in-Play.settings c.in-Play.log (c.answer-in-Play.new.reader ≡ c.args.reader.now) (c.answer-in-Play.new.writer ≡ c.args.writer.now) _ _ _ _
+    c.answer-in-Play.result is.0 is.1 is.2 is.3 c.answer-in-Play.ensures.err
+
+pub returns-in_ok-drill_hub-in-Drill-clause-ok : goal.returns-in_ok-drill_hub-in-Drill-clause-ok
+returns-in_ok-drill_hub-in-Drill-clause-ok g c words wished =
+    let is = rw c.in-Drill.is at wished in
+    drilled words c.in-Drill.settings c.in-Drill.transfers c.in-Drill.openings (c.args.reader.now ≡ c.args.reader.now) _ _ _ _ is.0 is.1 is.2 refl
+    c.in_ok-drill_hub-in-Drill.ensures.ok
+
+pub returns-in_err-drill_hub-in-Drill-clause-err : goal.returns-in_err-drill_hub-in-Drill-clause-err
+returns-in_err-drill_hub-in-Drill-clause-err g c words wished =
+    let is = rw c.in-Drill.is at wished in
+    undrilled_err words c.in-Drill.settings c.in-Drill.transfers c.in-Drill.openings (c.args.reader.now ≡ c.args.reader.now) (c.drill_hub.new.writer ≡ c.args.writer.now) _
+    c.from_residual.result c.in_err-drill_hub-in-Drill.field-0.0 c.from_residual.ensures.1 is.0 is.1 is.2 refl c.in_err-drill_hub-in-Drill.ensures.err
+
+pub returns-in-Explain-clause-err : goal.returns-in-Explain-clause-err
+returns-in-Explain-clause-err g c words wished =
+    let is = rw c.in-Explain.is at wished in
+    unexplained_err words (c.args.reader.now ≡ c.args.reader.now) (c.explain.new.writer ≡ c.args.writer.now) _ c.explain.result (c.in-Explain.word.now, is) refl c.explain.ensures.err

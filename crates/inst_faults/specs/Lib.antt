@@ -1,0 +1,2 @@
+pub mod LogFault
+pub mod AnyFault

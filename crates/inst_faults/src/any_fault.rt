@@ -1,0 +1,79 @@
+ghost use Rattle.std.specs.Prelude.{◌≡◌, IfSome, IsNone};
+ghost use Rattle.inst_faults.specs.AnyFault.{number_of, name_of, IsNamed};
+
+use crate::log_fault::LogFault;
+use inst_base::Fault;
+
+/// What a line is refused by, or a program ends by.
+#[derive(Clone, Copy, Debug, PartialEq, Eq)]
+pub enum AnyFault {
+    /// Of a line, a command or a run, from 1 to 18.
+    Hub(Fault),
+    /// Of the log of a run, from 19 to 25.
+    Log(LogFault),
+}
+
+/// All there are, by their numbers.
+const ALL: &'static [AnyFault] = &[
+    AnyFault::Hub(Fault::NotJson),
+    AnyFault::Hub(Fault::BadField),
+    AnyFault::Hub(Fault::BadIdentifier),
+    AnyFault::Hub(Fault::BadAmount),
+    AnyFault::Hub(Fault::BadMoment),
+    AnyFault::Hub(Fault::UnknownParticipant),
+    AnyFault::Hub(Fault::SelfTransfer),
+    AnyFault::Hub(Fault::UnknownTransfer),
+    AnyFault::Hub(Fault::Duplicate),
+    AnyFault::Hub(Fault::StampAhead),
+    AnyFault::Hub(Fault::Expired),
+    AnyFault::Hub(Fault::Full),
+    AnyFault::Hub(Fault::Shortage),
+    AnyFault::Hub(Fault::Memory),
+    AnyFault::Hub(Fault::BadSettings),
+    AnyFault::Hub(Fault::LineTooLong),
+    AnyFault::Hub(Fault::ReadFault),
+    AnyFault::Hub(Fault::WriteFault),
+    AnyFault::Log(LogFault::DiskFault),
+    AnyFault::Log(LogFault::OtherSettings),
+    AnyFault::Log(LogFault::NoLog),
+    AnyFault::Log(LogFault::ToldAhead),
+    AnyFault::Log(LogFault::LogInUse),
+    AnyFault::Log(LogFault::BadBooks),
+    AnyFault::Log(LogFault::LastOpening),
+];
+
+impl AnyFault {
+    /// The number that the reply or the fault line shows.
+    pub fn number(self) -> u8
+        ensures { result ≡ number_of self }
+    {
+        match self {
+            AnyFault::Hub(fault) => fault.number(),
+            AnyFault::Log(fault) => fault.number(),
+        }
+    }
+
+    /// The name that the reply or the fault line shows.
+    pub fn name(self) -> &'static str
+        ensures { result.now ≡ name_of self }
+    {
+        match self {
+            AnyFault::Hub(fault) => fault.name(),
+            AnyFault::Log(fault) => fault.name(),
+        }
+    }
+}
+
+/// The fault that this word names, by its number in digits, which may follow a plus, or by its name.
+///
+/// ```text
+/// fault_of("13")       // Some(AnyFault::Hub(Fault::Shortage))
+/// fault_of("Shortage") // the same
+/// fault_of("26")       // None
+/// ```
+pub fn fault_of(word: &str) -> Option<AnyFault>
+    ensures named { IfSome result (λ fault. IsNamed word.now fault) }
+{
+    let number = word.parse::<u8>().ok();
+    ALL.iter().copied().find(|fault| fault.name() == word || number == Some(fault.number()))
+}

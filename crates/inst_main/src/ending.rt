@@ -1,0 +1,47 @@
+ghost use Rattle.std.specs.Prelude.{◌≡◌};
+
+use inst_base::Fault;
+use inst_faults::LogFault;
+use std::alloc::AllocError;
+
+/// Why the program ends without having done what the words ask for.
+#[derive(Clone, Copy, Debug)]
+pub(crate) enum Ending {
+    /// A hub can't do the drill, or a run failed, or something that reads nothing.
+    Fault(Fault),
+    /// A log that wasn't taken, or failed.
+    Log(LogFault),
+    /// No fault has the number or the name that is to be explained.
+    Unexplained,
+}
+
+impl From<Fault> for Ending {
+    ghost use Rattle.inst_main.specs.declared.ending.Ending.TheVariants as ending;
+
+    ghost from_gives = { λ fault result. result ≡ ending.Fault fault };
+
+    fn from(fault: Fault) -> Ending {
+        Ending::Fault(fault)
+    }
+}
+
+impl From<AllocError> for Ending {
+    ghost use Rattle.inst_base.specs.declared.fault.Fault.TheVariants.{Memory};
+    ghost use Rattle.inst_main.specs.declared.ending.Ending.TheVariants as ending;
+
+    ghost from_gives = { λ _ result. result ≡ ending.Fault Memory };
+
+    fn from(_error: AllocError) -> Ending {
+        Ending::Fault(Fault::Memory)
+    }
+}
+
+impl From<LogFault> for Ending {
+    ghost use Rattle.inst_main.specs.declared.ending.Ending.TheVariants as ending;
+
+    ghost from_gives = { λ fault result. result ≡ ending.Log fault };
+
+    fn from(fault: LogFault) -> Ending {
+        Ending::Log(fault)
+    }
+}

@@ -1,0 +1,92 @@
+-- What the words of a command line ask for, and why nothing.
+use Rattle.std.specs.Prelude.{◌≢◌, ◌⊎◌, ◌≡◌, ℕ, true, List, [], Option, Some, None, codes}
+use Rattle.clap.specs.Words.{HasKind, IsAmong, Kinds, Row, fault_of, kind_of, subcommand_of}
+use Rattle.clap.specs.declared.error.kind.ErrorKind.{ErrorKind}
+use Rattle.clap.specs.declared.error.kind.ErrorKind.TheVariants.{DisplayHelp, DisplayVersion, OutOfMemory}
+use Rattle.inst_base.specs.declared.fault.Fault.{Fault}
+use Rattle.inst_base.specs.declared.fault.Fault.TheVariants.{BadSettings, Memory}
+use Rattle.inst_settings.specs.Settings.{HubSettings, same_text}
+use Rattle.inst_settings.specs.Lawful.{IsSettings}
+use Rattle.inst_options.specs.CommandLine.{command_line}
+use Rattle.inst_options.specs.Options.{AreGood, Chooses, Fits, IsTask, IsText, SpeaksOfALog, Task}
+use Rattle.inst_options.specs.Options.Task.{Run, Play, Drill}
+use Rattle.inst_options.specs.declared.error.WordsError.{WordsError}
+use Rattle.inst_options.specs.declared.error.WordsError.TheVariants as error
+use Rattle.inst_options.specs.declared.wish.LogOptions.{LogOptions}
+use Rattle.inst_options.specs.declared.wish.Wish.{Wish}
+use Rattle.inst_options.specs.declared.wish.Wish.TheVariants as wish
+
+-- the faults that keep a run from beginning: want of memory, and bad settings where the settings deserve it
+abbrev pub IsRefusal : Type 0 → Fault → Type 0
+IsRefusal deserved fault = (fault ≡ Memory) ⊎ ((fault ≡ BadSettings) × deserved)
+
+-- what is wrong with the words, where they are no whole command line, or that they ask for a help text
+abbrev pub faults_of : List (List ℕ) → Kinds
+faults_of = fault_of command_line
+
+-- the words ask for a help text, or for the version
+abbrev pub AskForHelp : List (List ℕ) → Type 0
+AskForHelp words = IsAmong DisplayHelp (faults_of words) ⊎ IsAmong DisplayVersion (faults_of words)
+
+-- something else is wrong with the words
+abbrev pub AreWrong : List (List ℕ) → Type 0
+AreWrong words = (kind : ErrorKind) × IsAmong kind (faults_of words) × (kind ≢ DisplayHelp) × (kind ≢ DisplayVersion)
+
+-- the words are a whole command line
+abbrev pub AreWhole : List (List ℕ) → Type 0
+AreWhole words = faults_of words ≡ []
+
+-- the words name this task, and choose these settings, as the options of the subcommand that they name
+abbrev pub AreChosen : List (List ℕ) → Task → HubSettings → Type 0
+AreChosen words task s = (name : List ℕ) × (rows : List Row) × (subcommand_of command_line words ≡ Some (name, rows))
+    × IsTask name rows task × Chooses rows s
+
+-- the words are a whole command line and speak of a log
+abbrev pub NameALog : List (List ℕ) → Type 0
+NameALog words = AreWhole words
+    × ((name : List ℕ) × (rows : List Row) × (subcommand_of command_line words ≡ Some (name, rows)) × SpeaksOfALog name rows)
+
+-- the same, where a log is given
+abbrev pub NameTheLog : List (List ℕ) → Option LogOptions → Type 0
+NameTheLog words None = Unit {0}
+NameTheLog words (Some log) = NameALog words
+
+-- the words are a whole command line, and ask for an explanation of the fault of this number or name
+abbrev pub AskToExplain : List (List ℕ) → List ℕ → Type 0
+AskToExplain words word = AreWhole words
+    × ((name : List ℕ) × (rows : List Row) × (subcommand_of command_line words ≡ Some (name, rows))
+    × (same_text name (codes "explain") ≡ true) × IsText (codes "fault") rows word)
+
+-- the words ask for this
+abbrev pub IsWished : List (List ℕ) → Wish → Type 0
+IsWished words (wish.Run s log) = IsSettings s × AreWhole words × AreChosen words Run s × NameTheLog words log
+IsWished words (wish.Play s log) = IsSettings s × AreWhole words × AreChosen words Play s × NameTheLog words log
+IsWished words (wish.Drill s transfers openings) =
+    IsSettings s × AreWhole words × AreChosen words (Drill transfers openings) s
+IsWished words (wish.Log path) = NameALog words
+IsWished words (wish.Next from to) = NameALog words
+IsWished words (wish.Explain word) = AskToExplain words word.now
+
+-- the words are a whole command line, and choose no settings that a hub can have, or no task that fits
+pub record AreUnfit (words : List (List ℕ)) : Type 0 where
+  pub whole : AreWhole words
+  pub none : (task : Task) (s : HubSettings) → AreChosen words task s → ¬ (AreGood s × Fits task)
+
+-- an error of the words of this kind, and want of memory as a fault
+abbrev pub IsOfKind : ErrorKind → WordsError → Type 0
+IsOfKind kind (error.Words e) = (kind_of e ≡ kind) × (kind ≢ OutOfMemory)
+IsOfKind kind (error.Option bad) = ⊥
+IsOfKind kind (error.Fault fault) = (fault ≡ Memory) × (kind ≡ OutOfMemory)
+
+-- an error of options that were refused by this fault
+abbrev pub IsRefusedBy : Fault → WordsError → Type 0
+IsRefusedBy fault (error.Words e) = ⊥
+IsRefusedBy fault (error.Option bad) = fault ≡ BadSettings
+IsRefusedBy fault (error.Fault other) = other ≡ fault
+
+-- why the words ask for nothing: they are wrong or ask for a help text, memory was wanting, or no hub can have what
+-- they choose
+abbrev pub IsNoWish : List (List ℕ) → WordsError → Type 0
+IsNoWish words (error.Words e) = (kind_of e ≢ OutOfMemory) × IsAmong (kind_of e) (faults_of words)
+IsNoWish words (error.Option bad) = AreUnfit words ⊎ NameALog words
+IsNoWish words (error.Fault fault) = IsRefusal (AreUnfit words ⊎ NameALog words) fault

@@ -1,0 +1,109 @@
+-- The options of a subcommand, and the settings that their values choose. They are this hub's own choice.
+use Rattle.std.specs.Prelude.{◌⊎◌, ◌≡◌, ◌==◌, ◌<◌, ◌≤◌, ◌^◌, ℕ, true, false, List, Option, Some, None, codes}
+use Rattle.std.specs.List.{list_all, slice_split}
+use Rattle.std.specs.Str.Parse.{IsNumeral, digits_value, without_leading_plus}
+use Rattle.clap.specs.Words.{Row, Text, first_of, one_of}
+use Rattle.inst_base.specs.Text.{is_code}
+use Rattle.inst_settings.specs.Settings.{HubSettings, same_text}
+use Rattle.inst_settings.specs.Lawful.{IsSettings}
+use Rattle.inst_options.specs.declared.wish.LogOptions.{LogOptions}
+use Rattle.inst_options.specs.declared.wish.Wish.{Wish}
+use Rattle.inst_options.specs.declared.wish.Wish.TheVariants as wish
+
+-- what the subcommand of a name does at a hub
+-- drill: so many transfers in each of so many openings
+pub data Task : Type 0 where
+  Run : Task
+  Play : Task
+  Drill : ℕ → ℕ → Task
+
+-- the option of this name has a text that is the number in digits, which may follow a plus
+abbrev pub Gives : List Row → List ℕ → ℕ → Type 0
+Gives rows name n =
+    (text : Text) × (one_of name rows ≡ Some text) × IsNumeral 10 (without_leading_plus text)
+    × (n ≡ digits_value 10 (without_leading_plus text))
+
+-- the option of this name has no text that is a number below this one
+abbrev pub GivesNoneBelow : ℕ → List Row → List ℕ → Type 0
+GivesNoneBelow bound rows name = (n : ℕ) → Gives rows name n → bound ≤ n
+
+-- the option has a text
+abbrev pub IsGiven : List ℕ → List Row → Type 0
+IsGiven name rows = (text : Text) × (first_of name rows ≡ Some text)
+
+-- the text is that of the option, if it has one
+abbrev pub IsText : List ℕ → List Row → List ℕ → Type 0
+IsText name rows text = (given : List ℕ) → first_of name rows ≡ Some given → text ≡ given
+
+-- the options name this log and say so much of what was told, or name none
+abbrev pub GivesLog : List Row → Option LogOptions → Type 0
+GivesLog rows None = first_of (codes "log") rows ≡ None
+GivesLog rows (Some log) =
+    (first_of (codes "log") rows ≡ Some log.path.now) × ((n : ℕ) → log.told ≡ Some n → Gives rows (codes "told") n)
+
+-- the options say what was told, and name no log
+abbrev pub TellsOfNoLog : List Row → Type 0
+TellsOfNoLog rows = (first_of (codes "log") rows ≡ None) × IsGiven (codes "told") rows
+
+-- the subcommand is `log` or `next`, or an option is of a log
+abbrev pub SpeaksOfALog : List ℕ → List Row → Type 0
+SpeaksOfALog name rows =
+    ((same_text name (codes "log") ≡ true) ⊎ (same_text name (codes "next") ≡ true))
+    ⊎ (IsGiven (codes "log") rows ⊎ IsGiven (codes "told") rows)
+
+-- the options give a drill's numbers
+abbrev pub IsDrill : List Row → ℕ → ℕ → Type 0
+IsDrill rows transfers openings = Gives rows (codes "transfers") transfers × Gives rows (codes "openings") openings
+
+-- what the subcommand of this name does, with these options; the one that is neither `play` nor `drill` is `run`
+abbrev pub IsTask : List ℕ → List Row → Task → Type 0
+IsTask name rows Run = (same_text name (codes "play") ≡ false) × (same_text name (codes "drill") ≡ false)
+IsTask name rows Play = same_text name (codes "play") ≡ true
+IsTask name rows (Drill transfers openings) =
+    (same_text name (codes "play") ≡ false) × (same_text name (codes "drill") ≡ true) × IsDrill rows transfers openings
+
+-- the texts between commas
+abbrev pub parts_of : List ℕ → List (List ℕ)
+parts_of = slice_split (λ b. b == 44)
+
+-- the options choose these settings
+pub record Chooses (rows : List Row) (s : HubSettings) : Type 0 where
+  pub participants : (text : Text) × (first_of (codes "participants") rows ≡ Some text) × (s.codes ≡ parts_of text)
+  pub places : Gives rows (codes "places") s.places
+  pub fundings : Gives rows (codes "fundings") s.fundings
+  pub limit : Gives rows (codes "limit") s.limit
+  pub margin : Gives rows (codes "margin") s.margin
+  pub ahead : Gives rows (codes "ahead") s.ahead
+  pub ceiling : Gives rows (codes "ceiling") s.ceiling
+  pub base : Gives rows (codes "base") s.base
+
+-- a hub can have these settings
+pub record AreGood (s : HubSettings) : Type 0 where
+  pub lawful : IsSettings s
+  pub codes_formed : list_all is_code s.codes ≡ true
+
+-- the options choose no settings that a hub can have
+abbrev pub ChooseNone : List Row → Type 0
+ChooseNone rows = (s : HubSettings) → Chooses rows s → ¬ (AreGood s)
+
+-- the numbers of a drill are as small as a word can give them; lines have none
+abbrev pub Fits : Task → Type 0
+Fits Run = Unit {0}
+Fits Play = Unit {0}
+Fits (Drill transfers openings) = (transfers < 2 ^ 16) × (openings < 2 ^ 8)
+
+-- the options of the subcommand of this name choose no settings that a hub can have, or no task that fits
+abbrev pub AskForNone : List ℕ → List Row → Type 0
+AskForNone name rows =
+    (task : Task) (s : HubSettings) → IsTask name rows task → Chooses rows s → ¬ (AreGood s × Fits task)
+
+-- what the subcommand of this name asks for, with these options
+abbrev pub IsWish : List ℕ → List Row → Wish → Type 0
+IsWish name rows (wish.Run s log) = IsSettings s × IsTask name rows Run × Chooses rows s × GivesLog rows log
+IsWish name rows (wish.Play s log) = IsSettings s × IsTask name rows Play × Chooses rows s × GivesLog rows log
+IsWish name rows (wish.Drill s transfers openings) =
+    IsSettings s × IsTask name rows (Drill transfers openings) × Chooses rows s
+IsWish name rows (wish.Log path) = (same_text name (codes "log") ≡ true) × IsText (codes "file") rows path.now
+IsWish name rows (wish.Next from to) =
+    (same_text name (codes "next") ≡ true) × IsText (codes "log") rows from.now × IsText (codes "to") rows to.now
+IsWish name rows (wish.Explain word) = (same_text name (codes "explain") ≡ true) × IsText (codes "fault") rows word.now

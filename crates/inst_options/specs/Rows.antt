@@ -1,0 +1,50 @@
+-- Worked command lines, computed from the definitions. This hub's own choice.
+use Rattle.std.specs.Prelude.{◌≡◌, ℕ, List, [], ◌∷◌, codes}
+use Rattle.clap.specs.declared.error.kind.ErrorKind.TheVariants.{DisplayHelp, DisplayVersion, MissingRequiredArgument, MissingSubcommand}
+use Rattle.inst_settings.specs.Settings.{HubSettings}
+use Rattle.inst_settings.specs.Lawful.{settings_with}
+use Rattle.inst_options.specs.Options.{AreGood}
+use Rattle.inst_options.specs.Asking.{AreChosen, AreWhole, AskToExplain, faults_of}
+use Rattle.inst_options.specs.Options.Task.{Run, Play, Drill}
+
+-- `inst_main run --participants AAAADEFF,BBBBFRPP --places 2`
+abbrev pub small_hub : List (List ℕ)
+small_hub = codes "inst_main" ∷ codes "run" ∷ codes "--participants" ∷ codes "AAAADEFF,BBBBFRPP" ∷ codes "--places" ∷ codes "2" ∷ []
+
+-- its settings: what was given, and the others as they are where they aren't
+abbrev pub small_settings : HubSettings
+small_settings = settings_with (codes "AAAADEFF" ∷ codes "BBBBFRPP" ∷ []) 2 256 10000 0 1000 99999999999 0
+
+-- the same words with `play` in the place of `run`
+abbrev pub small_script : List (List ℕ)
+small_script = codes "inst_main" ∷ codes "play" ∷ codes "--participants" ∷ codes "AAAADEFF,BBBBFRPP" ∷ codes "--places" ∷ codes "2" ∷ []
+
+-- `inst_main drill --participants AAAADEFF,BBBBFRPP --places 2 --transfers 2`
+abbrev pub small_drill : List (List ℕ)
+small_drill =
+    codes "inst_main" ∷ codes "drill" ∷ codes "--participants" ∷ codes "AAAADEFF,BBBBFRPP"
+    ∷ codes "--places" ∷ codes "2" ∷ codes "--transfers" ∷ codes "2" ∷ []
+
+pub record SmallHub : Type 0 where
+  pub whole : AreWhole small_hub
+  pub chosen : AreChosen small_hub Run small_settings
+  pub script_whole : AreWhole small_script
+  pub script_chosen : AreChosen small_script Play small_settings
+  pub drill_whole : AreWhole small_drill
+  pub drill_chosen : AreChosen small_drill (Drill 2 1) small_settings
+  pub good : AreGood small_settings
+
+-- words that are no whole command line: `inst_main run`, `inst_main play`, `inst_main drill`, `inst_main`,
+-- `inst_main --help` and `inst_main --version`
+pub record NoHub : Type 0 where
+  pub participants : faults_of (codes "inst_main" ∷ codes "run" ∷ []) ≡ MissingRequiredArgument ∷ []
+  pub script : faults_of (codes "inst_main" ∷ codes "play" ∷ []) ≡ MissingRequiredArgument ∷ []
+  pub drill : faults_of (codes "inst_main" ∷ codes "drill" ∷ []) ≡ MissingRequiredArgument ∷ []
+  pub subcommand : faults_of (codes "inst_main" ∷ []) ≡ MissingSubcommand ∷ []
+  pub help : faults_of (codes "inst_main" ∷ codes "--help" ∷ []) ≡ DisplayHelp ∷ []
+  pub version : faults_of (codes "inst_main" ∷ codes "--version" ∷ []) ≡ DisplayVersion ∷ []
+
+-- `inst_main explain 13`, and with no fault
+pub record Explained : Type 0 where
+  pub asked : AskToExplain (codes "inst_main" ∷ codes "explain" ∷ codes "13" ∷ []) (codes "13")
+  pub lacking : faults_of (codes "inst_main" ∷ codes "explain" ∷ []) ≡ MissingRequiredArgument ∷ []

@@ -1,0 +1,183 @@
+// What the options of a subcommand ask for.
+ghost use Rattle.std.specs.Prelude.{◌≡◌, ◌^◌, ◌⊎◌, OkIff, true, IfOk, IfErr, OnErr, IsOkUnless, Some, None, false};
+ghost use Rattle.std.specs.Prelude.{map, codes};
+ghost use Rattle.std.specs.List.{list_all};
+ghost use Rattle.inst_base.specs.Text.{is_code};
+ghost use Rattle.clap.specs.Words.{first_of, found_of, rows_of};
+ghost use Rattle.inst_options.specs.Options.{GivesLog, TellsOfNoLog, SpeaksOfALog, IsText, IsWish, parts_of};
+ghost use Rattle.inst_options.specs.Options.{Gives, GivesNoneBelow, Chooses, ChooseNone, IsDrill, AskForNone};
+ghost use Rattle.inst_options.specs.Asking.{IsRefusal};
+ghost use Rattle.inst_settings.specs.Lawful.{IsSettings};
+
+use crate::wish::{LogOptions, Wish};
+use clap::ArgMatches;
+use inst_base::{Code, Fault};
+use inst_settings::Settings;
+use std::alloc::{AllocError, Global};
+
+/// What the subcommand of this name and its options ask for. `BadSettings` as from `hub_wish`.
+pub(crate) fn wish<'a>(
+    alloc: Global,
+    name: &str,
+    options: &ArgMatches<'a>,
+) -> Result<Wish<'a>, Fault>
+    ensures wish { IfOk result (IsWish name.now (rows_of (found_of options.now))) }
+    ensures fault { IfErr result (IsRefusal (AskForNone name.now (rows_of (found_of options.now))
+        ⊎ SpeaksOfALog name.now (rows_of (found_of options.now)))) }
+{
+    if name == "log" {
+        return Ok(Wish::Log(text_if_any(options, "file")));
+    }
+    if name == "next" {
+        let from = text_if_any(options, "log");
+        return Ok(Wish::Next(from, text_if_any(options, "to")));
+    }
+    if name == "explain" {
+        return Ok(Wish::Explain(text_if_any(options, "fault")));
+    }
+    hub_wish(alloc, name, options)
+}
+
+/// What the subcommand of this name, if it is one with a hub, and its options ask for. The one that is neither `play`
+/// nor `drill` is `run`. `BadSettings` as from `settings`, and then where a number of a drill is too large for any hub,
+/// or as from `log_options`.
+fn hub_wish<'a>(alloc: Global, name: &str, options: &ArgMatches<'a>) -> Result<Wish<'a>, Fault>
+    ensures wish { IfOk result (IsWish name.now (rows_of (found_of options.now))) }
+    ensures fault { IfErr result (IsRefusal (AskForNone name.now (rows_of (found_of options.now))
+        ⊎ SpeaksOfALog name.now (rows_of (found_of options.now)))) }
+{
+    let settings = settings(alloc, options)?;
+    if name == "play" {
+        let log = log_options(options)?;
+        return Ok(Wish::Play(settings, log));
+    }
+    if name == "drill" {
+        let (transfers, openings) = drill_options(options)?;
+        return Ok(Wish::Drill(settings, transfers, openings));
+    }
+    let log = log_options(options)?;
+    Ok(Wish::Run(settings, log))
+}
+
+/// The log that the options ask for. `BadSettings` where they say what was told and name no log.
+fn log_options<'a>(options: &ArgMatches<'a>) -> Result<Option<LogOptions<'a>>, Fault>
+    ensures log { IfOk result (GivesLog (rows_of (found_of options.now))) }
+    ensures none { OnErr result (TellsOfNoLog (rows_of (found_of options.now))) }
+    ensures fault { IsOkUnless result Fault.BadSettings }
+{
+    let told = options.get_one::<u64>("told");
+    let text = options.get_str("told");
+    let path = options.get_str("log");
+    match path {
+        Some(path) => Ok(Some(LogOptions { path, told })),
+        None if text.is_some() => Err(Fault::BadSettings),
+        None => Ok(None),
+    }
+}
+
+/// How many transfers and openings a drill has, as the options say.
+fn drill_options(options: &ArgMatches<'_>) -> Result<(u16, u8), Fault>
+    ensures drill { IfOk result (λ r. IsDrill (rows_of (found_of options.now)) r.0 r.1) }
+    ensures none { OnErr result (GivesNoneBelow (2 ^ 16) (rows_of (found_of options.now)) (codes "transfers")
+        ⊎ GivesNoneBelow (2 ^ 8) (rows_of (found_of options.now)) (codes "openings")) }
+    ensures fault { IsOkUnless result Fault.BadSettings }
+{
+    let transfers = small(options, "transfers")?;
+    let openings = tiny(options, "openings")?;
+    Ok((transfers, openings))
+}
+
+/// The settings that the options give. `BadSettings` where a code has the wrong form or a number is
+/// outside its range, the codes first.
+fn settings(alloc: Global, options: &ArgMatches<'_>) -> Result<Settings, Fault>
+    ensures lawful { IfOk result (λ settings. IsSettings settings) }
+    ensures fault { IfErr result (IsRefusal (ChooseNone (rows_of (found_of options.now)))) }
+    ensures chosen { IfOk result (λ settings. Chooses (rows_of (found_of options.now)) settings) }
+{
+    let participants = text(options, "participants")?;
+    let codes = codes(alloc, participants)?;
+    let places = small(options, "places")?;
+    let fundings = small(options, "fundings")?;
+    let limit = medium(options, "limit")?;
+    let margin = medium(options, "margin")?;
+    let ahead = medium(options, "ahead")?;
+    let ceiling = whole(options, "ceiling")?;
+    let base = whole(options, "base")?;
+    Settings::check(codes, places, fundings, limit, margin, ahead, ceiling, base)
+}
+
+/// The text of an option.
+pub(crate) fn text<'a>(options: &ArgMatches<'a>, name: &str) -> Result<&'a str, Fault>
+    ensures text { IfOk result (λ text. first_of name.now (rows_of (found_of options.now)) ≡ Some text.now) }
+    ensures none { OnErr result (first_of name.now (rows_of (found_of options.now)) ≡ None) }
+    ensures fault { IsOkUnless result Fault.BadSettings }
+{
+    options.get_str(name).ok_or(Fault::BadSettings)
+}
+
+/// The text of an option, or an empty one.
+fn text_if_any<'a>(options: &ArgMatches<'a>, name: &str) -> &'a str
+    ensures { IsText name.now (rows_of (found_of options.now)) result.now }
+{
+    options.get_str(name).unwrap_or("")
+}
+
+/// The codes between the commas. Nothing is trimmed.
+fn codes(alloc: Global, text: &str) -> Result<Vec<Code>, Fault>
+    ensures codes { IfOk result (λ codes. codes.items ≡ parts_of text.now) }
+    ensures fault { IfErr result (IsRefusal (list_all is_code (parts_of text.now) ≡ false)) }
+{
+    let parts = parts(alloc, text)?;
+    let mut codes = Vec::new(alloc);
+    for part in &parts {
+        codes.push(code(part)?)?;
+    }
+    Ok(codes)
+}
+
+fn code(text: &str) -> Result<Code, Fault>
+    ensures code { OkIff result (is_code text.now ≡ true) text.now }
+    ensures fault { IsOkUnless result Fault.BadSettings }
+{
+    Code::new(text).map_err(|_| Fault::BadSettings)
+}
+
+/// The texts between the commas.
+fn parts(alloc: Global, text: &str) -> Result<Vec<&str>, AllocError>
+    ensures { IfOk result (λ parts. map (λ part. part.now) parts.items ≡ parts_of text.now) }
+{
+    text.split(',').collect(alloc)
+}
+
+/// The number of an option. The command line has read it as a whole number.
+pub(crate) fn whole(options: &ArgMatches<'_>, name: &str) -> Result<u64, Fault>
+    ensures number { IfOk result (Gives (rows_of (found_of options.now)) name.now) }
+    ensures none { OnErr result (GivesNoneBelow (2 ^ 64) (rows_of (found_of options.now)) name.now) }
+    ensures fault { IsOkUnless result Fault.BadSettings }
+{
+    options.get_one::<u64>(name).ok_or(Fault::BadSettings)
+}
+
+fn medium(options: &ArgMatches<'_>, name: &str) -> Result<u32, Fault>
+    ensures number { IfOk result (Gives (rows_of (found_of options.now)) name.now) }
+    ensures none { OnErr result (GivesNoneBelow (2 ^ 32) (rows_of (found_of options.now)) name.now) }
+    ensures fault { IsOkUnless result Fault.BadSettings }
+{
+    u32::try_from(whole(options, name)?).map_err(|_| Fault::BadSettings)
+}
+
+fn small(options: &ArgMatches<'_>, name: &str) -> Result<u16, Fault>
+    ensures number { IfOk result (Gives (rows_of (found_of options.now)) name.now) }
+    ensures none { OnErr result (GivesNoneBelow (2 ^ 16) (rows_of (found_of options.now)) name.now) }
+    ensures fault { IsOkUnless result Fault.BadSettings }
+{
+    u16::try_from(whole(options, name)?).map_err(|_| Fault::BadSettings)
+}
+
+fn tiny(options: &ArgMatches<'_>, name: &str) -> Result<u8, Fault>
+    ensures number { IfOk result (Gives (rows_of (found_of options.now)) name.now) }
+    ensures none { OnErr result (GivesNoneBelow (2 ^ 8) (rows_of (found_of options.now)) name.now) }
+    ensures fault { IsOkUnless result Fault.BadSettings }
+{
+    u8::try_from(whole(options, name)?).map_err(|_| Fault::BadSettings)
+}

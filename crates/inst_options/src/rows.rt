@@ -1,0 +1,18 @@
+//! Worked command lines, computed from the definitions. Each is a function without a body whose
+//! contract is the row, so that the check computes it.
+ghost use Rattle.inst_options.specs.Rows.{SmallHub, NoHub, Explained};
+
+/// Options that are given and options that aren't, and the settings that they choose.
+pub fn small_hub()
+    ensures { SmallHub }
+{}
+
+/// Words that are no whole command line, and what is wrong with them.
+pub fn no_hub()
+    ensures { NoHub }
+{}
+
+/// Words that ask for a fault's explanation, and such that don't name it.
+pub fn explained()
+    ensures { Explained }
+{}

@@ -1,0 +1,28 @@
+use inst_settings::Settings;
+
+/// The log of a run.
+#[derive(Clone, Copy, Debug)]
+pub struct LogOptions<'a> {
+    /// Its file.
+    pub path: &'a str,
+    /// To how many of its lines the replies are there already, if not to all.
+    pub told: Option<u64>,
+}
+
+/// What the words of a command line ask for.
+#[derive(Drop)]
+pub enum Wish<'a> {
+    /// Commands are answered by a hub of these settings, which follows up all transfers after each; with a log or
+    /// without.
+    Run(Settings, Option<LogOptions<'a>>),
+    /// The same for a script of steps.
+    Play(Settings, Option<LogOptions<'a>>),
+    /// A hub of these settings is drilled by threads: so many transfers in each of so many openings.
+    Drill(Settings, u16, u8),
+    /// What the log of this name has.
+    Log(&'a str),
+    /// A log of the first name is closed, and one of the second name begins with its books.
+    Next(&'a str, &'a str),
+    /// What the fault of this number or name is.
+    Explain(&'a str),
+}

@@ -1,0 +1,59 @@
+// The words of a command line, read by `clap`.
+ghost use Rattle.std.specs.Prelude.{map, string_bytes, IfOk, IfErr};
+ghost use Rattle.clap.specs.Words.{kind_of};
+ghost use Rattle.inst_options.specs.Asking.{IsWished, IsNoWish, IsOfKind, IsRefusedBy};
+
+use crate::bad_option::bad_option;
+use crate::command_line::command_line;
+use crate::error::WordsError;
+use crate::options::wish;
+use crate::wish::Wish;
+use clap::error::ErrorKind;
+use clap::{ArgMatches, Error};
+use inst_base::Fault;
+use std::alloc::Global;
+
+/// What the words ask for, the program's name first. `WordsError::Words` has the text to show, which says what is wrong
+/// with them, or is the help or the version that they ask for; `WordsError::Option` comes where an option is out of its
+/// range or has a wrong form, and where `--told` stands without `--log`, and `Memory` where there is none. Its time is
+/// in the bytes of the words, and in the square of the number of participants.
+pub fn wished<'a>(alloc: Global, words: &'a [String]) -> Result<Wish<'a>, WordsError<'a>>
+    ensures ok { IfOk result (IsWished (map string_bytes words.now)) }
+    ensures err { IfErr result (IsNoWish (map string_bytes words.now)) }
+{
+    let command = command_line(alloc)?;
+    let matches = match command.try_get_matches_from(words) {
+        Ok(matches) => matches,
+        Err(error) => return Err(error_of(error)),
+    };
+    match matches.subcommand() {
+        Some((name, options)) => match wish(alloc, name, options) {
+            Ok(wish) => Ok(wish),
+            Err(fault) => Err(refused(fault, options)),
+        },
+        // A whole command line has a subcommand: this is never reached.
+        None => Err(WordsError::Fault(Fault::BadSettings)),
+    }
+}
+
+/// Why options ask for nothing that were refused by this fault.
+fn refused<'a>(fault: Fault, options: &ArgMatches<'a>) -> WordsError<'a>
+    ensures { IsRefusedBy fault result }
+{
+    if fault != Fault::BadSettings {
+        return WordsError::Fault(fault);
+    }
+    match bad_option(options) {
+        Some(bad) => WordsError::Option(bad),
+        None => WordsError::Fault(fault),
+    }
+}
+
+fn error_of<'a>(error: Error) -> WordsError<'a>
+    ensures { IsOfKind (kind_of error) result }
+{
+    if error.kind() == ErrorKind::OutOfMemory {
+        return WordsError::Fault(Fault::Memory);
+    }
+    WordsError::Words(error)
+}
