@@ -1,17 +1,20 @@
 -- Places in the list of a plain board.
-use Rattle.std.proofs.Common.{◌≡◌, ◌≢◌, ℕ, zero, suc, ◌-◌, ◌*◌, ◌<◌, ◌≤◌, ◌⊎◌, Bool, true, false, nat_lt, List, [], ◌∷◌, ◌++◌, length, take, set, get_or, replicate, inl, inr, refl, sym, ap, ◌∙◌, subst, arith}
-use Rattle.std.specs.Prelude.{if◌then◌else◌}
+use Rattle.std.proofs.Common.{◌≡◌, ◌≢◌, ℕ, zero, suc, ◌*◌, ◌<◌, ◌⊎◌, Bool, true, false, nat_lt, List, [], ◌∷◌, ◌++◌, length, set, get_or, inl, inr, refl, sym, ap, ◌∙◌, subst, arith}
+use Rattle.std.specs.Prelude.{Some, None, slice_get, if◌then◌else◌}
 use Rattle.std.proofs.lemmas.Bool.{and_parts, cases_eq}
 use Rattle.std.proofs.lemmas.Bool.Decides.{nat_tests}
 use Rattle.std.proofs.Math.Seq.{get_or-append_seam}
-use Rattle.std.proofs.lemmas.List.{length-append, length-replicate, length-set, take_all, get_or-set_same, get_or-set_other}
+use Rattle.std.proofs.lemmas.List.{length-append, length-set, get_or-set_same, get_or-set_other}
 use Rattle.std.proofs.lemmas.Nat.{same_from_place, mul-add-lt}
 use Rattle.inst_settings.specs.Settings.{HubSettings, participants}
+use Rattle.inst_terms.specs.declared.terms.Terms.{Terms}
+use Rattle.inst_terms.specs.declared.word.Word.{Word}
+use Rattle.inst_terms.specs.declared.word.Word.TheVariants.{Unused as UnusedWord}
 use Rattle.inst_board.specs.declared.place.Place.{Place}
 use Rattle.inst_board.specs.declared.plain.Kept.{Kept}
-use Rattle.inst_board.specs.declared.plain.Kept.TheVariants.{Unused}
-use Rattle.inst_board.specs.Standing.{is_place, IsPlace, IsLawful}
-use Rattle.inst_board.specs.Plain.{Contents, number_of, rank_of, kept_at, standing_of, IsContents, Puts, Becomes}
+use Rattle.inst_board.specs.declared.plain.Kept.TheVariants.{Unused, Written, Pending, Final}
+use Rattle.inst_board.specs.Standing.{is_place, IsPlace, IsLawful, word_of}
+use Rattle.inst_board.specs.Plain.{Contents, number_of, rank_of, kept_at, standing_of, standing_at, terms_of, HaveTerms, IsContents, Puts, PutsTerms, Becomes}
 
 pub record IsInside (s : HubSettings) (k : Place) : Type 0 where
   pub owner : k.owner < participants s
@@ -65,15 +68,12 @@ kept_outside b k h = ap (λ t. if t then get_or b.kept (rank_of b.settings k) Un
 
 -- ---- a value is put at its rank
 
-all_unused : (n i : ℕ) → get_or (replicate n Unused) i Unused ≡ Unused
-all_unused zero i = refl
-all_unused (suc n) zero = refl
-all_unused (suc n) (suc i) = all_unused n i
-
-unused_behind : (l : List Kept) (n i : ℕ) → get_or (l ++ replicate n Unused) i Unused ≡ get_or l i Unused
-unused_behind [] n i = all_unused n i
-unused_behind (x ∷ xs) n zero = refl
-unused_behind (x ∷ xs) n (suc i) = unused_behind xs n i
+-- an unused place behind a list is not seen
+pub unused_behind : (l : List Kept) (i : ℕ) → get_or (l ++ Unused ∷ []) i Unused ≡ get_or l i Unused
+unused_behind [] zero = refl
+unused_behind [] (suc i) = refl
+unused_behind (x ∷ xs) zero = refl
+unused_behind (x ∷ xs) (suc i) = unused_behind xs i
 
 pushed_elsewhere : (l : List Kept) (w : Kept) (i : ℕ) → i ≢ length l → get_or (l ++ w ∷ []) i Unused ≡ get_or l i Unused
 pushed_elsewhere [] w zero other = absurd (other refl)
@@ -88,15 +88,12 @@ set_puts l n w h = record {
   within = λ most fits below. omega (arith, length-set l n w);
 }
 
-pub push_puts : (l front : List Kept) (n : ℕ) (w : Kept) → length l ≤ n → front ≡ take n l ++ replicate (n - length l) Unused → Puts l n w (front ++ w ∷ [])
-push_puts l front n w h is =
-    let whole : front ≡ l ++ replicate (n - length l) Unused = is ∙ ap (λ xs. xs ++ replicate (n - length l) Unused) (take_all n l h) in
-    let long : length front ≡ n = ap length whole ∙ length-append l (replicate (n - length l) Unused) ∙ omega (arith, length-replicate (n - length l) Unused) in
-    record {
-      here = ap (λ m. get_or (front ++ w ∷ []) m Unused) (sym long) ∙ get_or-append_seam front w [] Unused;
-      elsewhere = λ j other. pushed_elsewhere front w j (λ e. other (e ∙ long)) ∙ ap (λ xs. get_or xs j Unused) whole ∙ unused_behind l (n - length l) j;
-      within = λ most fits below. omega (arith, length-append front (w ∷ []), long);
-    }
+pub push_puts : (l front : List Kept) (n : ℕ) (w : Kept) → length front ≡ n → ((j : ℕ) → get_or front j Unused ≡ get_or l j Unused) → Puts l n w (front ++ w ∷ [])
+push_puts l front n w long same = record {
+  here = ap (λ m. get_or (front ++ w ∷ []) m Unused) (sym long) ∙ get_or-append_seam front w [] Unused;
+  elsewhere = λ j other. pushed_elsewhere front w j (λ e. other (e ∙ long)) ∙ same j;
+  within = λ most fits below. omega (arith, length-append front (w ∷ []), long);
+}
 
 -- ---- a place is written
 
@@ -129,6 +126,64 @@ contents_written b k w new form h lawful puts = record {
   sized = puts.within (participants b.settings * b.settings.places) form.sized (rank_below b.settings k h);
   lawful = lawful_put b.settings.margin b.kept new (rank_of b.settings k) w puts lawful form.lawful;
 }
+
+-- what each place is, is lawful
+pub lawful_at : (b : Contents) (k : Place) → IsContents b → IsLawful b.settings.margin (standing_at b k)
+lawful_at b k form = at_either (is_place b.settings k) refl where
+  at_either : (t : Bool) → is_place b.settings k ≡ t → IsLawful b.settings.margin (standing_at b k)
+  at_either true e = subst (λ (v : Kept). IsLawful b.settings.margin (standing_of v)) (sym (kept_inside b k e)) (form.lawful (rank_of b.settings k))
+  at_either false e = subst (λ (v : Kept). IsLawful b.settings.margin (standing_of v)) (sym (kept_outside b k e)) tt
+
+-- ---- the terms of a place
+
+-- terms are kept of each opened place
+pub opened_terms : (v : Kept) (w : Word) → w ≡ word_of (standing_of v) → w ≢ UnusedWord → (t : Terms) × (terms_of v ≡ Some t)
+opened_terms Unused w is opened = absurd (opened is)
+opened_terms (Written t) w is opened = (t, refl)
+opened_terms (Pending t d) w is opened = (t, refl)
+opened_terms (Final t d o at) w is opened = (t, refl)
+
+-- terms are kept of none but the places that the settings have
+pub written_is_place : (b : Contents) (k : Place) (t : Terms) → terms_of (kept_at b k) ≡ Some t → IsPlace b.settings k
+written_is_place b k t h = at_either (is_place b.settings k) refl where
+  at_either : (has : Bool) → is_place b.settings k ≡ has → IsPlace b.settings k
+  at_either true e = e
+  at_either false e = let nothing : None ≡ Some t = sym (ap terms_of (kept_outside b k e)) ∙ h in let no : ⊥ = cc in absurd no
+
+-- and lie within the list
+pub written_within : (l : List Kept) (n : ℕ) (t : Terms) → terms_of (get_or l n Unused) ≡ Some t → n < length l
+written_within [] n t h = let no : ⊥ = cc in absurd no
+written_within (v ∷ l) zero t h = omega arith
+written_within (v ∷ l) (suc n) t h = let below = written_within l n t h in omega arith
+
+-- a value that is set where terms are kept is put there
+pub kept_puts : (b : Contents) (k : Place) (t : Terms) (n : ℕ) (w v : Kept) → terms_of (kept_at b k) ≡ Some t → n ≡ rank_of b.settings k → v ≡ w → Puts b.kept (rank_of b.settings k) w (set b.kept n v)
+kept_puts b k t n w v h rank same =
+    let r = rank_of b.settings k in
+    let has : terms_of (get_or b.kept r Unused) ≡ Some t = ap terms_of (sym (kept_inside b k (written_is_place b k t h))) ∙ h in
+    subst (λ (m : ℕ). Puts b.kept r w (set b.kept m v)) (sym rank) (subst (λ (x : Kept). Puts b.kept r w (set b.kept r x)) (sym same) (set_puts b.kept r w (written_within b.kept r t has)))
+
+-- the value at a rank has these terms, and no other
+only_terms : (l new : List Kept) (n : ℕ) (w : Kept) (t : Terms) → Puts l n w new → terms_of w ≡ Some t → (k : ℕ) → k ≡ n → (u : Terms) → terms_of (get_or new k Unused) ≡ Some u → Some t ≡ Some u
+only_terms l new n w t puts is k e u h = sym is ∙ ap terms_of (sym puts.here ∙ ap (λ m. get_or new m Unused) (sym e)) ∙ h
+
+-- a value is kept with the terms that were kept
+pub terms_stay : (b : Contents) (place : Place) (new : List Kept) (all : List Terms) (w : Kept) (t : Terms) → Puts b.kept (rank_of b.settings place) w new → HaveTerms b.kept all
+    → terms_of (kept_at b place) ≡ Some t → terms_of w ≡ Some t → HaveTerms new all
+terms_stay b place new all w t puts have was is k u h =
+    let n = rank_of b.settings place in
+    let had : terms_of (get_or b.kept n Unused) ≡ Some t = ap terms_of (sym (kept_inside b place (written_is_place b place t was))) ∙ was in
+    elim (cases_eq k n) [
+      | inl e ↦ ap (slice_get all) e ∙ have n t had ∙ only_terms b.kept new n w t puts is k e u h
+      | inr other ↦ have k u (ap terms_of (sym (puts.elsewhere k other)) ∙ h)
+    ]
+
+-- a value is kept with terms that are put beside it
+pub terms_come : (l new : List Kept) (all others : List Terms) (n : ℕ) (w : Kept) (t : Terms) → Puts l n w new → PutsTerms all n t others → HaveTerms l all → terms_of w ≡ Some t → HaveTerms new others
+terms_come l new all others n w t puts beside have is k u h = elim (cases_eq k n) [
+  | inl e ↦ ap (slice_get others) e ∙ beside.here ∙ only_terms l new n w t puts is k e u h
+  | inr other ↦ beside.elsewhere k u other (have k u (ap terms_of (sym (puts.elsewhere k other)) ∙ h))
+]
 
 -- ---- a board of unused places
 

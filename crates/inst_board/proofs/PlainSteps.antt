@@ -13,11 +13,13 @@ use Rattle.inst_board.specs.declared.about.About.{About}
 use Rattle.inst_board.specs.declared.about.About.TheVariants.{Opened, HasTerms, Due, Decided, DecidedAt}
 use Rattle.inst_board.specs.declared.plain.Kept.{Kept}
 use Rattle.inst_board.specs.declared.plain.Kept.TheVariants.{Unused, Written, Pending, Final}
-use Rattle.inst_board.specs.Standing.{Standing, unused, pending, final, IsLawful, Says, Shows, about}
+use Rattle.inst_board.specs.declared.look.Look.{Look}
+use Rattle.inst_board.specs.declared.look.Look.TheVariants.{Pending as LookPending}
+use Rattle.inst_board.specs.Standing.{Standing, unused, pending, final, IsLawful, Says, Shows, look_of, about}
 use Rattle.inst_board.specs.Laws.{ShowsItsWords}
 use Rattle.inst_board.specs.Learning.{Learns, Decides}
 use Rattle.inst_board.specs.Wish.{wanted}
-use Rattle.inst_board.specs.Plain.{Contents, kept_at, standing_of, standing_at, plain_knows, plain_wrote, plain_stood, Becomes}
+use Rattle.inst_board.specs.Plain.{Contents, kept_at, terms_of, standing_of, standing_at, plain_knows, plain_wrote, plain_stood, Becomes}
 use Rattle.inst_board.proofs.Places.{place_cases}
 
 module _ (margin : ℕ) where
@@ -68,20 +70,12 @@ module _ (margin : ℕ) where
   nothing_opened (pending t d) new a q h = absurd (new tt)
   nothing_opened (final t d o at) new a q h = absurd (new tt)
 
-  same_terms : (t u : Terms) → Written t ≡ Written u → t ≡ u
-  same_terms t u = ap terms_in
-    where
-      terms_in : Kept → Terms
-      terms_in Unused = t
-      terms_in (Written x) = x
-      terms_in (Pending x d) = x
-      terms_in (Final x d o at) = x
-
   -- a written place is opened
-  pub opens_now : (b : Contents) (k : Place) (t : Terms) (d : ℕ) (v : Kept) (c : Contents) → v ≡ kept_at b k → v ≡ Written t → ¬ plain_knows b (about k Opened) → 1 ≤ d
+  pub opens_now : (b : Contents) (k : Place) (t : Terms) (d : ℕ) (c : Contents) → terms_of (kept_at b k) ≡ Some t → ¬ plain_knows b (about k Opened) → 1 ≤ d
       → Becomes b k (Pending t d) c → (u : Terms) → plain_wrote b k u → Learns margin plain_knows b k (pending u d) c
-  opens_now b k t d v c kept is new due becomes u wrote =
-      let same : t ≡ u = same_terms t u (sym is ∙ kept ∙ wrote) in
+  opens_now b k t d c kept new due becomes u wrote =
+      let found : Some t ≡ Some u = sym kept ∙ ap terms_of wrote in
+      let same : t ≡ u = cc in
       learns_written b k (Pending u d) c (subst (λ x. Becomes b k (Pending x d) c) same becomes) due (λ a h. nothing_opened (standing_at b k) new a (pending u d) h)
 
   -- a decision keeps what is true of a pending place
@@ -104,21 +98,30 @@ module _ (margin : ℕ) where
   wanted_in_time Expire d t (Rejected r) e = grind (arith, nat_tests)
   wanted_in_time Expire d t TimedOut e = grind (arith, nat_tests)
 
-  pub record IsKept (b : Contents) (k : Place) (w : Kept) : Type 0 where
-    pub value : w ≡ kept_at b k
-    pub lawful : IsLawful margin (standing_of w)
+  -- what is kept of a place that looks pending
+  pub kept_pending : (v : Kept) (look : Look) (t : Terms) (d : ℕ) → look ≡ look_of (standing_of v) → look ≡ LookPending t d → v ≡ Pending t d
+  kept_pending Unused look t d shows is = let no : ⊥ = cc in absurd no
+  kept_pending (Written u) look t d shows is = let no : ⊥ = cc in absurd no
+  kept_pending (Pending u e) look t d shows is = cc
+  kept_pending (Final u e o at) look t d shows is = let no : ⊥ = cc in absurd no
+
+  -- what is kept of a place that is decided is lawful
+  pub decided_lawful : (v w : Kept) (wish : Wish) (at : ℕ) (t : Terms) (d : ℕ) (o : Outcome) → IsLawful margin (standing_of v) → v ≡ Pending t d → w ≡ Final t d o at → wanted margin wish d at ≡ Some o →
+      IsLawful margin (standing_of w)
+  decided_lawful v w wish at t d o lawful is ended wants =
+      let due : IsLawful margin (pending t d) = subst (λ (x : Kept). IsLawful margin (standing_of x)) is lawful in
+      subst (λ (x : Kept). IsLawful margin (standing_of x)) (sym ended) (due, wanted_in_time wish d at o wants)
 
   -- a pending place is decided
-  pub decides_now : (b : Contents) (k : Place) (wish : Wish) (at : ℕ) (t : Terms) (d : ℕ) (o : Outcome) (v w : Kept) (c : Contents) →
-      IsKept b k v → v ≡ Pending t d → w ≡ Final t d o at → Becomes b k w c → wanted margin wish d at ≡ Some o →
+  pub decides_now : (b : Contents) (k : Place) (wish : Wish) (at : ℕ) (t : Terms) (d : ℕ) (o : Outcome) (w : Kept) (c : Contents) →
+      IsLawful margin (standing_at b k) → kept_at b k ≡ Pending t d → w ≡ Final t d o at → Becomes b k w c → wanted margin wish d at ≡ Some o →
       Decides margin plain_knows plain_stood b k wish at (Some o) c
-  decides_now b k wish at t d o v w c kept is ended becomes wants =
-      let due : IsLawful margin (pending t d) = subst (λ (x : Kept). IsLawful margin (standing_of x)) is kept.lawful in
+  decides_now b k wish at t d o w c lawful is ended becomes wants =
       let becomes' = subst (λ (x : Kept). Becomes b k x c) ended becomes in
-      let before : standing_at b k ≡ pending t d = ap standing_of (sym kept.value ∙ is) in
+      let before : standing_at b k ≡ pending t d = ap standing_of is in
       record {
         standing = final t d o at;
-        learns = learns_written b k (Final t d o at) c becomes' (due, wanted_in_time wish d at o wants) (stays_true (standing_at b k) t d at o before);
+        learns = learns_written b k (Final t d o at) c becomes' (decided_lawful (kept_at b k) (Final t d o at) wish at t d o lawful is refl wants) (stays_true (standing_at b k) t d at o before);
         answers = (refl, inr (wants, refl));
         decided = λ q is. inr (says_at b k (Final t d o at) c becomes' k (DecidedAt at) (λ e. refl) (λ n. absurd (n refl)));
         reading = λ moment h. elim (says_from b k (Final t d o at) c becomes' k (DecidedAt moment) h) [ inl was ↦ inl was | inr new ↦ inr new.1 ];

@@ -5,6 +5,8 @@ use Rattle.std.specs.Prelude.{◌≡◌, ℕ, ◌≤◌, IsTrue, Bool, ◌&&◌,
 use Rattle.inst_command.specs.declared.outcome.Outcome.{Outcome}
 use Rattle.inst_settings.specs.Settings.{HubSettings, participants}
 use Rattle.inst_terms.specs.declared.terms.Terms.{Terms}
+use Rattle.inst_terms.specs.declared.word.Word.{Word}
+use Rattle.inst_terms.specs.declared.word.Word.TheVariants.{Unused as UnusedWord, Pending as PendingWord, Final as FinalWord}
 use Rattle.inst_terms.specs.WordLaw.{InTime}
 use Rattle.inst_board.specs.declared.place.Place.{Place}
 use Rattle.inst_board.specs.declared.look.Look.{Look}
@@ -57,6 +59,12 @@ Shows (final terms deadline outcome at) (HasTerms others) = others ≡ terms
 Shows (final terms deadline outcome at) (Due other) = ⊥
 Shows (final terms deadline outcome at) (Decided other) = other ≡ outcome
 Shows (final terms deadline outcome at) (DecidedAt other) = ⊥
+
+-- the outcome word of a place
+abbrev pub word_of : Standing → Word
+word_of unused = UnusedWord
+word_of (pending terms deadline) = PendingWord deadline
+word_of (final terms deadline outcome at) = FinalWord outcome at
 
 -- the look of a place
 abbrev pub look_of : Standing → Look

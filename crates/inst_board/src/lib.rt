@@ -4,6 +4,7 @@
 
 mod about;
 mod board;
+mod kept_word;
 pub mod laws;
 mod look;
 mod place;

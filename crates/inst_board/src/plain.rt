@@ -1,17 +1,19 @@
 //! The board of a hub on one thread.
-ghost use Rattle.std.specs.Prelude.{◌≡◌, ◌+◌, ◌*◌, ◌<◌, ◌≤◌, IfOk, IsOkUnless, IsTrue, vec_capacity};
-ghost use Rattle.inst_board.specs.Plain.{Puts};
+ghost use Rattle.std.specs.Prelude.{◌≡◌, ◌+◌, ◌*◌, ◌<◌, ◌≤◌, ℕ, Some, IfOk, IsOkUnless, IsTrue, length, get_or, vec_capacity};
+ghost use Rattle.inst_board.specs.declared.plain.Kept.TheVariants.{Unused as KeptUnused};
+ghost use Rattle.inst_board.specs.Plain.{Puts, PutsTerms};
 
+use crate::kept_word::KeptWord;
 use crate::{Board, Look, Place, Wish};
 use inst_base::{Fault, Moment};
 use inst_command::Outcome;
 use inst_settings::Settings;
-use inst_terms::Terms;
+use inst_terms::{Terms, Word};
 use std::alloc::Global;
 use std::marker::Model;
 use std::snapshot::Snapshot;
 
-/// What a plain board keeps of a place.
+/// What a plain board keeps of a place, as clauses see it.
 #[derive(Clone, Copy, Debug, PartialEq, Eq)]
 pub enum Kept {
     /// Nothing.
@@ -26,7 +28,8 @@ pub enum Kept {
 
 /// A board that one holder has alone, with all roles. It knows all that is true of the places. Each call
 /// takes one look at one place; one that writes a place behind all that were written before also clears the
-/// places up to it. Room for all places is set aside at once, and is touched as they are used.
+/// places up to it. Room for all places is set aside at once, and is touched as they are used. The outcome
+/// words lie apart from the terms, so that a decision touches eight bytes of a place.
 ///
 /// ```text
 /// let mut board = PlainBoard::new(alloc, &settings)?;
@@ -41,29 +44,35 @@ pub struct PlainBoard {
     participants: u16,
     places: u16,
     margin: u32,
-    kept: Vec<Kept>,
+    /// The outcome words, by rank.
+    words: Vec<KeptWord>,
+    /// The terms, by rank. Those of a place of which nothing is kept are any.
+    terms: Vec<Terms>,
 }
 
 impl Model for PlainBoard {
     ghost use Rattle.std.specs.Prelude.{◌≡◌, ◌≤◌, ◌*◌, length, vec_capacity};
-    ghost use Rattle.inst_board.specs.Plain.{Contents, IsContents};
+    ghost use Rattle.inst_board.specs.Plain.{Contents, IsContents, HaveTerms};
 
     ghost Value = { Contents };
 
-    ghost view = { λ b. record { settings = b.settings.value; kept = b.kept.items } };
+    ghost view = { λ b. record { settings = b.settings.value; kept = b.words.items } };
 
-    ghost invariant = { λ b. IsContents (record { settings = b.settings.value; kept = b.kept.items })
+    ghost invariant = { λ b. IsContents (record { settings = b.settings.value; kept = b.words.items })
         × (b.participants ≡ length b.settings.value.codes)
         × (b.places ≡ b.settings.value.places)
         × (b.margin ≡ b.settings.value.margin)
-        × (length b.settings.value.codes * b.settings.value.places ≤ vec_capacity b.kept) };
+        × (length b.settings.value.codes * b.settings.value.places ≤ vec_capacity b.words)
+        × (length b.settings.value.codes * b.settings.value.places ≤ vec_capacity b.terms)
+        × HaveTerms b.words.items b.terms.items };
 }
 
 impl PlainBoard {
+    ghost use Rattle.inst_terms.specs.declared.terms.Terms.{Terms};
     ghost use Rattle.inst_board.specs.declared.place.Place.{Place};
     ghost use Rattle.inst_board.specs.declared.plain.Kept.TheVariants.{Unused as KeptUnused};
-    ghost use Rattle.inst_board.specs.Standing.{IsPlace, IsLawful, is_place};
-    ghost use Rattle.inst_board.specs.Plain.{Becomes, kept_at, standing_of};
+    ghost use Rattle.inst_board.specs.Standing.{IsPlace, IsLawful, is_place, look_of, word_of};
+    ghost use Rattle.inst_board.specs.Plain.{Becomes, kept_at, standing_at, standing_of, terms_of};
 
     /// The board of a hub that opens: each place is unused.
     pub fn new(alloc: Global, settings: &Settings) -> Result<PlainBoard, Fault>
@@ -78,7 +87,8 @@ impl PlainBoard {
             participants,
             places,
             margin: settings.margin(),
-            kept: Vec::with_capacity(alloc, size)?,
+            words: Vec::with_capacity(alloc, size)?,
+            terms: Vec::with_capacity(alloc, size)?,
         })
     }
 
@@ -88,46 +98,62 @@ impl PlainBoard {
         u16::from(place.owner) < self.participants && place.index < self.places
     }
 
-    /// What is kept of the place.
-    fn kept(&self, place: Place) -> Kept
-        ensures value { result ≡ kept_at self.now place }
-        ensures lawful { IsLawful self.now.settings.margin (standing_of result) }
+    /// What the word of the place says.
+    #[inline(always)]
+    fn word(&self, place: Place) -> Word
+        ensures value { result ≡ word_of (standing_at self.now place) }
+        ensures lawful { IsLawful self.now.settings.margin (standing_at self.now place) }
     {
         if !self.has(place) {
-            return Kept::Unused;
+            return Word::Unused;
         }
-        match self.kept.get(rank_of(self.participants, place)) {
-            Some(kept) => *kept,
-            None => Kept::Unused,
+        match self.words.get(rank_of(self.participants, place)) {
+            Some(word) => word.says(),
+            None => Word::Unused,
         }
     }
 
-    /// Keeps this of the place.
-    fn keep(&mut self, place: Place, kept: Kept)
-        requires place { IsPlace self.old.settings place }
-        requires lawful { IsLawful self.old.settings.margin (standing_of kept) }
-        ensures { Becomes self.old place kept self.new }
+    /// The terms of a place that was written.
+    #[inline(always)]
+    fn terms(&self, place: Place) -> Terms
+        requires { (terms : Terms) × (terms_of (kept_at self.now place) ≡ Some terms) }
+        ensures { terms_of (kept_at self.now place) ≡ Some result }
     {
-        put(&mut self.kept, rank_of(self.participants, place), kept);
+        self.terms[rank_of(self.participants, place)]
     }
-}
 
-/// Puts a value at its rank, where there is room. What is new before it is unused.
-fn put(values: &mut Vec<Kept>, rank: usize, value: Kept)
-    requires { rank < vec_capacity values.old }
-    ensures puts { Puts values.old.items rank value values.new.items }
-    ensures room { vec_capacity values.old ≤ vec_capacity values.new }
-{
-    // The check is told of a type of another crate inside an element only where a function names it.
-    let _: Option<Outcome> = None;
-    if rank < values.len() {
-        values[rank] = value;
-        return;
+    /// What the place shows.
+    #[inline(always)]
+    fn shown(&self, place: Place) -> Look
+        ensures look { result ≡ look_of (standing_at self.now place) }
+        ensures lawful { IsLawful self.now.settings.margin (standing_at self.now place) }
+    {
+        match self.word(place) {
+            Word::Unused => Look::Unused,
+            Word::Pending(deadline) => Look::Pending(self.terms(place), deadline),
+            Word::Final(outcome, _) => Look::Decided(self.terms(place), outcome),
+        }
     }
-    let Ok(()) = values.resize(rank, Kept::Unused) else {
-        unreachable!();
-    };
-    values.push_reserved(value);
+
+    /// Keeps the terms of a place that isn't opened.
+    fn write(&mut self, place: Place, terms: &Terms)
+        requires { IsPlace self.old.settings place }
+        ensures { Becomes self.old place (Kept.Written terms.now) self.new }
+    {
+        let rank = rank_of(self.participants, place);
+        put_terms(&mut self.terms, rank, terms);
+        put(&mut self.words, rank, KeptWord::new(&Kept::Written(*terms)));
+    }
+
+    /// Keeps this of a place whose terms were written.
+    #[inline(always)]
+    fn keep(&mut self, place: Place, kept: &Kept)
+        requires written { (terms : Terms) × (terms_of (kept_at self.old place) ≡ Some terms) × (terms_of kept.now ≡ Some terms) }
+        requires lawful { IsLawful self.old.settings.margin (standing_of kept.now) }
+        ensures { Becomes self.old place kept.now self.new }
+    {
+        self.words[rank_of(self.participants, place)] = KeptWord::new(kept);
+    }
 }
 
 /// Where the place is kept: those of one index stand side by side, since originators use theirs in order.
@@ -137,7 +163,51 @@ fn rank_of(participants: u16, place: Place) -> usize
     usize::from(place.index) * usize::from(participants) + usize::from(place.owner)
 }
 
+/// Puts a word at its rank, where there is room. What is new before it is of unused places.
+fn put(words: &mut Vec<KeptWord>, rank: usize, word: KeptWord)
+    requires { rank < vec_capacity words.old }
+    ensures puts { Puts words.old.items rank word words.new.items }
+    ensures room { vec_capacity words.old ≤ vec_capacity words.new }
+{
+    if rank < words.len() {
+        words[rank] = word;
+        return;
+    }
+    fill(words, rank);
+    words.push_reserved(word);
+}
+
+/// Adds words of unused places until there are `len`, where there is room.
+fn fill(words: &mut Vec<KeptWord>, len: usize)
+    requires room { len ≤ vec_capacity words.old }
+    requires less { length words.old.items ≤ len }
+    ensures same { (j : ℕ) → get_or words.new.items j KeptUnused ≡ get_or words.old.items j KeptUnused }
+    ensures len { length words.new.items ≡ len }
+    ensures room { vec_capacity words.old ≤ vec_capacity words.new }
+{
+    for _ in words.len()..len {
+        words.push_reserved(KeptWord::new(&Kept::Unused));
+    }
+}
+
+/// Puts terms at their rank, where there is room. What is new before them is never read.
+fn put_terms(all: &mut Vec<Terms>, rank: usize, terms: &Terms)
+    requires { rank < vec_capacity all.old }
+    ensures puts { PutsTerms all.old.items rank terms.now all.new.items }
+    ensures room { vec_capacity all.old ≤ vec_capacity all.new }
+{
+    if rank < all.len() {
+        all[rank] = *terms;
+        return;
+    }
+    let Ok(()) = all.resize(rank, *terms) else {
+        unreachable!();
+    };
+    all.push_reserved(*terms);
+}
+
 /// What is kept of a decided place.
+#[inline(always)]
 fn ended(terms: Terms, deadline: Moment, outcome: &Outcome, at: Moment) -> Kept
     ensures { result ≡ Kept.Final terms deadline outcome.now at }
 {
@@ -191,7 +261,7 @@ impl Board for PlainBoard {
         ensures knowledge { KnowTheSame plain_knows self.old self.new }
         ensures stays { self.new.settings ≡ self.old.settings }
     {
-        self.keep(place, Kept::Written(*terms));
+        self.write(place, terms);
     }
 
     fn open(&mut self, place: Place, deadline: Moment)
@@ -206,12 +276,11 @@ impl Board for PlainBoard {
         ensures others { KeepsWritten plain_wrote self.old (λ k. k ≢ place) self.new }
         ensures stays { self.new.settings ≡ self.old.settings }
     {
-        match self.kept(place) {
-            Kept::Written(terms) => self.keep(place, Kept::Pending(terms, deadline)),
-            _ => unreachable!(),
-        }
+        let terms = self.terms(place);
+        self.keep(place, &Kept::Pending(terms, deadline));
     }
 
+    #[inline(always)]
     fn look(&mut self, place: Place) -> Look
         ensures exact { (result ≡ look_of (standing_at self.old place)) × (self.new ≡ self.old) }
         ensures look { Looks self.old.settings.margin plain_knows (λ _ _. Unit {0}) plain_stood self.old place result self.new }
@@ -219,11 +288,7 @@ impl Board for PlainBoard {
         ensures written { KeepsWritten plain_wrote self.old (λ _. Unit {0}) self.new }
         ensures stays { self.new.settings ≡ self.old.settings }
     {
-        match self.kept(place) {
-            Kept::Unused | Kept::Written(_) => Look::Unused,
-            Kept::Pending(terms, deadline) => Look::Pending(terms, deadline),
-            Kept::Final(terms, _, outcome, _) => Look::Decided(terms, outcome),
-        }
+        self.shown(place)
     }
 
     fn decide(&mut self, place: Place, wish: Wish, at: Moment) -> Option<Outcome>
@@ -236,14 +301,14 @@ impl Board for PlainBoard {
         ensures written { KeepsWritten plain_wrote self.old (λ _. Unit {0}) self.new }
         ensures stays { self.new.settings ≡ self.old.settings }
     {
-        match self.kept(place) {
-            Kept::Pending(terms, deadline) => {
+        match self.shown(place) {
+            Look::Pending(terms, deadline) => {
                 let outcome = wish.outcome(self.margin, deadline, at)?;
-                self.keep(place, ended(terms, deadline, &outcome, at));
+                self.keep(place, &ended(terms, deadline, &outcome, at));
                 Some(outcome)
             }
-            Kept::Final(_, _, outcome, _) => Some(outcome),
-            _ => unreachable!(),
+            Look::Decided(_, outcome) => Some(outcome),
+            Look::Unused => unreachable!(),
         }
     }
 }

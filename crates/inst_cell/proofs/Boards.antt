@@ -19,7 +19,7 @@ use Rattle.inst_board.specs.declared.look.Look.TheVariants.{Unused as LookUnused
 use Rattle.inst_board.specs.declared.about.About.{About}
 use Rattle.inst_board.specs.declared.about.About.TheVariants.{Opened, HasTerms, Due, Decided, DecidedAt}
 use Rattle.inst_board.specs.declared.about.Fact.{Fact}
-use Rattle.inst_board.specs.Standing.{Standing, unused, pending, final, IsPlace, IsLawful, Says, Shows as WordsShow, look_of, about}
+use Rattle.inst_board.specs.Standing.{Standing, unused, pending, final, IsPlace, IsLawful, Says, Shows as WordsShow, word_of, look_of, about}
 use Rattle.inst_board.specs.Learning.{Learns, Looks, Answers, IsAnswer, IsParty}
 use Rattle.inst_board.specs.Wish.{wanted}
 use Rattle.inst_board.specs.Plain.{number_of}
@@ -29,7 +29,7 @@ use Rattle.inst_cell.specs.declared.view.View.{View}
 use Rattle.inst_cell.specs.declared.view.Known.{Known}
 use Rattle.inst_cell.specs.declared.shared_board.SharedBoard.{SharedBoard}
 use Rattle.inst_cell.specs.View.{known, all_of, count, facts_of, note, learnt, with_note}
-use Rattle.inst_cell.specs.Rule.{word_of, encode, IsShowable}
+use Rattle.inst_cell.specs.Rule.{encode, IsShowable}
 use Rattle.inst_cell.specs.Steps.{Shows, KnewOpening, KnewAnswer, KnewEnd}
 use Rattle.inst_cell.specs.Held.{settings_of, view_of, knows_at, knows, has_role, wrote, stood, Stays}
 use Rattle.inst_cell.proofs.Stepping.{read_true, IsSeen, read_all, read_moment, moment_unread, one_place, all_left, all_right, all_cases, itself}

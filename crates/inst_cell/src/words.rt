@@ -3,8 +3,8 @@ ghost use Rattle.std.specs.Prelude.{◌≡◌, ℕ, IsTrue};
 ghost use Rattle.inst_base.specs.Moment.{is_moment};
 ghost use Rattle.inst_terms.specs.Terms.{IsTerms, words_of};
 ghost use Rattle.inst_terms.specs.Word.{number, outcome_number, IsOutcome};
-ghost use Rattle.inst_board.specs.Standing.{Standing};
-ghost use Rattle.inst_cell.specs.Rule.{encode, IsShowable, word_of};
+ghost use Rattle.inst_board.specs.Standing.{Standing, word_of};
+ghost use Rattle.inst_cell.specs.Rule.{encode, IsShowable};
 
 use inst_base::Moment;
 use inst_command::Outcome;

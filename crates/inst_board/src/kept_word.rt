@@ -1,0 +1,84 @@
+//! The outcome word of one place of a plain board.
+ghost use Rattle.std.specs.Prelude.{◌≡◌, ℕ};
+ghost use Rattle.inst_terms.specs.Word.{IsWord};
+ghost use Rattle.inst_board.specs.Standing.{IsLawful, word_of};
+ghost use Rattle.inst_board.specs.Plain.{standing_of};
+
+use crate::Kept;
+use inst_command::Outcome;
+use inst_terms::{Word, pack_outcome, read_outcome};
+use std::marker::Model;
+use std::snapshot::Snapshot;
+
+/// The outcome word of a place, in eight bytes. Clauses see all that is kept of the place: its terms lie
+/// elsewhere, and the deadline of a decided one nowhere, since nothing reads it.
+#[derive(Drop)]
+pub(crate) struct KeptWord {
+    number: u64,
+    /// What clauses see; it takes no room.
+    kept: Snapshot<Kept>,
+}
+
+impl Model for KeptWord {
+    ghost use Rattle.std.specs.Prelude.{◌≡◌};
+    ghost use Rattle.inst_terms.specs.Word.{IsWord, number_of};
+    ghost use Rattle.inst_board.specs.declared.plain.Kept.{Kept};
+    ghost use Rattle.inst_board.specs.Standing.{word_of};
+    ghost use Rattle.inst_board.specs.Plain.{standing_of};
+
+    ghost Value = { Kept };
+
+    ghost view = { λ word. word.kept.value };
+
+    ghost invariant = { λ word. IsWord (word_of (standing_of word.kept.value))
+        × (number_of (word_of (standing_of word.kept.value)) ≡ word.number) };
+}
+
+impl KeptWord {
+    /// The word of a place of which this is kept.
+    #[inline(always)]
+    pub(crate) fn new(kept: &Kept) -> KeptWord
+        requires { (margin : ℕ) × IsLawful margin (standing_of kept.now) }
+        ensures { result ≡ kept.now }
+    {
+        KeptWord {
+            number: pack_outcome(&word_of(kept)),
+            kept: Snapshot::of(kept),
+        }
+    }
+
+    /// What the word says.
+    #[inline(always)]
+    pub(crate) fn says(&self) -> Word
+        ensures { result ≡ word_of (standing_of self.now) }
+    {
+        match read_outcome(self.number) {
+            Some(word) => word,
+            None => unreachable!(),
+        }
+    }
+}
+
+/// What the word of a place says of which this is kept.
+#[inline(always)]
+fn word_of(kept: &Kept) -> Word
+    requires { (margin : ℕ) × IsLawful margin (standing_of kept.now) }
+    ensures value { result ≡ word_of (standing_of kept.now) }
+    ensures form { IsWord result }
+{
+    match kept {
+        Kept::Unused | Kept::Written(_) => Word::Unused,
+        Kept::Pending(_, deadline) => {
+            // The check is told the range of a moment only by a call.
+            let _ = deadline.past_base();
+            Word::Pending(*deadline)
+        }
+        Kept::Final(_, _, outcome, at) => {
+            if let Outcome::Rejected(reason) = outcome {
+                let _ = reason.text();
+            }
+            let _ = at.past_base();
+            Word::Final(*outcome, *at)
+        }
+    }
+}
