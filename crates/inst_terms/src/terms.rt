@@ -10,7 +10,7 @@ use inst_base::{Cents, Ident};
 pub const BENEFICIARIES: u64 = 256;
 
 /// What stands in a place's terms words: the beneficiary's number, the amount and the originator's
-/// identifier of a transfer.
+/// identifier of a transfer. In this order of its fields a value takes 48 bytes.
 ///
 /// ```text
 /// let terms = Terms { to: 1, cents: Cents::new(50_000)?, id: Ident::new("T1")? };
@@ -19,9 +19,9 @@ pub const BENEFICIARIES: u64 = 256;
 /// ```
 #[derive(Clone, Copy, Debug, PartialEq, Eq)]
 pub struct Terms {
-    pub to: u8,
     pub cents: Cents,
     pub id: Ident,
+    pub to: u8,
 }
 
 /// The five terms words. Different terms have different words where the beneficiaries are below
