@@ -1,7 +1,7 @@
 -- Numbers in base 128: what digits they have, and that digits below 128 are those of their number.
-use Rattle.std.proofs.Common.{◌≡◌, ℕ, zero, suc, ◌+◌, ◌-◌, ◌*◌, ◌/◌, ◌%◌, ◌^◌, ◌<◌, ◌≤◌, List, get_or, refl, sym, ap, ◌∙◌, arith}
+use Rattle.std.proofs.Common.{◌≡◌, ℕ, zero, suc, ◌+◌, ◌-◌, ◌*◌, ◌/◌, ◌%◌, ◌^◌, ◌<◌, ◌≤◌, ◌≢◌, List, get_or, refl, sym, ap, ◌∙◌, arith}
 use Rattle.std.proofs.Math.Nat.{pow-suc, pow-succ', mul_assoc, mul_comm, div-div-eq-div-mul, pow-le-pow_right}
-use Rattle.std.proofs.lemmas.Nat.{pow-add}
+use Rattle.std.proofs.lemmas.Nat.{pow-add, div_below, le-div}
 use Rattle.inst_terms.specs.Identifier.{sum_below, in_base_128, digit}
 
 shift : (n : ℕ) (f : ℕ → ℕ) → sum_below (suc n) f ≡ f 0 + sum_below n (λ j. f (suc j))
@@ -76,6 +76,44 @@ two_pow_seven zero = refl
 two_pow_seven (suc k) =
     let a : 7 * suc k ≡ 7 * k + 7 = omega arith in
     ap (λ (x : ℕ). 2 ^ x) a ∙ pow-add 2 (7 * k) 7 ∙ ap (λ (x : ℕ). x * 128) (two_pow_seven k) ∙ sym (pow-suc 128 k)
+
+one_below : (k : ℕ) → 1 ≤ 128 ^ k
+one_below zero = omega arith
+one_below (suc k) = let up = pow-suc 128 k in let h = one_below k in omega arith
+
+-- a number has no digit from a power on that it is below
+pub no_digit : (w n k : ℕ) → w < 2 ^ (7 * n) → n ≤ k → digit w k ≡ 0
+no_digit w n k below most =
+    let up : 2 ^ (7 * n) ≤ 2 ^ (7 * k) = pow-le-pow_right (omega arith) (omega arith) in
+    let is = two_pow_seven k in
+    let some = one_below k in
+    let none : w / 128 ^ k < 1 = div_below w (128 ^ k) 1 (omega arith) (omega arith) in
+    let is_none : w / 128 ^ k ≡ 0 = omega arith in
+    ap (λ (x : ℕ). x % 128) is_none
+
+small_digit : (x : ℕ) → 1 ≤ x → x < 128 → x % 128 ≢ 0
+small_digit x low high e = omega arith
+
+-- and has one at the last power that it isn't below
+pub a_digit : (w n : ℕ) → 2 ^ (7 * n) ≤ w → w < 2 ^ (7 * suc n) → digit w n ≢ 0
+a_digit w n least below =
+    let is = two_pow_seven n in
+    let next = two_pow_seven (suc n) in
+    let up = pow-suc 128 n in
+    let some = one_below n in
+    small_digit (w / 128 ^ n) (le-div 1 w (128 ^ n) (omega arith) (omega arith)) (div_below w (128 ^ n) 128 (omega arith) (omega arith))
+
+-- where the powers of two stand among those of 128
+pub record Stands (w r : ℕ) : Type 0 where
+  pub low : 2 ^ (7 * (r / 7)) ≤ w
+  pub high : w < 2 ^ (7 * suc (r / 7))
+
+pub stands : (w r : ℕ) → 2 ^ r ≤ w → w < 2 * 2 ^ r → Stands w r
+stands w r least below =
+    let down : 2 ^ (7 * (r / 7)) ≤ 2 ^ r = pow-le-pow_right (omega arith) (omega arith) in
+    let one : 2 ^ suc r ≡ 2 ^ r * 2 = pow-suc 2 r in
+    let up : 2 ^ suc r ≤ 2 ^ (7 * suc (r / 7)) = pow-le-pow_right (omega arith) (omega arith) in
+    record { low = omega arith; high = omega arith }
 
 character_at : (text : List ℕ) {j k : ℕ} → j ≡ k → get_or text j 0 ≡ get_or text k 0
 character_at text e = ap (λ (k : ℕ). get_or text k 0) e

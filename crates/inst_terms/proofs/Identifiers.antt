@@ -1,5 +1,5 @@
 -- Which identifier stands in 36 characters, and in four words.
-use Rattle.std.proofs.Common.{◌≡◌, ◌≢◌, ℕ, zero, suc, ◌+◌, ◌-◌, ◌*◌, ◌/◌, ◌%◌, ◌^◌, ◌<◌, ◌≤◌, true, ◌&&◌, nat_le, nat_lt, List, [], ◌∷◌, length, get_or, take, refl, sym, ap, ◌∙◌, subst, ◌⊎◌, inl, inr, arith, length-take-le}
+use Rattle.std.proofs.Common.{◌≡◌, ◌≢◌, ℕ, zero, suc, ◌+◌, ◌-◌, ◌*◌, ◌/◌, ◌%◌, ◌^◌, ◌<◌, ◌≤◌, true, ◌&&◌, nat_le, nat_lt, List, [], ◌∷◌, ◌++◌, length, get_or, take, drop, replicate, refl, sym, ap, ◌∙◌, subst, ◌⊎◌, inl, inr, arith, length-take-le}
 use Rattle.std.specs.Prelude.{IsTrue, Some, Ok, Err, if◌then◌else◌, false}
 use Rattle.std.specs.Result.{result_ok}
 use Rattle.std.specs.Str.{IsUtf8}
@@ -45,6 +45,25 @@ latin_at (x ∷ xs) h (suc k) below = latin_at xs (and_parts (is_latin x) (list_
 pub character_below : (id : List ℕ) → IsTrue (is_identifier id) → (k : ℕ) → get_or id k 0 < 128
 character_below id h k = IsAscii-latin id (latin_text id h).latin k
 
+abbrev nothing : ℕ
+nothing = 0
+
+pub zeros : (n k : ℕ) → get_or (replicate n nothing) k 0 ≡ nothing
+zeros zero k = refl
+zeros (suc n) zero = refl
+zeros (suc n) (suc k) = zeros n k
+
+fewer_zeros : (m n k : ℕ) → get_or (drop m (replicate n nothing)) k 0 ≡ nothing
+fewer_zeros zero n k = zeros n k
+fewer_zeros (suc m) zero k = refl
+fewer_zeros (suc m) (suc n) k = fewer_zeros m n k
+
+-- zeros behind a text are not seen
+pub zeros_behind : (text : List ℕ) (m n k : ℕ) → get_or (text ++ drop m (replicate n nothing)) k 0 ≡ get_or text k 0
+zeros_behind [] m n k = fewer_zeros m n k
+zeros_behind (x ∷ xs) m n zero = refl
+zeros_behind (x ∷ xs) m n (suc k) = zeros_behind xs m n k
+
 module _ (cs : List ℕ) (len : ℕ) (room : length cs ≡ 36) (within : len ≤ 36)
     (zeros : (k : ℕ) → len ≤ k → get_or cs k 0 ≡ 0) where
   pub stands_in_front : StandsIn (take len cs) cs
@@ -62,6 +81,13 @@ module _ (cs : List ℕ) (len : ℕ) (room : length cs ≡ 36) (within : len ≤
       let a = stands k (omega arith) in let b = get_or_past id k 0 (omega arith) in absurd (last k (omega arith) (a ∙ b))) in
       let l = length-take-le len cs (omega arith) in
       same_number_lists (take len cs) id (omega arith) (λ k below. get_or-take len cs k 0 (omega arith) ∙ stands k (omega arith))
+
+-- the words of characters that are those of an identifier
+pub words_of_characters : (cs id : List ℕ) (first second third fourth : ℕ) → ((k : ℕ) → get_or cs k 0 ≡ get_or id k 0)
+    → first ≡ nine_from cs 0 → second ≡ nine_from cs 9 → third ≡ nine_from cs 18 → fourth ≡ nine_from cs 27 → first ∷ second ∷ third ∷ fourth ∷ [] ≡ identifier_words id
+words_of_characters cs id first second third fourth same a b c d =
+    let nine : (start : ℕ) → nine_from cs start ≡ nine_from id start = λ start. same_number 9 (λ j. get_or cs (start + j) 0) (λ j. get_or id (start + j) 0) (λ j below. same (start + j)) in
+    let e = a ∙ nine 0 in let f = b ∙ nine 9 in let g = c ∙ nine 18 in let h = d ∙ nine 27 in cc
 
 word_at : (id : List ℕ) (i : ℕ) → i < 4 → get_or (identifier_words id) i 0 ≡ nine_from id (9 * i)
 word_at id zero h = refl

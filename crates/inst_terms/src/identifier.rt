@@ -1,5 +1,5 @@
 //! An identifier in four words, nine characters a word.
-ghost use Rattle.std.specs.Prelude.{◌≡◌, ◌+◌, ◌*◌, ◌/◌, ◌%◌, ◌^◌, ◌<◌, ◌≤◌, ℕ, List, length, get_or, Some, IsTrue, ◌≢◌, ◌↔◌, nat_lt};
+ghost use Rattle.std.specs.Prelude.{◌≡◌, ◌+◌, ◌*◌, ◌/◌, ◌%◌, ◌^◌, ◌<◌, ◌≤◌, ℕ, List, length, get_or, Some, IsTrue, true, ◌≢◌, ◌↔◌, nat_lt};
 ghost use Rattle.std.specs.List.{list_all};
 ghost use Rattle.std.specs.Str.{IsAscii};
 ghost use Rattle.inst_base.specs.Text.{is_identifier};
@@ -19,12 +19,12 @@ const LIMIT: u64 = 1 << 63;
 pub(crate) fn pack_identifier(id: &Ident) -> [u64; 4]
     ensures { result ≡ identifier_words id.now }
 {
-    let text = id.text().as_bytes();
+    let characters = padded(id.text().as_bytes());
     [
-        nine_from(text, 0),
-        nine_from(text, NINE),
-        nine_from(text, 2 * NINE),
-        nine_from(text, 3 * NINE),
+        nine_from(&characters, 0),
+        nine_from(&characters, NINE),
+        nine_from(&characters, 2 * NINE),
+        nine_from(&characters, 3 * NINE),
     ]
 }
 
@@ -35,7 +35,7 @@ pub(crate) fn read_identifier(words: &[u64; 4]) -> Option<Ident>
     if !are_below_limit(words) {
         return None;
     }
-    identifier_in(&characters_of(words))
+    identifier_in(&characters_of(words), length_of(words))
 }
 
 /// Whether each word can be that of nine characters.
@@ -45,24 +45,27 @@ fn are_below_limit(words: &[u64; 4]) -> bool
     words.iter().all(|&word| word < LIMIT)
 }
 
+/// The characters of a text, and zeros behind it.
+fn padded(text: &[u8]) -> [u8; ROOM]
+    requires { length text.now ≤ ROOM }
+    ensures { (k : ℕ) → get_or result k 0 ≡ get_or text.now k 0 }
+{
+    let mut characters = [0; ROOM];
+    characters[..text.len()].copy_from_slice(text);
+    characters
+}
+
 /// The word of the nine characters from `start` on.
-fn nine_from(text: &[u8], start: usize) -> u64
-    requires ascii { IsAscii text.now }
-    requires start { start ≤ ROOM }
-    ensures { result ≡ nine_from text.now start }
+fn nine_from(characters: &[u8; ROOM], start: usize) -> u64
+    requires ascii { IsAscii characters.now }
+    requires start { start + NINE ≤ ROOM }
+    ensures { result ≡ nine_from characters.now start }
 {
     let mut word = 0;
     for place in (0..NINE).rev() {
-        word = word * 128 + u64::from(character(text, start + place));
+        word = word * 128 + u64::from(characters[start + place]);
     }
     word
-}
-
-/// The character at `place`, and 0 past the end.
-fn character(text: &[u8], place: usize) -> u8
-    ensures { result ≡ get_or text.now place 0 }
-{
-    text.get(place).copied().unwrap_or(0)
 }
 
 /// The 36 characters of four words.
@@ -70,10 +73,27 @@ fn characters_of(words: &[u64; 4]) -> [u8; ROOM]
     ensures { (k : ℕ) → k < ROOM → get_or result k 0 ≡ digit (get_or words.now (k / NINE) 0) (k % NINE) }
 {
     let mut characters = [0; ROOM];
-    for place in 0..ROOM {
-        characters[place] = digit(words[place / NINE], place % NINE);
+    for index in 0..words.len() {
+        // A word of 0 has nine zeros, which stand there.
+        if words[index] != 0 {
+            put_nine(&mut characters, NINE * index, words[index]);
+        }
     }
     characters
+}
+
+/// Puts the nine characters of a word from `start` on.
+// Inlined for each word, it would have the characters of all four at once, more than there are registers.
+#[inline(never)]
+fn put_nine(characters: &mut [u8; ROOM], start: usize, word: u64)
+    requires { start + NINE ≤ ROOM }
+    ensures here { (k : ℕ) → k < NINE → get_or characters.new (start + k) 0 ≡ digit word k }
+    ensures before { (k : ℕ) → k < start → get_or characters.new k 0 ≡ get_or characters.old k 0 }
+    ensures behind { (k : ℕ) → start + NINE ≤ k → get_or characters.new k 0 ≡ get_or characters.old k 0 }
+{
+    for place in 0..NINE {
+        characters[start + place] = digit(word, place);
+    }
 }
 
 /// The character at `place` of a word.
@@ -84,25 +104,42 @@ fn digit(word: u64, place: usize) -> u8
     ((word >> (7 * place)) % 128) as u8
 }
 
-/// The identifier that stands in the characters, with zeros up to their end.
-fn identifier_in(characters: &[u8; ROOM]) -> Option<Ident>
+/// The identifier that stands in the characters, with zeros up to their end: it has `len` of them.
+fn identifier_in(characters: &[u8; ROOM], len: usize) -> Option<Ident>
+    requires within { len ≤ ROOM }
+    requires zeros { (k : ℕ) → len ≤ k → get_or characters.now k 0 ≡ 0 }
+    requires last { (k : ℕ) → k + 1 ≡ len → get_or characters.now k 0 ≢ 0 }
     ensures { (id : List ℕ) → (result ≡ Some id) ↔ (IsTrue (is_identifier id) × StandsIn id characters.now) }
 {
-    let Ok(text) = str::from_utf8(&characters[..length_of(characters)]) else {
+    let Ok(text) = str::from_utf8(&characters[..len]) else {
         return None;
     };
     Ident::new(text).ok()
 }
 
-/// How many characters there are without the zeros at the end.
-fn length_of(characters: &[u8; ROOM]) -> usize
+/// How many characters four words have, without the zeros at the end.
+fn length_of(words: &[u64; 4]) -> usize
+    requires { list_all (λ word. nat_lt word LIMIT) words.now ≡ true }
     ensures within { result ≤ ROOM }
-    ensures zeros { (k : ℕ) → result ≤ k → get_or characters.now k 0 ≡ 0 }
-    ensures last { (k : ℕ) → k + 1 ≡ result → get_or characters.now k 0 ≢ 0 }
+    ensures zeros { (k : ℕ) → result ≤ k → k < ROOM → digit (get_or words.now (k / NINE) 0) (k % NINE) ≡ 0 }
+    ensures last { (k : ℕ) → k + 1 ≡ result → digit (get_or words.now (k / NINE) 0) (k % NINE) ≢ 0 }
 {
-    let mut len = ROOM;
-    while len > 0 && characters[len - 1] == 0 {
-        len -= 1;
+    for index in (0..words.len()).rev() {
+        if words[index] != 0 {
+            return NINE * index + length_in(words[index]);
+        }
     }
-    len
+    0
+}
+
+/// How many characters a word has, without the zeros at the end.
+fn length_in(word: u64) -> usize
+    requires some { 0 < word }
+    requires below { word < LIMIT }
+    ensures some { 1 ≤ result }
+    ensures within { result ≤ NINE }
+    ensures zeros { (k : ℕ) → result ≤ k → digit word k ≡ 0 }
+    ensures last { (k : ℕ) → k + 1 ≡ result → digit word k ≢ 0 }
+{
+    word.ilog2() as usize / 7 + 1
 }
