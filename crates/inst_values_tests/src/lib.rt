@@ -6,6 +6,8 @@ mod boards;
 #[cfg(test)]
 mod deadlines;
 #[cfg(test)]
+mod faults;
+#[cfg(test)]
 mod settings;
 #[cfg(test)]
 mod statement_lines;
