@@ -152,7 +152,9 @@ fn advice_of(fault: Fault) -> &'static str {
         Fault::Memory => {
             "raise its limit; a front of the replies stands on standard output, whole lines or not"
         }
-        Fault::BadSettings => { "go through the checks below in their order" }
+        Fault::BadSettings => {
+            "set the option that the next line names, within the range that it tells"
+        }
         Fault::LineTooLong => {
             "end each line by byte 10; leave out what the command doesn't need"
         }

@@ -125,12 +125,23 @@ pub fn words_failed<E: Write>(error: &io::Error, errors: &mut E) -> u8
     }
 }
 
+/// What a hub is asked for beyond its settings, where it is drilled.
+const DRILL: &str =
+    "a drill wants 2 participants or more, 1 to 1024 transfers and at most the places, with 100 cents each at most the ceiling, and 1 to 10 openings";
+
 /// Tells why the program ends, and answers the exit status.
 fn tell_ending<E: Write>(ending: Ending, errors: &mut E) -> u8
     ensures { result ≡ status_of_ending ending }
 {
     match ending {
-        Ending::Fault(fault) => tell(fault, errors),
+        Ending::Fault(fault) => {
+            let status = tell(fault, errors);
+            // Words that choose settings are refused by a drill alone.
+            if fault == Fault::BadSettings {
+                let _ = writeln!(errors, "{DRILL}");
+            }
+            status
+        }
         Ending::Log(fault) => {
             let _ = writeln!(errors, "fault {} {}", fault.number(), fault.name());
             fault.status()
@@ -138,7 +149,7 @@ fn tell_ending<E: Write>(ending: Ending, errors: &mut E) -> u8
         Ending::Unexplained => {
             let _ = writeln!(
                 errors,
-                "error: no fault has this number or name; numbers are 1 to 25"
+                "error: no fault has this number or name; the numbers are 1 to 25"
             );
             2
         }
