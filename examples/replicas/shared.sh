@@ -3,9 +3,12 @@
 export LC_ALL=C
 
 here=$(cd -- "$(dirname -- "$(readlink -f -- "${BASH_SOURCE[0]}")")" && pwd -P)
+# Debian's package is for Debian's Python, and another one may come first on the PATH.
+python3 -c 'import pika' 2> /dev/null || PATH=/usr/bin:$PATH
 missing=''
 [ -x /usr/lib/rabbitmq/bin/rabbitmq-server ] || command -v rabbitmq-server > /dev/null || missing+=' rabbitmq-server'
 python3 -c 'import pika' 2> /dev/null || missing+=' python3-pika'
+command -v socat > /dev/null || missing+=' socat'
 if [ -n "$missing" ]; then
     echo "$(basename "$0"): there is no$missing here; on Debian: apt install$missing" >&2
     exit 1
@@ -46,16 +49,20 @@ nodes_from() {
     cut -d , -f "$1-$(($1 + 2))" <<< "$nodes,$nodes"
 }
 
-# NAME: starts the replica, in a session of its own, over the folder of this name. Each asks another broker first.
-start_replica() {
-    mkdir -p -- "$made/$1"
-    setsid "$here/replica.py" "$(nodes_from $((${1#replica} % 3 + 1)))" "$1" "$made/$1" "${hub[@]}" \
-        2>> "$made/$1/errors" &
+# NAME COMMAND..: starts it in a session of its own.
+start() {
+    setsid "${@:2}" 2>> "$made/$1.errors" &
     group[$1]=$!
 }
 
-# NAME SIGNAL: to the replica and its hub.
-signal_replica() {
+# NAME [NODES]: starts the replica over the folder of this name. Each asks another broker first.
+start_replica() {
+    mkdir -p -- "$made/$1"
+    start "$1" "$here/adapter.py" replica "${2:-$(nodes_from $((${1#replica} % 3 + 1)))}" "$1" "$made/$1" "${hub[@]}"
+}
+
+# NAME SIGNAL: to all that was started under this name, as to a replica and its hub.
+signal() {
     kill "-$2" -- "-${group[$1]}"
     if [ "$2" = KILL ]; then
         wait "${group[$1]}" || :
