@@ -21,8 +21,7 @@ FAILURES = (OSError, pika.exceptions.AMQPError, pika.adapters.utils.connection_w
 def channel_of(nodes):
     """A channel to the node that was asked longest ago."""
     nodes.append(nodes.pop(0))
-    host, port = nodes[-1].split(":")
-    channel = pika.BlockingConnection(pika.ConnectionParameters(host, int(port), heartbeat=10)).channel()
+    channel = pika.BlockingConnection(pika.URLParameters(f"amqp://{nodes[-1]}/?heartbeat=10")).channel()
     for stream in LINES, REPLIES:
         channel.queue_declare(stream, durable=True, arguments={"x-queue-type": "stream"})
     channel.basic_qos(prefetch_count=100)
@@ -113,7 +112,7 @@ def replica(nodes, name, folder, *words):
     place = json.load(open(path)) if os.path.exists(path) else {"lines": 0, "offset": -1, "taken": {}}
     told = run([words[0], "log", log], capture_output=True, text=True)
     if told.stderr not in ("", "fault 21 NoLog\n"):
-        sys.exit(told.stderr)
+        sys.exit(told.stderr.strip())
     had = int((told.stdout.split() or [0])[-1]) - place["lines"]
     hub = Popen([*words, "--log", log, "--told", str(place["lines"])], stdin=PIPE, stdout=PIPE)
 
@@ -124,7 +123,7 @@ def replica(nodes, name, folder, *words):
             for at, message, taken, count in [fed.get()] + [fed.get() for _ in range(fed.qsize())]:
                 given = b"".join(hub.stdout.readline() for _ in range(count))
                 if given.count(b"\n") < count:
-                    os._exit(hub.wait() or 1)
+                    return
                 rows.append(b"%d %d %s\n%s" % (count, at, message.encode(), given))
                 lines += count
             send([*nodes], channels, REPLIES, b"".join(rows), app_id=name)
@@ -132,7 +131,8 @@ def replica(nodes, name, folder, *words):
                 json.dump({"lines": lines, "offset": at, "taken": taken}, file)
             os.replace(path + ".new", path)
 
-    threading.excepthook = lambda failed: (sys.excepthook(*failed[:3]), os._exit(1))
+    threading.excepthook = lambda failed: (sys.excepthook(*failed[:3]), hub.kill())
+    threading.Thread(target=lambda: os._exit(hub.wait() or 1), daemon=True).start()
     threading.Thread(target=answer, args=[place["lines"], []], daemon=True).start()
     for at, message, taken, lines in read_lines(nodes, place["offset"] + 1, place["taken"]):
         fed.put((at, message, taken, len(lines)))
@@ -141,7 +141,7 @@ def replica(nodes, name, folder, *words):
             hub.stdin.write(b"".join(line + b"\n" for line in lines[max(had, 0) :]))
             hub.stdin.flush()
         except BrokenPipeError:
-            sys.exit(hub.wait() or 1)
+            hub.wait()
         had -= len(lines)
 
 
