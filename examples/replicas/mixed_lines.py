@@ -39,8 +39,16 @@ def commands(count, banks, draw):
             yield {"cmd": "position", "who": who}
         elif kind == 10:
             yield {"cmd": "statement", "who": who, "skip": draw.randrange(50), "count": 5}
-        elif kind == 11 and draw.randrange(4) == 0:
-            yield draw.choice(WRONG)
+        elif kind == 11:
+            which = draw.randrange(4)
+            if which == 0:
+                yield draw.choice(WRONG)
+            elif which == 1:
+                yield {"cmd": "defund", "who": who, "ref": f"D{number}", "cents": draw.randrange(1, 2000)}
+            elif pending and which == 2:
+                yield {"cmd": "investigate", "who": pending[-1]["from"], "id": pending[-1]["id"]}
+            elif pending:
+                pending.pop()  # nobody answers it
 
 
 def main():
