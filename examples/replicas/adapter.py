@@ -111,7 +111,7 @@ def replica(nodes, name, folder, *words):
     # Up to where replies were sent: how many lines, the last message's offset, and the last number of each asker.
     place = json.load(open(path)) if os.path.exists(path) else {"lines": 0, "offset": -1, "taken": {}}
     told = run([words[0], "log", log], capture_output=True, text=True)
-    if told.returncode and not told.stderr.endswith("fault 21 NoLog\n"):
+    if told.returncode and "fault 21 NoLog" not in told.stderr:
         sys.exit(told.stderr.strip())
     had = int((told.stdout.split() or [0])[-1]) - place["lines"]
     hub = Popen([*words, "--log", log, "--told", str(place["lines"])], stdin=PIPE, stdout=PIPE)
