@@ -32,7 +32,7 @@ clean_up() {
         done
         # shellcheck disable=SC2046
         kill $(jobs -p) || :
-        "$here/brokers" stop "$made/brokers"
+        "$here/brokers" stop "$made/brokers" || :
         wait
     } 2> /dev/null
     if [ "$failed" = 0 ]; then
