@@ -1,5 +1,6 @@
-ghost use Rattle.std.specs.Prelude.{◌≡◌, IfSome, IsNone};
+ghost use Rattle.std.specs.Prelude.{◌≡◌, ◌↔◌, IfSome, None, true};
 ghost use Rattle.inst_faults.specs.AnyFault.{number_of, name_of, IsNamed};
+ghost use Rattle.inst_faults.specs.declared.any_fault.AnyFault.{AnyFault as SomeFault};
 
 use crate::log_fault::LogFault;
 use inst_base::Fault;
@@ -73,7 +74,19 @@ impl AnyFault {
 /// ```
 pub fn fault_of(word: &str) -> Option<AnyFault>
     ensures named { IfSome result (λ fault. IsNamed word.now fault) }
+    ensures none { result ≡ None → (fault : SomeFault) → ¬ IsNamed word.now fault }
 {
-    let number = word.parse::<u8>().ok();
-    ALL.iter().copied().find(|fault| fault.name() == word || number == Some(fault.number()))
+    for fault in ALL {
+        if is_named(word, *fault) {
+            return Some(*fault);
+        }
+    }
+    None
+}
+
+/// Whether this word names the fault.
+fn is_named(word: &str, fault: AnyFault) -> bool
+    ensures { (result ≡ true) ↔ IsNamed word.now fault }
+{
+    word == fault.name() || word.parse::<u8>() == Ok(fault.number())
 }

@@ -1,14 +1,13 @@
 -- What is left where the words' task is done, and where it ends otherwise.
-use Rattle.std.proofs.Common.{◌≡◌, ◌≢◌, ◌⊎◌, inl, inr, ℕ, List, Option, Some, None, Result, Ok, Err, IfErr, IsErrAnd, sym, subst}
+use Rattle.std.proofs.Common.{◌≡◌, inl, inr, ℕ, List, Option, Some, None, Result, Ok, Err, IfErr, IsErrAnd, sym, subst}
 use Rattle.inst_base.specs.declared.fault.Fault.{Fault}
-use Rattle.inst_base.specs.declared.fault.Fault.TheVariants.{BadSettings, Memory, WriteFault}
 use Rattle.inst_settings.specs.Settings.{HubSettings}
 use Rattle.inst_settings.specs.Lawful.{IsSettings}
 use Rattle.inst_lines.specs.declared.mode.Mode.{Mode}
 use Rattle.inst_options.specs.Options.Task.{Drill}
-use Rattle.inst_options.specs.Asking.{AreChosen, AreWhole, NameALog, NameTheLog}
+use Rattle.inst_options.specs.Asking.{AreChosen, AreWhole, AskToExplain, NameALog, NameTheLog}
 use Rattle.inst_options.specs.declared.wish.LogOptions.{LogOptions}
-use Rattle.inst_main.specs.Program.{AskForADrill, AskForAnExplanation, Drills, Fails, IsAnswered, IsEnding, IsServed, IsUnanswered, IsUndrilled, IsUnexplained, IsUnkept, task_of}
+use Rattle.inst_main.specs.Program.{AskForADrill, Drills, Fails, IsAnswered, IsEnding, IsServed, IsUnanswered, IsUndrilled, IsUnexplained, IsUnkept, task_of}
 use Rattle.inst_main.specs.declared.ending.Ending.{Ending}
 use Rattle.inst_main.specs.declared.ending.Ending.TheVariants as ending
 use Rattle.inst_main.proofs.Refusing.{undrillable}
@@ -88,9 +87,9 @@ undrilled_err words s transfers openings unread unwritten fails (Err e) fault is
     subst (IsEnding words unread unwritten fails) (sym is) (undrilled words s transfers openings unread unwritten fails fault lawful whole chosen still after)
 
 -- a fault wasn't explained
-pub unexplained_err : {A : Type 0} (words : List (List ℕ)) (unread unwritten : Type 0) (fails : Fault → Type 0) (r : Result A Ending) → AskForAnExplanation words →
-    unread → IfErr r (IsUnexplained unwritten) → IfErr r (IsEnding words unread unwritten fails)
-unexplained_err words unread unwritten fails (Ok x) asked still is = tt
-unexplained_err words unread unwritten fails (Err (ending.Fault fault)) asked still is = inr (inr (inl (inr is, still, inr asked)))
-unexplained_err words unread unwritten fails (Err (ending.Log fault)) asked still is = absurd is
-unexplained_err words unread unwritten fails (Err ending.Unexplained) asked still is = (still, is, asked)
+pub unexplained_err : {A : Type 0} (words : List (List ℕ)) (word : List ℕ) (unread unwritten : Type 0) (fails : Fault → Type 0) (r : Result A Ending) →
+    AskToExplain words word → unread → IfErr r (IsUnexplained word unwritten) → IfErr r (IsEnding words unread unwritten fails)
+unexplained_err words word unread unwritten fails (Ok x) asked still is = tt
+unexplained_err words word unread unwritten fails (Err (ending.Fault fault)) asked still is = inr (inr (inl (inr is, still, inr (word, asked))))
+unexplained_err words word unread unwritten fails (Err (ending.Log fault)) asked still is = absurd is
+unexplained_err words word unread unwritten fails (Err ending.Unexplained) asked still is = (still, is.0, (word, asked, is.1))

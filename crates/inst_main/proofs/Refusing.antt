@@ -1,5 +1,5 @@
 -- Words that a hub can't do.
-use Rattle.std.proofs.Common.{◌≡◌, ◌⊎◌, ◌<◌, ◌≤◌, ◌^◌, ℕ, List, length, codes, inl, inr, sym, subst, ⊎_elim, arith}
+use Rattle.std.proofs.Common.{◌<◌, ◌≤◌, ℕ, List, length, codes, subst, arith}
 use Rattle.clap.specs.Words.{Row}
 use Rattle.inst_settings.specs.Settings.{HubSettings}
 use Rattle.inst_drill.specs.Plan.{MayDrill}

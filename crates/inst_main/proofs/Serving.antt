@@ -1,5 +1,5 @@
 -- What the program does as the words ask for, and what it leaves by its exit status.
-use Rattle.std.proofs.Common.{◌≡◌, ◌≢◌, ◌⊎◌, inl, inr, ℕ, List, Option, Result, Ok, Err, IfErr, IsErrAnd, refl, sym, subst, arith}
+use Rattle.std.proofs.Common.{◌≡◌, ◌⊎◌, inl, inr, ℕ, List, Option, Result, Ok, Err, IfErr, IsErrAnd, refl, sym, subst, arith}
 use Rattle.inst_base.specs.declared.fault.Fault.{Fault}
 use Rattle.inst_base.specs.declared.fault.Fault.TheVariants.{BadSettings, Memory, WriteFault}
 use Rattle.inst_lines.specs.Answers.{Answerer}
@@ -13,7 +13,7 @@ use Rattle.inst_faults.specs.declared.log_fault.LogFault.TheVariants.{DiskFault}
 use Rattle.inst_options.specs.Asking.{AreUnfit, AreWrong, AskForHelp, IsNoWish, IsRefusal, NameALog, faults_of}
 use Rattle.inst_options.specs.declared.error.WordsError.{WordsError}
 use Rattle.inst_options.specs.declared.error.WordsError.TheVariants as error
-use Rattle.inst_main.specs.Program.{status_of, status_of_ending, status_of_error, status_of_kind, AreRefused, AskForADrill, AskForAnExplanation, IsEnding, IsUnkept, Fails}
+use Rattle.inst_main.specs.Program.{status_of, status_of_ending, status_of_error, status_of_kind, AreRefused, AskForADrill, AskForAnExplanation, NameNoFault, IsEnding, IsUnkept, Fails}
 use Rattle.inst_main.specs.declared.ending.Ending.{Ending}
 use Rattle.inst_main.specs.declared.ending.Ending.TheVariants as ending
 use Rattle.inst_main.proofs.Refusing.{refused}
@@ -38,9 +38,8 @@ no_settings : {S : Type 0} (a : Answerer S) (start : S) (before now : Option (Li
 no_settings a start before now bytes fault is h = subst (Leaves a start before bytes now) is h
 
 -- what the program says by its status
--- R: the words are refused
 abbrev Refused : List (List ℕ) → Type 0
-Refused words = AreWrong words ⊎ (AreRefused words ⊎ (NameALog words ⊎ AskForAnExplanation words))
+Refused words = AreWrong words ⊎ (AreRefused words ⊎ (NameALog words ⊎ NameNoFault words))
 
 abbrev Failed : List (List ℕ) → Type 0 → Type 0 → Option (List ℕ) → Option (List ℕ) → Option (List ℕ) → Option (List ℕ) → Type 0
 Failed words unread unwritten left left' held held' =

@@ -143,14 +143,18 @@ Explains word held held' =
 abbrev pub AskForAnExplanation : List (List ℕ) → Type 0
 AskForAnExplanation words = (word : List ℕ) × AskToExplain words word
 
+-- the words ask for the fault of a number or a name that no fault has
+abbrev pub NameNoFault : List (List ℕ) → Type 0
+NameNoFault words = (word : List ℕ) × AskToExplain words word × ((fault : AnyFault) → ¬ (IsNamed word fault))
+
 abbrev pub HasExplained : List (List ℕ) → Option (List ℕ) → Option (List ℕ) → Type 0
 HasExplained words held held' = (word : List ℕ) × AskToExplain words word × Explains word held held'
 
 -- how an explanation ends: no fault is named so, and nothing is written, or the writer failed
-abbrev pub IsUnexplained : Type 0 → Ending → Type 0
-IsUnexplained unwritten (ending.Fault fault) = fault ≡ WriteFault
-IsUnexplained unwritten (ending.Log fault) = ⊥
-IsUnexplained unwritten ending.Unexplained = unwritten
+abbrev pub IsUnexplained : List ℕ → Type 0 → Ending → Type 0
+IsUnexplained word unwritten (ending.Fault fault) = fault ≡ WriteFault
+IsUnexplained word unwritten (ending.Log fault) = ⊥
+IsUnexplained word unwritten ending.Unexplained = unwritten × ((fault : AnyFault) → ¬ (IsNamed word fault))
 
 -- how a run with a log ends by itself, or the showing of one: where the log isn't taken, all is untouched
 abbrev pub IsUnkept : Type 0 → Ending → Type 0
@@ -196,4 +200,4 @@ IsEnding words unread unwritten fails (ending.Fault fault) =
     ⊎ ((fault ≢ BadSettings) × NameALog words)))
 IsEnding words unread unwritten fails (ending.Log fault) =
     NameALog words × (status_of_log fault ≡ 2 → unread × unwritten)
-IsEnding words unread unwritten fails ending.Unexplained = unread × unwritten × AskForAnExplanation words
+IsEnding words unread unwritten fails ending.Unexplained = unread × unwritten × NameNoFault words

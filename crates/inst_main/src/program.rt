@@ -6,7 +6,7 @@ ghost use Rattle.inst_lines.specs.Session.{FailsAfter};
 ghost use Rattle.inst_options.specs.Asking.{AskForHelp, AreWrong, IsWished, NameALog};
 ghost use Rattle.inst_main.specs.Program.{status_of, status_of_error, status_of_ending};
 ghost use Rattle.inst_main.specs.Program.{Answers, Serves, Fails, HasKept, HasDrilled, HasExplained};
-ghost use Rattle.inst_main.specs.Program.{AreRefused, AskForADrill, AskForAnExplanation, IsServed, IsEnding};
+ghost use Rattle.inst_main.specs.Program.{AreRefused, AskForADrill, AskForAnExplanation, NameNoFault, IsServed, IsEnding};
 ghost use Rattle.inst_main.specs.Program.{IsAnswered, IsUnanswered, Drills, IsUndrilled, Explains, IsUnexplained};
 
 use crate::ending::Ending;
@@ -62,7 +62,7 @@ pub(crate) fn program<H: Threads + Wait + Sync, L: Logs, R: Read, W: Write, E: W
     // name a log that isn't taken, or a fault that there isn't.
     ensures refused { result ≡ 2 → (reader.new ≡ reader.old) × (writer.new ≡ writer.old)
         × (AreWrong (map string_bytes words.items) ⊎ (AreRefused (map string_bytes words.items)
-        ⊎ (NameALog (map string_bytes words.items) ⊎ AskForAnExplanation (map string_bytes words.items)))) }
+        ⊎ (NameALog (map string_bytes words.items) ⊎ NameNoFault (map string_bytes words.items)))) }
 
     // Memory was wanting before a run, or a run has failed, or what reads nothing: a drill, a log, or an explanation.
     ensures failed { result ≡ 3 → ((reader.new ≡ reader.old) × (writer.new ≡ writer.old))
@@ -282,7 +282,7 @@ fn drill_hub<H: Threads + Wait + Sync, W: Write, E: Write>(
 /// Tells what the fault of this number or name usually means, and what to do.
 fn explain<W: Write>(word: &str, writer: &mut W) -> Result<(), Ending>
     ensures ok { OnOk result (Explains word.now (W.contents writer.old) (W.contents writer.new)) }
-    ensures err { IfErr result (IsUnexplained (writer.new ≡ writer.old)) }
+    ensures err { IfErr result (IsUnexplained word.now (writer.new ≡ writer.old)) }
 {
     let Some(fault) = fault_of(word) else {
         return Err(Ending::Unexplained);

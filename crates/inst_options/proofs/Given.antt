@@ -1,5 +1,5 @@
 -- The text of an option, the number that it writes, and what is known of words that give none.
-use Rattle.std.proofs.Common.{◌≡◌, ◌≢◌, ◌⊎◌, ◌<◌, ◌≤◌, ◌^◌, ℕ, List, Option, Some, None, Result, Ok, Err, ok_or, option_map, unwrap_or, IfOk, IfErr, OnErr, IsErrAnd, Bor, refl, sym, subst, ◌∙◌, inl, inr, arith}
+use Rattle.std.proofs.Common.{◌≡◌, ◌≢◌, ◌⊎◌, ◌<◌, ◌≤◌, ◌^◌, ℕ, List, Option, Some, None, Result, Ok, Err, ok_or, option_map, unwrap_or, IfOk, OnErr, Bor, refl, sym, subst, ◌∙◌, inl, inr, arith}
 use Rattle.std.specs.Str.Parse.{ParsesUnsigned, digits_value, without_leading_plus}
 use Rattle.std.proofs.lemmas.Bool.{cases_lt}
 use Rattle.clap.specs.Words.{ReadsOne, Row, first_of, first_value, one_text, rows_of}

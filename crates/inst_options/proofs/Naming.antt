@@ -1,5 +1,5 @@
 -- The options of a log.
-use Rattle.std.proofs.Common.{◌≡◌, ℕ, true, is_some, List, Option, Some, None, Result, option_map, Bor, refl, sym, subst, ap, ◌∙◌}
+use Rattle.std.proofs.Common.{◌≡◌, ℕ, true, is_some, List, Option, Some, None, Result, option_map, Bor, sym, subst, ap, ◌∙◌}
 use Rattle.std.specs.Str.Parse.{ParsesUnsigned}
 use Rattle.clap.specs.Words.{ReadsOne, first_of, first_value, one_text, rows_of}
 use Rattle.clap.specs.declared.parser.matches.Found.{Found}

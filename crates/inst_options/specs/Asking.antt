@@ -1,6 +1,6 @@
 -- What the words of a command line ask for, and why nothing.
 use Rattle.std.specs.Prelude.{◌≢◌, ◌⊎◌, ◌≡◌, ℕ, true, List, [], Option, Some, None, codes}
-use Rattle.clap.specs.Words.{HasKind, IsAmong, Kinds, Row, fault_of, kind_of, subcommand_of}
+use Rattle.clap.specs.Words.{IsAmong, Kinds, Row, fault_of, kind_of, subcommand_of}
 use Rattle.clap.specs.declared.error.kind.ErrorKind.{ErrorKind}
 use Rattle.clap.specs.declared.error.kind.ErrorKind.TheVariants.{DisplayHelp, DisplayVersion, OutOfMemory}
 use Rattle.inst_base.specs.declared.fault.Fault.{Fault}

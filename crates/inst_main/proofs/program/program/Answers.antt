@@ -1,4 +1,4 @@
-use Rattle.std.proofs.Common.{◌≡◌, List, ℕ, inl, inr, map, string_bytes, refl, sym, ◌∙◌}
+use Rattle.std.proofs.Common.{◌≡◌, inl, inr, map, string_bytes, refl, sym, ◌∙◌}
 use Rattle.inst_options.specs.Asking.{IsNoWish, IsWished}
 use Rattle.inst_main.proofs.Serving.{failed_ending, helped, refused_ending, refused_error, served, two_is_not_zero, unwritten_error}
 use Rattle.inst_main.proofs.program.program.Goals as goal

@@ -40,4 +40,4 @@ returns-in_err-drill_hub-in-Drill-clause-err g c words wished =
 pub returns-in-Explain-clause-err : goal.returns-in-Explain-clause-err
 returns-in-Explain-clause-err g c words wished =
     let is = rw c.in-Explain.is at wished in
-    unexplained_err words (c.args.reader.now ≡ c.args.reader.now) (c.explain.new.writer ≡ c.args.writer.now) _ c.explain.result (c.in-Explain.word.now, is) refl c.explain.ensures.err
+    unexplained_err words c.in-Explain.word.now (c.args.reader.now ≡ c.args.reader.now) (c.explain.new.writer ≡ c.args.writer.now) _ c.explain.result is refl c.explain.ensures.err

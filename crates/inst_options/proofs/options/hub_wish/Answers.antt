@@ -1,7 +1,6 @@
-use Rattle.std.proofs.Common.{rules, ◌≡◌, ◌⊎◌, true, false, codes, inl}
+use Rattle.std.proofs.Common.{rules, ◌≡◌, true, false, codes}
 use Rattle.clap.specs.Words.{found_of, rows_of}
 use Rattle.inst_settings.specs.Settings.{same_text}
-use Rattle.inst_options.specs.Options.{AskForNone, SpeaksOfALog}
 use Rattle.inst_options.proofs.Refused.{numberless}
 use Rattle.inst_options.proofs.options.hub_wish.Goals as goal
 

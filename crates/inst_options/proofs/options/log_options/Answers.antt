@@ -1,4 +1,4 @@
-use Rattle.std.proofs.Common.{◌≡◌, ◌∙◌, Some, codes, sym}
+use Rattle.std.proofs.Common.{◌∙◌, codes, sym}
 use Rattle.std.specs.Str.Parse.{ParsesUnsigned, ExplainsUnsignedError, HasUnsignedDigitsIfOk}
 use Rattle.clap.specs.Words.{found_of}
 use Rattle.inst_options.proofs.Naming.{given_text, given_none, given_number, given_some}

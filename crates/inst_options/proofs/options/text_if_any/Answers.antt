@@ -1,4 +1,4 @@
-use Rattle.std.proofs.Common.{◌≡◌, subst, sym}
+use Rattle.std.proofs.Common.{subst, sym}
 use Rattle.clap.specs.Words.{found_of, rows_of}
 use Rattle.inst_options.specs.Options.{IsText}
 use Rattle.inst_options.proofs.Given.{text_or_none}
