@@ -101,7 +101,7 @@ fn tell_error<W: Write, E: Write>(error: WordsError<'_>, writer: &mut W, errors:
             let status = tell(Fault::BadSettings, errors);
             let _ = writeln!(
                 errors,
-                "--{} is {} and may be {}",
+                "--{} is '{}' and may be {}",
                 bad.name, bad.value, bad.range
             );
             status
@@ -126,8 +126,9 @@ pub fn words_failed<E: Write>(error: &io::Error, errors: &mut E) -> u8
 }
 
 /// What a hub is asked for beyond its settings, where it is drilled.
-const DRILL: &str =
-    "a drill wants 2 participants or more, 1 to 1024 transfers and at most the places, with 100 cents each at most the ceiling, and 1 to 10 openings";
+const DRILL: &str = "\
+    a drill wants 2 participants or more, 1 to 1024 transfers and at most the places, with 100 cents each at most \
+    the ceiling, and 1 to 10 openings";
 
 /// Tells why the program ends, and answers the exit status.
 fn tell_ending<E: Write>(ending: Ending, errors: &mut E) -> u8

@@ -70,7 +70,7 @@ pub(crate) const PROGRAM: &str = "\
 Exit status:
   0  the input was read to its end, and each line has its reply, be it a refusal;
      or the drill is done, and no outcome that was seen differs from the books;
-     or help or the version was asked for
+     or help, the version or an explanation was asked for
   2  the command line or the settings are wrong; nothing was read or written
   3  a fault ended the run or the drill; standard error has its line, as `fault 17 ReadFault`
 
