@@ -26,18 +26,8 @@ pub drilled : (words : List (List ℕ)) (s : HubSettings) (transfers openings : 
     (left left' held held' : Option (List ℕ)) → IsSettings s → AreWhole words → AreChosen words (Drill transfers openings) s →
     unread → Drills openings held held' → IsServed words unread left left' held held'
 drilled words s transfers openings unread left left' held held' lawful whole chosen still told =
-    inr (inr (
-      still,
-      inl (record {
-        settings = s;
-        lawful = lawful;
-        whole = whole;
-        transfers = transfers;
-        openings = openings;
-        chosen = chosen;
-        told = told;
-      }),
-    ))
+    let asks : AskForADrill words = record { settings = s; lawful = lawful; whole = whole; transfers = transfers; openings = openings; chosen = chosen } in
+    inr (inr (still, inl (asks, told)))
 
 -- a log wasn't taken, or its disk failed
 pub unkept : (words : List (List ℕ)) (unread unwritten untouched : Type 0) (fails : Fault → Type 0) (e : Ending) → NameALog words →

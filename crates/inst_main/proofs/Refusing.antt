@@ -3,14 +3,14 @@ use Rattle.std.proofs.Common.{◌<◌, ◌≤◌, ℕ, List, length, codes, subs
 use Rattle.clap.specs.Words.{Row}
 use Rattle.inst_settings.specs.Settings.{HubSettings}
 use Rattle.inst_drill.specs.Plan.{MayDrill}
-use Rattle.inst_options.specs.Options.{AreGood, Chooses, Fits, IsTask, Task}
+use Rattle.inst_options.specs.Options.{AreGood, Chooses, HasSmallNumbers, IsTask, Task}
 use Rattle.inst_options.specs.Options.Task.{Run, Play, Drill}
 use Rattle.inst_options.specs.Asking.{AreChosen, AreUnfit, AreWhole}
 use Rattle.inst_options.proofs.Refused.{chosen_by, codes_one, given_one}
 use Rattle.inst_main.specs.Program.{AreRefused, MayDo}
 
 -- what a hub can do fits
-fits : (s : HubSettings) (task : Task) → AreGood s → MayDo s task → Fits task
+fits : (s : HubSettings) (task : Task) → AreGood s → MayDo s task → HasSmallNumbers task
 fits s Run good may = tt
 fits s Play good may = tt
 fits s (Drill transfers openings) good may =

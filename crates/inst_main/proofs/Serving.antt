@@ -122,7 +122,7 @@ of_refusal words fault bad (inr h) = unfit_or_log words h.1
 
 pub refused_error : (words : List (List ℕ)) (e : WordsError) → IsNoWish words e → status_of_error e ≡ 2 → Refused words
 refused_error words (error.Words e) none is = inl (wrong_kind words (kind_of e) none.1 is)
-refused_error words (error.Option bad) none is = unfit_or_log words none
+refused_error words (error.Option bad) none is = unfit_or_log words none.0
 refused_error words (error.Fault fault) none is = of_refusal words fault (only_settings fault is) none
 
 pub unwritten_error : (status : ℕ) (same : Type 0) → same ⊎ (status ≡ 0) → (status ≡ 0 → ⊥) → same

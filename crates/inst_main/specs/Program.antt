@@ -111,14 +111,8 @@ Drills openings held held' =
     × Appends held held' (reports_text reports)
 
 -- a hub of the settings that the words choose was drilled as the words ask for
-pub record HasDrilled (words : List (List ℕ)) (held held' : Option (List ℕ)) : Type 0 where
-  pub settings : HubSettings
-  pub lawful : IsSettings settings
-  pub whole : AreWhole words
-  pub transfers : ℕ
-  pub openings : ℕ
-  pub chosen : AreChosen words (Drill transfers openings) settings
-  pub told : Drills openings held held'
+abbrev pub HasDrilled : List (List ℕ) → Option (List ℕ) → Option (List ℕ) → Type 0
+HasDrilled words held held' = (asked : AskForADrill words) × Drills asked.openings held held'
 
 -- a hub of the settings that the words choose, with the log that they name, answered all that the reader had left
 pub record HasKept (words : List (List ℕ)) (left' : Option (List ℕ)) : Type 0 where
@@ -129,26 +123,29 @@ pub record HasKept (words : List (List ℕ)) (left' : Option (List ℕ)) : Type 
   pub log : NameALog words
   pub at_end : IsAtEnd left'
 
--- the words ask what a fault is, and the writer got its number and its name, what it usually means, and what to do
+-- a fault's number and name, what it usually means, and what to do
 abbrev pub explanation_text : ℕ → List ℕ → List ℕ → List ℕ → List ℕ
 explanation_text number name meaning advice =
     decimal number ++ (codes " " ++ (name ++ (10 ∷ codes "It usually means: " ++ (meaning
     ++ (10 ∷ codes "What to do: " ++ (advice ++ 10 ∷ []))))))
 
+-- the writer got that of a fault which the word names
 abbrev pub Explains : List ℕ → Option (List ℕ) → Option (List ℕ) → Type 0
 Explains word held held' =
     (fault : AnyFault) × (meaning : List ℕ) × (advice : List ℕ) × IsNamed word fault
     × Appends held held' (explanation_text (number_of fault) (name_of fault) meaning advice)
 
+-- the words ask for an explanation
 abbrev pub AskForAnExplanation : List (List ℕ) → Type 0
 AskForAnExplanation words = (word : List ℕ) × AskToExplain words word
+
+-- and the writer got it
+abbrev pub HasExplained : List (List ℕ) → Option (List ℕ) → Option (List ℕ) → Type 0
+HasExplained words held held' = (word : List ℕ) × AskToExplain words word × Explains word held held'
 
 -- the words ask for the fault of a number or a name that no fault has
 abbrev pub NameNoFault : List (List ℕ) → Type 0
 NameNoFault words = (word : List ℕ) × AskToExplain words word × ((fault : AnyFault) → ¬ (IsNamed word fault))
-
-abbrev pub HasExplained : List (List ℕ) → Option (List ℕ) → Option (List ℕ) → Type 0
-HasExplained words held held' = (word : List ℕ) × AskToExplain words word × Explains word held held'
 
 -- how an explanation ends: no fault is named so, and nothing is written, or the writer failed
 abbrev pub IsUnexplained : List ℕ → Type 0 → Ending → Type 0

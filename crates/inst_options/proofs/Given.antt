@@ -7,7 +7,8 @@ use Rattle.clap.specs.declared.parser.matches.Found.{Found}
 use Rattle.clap.proofs.WalkLemmas.{first_value-rows, one_text-rows}
 use Rattle.inst_base.specs.declared.fault.Fault.{Fault}
 use Rattle.inst_options.specs.Options.{Gives, GivesNoneBelow, IsText}
-use Rattle.clap.specs.Words.{HasKind, IsAmong, kind_of}
+use Rattle.clap.specs.Words.{HasKind, IsAmong, kind_of, subcommand_of}
+use Rattle.inst_options.specs.CommandLine.{command_line}
 use Rattle.clap.specs.declared.error.Error.{Error}
 use Rattle.clap.specs.declared.error.kind.ErrorKind.TheVariants.{OutOfMemory}
 use Rattle.inst_options.specs.Asking.{IsNoWish, IsOfKind, IsRefusedBy, faults_of}
@@ -59,11 +60,12 @@ unread words e (error.Words other) (inr among) h =
 unread words e (error.Option bad) has h = absurd h
 unread words e (error.Fault fault) has h = inl h.0
 
-pub unwished : (words : List (List ℕ)) (fault : Fault) (e : WordsError) → IsRefusedBy fault e → IsNoWish words (error.Fault fault) → IsNoWish words e
-unwished words fault (error.Words other) is none = absurd is
-unwished words fault (error.Option bad) is (inl memory) = let no : ⊥ = cc (is, memory) in absurd no
-unwished words fault (error.Option bad) is (inr deserved) = deserved.1
-unwished words fault (error.Fault other) is none = subst (λ f. IsNoWish words (error.Fault f)) (sym is) none
+pub unwished : (words : List (List ℕ)) (name : List ℕ) (rows : List Row) (fault : Fault) (e : WordsError) → subcommand_of command_line words ≡ Some (name, rows) →
+    IsRefusedBy rows fault e → IsNoWish words (error.Fault fault) → IsNoWish words e
+unwished words name rows fault (error.Words other) at is none = absurd is
+unwished words name rows fault (error.Option bad) at is (inl memory) = let no : ⊥ = cc (is.0, memory) in absurd no
+unwished words name rows fault (error.Option bad) at is (inr deserved) = (deserved.1, (name, rows, at, is.1))
+unwished words name rows fault (error.Fault other) at is none = subst (λ f. IsNoWish words (error.Fault f)) (sym is) none
 
 -- a number that is below no larger bound is below no smaller one
 pub none_lower : (lower bound : ℕ) (rows : List Row) (name : List ℕ) → lower ≤ bound → GivesNoneBelow bound rows name → GivesNoneBelow lower rows name

@@ -1,6 +1,6 @@
 -- What the words of a command line ask for, and why nothing.
 use Rattle.std.specs.Prelude.{◌≢◌, ◌⊎◌, ◌≡◌, ℕ, true, List, [], Option, Some, None, codes}
-use Rattle.clap.specs.Words.{IsAmong, Kinds, Row, fault_of, kind_of, subcommand_of}
+use Rattle.clap.specs.Words.{IsAmong, Kinds, Row, fault_of, first_of, kind_of, subcommand_of}
 use Rattle.clap.specs.declared.error.kind.ErrorKind.{ErrorKind}
 use Rattle.clap.specs.declared.error.kind.ErrorKind.TheVariants.{DisplayHelp, DisplayVersion, OutOfMemory}
 use Rattle.inst_base.specs.declared.fault.Fault.{Fault}
@@ -8,8 +8,9 @@ use Rattle.inst_base.specs.declared.fault.Fault.TheVariants.{BadSettings, Memory
 use Rattle.inst_settings.specs.Settings.{HubSettings, same_text}
 use Rattle.inst_settings.specs.Lawful.{IsSettings}
 use Rattle.inst_options.specs.CommandLine.{command_line}
-use Rattle.inst_options.specs.Options.{AreGood, Chooses, Fits, IsTask, IsText, SpeaksOfALog, Task}
+use Rattle.inst_options.specs.Options.{AreGood, Chooses, HasSmallNumbers, IsTask, IsText, SpeaksOfALog, Task}
 use Rattle.inst_options.specs.Options.Task.{Run, Play, Drill}
+use Rattle.inst_options.specs.declared.bad_option.BadOption.{BadOption}
 use Rattle.inst_options.specs.declared.error.WordsError.{WordsError}
 use Rattle.inst_options.specs.declared.error.WordsError.TheVariants as error
 use Rattle.inst_options.specs.declared.wish.LogOptions.{LogOptions}
@@ -70,7 +71,7 @@ IsWished words (wish.Explain word) = AskToExplain words word.now
 -- the words are a whole command line, and choose no settings that a hub can have, or no task that fits
 pub record AreUnfit (words : List (List ℕ)) : Type 0 where
   pub whole : AreWhole words
-  pub none : (task : Task) (s : HubSettings) → AreChosen words task s → ¬ (AreGood s × Fits task)
+  pub none : (task : Task) (s : HubSettings) → AreChosen words task s → ¬ (AreGood s × HasSmallNumbers task)
 
 -- an error of the words of this kind, and want of memory as a fault
 abbrev pub IsOfKind : ErrorKind → WordsError → Type 0
@@ -78,15 +79,20 @@ IsOfKind kind (error.Words e) = (kind_of e ≡ kind) × (kind ≢ OutOfMemory)
 IsOfKind kind (error.Option bad) = ⊥
 IsOfKind kind (error.Fault fault) = (fault ≡ Memory) × (kind ≡ OutOfMemory)
 
--- an error of options that were refused by this fault
-abbrev pub IsRefusedBy : Fault → WordsError → Type 0
-IsRefusedBy fault (error.Words e) = ⊥
-IsRefusedBy fault (error.Option bad) = fault ≡ BadSettings
-IsRefusedBy fault (error.Fault other) = other ≡ fault
+-- an error of options that were refused by this fault: an option that is named has that value
+abbrev pub IsRefusedBy : List Row → Fault → WordsError → Type 0
+IsRefusedBy rows fault (error.Words e) = ⊥
+IsRefusedBy rows fault (error.Option bad) = (fault ≡ BadSettings) × (first_of bad.name.now rows ≡ Some bad.value.now)
+IsRefusedBy rows fault (error.Fault other) = other ≡ fault
+
+-- the option has that value in the words
+abbrev pub IsGivenBy : List (List ℕ) → BadOption → Type 0
+IsGivenBy words bad = (name : List ℕ) × (rows : List Row) × (subcommand_of command_line words ≡ Some (name, rows))
+    × (first_of bad.name.now rows ≡ Some bad.value.now)
 
 -- why the words ask for nothing: they are wrong or ask for a help text, memory was wanting, or no hub can have what
 -- they choose
 abbrev pub IsNoWish : List (List ℕ) → WordsError → Type 0
 IsNoWish words (error.Words e) = (kind_of e ≢ OutOfMemory) × IsAmong (kind_of e) (faults_of words)
-IsNoWish words (error.Option bad) = AreUnfit words ⊎ NameALog words
+IsNoWish words (error.Option bad) = (AreUnfit words ⊎ NameALog words) × IsGivenBy words bad
 IsNoWish words (error.Fault fault) = IsRefusal (AreUnfit words ⊎ NameALog words) fault

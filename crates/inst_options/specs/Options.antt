@@ -87,15 +87,15 @@ abbrev pub ChooseNone : List Row → Type 0
 ChooseNone rows = (s : HubSettings) → Chooses rows s → ¬ (AreGood s)
 
 -- the numbers of a drill are as small as a word can give them; lines have none
-abbrev pub Fits : Task → Type 0
-Fits Run = Unit {0}
-Fits Play = Unit {0}
-Fits (Drill transfers openings) = (transfers < 2 ^ 16) × (openings < 2 ^ 8)
+abbrev pub HasSmallNumbers : Task → Type 0
+HasSmallNumbers Run = Unit {0}
+HasSmallNumbers Play = Unit {0}
+HasSmallNumbers (Drill transfers openings) = (transfers < 2 ^ 16) × (openings < 2 ^ 8)
 
 -- the options of the subcommand of this name choose no settings that a hub can have, or no task that fits
 abbrev pub AskForNone : List ℕ → List Row → Type 0
 AskForNone name rows =
-    (task : Task) (s : HubSettings) → IsTask name rows task → Chooses rows s → ¬ (AreGood s × Fits task)
+    (task : Task) (s : HubSettings) → IsTask name rows task → Chooses rows s → ¬ (AreGood s × HasSmallNumbers task)
 
 -- what the subcommand of this name asks for, with these options
 abbrev pub IsWish : List ℕ → List Row → Wish → Type 0

@@ -6,7 +6,7 @@ ghost use Rattle.inst_options.specs.Options.{Gives};
 use crate::options::{text, whole};
 use clap::ArgMatches;
 
-/// An option whose value no hub can have.
+/// An option whose value no hub can have beside the others.
 #[derive(Clone, Copy, Debug)]
 pub struct BadOption<'a> {
     /// Its name, without the dashes.
@@ -43,12 +43,6 @@ const BOUNDS: &'static [Bound] = &[
         least: 1,
         most: 3_600_000,
         range: "1 to 3600000",
-    },
-    Bound {
-        name: "margin",
-        least: 0,
-        most: 3_599_999,
-        range: "0 to one less than the limit",
     },
     Bound {
         name: "ahead",

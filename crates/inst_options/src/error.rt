@@ -16,16 +16,6 @@ pub enum WordsError<'a> {
     Fault(Fault),
 }
 
-impl<'a> From<Fault> for WordsError<'a> {
-    ghost use Rattle.inst_options.specs.declared.error.WordsError.TheVariants as error;
-
-    ghost from_gives = { λ fault result. result ≡ error.Fault fault };
-
-    fn from(fault: Fault) -> WordsError<'a> {
-        WordsError::Fault(fault)
-    }
-}
-
 impl<'a> From<AllocError> for WordsError<'a> {
     ghost use Rattle.inst_base.specs.declared.fault.Fault.TheVariants.{Memory};
     ghost use Rattle.inst_options.specs.declared.error.WordsError.TheVariants as error;

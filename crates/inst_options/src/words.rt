@@ -1,6 +1,6 @@
 // The words of a command line, read by `clap`.
 ghost use Rattle.std.specs.Prelude.{map, string_bytes, IfOk, IfErr};
-ghost use Rattle.clap.specs.Words.{kind_of};
+ghost use Rattle.clap.specs.Words.{found_of, kind_of, rows_of};
 ghost use Rattle.inst_options.specs.Asking.{IsWished, IsNoWish, IsOfKind, IsRefusedBy};
 
 use crate::bad_option::bad_option;
@@ -38,7 +38,7 @@ pub fn wished<'a>(alloc: Global, words: &'a [String]) -> Result<Wish<'a>, WordsE
 
 /// Why options ask for nothing that were refused by this fault.
 fn refused<'a>(fault: Fault, options: &ArgMatches<'a>) -> WordsError<'a>
-    ensures { IsRefusedBy fault result }
+    ensures { IsRefusedBy (rows_of (found_of options.now)) fault result }
 {
     if fault != Fault::BadSettings {
         return WordsError::Fault(fault);

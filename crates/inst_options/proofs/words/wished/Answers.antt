@@ -47,4 +47,4 @@ returns-in-Some-clause-err c =
     let at = sym rows ∙ both_of (out-ArgMatches c.in-Ok.matches).subcommand (λ b. (out-SubCommand (box_value b)).name.now) (λ b. rows_of (found_of (out-SubCommand (box_value b)).matches)) name own
     (sym (ap (option_map (λ p. p.0.now)) c.in-Some.is) ∙ c.subcommand.ensures.name)
     (sym (ap (option_map (λ p. rows_of (found_of p.1.now))) c.in-Some.is) ∙ c.subcommand.ensures.rows) in
-    unwished words c.in-Err-wish.fault c.refused.result c.refused.ensures (unsettled words name own _ whole at c.in-Err-wish.ensures.fault)
+    unwished words name own c.in-Err-wish.fault c.refused.result at c.refused.ensures (unsettled words name own _ whole at c.in-Err-wish.ensures.fault)
