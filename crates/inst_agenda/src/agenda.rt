@@ -1,10 +1,10 @@
 //! What a run still has to do between its lines.
-ghost use Rattle.std.specs.Prelude.{◌≡◌, [], OnOk, IsOkUnless};
+ghost use Rattle.std.specs.Prelude.{◌≡◌, [], OnOk};
 ghost use Rattle.inst_agenda.specs.Agenda.{Notes, Waits, TakesAnyDue, MovesDue, TakesAnyNext};
 
-use inst_base::{Fault, Moment};
+use inst_base::Moment;
 use inst_board::Place;
-use std::alloc::Global;
+use std::alloc::{AllocError, Global};
 use std::collections::BTreeSet;
 use std::marker::Model;
 
@@ -36,18 +36,16 @@ impl Agenda {
     }
 
     /// The transfer at this place is gone over next.
-    pub(crate) fn note(&mut self, place: Place) -> Result<(), Fault>
+    pub(crate) fn note(&mut self, place: Place) -> Result<(), AllocError>
         ensures ok { OnOk result (Notes self.old self.new place) }
-        ensures only { IsOkUnless result Fault.Memory }
     {
         self.next.insert((place.owner, place.index))?;
         Ok(())
     }
 
     /// The transfer at this place waits for this moment.
-    pub(crate) fn wait(&mut self, moment: Moment, place: Place) -> Result<(), Fault>
+    pub(crate) fn wait(&mut self, moment: Moment, place: Place) -> Result<(), AllocError>
         ensures ok { OnOk result (Waits self.old self.new moment place) }
-        ensures only { IsOkUnless result Fault.Memory }
     {
         self.waiting.insert((moment, (place.owner, place.index)))?;
         Ok(())
@@ -66,9 +64,8 @@ impl Agenda {
     }
 
     /// All transfers whose moment has come at `at` are gone over next.
-    pub(crate) fn move_due(&mut self, at: Moment) -> Result<(), Fault>
+    pub(crate) fn move_due(&mut self, at: Moment) -> Result<(), AllocError>
         ensures ok { OnOk result (MovesDue self.old self.new at) }
-        ensures only { IsOkUnless result Fault.Memory }
     {
         while let Some((_, place)) = self.take_due(at) {
             self.note(place)?;

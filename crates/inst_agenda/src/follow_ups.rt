@@ -1,5 +1,5 @@
 //! What a run does after each line that it reads: it goes over the transfers of which there is something to do.
-ghost use Rattle.std.specs.Prelude.{◌≡◌, true, List, ◌++◌, reverse, OnOk, IsOkUnless};
+ghost use Rattle.std.specs.Prelude.{◌≡◌, true, List, ◌++◌, reverse, OnOk};
 ghost use Rattle.inst_settings.specs.Settings.{is_participant};
 ghost use Rattle.inst_command.specs.declared.step.Step.{Step};
 ghost use Rattle.inst_model.specs.Opening.{Opening};
@@ -8,17 +8,17 @@ ghost use Rattle.inst_agenda.specs.FollowUps.{of_transfer, followed_up};
 ghost use Rattle.inst_agenda.specs.Watching.{Watches, GoesOver};
 
 use crate::runner::Runner;
-use inst_base::{Fault, Moment};
+use inst_base::Moment;
 use inst_board::Place;
 use inst_command::Step;
 use inst_world::World;
+use std::alloc::AllocError;
 
-/// Goes over all transfers taken so far, at the reading `at`, but for those that this adds nothing to.
-/// `Memory` leaves some of them undone. It costs the logarithm of what waits for each transfer that was named or is due.
-pub fn follow_up(runner: &mut Runner, at: Moment) -> Result<(), Fault>
+/// Goes over all transfers taken so far, at the reading `at`, but for those that this adds nothing to. Refused
+/// memory leaves some of them undone. It costs the logarithm of what waits for each transfer that was named or is due.
+pub fn follow_up(runner: &mut Runner, at: Moment) -> Result<(), AllocError>
     ensures ok { OnOk result ((O : Opening) (L : List Step) → Watches O L runner.old.world runner.old.agenda →
         Watches O (followed_up runner.old.world.board.settings O L at) runner.new.world runner.new.agenda) }
-    ensures only { IsOkUnless result Fault.Memory }
     ensures settings { runner.new.world.board.settings ≡ runner.old.world.board.settings }
 {
     runner.agenda.move_due(at)?;
@@ -29,11 +29,10 @@ pub fn follow_up(runner: &mut Runner, at: Moment) -> Result<(), Fault>
 }
 
 /// Goes over the transfer at the place, if there is one. Where it stays pending it waits for its deadline.
-fn go_over(runner: &mut Runner, place: Place, at: Moment) -> Result<(), Fault>
+fn go_over(runner: &mut Runner, place: Place, at: Moment) -> Result<(), AllocError>
     ensures next { OnOk result (runner.new.agenda.next ≡ runner.old.agenda.next) }
     ensures ok { OnOk result ((O : Opening) (L : List Step) → HasRun O L runner.old.world →
         GoesOver O L at place runner.old.world runner.new.world runner.old.agenda runner.new.agenda) }
-    ensures only { IsOkUnless result Fault.Memory }
     ensures settings { runner.new.world.board.settings ≡ runner.old.world.board.settings }
 {
     let Some(to) = runner.world.beneficiary_at(place) else {
@@ -47,12 +46,11 @@ fn go_over(runner: &mut Runner, place: Place, at: Moment) -> Result<(), Fault>
 }
 
 /// Tells both sides what there is to tell of one transfer.
-fn follow_up_transfer(world: &mut World, place: Place, to: u8, at: Moment) -> Result<(), Fault>
+fn follow_up_transfer(world: &mut World, place: Place, to: u8, at: Moment) -> Result<(), AllocError>
     requires originator { is_participant world.old.board.settings place.owner ≡ true }
     requires beneficiary { is_participant world.old.board.settings to ≡ true }
     ensures ok { OnOk result ((O : Opening) (L : List Step) → HasRun O L world.old →
         HasRun O (reverse (of_transfer at place.owner place.index to) ++ L) world.new) }
-    ensures only { IsOkUnless result Fault.Memory }
     ensures settings { world.new.board.settings ≡ world.old.board.settings }
 {
     let Place {

@@ -1,5 +1,5 @@
 //! A hub that is run line by line, and goes over those transfers alone of which there is something to do.
-ghost use Rattle.std.specs.Prelude.{◌≡◌, ℕ, true, Some, List, [], ◌∷◌, IfOk, IfSome, OnOk, IsOkUnless};
+ghost use Rattle.std.specs.Prelude.{◌≡◌, ℕ, true, Some, List, [], ◌∷◌, IfOk, IfSome, OnOk};
 ghost use Rattle.inst_settings.specs.Settings.{is_participant};
 ghost use Rattle.inst_command.specs.Ask.{ask_fits};
 ghost use Rattle.inst_command.specs.Step.{step_fits};
@@ -15,12 +15,11 @@ ghost use Rattle.inst_agenda.specs.Agenda.{is_next};
 ghost use Rattle.inst_agenda.specs.Watching.{Watches, NotesSome, NotesNamed};
 
 use crate::agenda::Agenda;
-use inst_base::Fault;
 use inst_board::Place;
 use inst_command::{Answer, Ask, Command, Step};
 use inst_settings::Settings;
 use inst_world::World;
-use std::alloc::Global;
+use std::alloc::{AllocError, Global};
 
 /// A hub, and what there is left to do of its transfers.
 #[derive(Drop)]
@@ -32,21 +31,19 @@ pub struct Runner {
 }
 
 impl Runner {
-    /// A hub that opens for the first time. `Memory` where there is no room for its slots and places.
-    pub fn open(alloc: Global, settings: &Settings) -> Result<Runner, Fault>
+    /// A hub that opens for the first time.
+    pub fn open(alloc: Global, settings: &Settings) -> Result<Runner, AllocError>
         ensures settings { IfOk result (λ runner. runner.world.board.settings ≡ settings.now) }
         ensures watches { IfOk result (λ runner. Watches Opening.First [] runner.world runner.agenda) }
-        ensures only { IsOkUnless result Fault.Memory }
     {
         let world = World::open(alloc, settings)?;
         Runner::new(alloc, world)
     }
 
     /// Runs this hub from now on, whatever it has gone through: all its transfers are gone over first.
-    pub fn new(alloc: Global, world: World) -> Result<Runner, Fault>
+    pub fn new(alloc: Global, world: World) -> Result<Runner, AllocError>
         ensures world { IfOk result (λ runner. runner.world ≡ world) }
         ensures ok { IfOk result (λ runner. (O : Opening) (L : List Step) → HasRun O L world → Watches O L runner.world runner.agenda) }
-        ensures only { IsOkUnless result Fault.Memory }
     {
         let mut runner = Runner {
             world,
@@ -59,12 +56,11 @@ impl Runner {
     }
 
     /// All live transfers of an originator are gone over next.
-    fn note_all(&mut self, owner: u8) -> Result<(), Fault>
+    fn note_all(&mut self, owner: u8) -> Result<(), AllocError>
         ensures world { self.new.world ≡ self.old.world }
         ensures notes { OnOk result (NotesSome self.old.agenda self.new.agenda owner) }
         ensures noted { OnOk result ((O : Opening) (L : List Step) → HasRun O L self.old.world → (index : ℕ) (x : Transfer) →
             at_place owner (history self.old.world.board.settings O L owner) index ≡ Some x → is_next self.new.agenda owner index ≡ true) }
-        ensures only { IsOkUnless result Fault.Memory }
     {
         for index in 0..self.world.settings().places() {
             let place = Place { owner, index };
@@ -83,26 +79,24 @@ impl Runner {
         self.world.settings()
     }
 
-    /// Runs a step of a script. What it names is not noted. The only error is `Memory`.
-    pub fn step(&mut self, step: &Step) -> Result<Answer, Fault>
+    /// Runs a step of a script. What it names is not noted.
+    pub fn step(&mut self, step: &Step) -> Result<Answer, AllocError>
         requires fits { step_fits self.old.world.board.settings step.now ≡ true }
         ensures ok { IfOk result (λ answer. Runs self.old.world step.now answer self.new.world) }
         ensures model { IfOk result (λ answer. IsOfModel self.old.world.board.settings step.now answer) }
-        ensures only { IsOkUnless result Fault.Memory }
         ensures settings { self.new.world.board.settings ≡ self.old.world.board.settings }
     {
         self.world.step(step)
     }
 
-    /// Runs the ask of a line. What it names is gone over next, if the asker keeps something of it. `Memory` may leave it
-    /// run, and what it names not noted.
-    pub fn ask(&mut self, ask: Ask) -> Result<Answer, Fault>
+    /// Runs the ask of a line. What it names is gone over next, if the asker keeps something of it. Refused
+    /// memory may leave it run, and what it names not noted.
+    pub fn ask(&mut self, ask: Ask) -> Result<Answer, AllocError>
         requires fits { ask_fits self.old.world.board.settings ask ≡ true }
         ensures ok { IfOk result (λ told. (O : Opening) (L : List Step) → Watches O L self.old.world self.old.agenda →
             (told ≡ answer self.old.world.board.settings O L (Step.Ask ask))
             × Watches O (Step.Ask ask ∷ L) self.new.world self.new.agenda) }
         ensures model { IfOk result (IsOfModel self.old.world.board.settings (Step.Ask ask)) }
-        ensures only { IsOkUnless result Fault.Memory }
         ensures settings { self.new.world.board.settings ≡ self.old.world.board.settings }
     {
         let events = self.world.journal(ask.who).events().len();
@@ -115,11 +109,10 @@ impl Runner {
     }
 
     /// The transfer that the ask names is gone over next, if it is live.
-    fn note_named(&mut self, ask: &Ask) -> Result<(), Fault>
+    fn note_named(&mut self, ask: &Ask) -> Result<(), AllocError>
         requires fits { ask_fits self.old.world.board.settings ask.now ≡ true }
         ensures world { self.new.world ≡ self.old.world }
         ensures notes { OnOk result (NotesNamed self.old.world (named_by ask.now.who ask.now.command) self.old.agenda self.new.agenda) }
-        ensures only { IsOkUnless result Fault.Memory }
     {
         match self.place_named(ask) {
             Some(place) => self.agenda.note(place),

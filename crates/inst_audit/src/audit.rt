@@ -1,17 +1,16 @@
 //! Whether a hub may open from journals.
-ghost use Rattle.std.specs.Prelude.{◌≡◌, ◌↔◌, ℕ, ◌<◌, ◌≤◌, length, Some, IfOk, IfSome, IsOkUnless, IsSome, IsTrue, MatchOption};
+ghost use Rattle.std.specs.Prelude.{◌≡◌, ◌↔◌, ℕ, ◌<◌, ◌≤◌, length, Some, IfOk, IfSome, IsSome, IsTrue, MatchOption};
 ghost use Rattle.inst_settings.specs.Settings.{participants};
 ghost use Rattle.inst_world.specs.NextOpening.{books_of, CanOpenFrom};
 ghost use Rattle.inst_audit.specs.Replaying.{CanBeBook, AreAllKept};
 
 use crate::replay::Replay;
 use crate::sides::books_agree;
-use inst_base::Fault;
 use inst_command::Outcome;
 use inst_journal::Journal;
 use inst_ledger::Ledger;
 use inst_settings::Settings;
-use std::alloc::Global;
+use std::alloc::{AllocError, Global};
 
 /// The books of the participant `who`, kept again event by event, or nothing where the journal can't be its book.
 fn replayed(
@@ -19,10 +18,9 @@ fn replayed(
     settings: &Settings,
     who: u8,
     journal: &Journal,
-) -> Result<Option<Ledger>, Fault>
+) -> Result<Option<Ledger>, AllocError>
     ensures can { IfOk result (λ kept. IsSome kept ↔ CanBeBook settings.now who journal.now.events) }
     ensures same { IfOk result (λ kept. IfSome kept (λ l. l.book.events ≡ journal.now.events)) }
-    ensures only { IsOkUnless result Fault.Memory }
 {
     // The check is told of a type of another crate inside an event only where a function names it.
     let _: Option<Outcome> = None;
@@ -44,11 +42,10 @@ fn all_replayed(
     alloc: Global,
     settings: &Settings,
     journals: &[Journal],
-) -> Result<Option<Vec<Ledger>>, Fault>
+) -> Result<Option<Vec<Ledger>>, AllocError>
     requires { length journals.now ≤ 256 }
     ensures kept { IfOk result (λ kept. IfSome kept (λ ledgers. AreAllKept settings.now journals.now ledgers.items)) }
     ensures can { IfOk result (λ kept. ((p : ℕ) → CanBeBook settings.now p (books_of journals.now p)) → IsSome kept) }
-    ensures only { IsOkUnless result Fault.Memory }
 {
     let mut ledgers = Vec::new(alloc);
     for (who, journal) in journals.iter().enumerate() {
@@ -62,11 +59,14 @@ fn all_replayed(
 
 /// Whether a hub of these settings can open from the journals, one for each participant by number: each is a history
 /// that its participant can have, opened from fewer than 500 times, and both sides of each transfer agree, so that
-/// the books are closed. `Memory` where there is no room for a copy of them with its tables. It costs a few looks at
-/// a table for each event, whatever the journals hold.
-pub fn can_open(alloc: Global, settings: &Settings, journals: &[Journal]) -> Result<bool, Fault>
+/// the books are closed. It makes a copy of them with its tables, and costs a few looks at a table for each event,
+/// whatever the journals hold.
+pub fn can_open(
+    alloc: Global,
+    settings: &Settings,
+    journals: &[Journal],
+) -> Result<bool, AllocError>
     ensures can { IfOk result (λ can. IsTrue can ↔ CanOpenFrom settings.now journals.now) }
-    ensures only { IsOkUnless result Fault.Memory }
 {
     if journals.len() != usize::from(settings.participants()) {
         return Ok(false);

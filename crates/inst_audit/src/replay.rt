@@ -1,5 +1,5 @@
 //! A history that is kept again event by event, where each may come next.
-ghost use Rattle.std.specs.Prelude.{◌≡◌, ◌≢◌, ◌↔◌, ◌<◌, ◌≤◌, true, [], IfOk, OnOk, OnErr, IsOkUnless, IsTrue};
+ghost use Rattle.std.specs.Prelude.{◌≡◌, ◌≢◌, ◌↔◌, ◌<◌, ◌≤◌, true, [], IfOk, OnOk, OnErr, IsTrue};
 ghost use Rattle.inst_settings.specs.Settings.{is_participant, is_within_ceiling};
 ghost use Rattle.inst_journal.specs.Money.{available};
 ghost use Rattle.inst_journal.specs.Opened.{live_submissions, live_forwarded};
@@ -7,13 +7,13 @@ ghost use Rattle.inst_journal.specs.Sound.{Fits, FundedFits, DefundedFits, Taken
 ghost use Rattle.inst_ledger.specs.Book.{with_event};
 
 use crate::tally::Tally;
-use inst_base::{Cents, Fault, Ident, Moment};
+use inst_base::{Cents, Ident, Moment};
 use inst_command::{Outcome, is_count};
 use inst_journal::Event;
 use inst_ledger::Ledger;
 use inst_settings::Settings;
 use inst_world::MOST_OPENINGS;
-use std::alloc::Global;
+use std::alloc::{AllocError, Global};
 use std::marker::Model;
 
 /// The books of one participant that are kept again event by event, of which each is told whether it may come
@@ -42,10 +42,9 @@ impl Model for Replay {
 }
 
 impl Replay {
-    /// No events yet of the participant `who`. `Memory` where the settings can't be copied.
-    pub fn open(alloc: Global, settings: &Settings, who: u8) -> Result<Replay, Fault>
+    /// No events yet of the participant `who`. It has a copy of the settings.
+    pub fn open(alloc: Global, settings: &Settings, who: u8) -> Result<Replay, AllocError>
         ensures ok { IfOk result (λ r. r ≡ record { settings = settings.now; who = who; events = [] }) }
-        ensures only { IsOkUnless result Fault.Memory }
     {
         Ok(Replay {
             ledger: Ledger::open(alloc, settings, who)?,
@@ -159,12 +158,11 @@ impl Replay {
         }
     }
 
-    /// Keeps an event that fits. After `Memory` the book is as it was.
-    pub fn keep(&mut self, event: Event) -> Result<(), Fault>
+    /// Keeps an event that fits. Where memory is refused the book is as it was.
+    pub fn keep(&mut self, event: Event) -> Result<(), AllocError>
         requires { Fits self.old.settings self.old.who self.old.events event }
         ensures ok { OnOk result (self.new ≡ with_event self.old event) }
         ensures err { OnErr result (self.new ≡ self.old) }
-        ensures only { IsOkUnless result Fault.Memory }
     {
         self.ledger.keep(event)?;
         // That a history is no longer than 64 bits tell is known where its length is read.

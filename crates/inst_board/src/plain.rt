@@ -1,15 +1,15 @@
 //! The board of a hub on one thread.
-ghost use Rattle.std.specs.Prelude.{◌≡◌, ◌+◌, ◌*◌, ◌<◌, ◌≤◌, ℕ, Some, IfOk, IsOkUnless, IsTrue, length, get_or, vec_capacity};
+ghost use Rattle.std.specs.Prelude.{◌≡◌, ◌+◌, ◌*◌, ◌<◌, ◌≤◌, ℕ, Some, IfOk, IsTrue, length, get_or, vec_capacity};
 ghost use Rattle.inst_board.specs.declared.plain.Kept.TheVariants.{Unused as KeptUnused};
 ghost use Rattle.inst_board.specs.Plain.{Puts, PutsTerms};
 
 use crate::kept_word::KeptWord;
 use crate::{Board, Look, Place, Wish};
-use inst_base::{Fault, Moment};
+use inst_base::Moment;
 use inst_command::Outcome;
 use inst_settings::Settings;
 use inst_terms::{Terms, Word};
-use std::alloc::Global;
+use std::alloc::{AllocError, Global};
 use std::marker::Model;
 use std::snapshot::Snapshot;
 
@@ -75,9 +75,8 @@ impl PlainBoard {
     ghost use Rattle.inst_board.specs.Plain.{Becomes, kept_at, standing_at, standing_of, terms_of};
 
     /// The board of a hub that opens: each place is unused.
-    pub fn new(alloc: Global, settings: &Settings) -> Result<PlainBoard, Fault>
+    pub fn new(alloc: Global, settings: &Settings) -> Result<PlainBoard, AllocError>
         ensures unused { IfOk result (λ b. (b.settings ≡ settings.now) × ((place : Place) → kept_at b place ≡ KeptUnused)) }
-        ensures only { IsOkUnless result Fault.Memory }
     {
         let participants = settings.participants();
         let places = settings.places();

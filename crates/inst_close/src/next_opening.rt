@@ -1,5 +1,5 @@
 //! The hub of the next opening.
-ghost use Rattle.std.specs.Prelude.{◌≡◌, ◌⊎◌, ◌↔◌, ◌<◌, ◌++◌, ◌∷◌, [], ℕ, true, false, length, IfOk, IfErr, IsOkUnless, Err};
+ghost use Rattle.std.specs.Prelude.{◌≡◌, ◌⊎◌, ◌↔◌, ◌<◌, ◌++◌, ◌∷◌, [], ℕ, true, false, length, IfOk, IfErr, Err};
 ghost use Rattle.inst_settings.specs.Settings.{participants};
 ghost use Rattle.inst_journal.specs.Opened.{openings};
 ghost use Rattle.inst_world.specs.NextOpening.{CanOpenFrom};
@@ -17,13 +17,12 @@ use inst_base::{Code, Fault};
 use inst_hub::{Hub, Teller};
 use inst_journal::Journal;
 use inst_world::{MOST_OPENINGS, openings};
-use std::alloc::Global;
+use std::alloc::{AllocError, Global};
 
 impl Books {
     /// Copies of the books, by number.
-    fn copies(&self, alloc: Global) -> Result<Vec<Journal>, Fault>
+    fn copies(&self, alloc: Global) -> Result<Vec<Journal>, AllocError>
         ensures ok { IfOk result (λ journals. AreCopies self.now.books journals.items) }
-        ensures only { IsOkUnless result Fault.Memory }
     {
         let mut journals = Vec::new(alloc);
         for slot in self.slots.as_slice() {
@@ -33,9 +32,8 @@ impl Books {
     }
 
     /// Copies of the books, by number, and so many empty ones behind them.
-    fn copies_and(&self, alloc: Global, more: usize) -> Result<Vec<Journal>, Fault>
+    fn copies_and(&self, alloc: Global, more: usize) -> Result<Vec<Journal>, AllocError>
         ensures ok { IfOk result (λ journals. AreCopiesAnd self.now.books more journals.items) }
-        ensures only { IsOkUnless result Fault.Memory }
     {
         let mut journals = self.copies(alloc)?;
         for _ in 0..more {

@@ -29,14 +29,5 @@ pub(crate) fn widened(alloc: Global, settings: &Settings, more: &[Code]) -> Resu
     ensures bad { result ≡ Err Fault.BadSettings → ¬ IsSettings (widened settings.now more.now) }
     ensures only { IfErr result (λ e. (e ≡ Fault.Memory) ⊎ (e ≡ Fault.BadSettings)) }
 {
-    Settings::check(
-        codes_with(alloc, settings, more)?,
-        settings.places(),
-        settings.fundings(),
-        settings.limit(),
-        settings.margin(),
-        settings.ahead(),
-        settings.ceiling(),
-        settings.base(),
-    )
+    Settings::check(codes_with(alloc, settings, more)?, settings.numbers())
 }

@@ -42,7 +42,7 @@ fn ask<R: Wait>(
     if index >= tellers.len() {
         return Err(Fault::BadField);
     }
-    hub.call(rt, &mut tellers[index], ask)
+    Ok(hub.call(rt, &mut tellers[index], ask)?)
 }
 
 /// Participant 0 is funded through the first teller.

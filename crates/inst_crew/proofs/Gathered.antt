@@ -1,17 +1,16 @@
 -- What workers did, gathered one by one.
-use Rattle.std.proofs.Common.{◌≡◌, suc, Some, ◌+◌, ◌-◌, ◌^◌, List, [], ◌∷◌, ◌++◌, length, sym, refl, ap, ◌∙◌, arith, append_assoc}
-use Rattle.std.specs.Prelude.{min, map, slice_get, Result, Ok, Err}
+use Rattle.std.proofs.Common.{◌≡◌, ◌+◌, ◌-◌, ◌^◌, List, [], ◌∷◌, ◌++◌, length, sym, refl, ap, ◌∙◌, arith, append_assoc}
+use Rattle.std.specs.Prelude.{min, map, Result, Ok}
 use Rattle.std.proofs.lemmas.List.{append-nil}
 use Rattle.std.proofs.lemmas.List.Sums.{sum_by_push}
-use Rattle.inst_base.specs.declared.fault.Fault.{Fault}
-use Rattle.inst_base.specs.declared.fault.Fault.TheVariants.{Memory}
+use Rattle.std.specs.declared.alloc.AllocError.{AllocError}
 use Rattle.inst_board.specs.declared.place.Place.{Place}
 use Rattle.inst_command.specs.declared.outcome.State.{State}
 use Rattle.inst_desk.specs.declared.hand.Hand.{Hand}
 use Rattle.inst_hub.specs.declared.teller.Teller.{Teller}
 use Rattle.inst_crew.specs.declared.crew.Crew.{Crew}
 use Rattle.inst_crew.specs.declared.shift.Shift.{Shift}
-use Rattle.inst_crew.specs.Workers.{FailForMemory, IsGathered, sights_of}
+use Rattle.inst_crew.specs.Workers.{IsGathered, sights_of}
 
 map_more : {X Y : Type 0} (f : X → Y) (xs : List X) (x : X) → map f (xs ++ x ∷ []) ≡ map f xs ++ f x ∷ []
 map_more f [] x = refl
@@ -33,21 +32,15 @@ gathered_more ss s crew more g answered sights hands tellers = record {
 }
 
 -- so far the results are those of these, and these are left
-pub ends_more : (ss : List Shift) (s : Shift) (r : Result Shift Fault) (all rest after : List (Result Shift Fault)) → all ≡ map Ok ss ++ rest → rest ≡ r ∷ after → r ≡ Ok s → all ≡ map Ok (ss ++ s ∷ []) ++ after
+pub ends_more : (ss : List Shift) (s : Shift) (r : Result Shift AllocError) (all rest after : List (Result Shift AllocError)) → all ≡ map Ok ss ++ rest → rest ≡ r ∷ after → r ≡ Ok s → all ≡ map Ok (ss ++ s ∷ []) ++ after
 ends_more ss s r all rest after e is ok =
-    let mine : List (Result Shift Fault) = map Ok ss in
-    e ∙ (ap (λ (l : List (Result Shift Fault)). mine ++ l) (is ∙ ap (λ (x : Result Shift Fault). x ∷ after) ok)
-    ∙ (sym (append_assoc mine (Ok s ∷ []) after) ∙ ap (λ (l : List (Result Shift Fault)). l ++ after) (sym (map_more Ok ss s))))
+    let mine : List (Result Shift AllocError) = map Ok ss in
+    e ∙ (ap (λ (l : List (Result Shift AllocError)). mine ++ l) (is ∙ ap (λ (x : Result Shift AllocError). x ∷ after) ok)
+    ∙ (sym (append_assoc mine (Ok s ∷ []) after) ∙ ap (λ (l : List (Result Shift AllocError)). l ++ after) (sym (map_more Ok ss s))))
 
-pub first_fails : (r : Result Shift Fault) (e : Fault) (all rest : List (Result Shift Fault)) → FailForMemory all → all ≡ r ∷ rest → r ≡ Err e → e ≡ Memory
-first_fails r e all rest fail is err = fail 0 e (ap (λ (l : List (Result Shift Fault)). slice_get l 0) is ∙ ap (λ (x : Result Shift Fault). Some x) err)
-
-pub rest_fails : (r : Result Shift Fault) (all rest : List (Result Shift Fault)) → FailForMemory all → all ≡ r ∷ rest → FailForMemory rest
-rest_fails r all rest fail is i e at = fail (suc i) e (ap (λ (l : List (Result Shift Fault)). slice_get l (suc i)) is ∙ at)
-
-pub no_results : (rs : List (Result Shift Fault)) → length rs ≡ 0 → rs ≡ []
+pub no_results : (rs : List (Result Shift AllocError)) → length rs ≡ 0 → rs ≡ []
 no_results [] e = refl
 no_results (r ∷ rs) e = absurd (omega arith)
 
-pub all_ended : (ss : List Shift) (all rest : List (Result Shift Fault)) → all ≡ map Ok ss ++ rest → rest ≡ [] → all ≡ map Ok ss
-all_ended ss all rest e none = let mine : List (Result Shift Fault) = map Ok ss in e ∙ (ap (λ (l : List (Result Shift Fault)). mine ++ l) none ∙ append-nil mine)
+pub all_ended : (ss : List Shift) (all rest : List (Result Shift AllocError)) → all ≡ map Ok ss ++ rest → rest ≡ [] → all ≡ map Ok ss
+all_ended ss all rest e none = let mine : List (Result Shift AllocError) = map Ok ss in e ∙ (ap (λ (l : List (Result Shift AllocError)). mine ++ l) none ∙ append-nil mine)

@@ -1,7 +1,7 @@
 -- What a crew did, of what its workers did.
-use Rattle.std.proofs.Common.{◌≡◌, zero, suc, List, [], ◌∷◌, ◌++◌, sym, refl, ap, ◌∙◌, subst, arith}
-use Rattle.std.specs.Prelude.{map, Result, Ok, Err}
-use Rattle.inst_base.specs.declared.fault.Fault.{Fault}
+use Rattle.std.proofs.Common.{◌≡◌, List, ◌++◌, sym, ap, ◌∙◌, subst}
+use Rattle.std.specs.Prelude.{map, Result, Ok}
+use Rattle.std.specs.declared.alloc.AllocError.{AllocError}
 use Rattle.inst_board.specs.declared.place.Place.{Place}
 use Rattle.inst_command.specs.declared.outcome.State.{State}
 use Rattle.inst_desk.specs.declared.desk.Desk.{Desk}
@@ -14,15 +14,8 @@ use Rattle.inst_crew.specs.declared.worker.Worker.{Worker}
 use Rattle.inst_crew.specs.Crew.{answered_between}
 use Rattle.inst_crew.specs.Later.{Pairs, IsLaterHand, IsLaterTeller}
 use Rattle.inst_crew.specs.Seen.{AreSeenByOne}
-use Rattle.inst_crew.specs.Workers.{hands_of, tellers_of, sights_of, Works, AllWork, FailForMemory, IsGathered}
-use Rattle.inst_crew.proofs.Pairing.{pairs_both, pairs_from, pairs_hands, pairs_tellers, all_answered, all_seen, seen_with, nothing_at}
-
-pub fails_from : (hub : Hub) (d : Desk) (ws : List Worker) (rs : List (Result Shift Fault)) → AllWork hub d ws rs → FailForMemory rs
-fails_from hub d ws [] all i e at = absurd (nothing_at i (Err e) at)
-fails_from hub d [] (r ∷ rs) all i e at = let n = all.enough in absurd (omega arith)
-fails_from hub d (w ∷ ws) (r ∷ rs) all zero e at = all.each 0 w (Err e) refl at
-fails_from hub d (w ∷ ws) (r ∷ rs) all (suc i) e at =
-    fails_from hub d ws rs record { enough = (let n = all.enough in omega arith); each = λ j v x f g. all.each (suc j) v x f g } i e at
+use Rattle.inst_crew.specs.Workers.{hands_of, tellers_of, sights_of, Works, AllWork, IsGathered}
+use Rattle.inst_crew.proofs.Pairing.{pairs_both, pairs_from, pairs_hands, pairs_tellers, all_answered, all_seen, seen_with}
 
 -- what a crew promises
 pub record Ran (hub : Hub) (d : Desk) (gs : List Hand) (ts : List Teller) (crew : Crew) : Type 0 where
@@ -31,12 +24,12 @@ pub record Ran (hub : Hub) (d : Desk) (gs : List Hand) (ts : List Teller) (crew 
   pub answered : crew.answered ≡ answered_between hub.settings gs crew.hands.items
   pub sights : AreSeenByOne crew.tellers.items crew.sights.items
 
-pub ran : (hub : Hub) (d : Desk) (hands : List Hand) (tellers more after : List Teller) (ws : List Worker) (rs : List (Result Shift Fault)) (first crew : Crew) (ss : List Shift)
+pub ran : (hub : Hub) (d : Desk) (hands : List Hand) (tellers more after : List Teller) (ws : List Worker) (rs : List (Result Shift AllocError)) (first crew : Crew) (ss : List Shift)
     → hands_of ws ≡ hands → tellers_of ws ≡ tellers → AllWork hub d ws rs → rs ≡ map Ok ss → IsGathered ss first → Pairs (IsLaterTeller hub) more after
     → crew.hands.items ≡ first.hands.items → crew.tellers.items ≡ first.tellers.items ++ after → crew.answered ≡ first.answered → crew.sights.items ≡ first.sights.items
     → Ran hub d hands (tellers ++ more) crew
 ran hub d hands tellers more after ws rs first crew ss h t all ok g swept ch ct ca cs =
-    let pairs : Pairs (Works hub d) ws ss = pairs_from hub d ws ss (subst (λ (l : List (Result Shift Fault)). AllWork hub d ws l) ok all) in
+    let pairs : Pairs (Works hub d) ws ss = pairs_from hub d ws ss (subst (λ (l : List (Result Shift AllocError)). AllWork hub d ws l) ok all) in
     let hs : crew.hands.items ≡ map (λ (s : Shift). s.hand) ss = ch ∙ g.hands in
     let ts : crew.tellers.items ≡ map (λ (s : Shift). s.teller) ss ++ after = ct ∙ ap (λ (l : List Teller). l ++ after) g.tellers in
     let counts = all_answered hub d ws ss pairs in

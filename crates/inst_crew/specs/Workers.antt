@@ -1,7 +1,6 @@
 -- What the threads of a crew begin with and do, one by one. This hub's own choice.
-use Rattle.std.specs.Prelude.{◌≡◌, ℕ, ◌-◌, ◌^◌, min, List, [], ◌∷◌, ◌++◌, map, length, sum_by, slice_get, Some, Result, Ok, Err}
-use Rattle.inst_base.specs.declared.fault.Fault.{Fault}
-use Rattle.inst_base.specs.declared.fault.Fault.TheVariants.{Memory}
+use Rattle.std.specs.Prelude.{◌≡◌, ℕ, ◌-◌, ◌^◌, min, List, [], ◌∷◌, ◌++◌, map, length, sum_by, slice_get, Some, Result, IfOk}
+use Rattle.std.specs.declared.alloc.AllocError.{AllocError}
 use Rattle.inst_board.specs.declared.place.Place.{Place}
 use Rattle.inst_command.specs.declared.outcome.State.{State}
 use Rattle.inst_desk.specs.declared.desk.Desk.{Desk}
@@ -38,19 +37,10 @@ pub record Works (hub : Hub) (d : Desk) (w : Worker) (s : Shift) : Type 0 where
   pub answered : s.answered ≡ min (fitting hub.settings (taken_of s.hand) - fitting hub.settings (taken_of w.hand)) (2 ^ 64 - 1)
   pub sights : AreSeen s.teller s.sights.items
 
--- each worker did so, or memory was refused
-abbrev pub Ends : Hub → Desk → Worker → Result Shift Fault → Type 0
-Ends hub d w (Ok s) = Works hub d w s
-Ends hub d w (Err e) = e ≡ Memory
-
--- each of these worked, in order
-pub record AllWork (hub : Hub) (d : Desk) (workers : List Worker) (results : List (Result Shift Fault)) : Type 0 where
+-- each of these worked, in order, unless memory was refused to it
+pub record AllWork (hub : Hub) (d : Desk) (workers : List Worker) (results : List (Result Shift AllocError)) : Type 0 where
   pub enough : length results ≡ length workers
-  pub each : (i : ℕ) (w : Worker) (r : Result Shift Fault) → slice_get workers i ≡ Some w → slice_get results i ≡ Some r → Ends hub d w r
-
--- where one failed, memory was refused to it
-abbrev pub FailForMemory : List (Result Shift Fault) → Type 0
-FailForMemory results = (i : ℕ) (e : Fault) → slice_get results i ≡ Some (Err e) → e ≡ Memory
+  pub each : (i : ℕ) (w : Worker) (r : Result Shift AllocError) → slice_get workers i ≡ Some w → slice_get results i ≡ Some r → IfOk r (Works hub d w)
 
 -- the sights of all of these
 abbrev pub sights_of : List Shift → List (Place × State)

@@ -1,18 +1,18 @@
 //! What all workers of a crew did.
-ghost use Rattle.std.specs.Prelude.{◌≡◌, IfOk, IsOkUnless, List, map, Ok};
+ghost use Rattle.std.specs.Prelude.{◌≡◌, IfOk, List, map, Ok};
 ghost use Rattle.inst_crew.specs.declared.shift.Shift.{Shift};
-ghost use Rattle.inst_crew.specs.Workers.{FailForMemory, IsGathered};
+ghost use Rattle.inst_crew.specs.Workers.{IsGathered};
 
 use crate::crew::Crew;
 use crate::shift::Shift;
-use inst_base::Fault;
-use std::alloc::Global;
+use std::alloc::{AllocError, Global};
 
 /// All that the workers hand back, or the first want of memory.
-pub(crate) fn gather(alloc: Global, results: Vec<Result<Shift, Fault>>) -> Result<Crew, Fault>
-    requires { FailForMemory results.items }
+pub(crate) fn gather(
+    alloc: Global,
+    results: Vec<Result<Shift, AllocError>>,
+) -> Result<Crew, AllocError>
     ensures all { IfOk result (λ crew. (shifts : List Shift) × (results.items ≡ map Ok shifts) × IsGathered shifts crew) }
-    ensures only { IsOkUnless result Fault.Memory }
 {
     let mut crew = Crew {
         answered: 0,

@@ -1,5 +1,5 @@
 //! A crew, with its threads.
-ghost use Rattle.std.specs.Prelude.{◌≡◌, ◌<◌, ◌+◌, ◌++◌, length, IfOk, IfSome, IsOkUnless, option_to_list, sum_by};
+ghost use Rattle.std.specs.Prelude.{◌≡◌, ◌<◌, ◌+◌, ◌++◌, length, IfOk, IfSome, option_to_list, sum_by};
 ghost use Rattle.inst_desk.specs.Desk.{AreHandsOf, parts_of};
 ghost use Rattle.inst_hub.specs.Calls.{AreOf};
 ghost use Rattle.inst_hub.specs.Opening.{parts_of as parts_of_tellers};
@@ -13,10 +13,9 @@ use crate::gathering::gather;
 use crate::shift::{Shift, work};
 use crate::sweep::{Sweep, sweep_if};
 use crate::worker::{Worker, workers};
-use inst_base::Fault;
 use inst_desk::{Desk, Hand};
 use inst_hub::{Gate, Hub, Teller};
-use std::alloc::Global;
+use std::alloc::{AllocError, Global};
 use std::sync::Wait;
 use std::thread::{self, Threads};
 
@@ -28,20 +27,18 @@ fn work_all<R: Threads + Wait + Sync, G: Gate + Sync>(
     desk: &Desk,
     gate: &G,
     workers: Vec<Worker>,
-) -> Result<Vec<Result<Shift, Fault>>, Fault>
+) -> Result<Vec<Result<Shift, AllocError>>, AllocError>
     requires { AreReady hub.now desk.now workers.items }
     ensures all { IfOk result (λ all. AllWork hub.now desk.now workers.items all.items) }
-    ensures only { IsOkUnless result Fault.Memory }
 {
-    Ok(thread::map_vec(
+    thread::map_vec(
         rt,
         workers,
-        &|worker: Worker| -> Result<Shift, Fault>
+        &|worker: Worker| -> Result<Shift, AllocError>
             requires { IsReady hub.now desk.now worker }
             ensures works { IfOk result (Works hub.entry.now desk.entry.now worker) }
-            ensures only { IsOkUnless result Fault.Memory }
         { work(rt, alloc, hub, desk, gate, worker) },
-    )?)
+    )
 }
 
 /// The workers at work, and the sweeper beside them.
@@ -54,37 +51,33 @@ fn start<R: Threads + Wait + Sync, G: Gate + Sync>(
     workers: Vec<Worker>,
     sweep: Option<Sweep>,
 ) -> (
-    Result<Vec<Result<Shift, Fault>>, Fault>,
-    Result<Option<Teller>, Fault>,
+    Result<Vec<Result<Shift, AllocError>>, AllocError>,
+    Result<Option<Teller>, AllocError>,
 )
     requires ready { AreReady hub.now desk.now workers.items }
     requires sweep { IfSome sweep (MaySweep hub.now) }
     ensures worked { IfOk result.0 (λ all. AllWork hub.now desk.now workers.items all.items) }
     ensures swept { IfOk result.1 (λ teller. Pairs (IsLaterTeller hub.now) (sweeper_of sweep) (option_to_list teller)) }
-    ensures only { IsOkUnless result.0 Fault.Memory × IsOkUnless result.1 Fault.Memory }
 {
     thread::join(
         rt,
-        move || -> Result<Vec<Result<Shift, Fault>>, Fault>
+        move || -> Result<Vec<Result<Shift, AllocError>>, AllocError>
             requires { AreReady hub.now desk.now workers.items }
             ensures all { IfOk result (λ all. AllWork hub.entry.now desk.entry.now workers.items all.items) }
-            ensures only { IsOkUnless result Fault.Memory }
         { work_all(rt, alloc, hub, desk, gate, workers) },
-        move || -> Result<Option<Teller>, Fault>
+        move || -> Result<Option<Teller>, AllocError>
             requires { IfSome sweep (MaySweep hub.now) }
             ensures later { IfOk result (λ teller. Pairs (IsLaterTeller hub.entry.now) (sweeper_of sweep) (option_to_list teller)) }
-            ensures only { IsOkUnless result Fault.Memory }
         { sweep_if(rt, hub, sweep) },
     )
 }
 
 /// The crew with the sweeper's teller behind the others, if there is one.
-fn with_sweeper(crew: Crew, teller: Option<Teller>) -> Result<Crew, Fault>
+fn with_sweeper(crew: Crew, teller: Option<Teller>) -> Result<Crew, AllocError>
     ensures tellers { IfOk result (λ all. all.tellers.items ≡ crew.tellers.items ++ option_to_list teller) }
     ensures hands { IfOk result (λ all. all.hands.items ≡ crew.hands.items) }
     ensures answered { IfOk result (λ all. all.answered ≡ crew.answered) }
     ensures sights { IfOk result (λ all. all.sights.items ≡ crew.sights.items) }
-    ensures only { IsOkUnless result Fault.Memory }
 {
     let mut crew = crew;
     if let Some(teller) = teller {
@@ -96,8 +89,8 @@ fn with_sweeper(crew: Crew, teller: Option<Teller>) -> Result<Crew, Fault>
 /// Starts a thread for each hand, with the teller at its place, and one for the sweep, if there is one, and waits until
 /// all have ended. Each hand takes jobs and puts them to the hub until the desk is empty; a job whose ask doesn't fit
 /// the hub is taken and not put to it. After each answer with a ticket the thread peeks, and keeps what it saw. All
-/// hands and tellers come back, each at its place and the sweeper's last. The only error is `Memory`, and then they
-/// are gone. Where no thread can be started, its work is done by one that runs.
+/// hands and tellers come back, each at its place and the sweeper's last. Where memory is refused they are
+/// gone. Where no thread can be started, its work is done by one that runs.
 pub fn run_crew<R: Threads + Wait + Sync, G: Gate + Sync>(
     rt: &R,
     alloc: Global,
@@ -107,7 +100,7 @@ pub fn run_crew<R: Threads + Wait + Sync, G: Gate + Sync>(
     tellers: Vec<Teller>,
     gate: &G,
     sweep: Option<Sweep>,
-) -> Result<Crew, Fault>
+) -> Result<Crew, AllocError>
     requires some { 0 < length hands.items }
     requires each { length tellers.items ≡ length hands.items }
     requires hands { AreHandsOf desk.now hands.items }
@@ -121,7 +114,6 @@ pub fn run_crew<R: Threads + Wait + Sync, G: Gate + Sync>(
     ensures row { IfOk result (λ crew. parts_of_tellers crew.tellers.items ≡ parts_of_tellers (tellers.items ++ sweeper_of sweep)) }
     ensures answered { IfOk result (λ crew. crew.answered ≡ answered_between hub.now.settings hands.items crew.hands.items) }
     ensures sights { IfOk result (λ crew. AreSeenByOne crew.tellers.items crew.sights.items) }
-    ensures only { IsOkUnless result Fault.Memory }
 {
     let workers = workers(alloc, hands, tellers)?;
     let (worked, swept) = start(rt, alloc, hub, desk, gate, workers, sweep);

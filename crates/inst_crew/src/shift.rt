@@ -1,5 +1,5 @@
 //! What a worker of a crew does.
-ghost use Rattle.std.specs.Prelude.{◌≡◌, ◌+◌, ◌^◌, ◌-◌, min, true, [], IfOk, OnOk, IsOkUnless};
+ghost use Rattle.std.specs.Prelude.{◌≡◌, ◌+◌, ◌^◌, ◌-◌, min, true, [], IfOk, OnOk};
 ghost use Rattle.inst_command.specs.Ask.{ask_fits};
 ghost use Rattle.inst_board.specs.declared.about.About.TheVariants.{Opened};
 ghost use Rattle.inst_board.specs.Standing.{about};
@@ -10,11 +10,10 @@ ghost use Rattle.inst_crew.specs.Seen.{AreSeen};
 ghost use Rattle.inst_crew.specs.Workers.{IsReady, Works};
 
 use crate::worker::Worker;
-use inst_base::Fault;
 use inst_command::{Ask, Outcome, State};
 use inst_desk::{Desk, Hand};
 use inst_hub::{Gate, Hub, Teller, Ticket};
-use std::alloc::Global;
+use std::alloc::{AllocError, Global};
 use std::sync::Wait;
 
 /// A worker's hand and teller, with what they did so far.
@@ -44,7 +43,7 @@ impl Shift {
     }
 
     /// Peeks at the ticket's transfer and keeps what it sees.
-    fn note(&mut self, ticket: Ticket) -> Result<(), Fault>
+    fn note(&mut self, ticket: Ticket) -> Result<(), AllocError>
         requires opened { knows_of self.old.teller (about ticket Opened) }
         requires seen { AreSeen self.old.teller self.old.sights.items }
         ensures hand { self.new.hand ≡ self.old.hand }
@@ -52,7 +51,6 @@ impl Shift {
         ensures knows { KnowsMore self.old.teller self.new.teller }
         ensures answered { self.new.answered ≡ self.old.answered }
         ensures seen { OnOk result (AreSeen self.new.teller self.new.sights.items) }
-        ensures only { IsOkUnless result Fault.Memory }
     {
         // The check is told of a type of another crate inside a state only where a function names it.
         let _: Option<Outcome> = None;
@@ -67,7 +65,7 @@ impl Shift {
         hub: &Hub,
         ask: &Ask,
         gate: &G,
-    ) -> Result<(), Fault>
+    ) -> Result<(), AllocError>
         requires of { IsOf hub.now self.old.teller }
         requires fits { ask_fits hub.now.settings ask.now ≡ true }
         requires seen { AreSeen self.old.teller self.old.sights.items }
@@ -76,7 +74,6 @@ impl Shift {
         ensures knows { KnowsMore self.old.teller self.new.teller }
         ensures answered { OnOk result (self.new.answered ≡ min (self.old.answered + 1) (2 ^ 64 - 1)) }
         ensures seen { OnOk result (AreSeen self.new.teller self.new.sights.items) }
-        ensures only { IsOkUnless result Fault.Memory }
     {
         let (_, ticket) = hub.call_with(rt, &mut self.teller, ask, gate)?;
         self.answered = self.answered.saturating_add(1);
@@ -93,12 +90,11 @@ impl Shift {
         hub: &Hub,
         desk: &Desk,
         gate: &G,
-    ) -> Result<bool, Fault>
+    ) -> Result<bool, AllocError>
         requires hand { IsHandOf desk.now self.old.hand }
         requires teller { IsOf hub.now self.old.teller }
         requires seen { AreSeen self.old.teller self.old.sights.items }
         ensures works { OnOk result ((w : Worker) → Works hub.now desk.now w self.old → Works hub.now desk.now w self.new) }
-        ensures only { IsOkUnless result Fault.Memory }
     {
         let Some(job) = desk.take(rt, &mut self.hand) else {
             return Ok(false);
@@ -118,10 +114,9 @@ pub(crate) fn work<R: Wait, G: Gate>(
     desk: &Desk,
     gate: &G,
     worker: Worker,
-) -> Result<Shift, Fault>
+) -> Result<Shift, AllocError>
     requires { IsReady hub.now desk.now worker }
     ensures works { IfOk result (Works hub.now desk.now worker) }
-    ensures only { IsOkUnless result Fault.Memory }
 {
     let mut shift = Shift::begin(alloc, worker);
     for _ in rt.forever() {

@@ -1,11 +1,10 @@
 //! What the threads of a crew begin with.
-ghost use Rattle.std.specs.Prelude.{◌≡◌, length, IfOk, IsOkUnless};
+ghost use Rattle.std.specs.Prelude.{◌≡◌, length, IfOk};
 ghost use Rattle.inst_crew.specs.Workers.{hands_of, tellers_of};
 
-use inst_base::Fault;
 use inst_desk::Hand;
 use inst_hub::Teller;
-use std::alloc::Global;
+use std::alloc::{AllocError, Global};
 
 /// A thread's hand and teller.
 #[derive(Drop)]
@@ -19,11 +18,10 @@ pub(crate) fn workers(
     alloc: Global,
     hands: Vec<Hand>,
     tellers: Vec<Teller>,
-) -> Result<Vec<Worker>, Fault>
+) -> Result<Vec<Worker>, AllocError>
     requires { length tellers.items ≡ length hands.items }
     ensures hands { IfOk result (λ all. hands_of all.items ≡ hands.items) }
     ensures tellers { IfOk result (λ all. tellers_of all.items ≡ tellers.items) }
-    ensures only { IsOkUnless result Fault.Memory }
 {
     let mut all = Vec::new(alloc);
     let mut tellers = tellers.into_iter();

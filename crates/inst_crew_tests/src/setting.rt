@@ -7,7 +7,7 @@ use inst_base::{Cents, Code, Fault, Ident, Moment};
 use inst_command::{Ask, Command, Submission};
 use inst_desk::{Desk, Hand, Job};
 use inst_hub::{Hub, Teller};
-use inst_settings::Settings;
+use inst_settings::{Numbers, Settings};
 use std::alloc::Global;
 use std::sync::Wait;
 
@@ -17,16 +17,12 @@ pub(crate) fn settings(alloc: Global) -> Result<Settings, Fault> {
         Code::new("BBBBFRPP")?,
         Code::new("CCCCITMM")?,
     ];
-    Settings::check(
-        codes.to_vec(alloc)?,
-        2,
-        4,
-        10_000,
-        0,
-        1_000,
-        99_999_999_999,
-        0,
-    )
+    let numbers = Numbers {
+        places: 2,
+        fundings: 4,
+        ..Numbers::DEFAULT
+    };
+    Settings::check(codes.to_vec(alloc)?, numbers)
 }
 
 pub(crate) fn ask(who: u8, command: Command, at: u64) -> Result<Ask, Fault> {

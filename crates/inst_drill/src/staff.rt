@@ -1,5 +1,5 @@
 //! Who works in an opening: two hands with a teller each, one hand that puts the jobs, and one teller that sweeps.
-ghost use Rattle.std.specs.Prelude.{◌≡◌, true, length, IfOk, OnOk, IsOkUnless};
+ghost use Rattle.std.specs.Prelude.{◌≡◌, true, length, IfOk, OnOk};
 ghost use Rattle.inst_command.specs.Ask.{ask_fits};
 ghost use Rattle.inst_desk.specs.Desk.{AreAllHandsOf};
 ghost use Rattle.inst_hub.specs.Calls.{AreOf};
@@ -11,7 +11,6 @@ ghost use Rattle.inst_drill.specs.Staff.{IsStaffOf, tellers_of};
 
 use crate::feeding::{Phase, feed};
 use crate::plan::Plan;
-use inst_base::Fault;
 use inst_command::{Outcome, State};
 use inst_crew::{Sweep, run_crew};
 use inst_desk::{Desk, Hand};
@@ -81,11 +80,10 @@ impl Staff {
         hub: &Hub,
         plan: &Plan,
         opening: u8,
-    ) -> Result<(), Fault>
+    ) -> Result<(), AllocError>
         requires staff { (desk : Desk) × IsStaffOf hub.now desk self.old }
         requires plan { IsPlan hub.now.settings plan.now }
         ensures staff { (desk : Desk) → IsStaffOf hub.now desk self.old → IsStaffOf hub.now desk self.new }
-        ensures only { IsOkUnless result Fault.Memory }
     {
         let ask = plan.funding(alloc, opening)?;
         hub.call(rt, &mut self.sweeper, &ask)?;
@@ -102,11 +100,10 @@ impl Staff {
         plan: &Plan,
         opening: u8,
         gate: &G,
-    ) -> Result<Work, Fault>
+    ) -> Result<Work, AllocError>
         requires { IsStaffOf hub.now desk.now self }
         ensures staff { IfOk result (λ work. IsStaffOf hub.now desk.now work.staff) }
         ensures sights { IfOk result (λ work. AreSeenByOne (tellers_of work.staff) work.sights.items) }
-        ensures only { IsOkUnless result Fault.Memory }
     {
         let Staff {
             mut feeder,
@@ -146,13 +143,12 @@ impl Staff {
         plan: &Plan,
         opening: u8,
         gate: &G,
-    ) -> Result<Work, Fault>
+    ) -> Result<Work, AllocError>
         requires staff { IsStaffOf hub.now desk.now self }
         requires plan { IsPlan hub.now.settings plan.now }
         ensures staff { IfOk result (λ work. IsStaffOf hub.now desk.now work.staff) }
         ensures later { IfOk result (λ work. Pairs (IsLaterTeller hub.now) (tellers_of self) (tellers_of work.staff)) }
         ensures sights { IfOk result (λ work. AreSeenByOne (tellers_of work.staff) work.sights.items) }
-        ensures only { IsOkUnless result Fault.Memory }
     {
         let Staff {
             mut feeder,
@@ -193,12 +189,16 @@ impl Staff {
     }
 
     /// Both participants are swept once at the deadline of the transfers.
-    pub(crate) fn sweep<R: Wait>(&mut self, rt: &R, hub: &Hub, plan: &Plan) -> Result<(), Fault>
+    pub(crate) fn sweep<R: Wait>(
+        &mut self,
+        rt: &R,
+        hub: &Hub,
+        plan: &Plan,
+    ) -> Result<(), AllocError>
         requires staff { (desk : Desk) × IsStaffOf hub.now desk self.old }
         requires plan { IsPlan hub.now.settings plan.now }
         ensures staff { (desk : Desk) → IsStaffOf hub.now desk self.old → IsStaffOf hub.now desk self.new }
         ensures later { OnOk result (Pairs (IsLaterTeller hub.now) (tellers_of self.old) (tellers_of self.new)) }
-        ensures only { IsOkUnless result Fault.Memory }
     {
         hub.sweep(rt, &mut self.sweeper, 0, plan.deadline)?;
         hub.sweep(rt, &mut self.sweeper, 1, plan.deadline)?;

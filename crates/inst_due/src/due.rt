@@ -1,10 +1,10 @@
-ghost use Rattle.std.specs.Prelude.{◌≡◌, [], true, false, OnOk, OnErr, IsOkUnless};
+ghost use Rattle.std.specs.Prelude.{◌≡◌, [], true, false, OnOk, OnErr};
 ghost use Rattle.std.specs.Bool.{OnFalse};
 ghost use Rattle.inst_base.specs.TimeLimit.{is_due};
 ghost use Rattle.inst_due.specs.Due.{has, comes_before, comes_after, Adds, TakesOut, IsLeast};
 
-use inst_base::{Fault, Moment};
-use std::alloc::Global;
+use inst_base::Moment;
+use std::alloc::{AllocError, Global};
 use std::collections::BTreeSet;
 use std::marker::Model;
 use std::ops::Bound;
@@ -42,14 +42,13 @@ impl Due {
         }
     }
 
-    /// Adds the pair, or answers `Memory` and leaves the set as it was. A pair that is there takes no
+    /// Adds the pair. Where memory is refused the set stays as it was. A pair that is there takes no
     /// memory. The cost grows with the logarithm of the number of pairs.
-    pub fn add(&mut self, deadline: Moment, index: u16) -> Result<(), Fault>
+    pub fn add(&mut self, deadline: Moment, index: u16) -> Result<(), AllocError>
         ensures ok { OnOk result (Adds self.old self.new deadline index) }
         ensures present { has self.old deadline index ≡ true → self.new ≡ self.old }
         ensures err { OnErr result (self.new ≡ self.old) }
         ensures absent { OnErr result (has self.old deadline index ≡ false) }
-        ensures only { IsOkUnless result Fault.Memory }
     {
         self.pairs.insert((deadline, index))?;
         Ok(())

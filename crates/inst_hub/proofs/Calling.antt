@@ -1,8 +1,6 @@
 -- A call under a lock: what lies behind it stays lawful, and what the caller has then seen.
 use Rattle.std.proofs.Common.{◌≡◌, ℕ, ◌<◌, true, ltb-true, IfSome, List, [], ◌∷◌, sym, refl, ◌∙◌, subst, arith, Option, Some, None, ◌++◌, append-nil, append_assoc, ap}
-use Rattle.std.specs.Prelude.{Bool, Contains, Result, Ok, Err, OnErr}
-use Rattle.inst_base.specs.declared.fault.Fault.{Fault}
-use Rattle.inst_base.specs.declared.fault.Fault.TheVariants.{Memory}
+use Rattle.std.specs.Prelude.{Bool, Contains, Result, Ok, Err, OnErr, alloc_error}
 use Rattle.std.proofs.lemmas.List.Elements.{Contains-append_left, Contains-append_right}
 use Rattle.inst_settings.specs.Settings.{HubSettings, participants, is_participant}
 use Rattle.inst_command.specs.declared.ask.Ask.{Ask}
@@ -13,6 +11,7 @@ use Rattle.inst_command.specs.declared.reply.Reply.TheVariants.{Done, Taken as T
 use Rattle.inst_board.specs.declared.place.Place.{Place}
 use Rattle.inst_board.specs.declared.about.Fact.{Fact}
 use Rattle.std.specs.Global.{Box}
+use Rattle.std.specs.declared.alloc.AllocError.{AllocError}
 use Rattle.inst_hub.specs.declared.outset.Outset.{Outset}
 use Rattle.inst_cell.specs.declared.teller.Teller.{Teller as Sight}
 use Rattle.inst_cell.specs.declared.shared_board.SharedBoard.{SharedBoard}
@@ -127,7 +126,7 @@ lock_of h p x y (Some g) behind later fits =
 -- what was left where memory was refused
 pub left_at : (h : Hub) (t u : Teller) (ask : Ask) (x y : Participant) (p : ℕ) → p ≡ ask.who → IsBehind (key_of h.row).words.value p x
     → GoesOn p x.slot.events t.seat → sights_of u ≡ sights_of t ++ front p x.slot.events ∷ front p y.slot.events ∷ []
-    → Serves x ask (Err Memory) y → y.slot ≡ x.slot → IsLeft h t ask u
+    → Serves x ask (Err alloc_error) y → y.slot ≡ x.slot → IsLeft h t ask u
 left_at h t u ask x y p is behind goes_on seen serves same = record {
   found = x;
   left = y;
@@ -146,7 +145,7 @@ seen_both s mid last p h l first second =
 pub follows_nothing : (h : Hub) (t : Teller) → Follows h None t t
 follows_nothing h t = record { sights = []; followed = refl; seen = sym (append-nil (sights_of t)) }
 
-pub follows_one : (h : Hub) (f : FollowUp) (t : Teller) (mid last : Seat) (x y : Participant) (result : Result Bool Fault) → IsBehind (key_of h.row).words.value f.who x
+pub follows_one : (h : Hub) (f : FollowUp) (t : Teller) (mid last : Seat) (x y : Participant) (result : Result Bool AllocError) → IsBehind (key_of h.row).words.value f.who x
     → GoesOn f.who x.slot.events t.seat → Sees f.who x.slot.events t.seat mid → Sees f.who y.slot.events mid last → Does f.act x f.place result y
     → Follows h (Some f) t record { sight = t.sight; seat = last }
 follows_one h f t mid last x y result behind goes_on first second does = record {

@@ -3,7 +3,7 @@ use Rattle.std.proofs.Common.{arith, ◌≡◌, ℕ, ◌<◌, List, [], ◌∷�
 use Rattle.std.specs.Prelude.{Contains, Result, Ok, Err, IfOk, OnErr, slice_get}
 use Rattle.std.proofs.lemmas.List.Elements.{Contains-append_right}
 use Rattle.std.specs.Global.{Box}
-use Rattle.inst_base.specs.declared.fault.Fault.{Fault}
+use Rattle.std.specs.declared.alloc.AllocError.{AllocError}
 use Rattle.inst_settings.specs.Settings.{HubSettings}
 use Rattle.inst_command.specs.declared.ask.Ask.{Ask}
 use Rattle.inst_command.specs.declared.command.Command.{Command}
@@ -68,7 +68,7 @@ kept_carries s who J command at found = kept_cases s who J command at found (λ 
 })
 
 -- a participant that served an ask
-pub serve_carries : (ask : Ask) (x y : Participant) (r : Result (Reply × Option Place) Fault)
+pub serve_carries : (ask : Ask) (x y : Participant) (r : Result (Reply × Option Place) AllocError)
     → IfOk r (λ answer. Answered x.slot.settings x.slot.who x.slot.events ask answer.0 y.slot.events) → OnErr r (y.slot ≡ x.slot)
     → carried y.slot.events ≡ carried x.slot.events
 serve_carries ask x y (Ok answer) answered same = ap carried answered.kept ∙ kept_carries x.slot.settings x.slot.who x.slot.events ask.command ask.at answered.found

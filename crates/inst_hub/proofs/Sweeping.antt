@@ -1,7 +1,7 @@
 -- A sweep under a lock, as its caller sees it.
 use Rattle.std.proofs.Common.{◌≡◌, ℕ, [], ◌∷◌, ◌++◌, subst}
 use Rattle.std.specs.Prelude.{Result, is_ok, IfOk}
-use Rattle.inst_base.specs.declared.fault.Fault.{Fault}
+use Rattle.std.specs.declared.alloc.AllocError.{AllocError}
 use Rattle.inst_row.specs.View.{front}
 use Rattle.inst_row.specs.Row.{key_of}
 use Rattle.inst_row.specs.Seated.{GoesOn}
@@ -15,7 +15,7 @@ use Rattle.inst_hub.specs.Calls.{sights_of}
 use Rattle.inst_hub.specs.Sweeping.{IsSweep}
 
 -- the same at the lock p, which is that of `who`
-pub sweep_at : (h : Hub) (t u : Teller) (who at : ℕ) (result : Result ℕ Fault) (x y : Participant) (p : ℕ) → p ≡ who → IsBehind (key_of h.row).words.value p x
+pub sweep_at : (h : Hub) (t u : Teller) (who at : ℕ) (result : Result ℕ AllocError) (x y : Participant) (p : ℕ) → p ≡ who → IsBehind (key_of h.row).words.value p x
     → GoesOn p x.slot.events t.seat → sights_of u ≡ sights_of t ++ front p x.slot.events ∷ front p y.slot.events ∷ []
     → IsToldAll x.slot.events y.slot.events → Sweeps at (is_ok result) x y → IfOk result (λ count. count ≡ new_events x.slot.events y.slot.events)
     → IfOk result (λ count. NothingDue at y) → IsSweep h t who at result u

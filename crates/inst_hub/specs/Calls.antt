@@ -1,8 +1,7 @@
 -- What a teller of a hub may rely on when it calls: a reply is the model's on a history that goes on from all that the
 -- teller has seen of it, and nothing that the teller knew is lost. This hub's own choice.
-use Rattle.std.specs.Prelude.{◌≡◌, ◌⊎◌, ◌↔◌, ℕ, Bool, List, [], ◌∷◌, ◌++◌, slice_get, Option, Some, None, Result, Ok, Err}
-use Rattle.inst_base.specs.declared.fault.Fault.{Fault}
-use Rattle.inst_base.specs.declared.fault.Fault.TheVariants.{Memory}
+use Rattle.std.specs.Prelude.{◌≡◌, ◌⊎◌, ◌↔◌, ℕ, Bool, List, [], ◌∷◌, ◌++◌, slice_get, Option, Some, None, Result, Ok, Err, alloc_error}
+use Rattle.std.specs.declared.alloc.AllocError.{AllocError}
 use Rattle.inst_command.specs.declared.ask.Ask.{Ask}
 use Rattle.inst_command.specs.declared.reply.Reply.{Reply}
 use Rattle.inst_board.specs.declared.about.Fact.{Fact}
@@ -63,7 +62,7 @@ pub record IsDone (h : Hub) (f : FollowUp) (t : Teller) (sights : List (Front Ev
   pub left : Participant
   pub behind : IsBehind (key_of h.row).words.value f.who found
   pub goes_on : GoesOn f.who found.slot.events t.seat
-  pub does : (result : Result Bool Fault) × Does f.act found f.place result left
+  pub does : (result : Result Bool AllocError) × Does f.act found f.place result left
   pub seen : sights ≡ front f.who found.slot.events ∷ front f.who left.slot.events ∷ []
 
 -- what is seen of what follows: nothing where nothing follows
@@ -111,5 +110,5 @@ pub record IsLeft (h : Hub) (t : Teller) (ask : Ask) (u : Teller) : Type 0 where
   pub behind : IsBehind (key_of h.row).words.value ask.who found
   pub goes_on : GoesOn ask.who found.slot.events t.seat
   pub seen : sights_of u ≡ sights_of t ++ front ask.who found.slot.events ∷ front ask.who left.slot.events ∷ []
-  pub serves : Serves found ask (Err Memory) left
+  pub serves : Serves found ask (Err alloc_error) left
   pub same : left.slot ≡ found.slot

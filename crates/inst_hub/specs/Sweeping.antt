@@ -1,7 +1,7 @@
 -- A sweep of a hub of many threads: what a participant does by itself about all its transfers, under its lock. This hub's
 -- own choice.
 use Rattle.std.specs.Prelude.{◌≡◌, ℕ, [], ◌∷◌, ◌++◌, Result, is_ok, IfOk}
-use Rattle.inst_base.specs.declared.fault.Fault.{Fault}
+use Rattle.std.specs.declared.alloc.AllocError.{AllocError}
 use Rattle.inst_row.specs.View.{front}
 use Rattle.inst_row.specs.Row.{key_of}
 use Rattle.inst_row.specs.Seated.{GoesOn}
@@ -20,7 +20,7 @@ use Rattle.inst_hub.specs.Calls.{sights_of}
 -- told, sweeps: what was left is what was found, swept whole, or until memory was refused and no further
 -- count: this is how much was new
 -- due: after a whole sweep no own transfer that is due at the reading waits any more
-pub record IsSweep (h : Hub) (t : Teller) (who at : ℕ) (result : Result ℕ Fault) (u : Teller) : Type 0 where
+pub record IsSweep (h : Hub) (t : Teller) (who at : ℕ) (result : Result ℕ AllocError) (u : Teller) : Type 0 where
   pub found : Participant
   pub left : Participant
   pub behind : IsBehind (key_of h.row).words.value who found

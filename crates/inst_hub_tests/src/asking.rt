@@ -61,7 +61,7 @@ pub(crate) fn state_of(reply: &Reply) -> Option<State> {
 }
 
 /// The position, reserved and available cents that the reply tells, if any.
-pub(crate) fn position_of(reply: &Reply) -> Option<(u64, u64, u64)> {
+fn position_of(reply: &Reply) -> Option<(u64, u64, u64)> {
     match reply {
         Reply::Position {
             position,
@@ -100,7 +100,22 @@ pub(crate) fn ask<R: Wait>(
     requires { IsOf hub.now teller.old }
     ensures { IsOf hub.now teller.new }
 {
-    hub.call(rt, teller, &fitting(hub, who, command, at)?)
+    Ok(hub.call(rt, teller, &fitting(hub, who, command, at)?)?)
+}
+
+/// The position, reserved and available cents of a participant, if the reply tells them.
+pub(crate) fn money<R: Wait>(
+    rt: &R,
+    hub: &Hub,
+    teller: &mut Teller,
+    who: u8,
+    at: u64,
+) -> Result<Option<(u64, u64, u64)>, Fault>
+    requires { IsOf hub.now teller.old }
+    ensures { IsOf hub.now teller.new }
+{
+    let (reply, _) = ask(rt, hub, teller, who, Command::Position, at)?;
+    Ok(position_of(&reply))
 }
 
 /// The teller funds participant 0, and submits a transfer of it.

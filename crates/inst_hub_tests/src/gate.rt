@@ -1,7 +1,8 @@
 // A call that has one participant's lock holds up other calls of that participant, and nobody else.
-ghost use Rattle.inst_hub.specs.Calls.{IsOf};
+ghost use Rattle.inst_hub.specs.Calls.{IsOf, AreOf};
 
 use crate::asking::{ask, fitting, last, submitted};
+use crate::comparing::same;
 use crate::start::Start;
 use inst_base::Fault;
 use inst_command::{Command, Outcome, State};
@@ -186,25 +187,37 @@ fn through<R: Threads + Wait + Sync>(
     Ok((state?, gate.seen()))
 }
 
+/// What is seen by four tellers, of which the last has submitted a transfer.
+fn seen<R: Threads + Wait + Sync>(
+    rt: &R,
+    hub: &Hub,
+    tellers: &mut Vec<Teller>,
+) -> Result<(State, Passed), Fault>
+    requires { AreOf hub.now tellers.old.items }
+{
+    let mut fourth = last(hub, tellers)?;
+    let third = last(hub, tellers)?;
+    let second = last(hub, tellers)?;
+    let first = last(hub, tellers)?;
+    let ticket = submitted(rt, hub, &mut fourth)?;
+    through(rt, hub, first, (second, third, fourth), &ticket)
+}
+
 #[test]
 fn gate_lets_others_through(rt: HostRuntime) -> Result<(), Fault> {
     // The check is told of a type of another crate inside another one only where a function names it.
     let _: Option<Outcome> = None;
     let (hub, mut tellers) = Hub::open(rt.alloc(), settings(rt.alloc())?, 4)?;
-    let mut fourth = last(&hub, &mut tellers)?;
-    let third = last(&hub, &mut tellers)?;
-    let second = last(&hub, &mut tellers)?;
-    let first = last(&hub, &mut tellers)?;
-    let ticket = submitted(&rt, &hub, &mut fourth)?;
     let expected = Passed {
         passes: 1,
         who: 0,
         through: true,
         overtaken: false,
     };
-    assert_eq!(rt;
-        through(&rt, &hub, first, (second, third, fourth), &ticket)?,
-        (State::Pending, expected)
+    same(
+        &rt,
+        seen(&rt, &hub, &mut tellers)?,
+        (State::Pending, expected),
     );
     Ok(())
 }

@@ -6,6 +6,8 @@
 #[cfg(test)]
 mod asking;
 #[cfg(test)]
+mod comparing;
+#[cfg(test)]
 mod gate;
 #[cfg(test)]
 mod race;

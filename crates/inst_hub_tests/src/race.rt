@@ -1,7 +1,8 @@
 // One thread confirms transfers at the last moment in time while another investigates them at the deadline.
-ghost use Rattle.inst_hub.specs.Calls.{IsOf};
+ghost use Rattle.inst_hub.specs.Calls.{IsOf, AreOf};
 
-use crate::asking::{ask, fund, last, position_of, state_of, submit};
+use crate::asking::{ask, fund, last, money, state_of, submit};
+use crate::comparing::same;
 use crate::start::Start;
 use inst_base::{Fault, Ident};
 use inst_command::{Command, Outcome, State};
@@ -43,6 +44,33 @@ struct Count {
     timed_out: u16,
 }
 
+impl Count {
+    /// With one more transfer, of which the reply tells this.
+    fn with(self, state: Option<State>) -> Result<Count, Fault> {
+        let mut count = self;
+        match state {
+            Some(State::Decided(Outcome::Accepted)) => {
+                count.accepted = count.accepted.saturating_add(1);
+            }
+            Some(State::Decided(Outcome::TimedOut)) => {
+                count.timed_out = count.timed_out.saturating_add(1);
+            }
+            _ => return Err(Fault::UnknownTransfer),
+        }
+        Ok(count)
+    }
+}
+
+/// What the participant asks of the transfer with this index: the originator how it stands, the beneficiary to
+/// confirm it.
+fn question(alloc: Global, who: u8, index: u16) -> Result<Command, Fault> {
+    let id = name(alloc, index)?;
+    Ok(match who {
+        0 => Command::Investigate { id },
+        _ => Command::Confirm { from: 0, id },
+    })
+}
+
 /// What becomes of each transfer, where the participant `who` asks so of each at this reading, once both sides have
 /// started.
 fn decide_all<R: Wait>(
@@ -65,22 +93,9 @@ fn decide_all<R: Wait>(
         timed_out: 0,
     };
     for index in 0..TRANSFERS {
-        let id = name(alloc, index)?;
-        let command = if who == 0 {
-            Command::Investigate { id }
-        } else {
-            Command::Confirm { from: 0, id }
-        };
+        let command = question(alloc, who, index)?;
         let (reply, _) = ask(rt, hub, teller, who, command, at)?;
-        match state_of(&reply) {
-            Some(State::Decided(Outcome::Accepted)) => {
-                count.accepted = count.accepted.saturating_add(1);
-            }
-            Some(State::Decided(Outcome::TimedOut)) => {
-                count.timed_out = count.timed_out.saturating_add(1);
-            }
-            _ => return Err(Fault::UnknownTransfer),
-        }
+        count = count.with(state_of(&reply))?;
     }
     Ok(count)
 }
@@ -104,24 +119,58 @@ fn race<R: Threads + Wait + Sync>(
     Ok((investigated?, confirmed?))
 }
 
+/// What both sides were answered, and what the originator and the beneficiary then have.
+#[derive(Clone, Copy, Debug, PartialEq, Eq)]
+struct Ended {
+    investigated: Count,
+    confirmed: Count,
+    left: Option<(u64, u64, u64)>,
+    paid: Option<(u64, u64, u64)>,
+}
+
+/// What comes of a race in which transfers ended so.
+fn expected(count: Count) -> Ended {
+    let paid = u64::from(count.accepted) * 200;
+    let left = FUNDS.saturating_sub(paid);
+    Ended {
+        investigated: count,
+        confirmed: count,
+        left: Some((left, 0, left)),
+        paid: Some((paid, 0, paid)),
+    }
+}
+
+/// All transfers are submitted, and raced for by the first two of three tellers.
+fn raced<R: Threads + Wait + Sync>(
+    rt: &R,
+    alloc: Global,
+    hub: &Hub,
+    tellers: &mut Vec<Teller>,
+) -> Result<Ended, Fault>
+    requires { AreOf hub.now tellers.old.items }
+{
+    let mut third = last(hub, tellers)?;
+    let second = last(hub, tellers)?;
+    let first = last(hub, tellers)?;
+    submit_all(rt, alloc, hub, &mut third)?;
+    let (investigated, confirmed) = race(rt, alloc, hub, (first, second))?;
+    Ok(Ended {
+        investigated,
+        confirmed,
+        left: money(rt, hub, &mut third, 0, 11_000)?,
+        paid: money(rt, hub, &mut third, 1, 11_000)?,
+    })
+}
+
 // Both sides are told the same of each transfer, so they count the same, and the money is where it was decided to be.
 #[test]
 fn two_threads_agree(rt: HostRuntime) -> Result<(), Fault> {
-    let alloc = rt.alloc();
-    let (hub, mut tellers) = Hub::open(alloc, settings_with(alloc, TRANSFERS, 0)?, 3)?;
-    let mut third = last(&hub, &mut tellers)?;
-    let second = last(&hub, &mut tellers)?;
-    let first = last(&hub, &mut tellers)?;
-    submit_all(&rt, alloc, &hub, &mut third)?;
-    let (investigated, confirmed) = race(&rt, alloc, &hub, (first, second))?;
-    assert_eq!(rt; investigated, confirmed);
-    let all = u32::from(confirmed.accepted) + u32::from(confirmed.timed_out);
-    assert_eq!(rt; all, u32::from(TRANSFERS));
-    let paid = u64::from(confirmed.accepted) * 200;
-    let left = FUNDS.saturating_sub(paid);
-    let (reply, _) = ask(&rt, &hub, &mut third, 0, Command::Position, 11_000)?;
-    assert_eq!(rt; position_of(&reply), Some((left, 0, left)));
-    let (reply, _) = ask(&rt, &hub, &mut third, 1, Command::Position, 11_000)?;
-    assert_eq!(rt; position_of(&reply), Some((paid, 0, paid)));
+    let settings = settings_with(rt.alloc(), TRANSFERS, 0)?;
+    let (hub, mut tellers) = Hub::open(rt.alloc(), settings, 3)?;
+    let ended = raced(&rt, rt.alloc(), &hub, &mut tellers)?;
+    let count = ended.confirmed;
+    same(&rt, ended, expected(count));
+    let all = u32::from(count.accepted) + u32::from(count.timed_out);
+    same(&rt, all, u32::from(TRANSFERS));
     Ok(())
 }

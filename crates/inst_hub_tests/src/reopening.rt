@@ -3,11 +3,13 @@ ghost use Rattle.std.specs.Prelude.{◌≡◌, IfOk};
 ghost use Rattle.inst_model.specs.Rows as rows;
 ghost use Rattle.inst_hub.specs.Calls.{IsOf};
 
-use crate::asking::{ask, confirm, investigate, last, position_of, state_of};
+use crate::asking::{ask, confirm, investigate, last, money, state_of};
+use crate::comparing::same;
 use inst_base::Fault;
-use inst_command::{Command, Outcome, State, Step};
+use inst_command::{Outcome, State, Step};
 use inst_hub::{Hub, Teller};
 use inst_rows::{A, B, books, settings};
+use std::alloc::Global;
 use std::sync::Wait;
 
 /// Participant 1 gets two transfers of participant 0, and confirms the first.
@@ -51,27 +53,34 @@ type Told = (
 fn confirmed<R: Wait>(rt: &R, hub: &Hub, teller: &mut Teller) -> Result<Told, Fault>
     requires { IsOf hub.now teller.old }
 {
-    let (before, _) = ask(rt, hub, teller, 0, Command::Position, 2_000)?;
+    let before = money(rt, hub, teller, 0, 2_000)?;
     let (answer, _) = ask(rt, hub, teller, 1, confirm("T2")?, 2_000)?;
-    let (after, _) = ask(rt, hub, teller, 0, Command::Position, 2_000)?;
-    Ok((position_of(&before), state_of(&answer), position_of(&after)))
+    let after = money(rt, hub, teller, 0, 2_000)?;
+    Ok((before, state_of(&answer), after))
+}
+
+/// The hub that opens from the books of the other one, with its teller.
+fn opened_again(alloc: Global) -> Result<(Hub, Teller), Fault>
+    ensures { IfOk result (λ r. IsOf r.0 r.1) }
+{
+    let settings = settings(alloc)?;
+    let books = books(alloc, &settings, &one_settled()?)?;
+    let (hub, mut tellers) = Hub::open_from(alloc, settings, &books, 1)?;
+    let teller = last(&hub, &mut tellers)?;
+    Ok((hub, teller))
 }
 
 #[test]
 fn what_was_pending_goes_on(rt: HostRuntime) -> Result<(), Fault> {
-    let settings = settings(rt.alloc())?;
-    let books = books(rt.alloc(), &settings, &one_settled()?)?;
-    let (hub, mut tellers) = Hub::open_from(rt.alloc(), settings, &books, 1)?;
-    let mut teller = last(&hub, &mut tellers)?;
+    let (hub, mut teller) = opened_again(rt.alloc())?;
     let accepted = State::Decided(Outcome::Accepted);
-    assert!(rt;
-        confirmed(&rt, &hub, &mut teller)?
-            == (
-                Some((49_900, 100, 49_800)),
-                Some(accepted),
-                Some((49_800, 0, 49_800))
-            )
+    let told = confirmed(&rt, &hub, &mut teller)?;
+    let expected = (
+        Some((49_900, 100, 49_800)),
+        Some(accepted),
+        Some((49_800, 0, 49_800)),
     );
+    same(&rt, told, expected);
     Ok(())
 }
 
@@ -90,13 +99,8 @@ fn investigated<R: Wait>(
 // It has no place any more.
 #[test]
 fn what_was_settled_has_no_ticket(rt: HostRuntime) -> Result<(), Fault> {
-    let settings = settings(rt.alloc())?;
-    let books = books(rt.alloc(), &settings, &one_settled()?)?;
-    let (hub, mut tellers) = Hub::open_from(rt.alloc(), settings, &books, 1)?;
-    let mut teller = last(&hub, &mut tellers)?;
-    assert_eq!(rt;
-        investigated(&rt, &hub, &mut teller)?,
-        (Some(State::Decided(Outcome::Accepted)), false)
-    );
+    let (hub, mut teller) = opened_again(rt.alloc())?;
+    let told = investigated(&rt, &hub, &mut teller)?;
+    same(&rt, told, (Some(State::Decided(Outcome::Accepted)), false));
     Ok(())
 }

@@ -1,7 +1,8 @@
 // What sweeps count, and in which order they bring transfers.
-ghost use Rattle.inst_hub.specs.Calls.{IsOf};
+ghost use Rattle.inst_hub.specs.Calls.{IsOf, AreOf};
 
 use crate::asking::{ask, fitting, fund, investigate, last, state_of, submit, submitted};
+use crate::comparing::same;
 use crate::start::Start;
 use inst_base::{Cents, Fault, Ident, Moment};
 use inst_command::{Command, Outcome, Reply, State, Submission};
@@ -19,7 +20,7 @@ fn sweep<R: Wait>(rt: &R, hub: &Hub, teller: &mut Teller, who: u8, at: u64) -> R
     if u16::from(who) >= hub.settings().participants() {
         return Err(Fault::BadField);
     }
-    hub.sweep(rt, teller, who, Moment::new(0, at)?)
+    Ok(hub.sweep(rt, teller, who, Moment::new(0, at)?)?)
 }
 
 /// What investigations before the deadline and at it tell, and how many are new then in sweeps of both sides.
@@ -44,10 +45,8 @@ fn what_an_investigation_finds_is_learnt(rt: HostRuntime) -> Result<(), Fault> {
     let (hub, mut tellers) = Hub::open(rt.alloc(), settings(rt.alloc())?, 1)?;
     let mut teller = last(&hub, &mut tellers)?;
     let timed_out = State::Decided(Outcome::TimedOut);
-    assert_eq!(rt;
-        investigated(&rt, &hub, &mut teller)?,
-        (Some(State::Pending), Some(timed_out), 0, 0)
-    );
+    let told = investigated(&rt, &hub, &mut teller)?;
+    same(&rt, told, (Some(State::Pending), Some(timed_out), 0, 0));
     Ok(())
 }
 
@@ -164,18 +163,29 @@ fn funded<R: Wait>(rt: &R, hub: &Hub, teller: &mut Teller) -> Result<(), Fault>
     Ok(())
 }
 
+/// What the sweeps of the last of three tellers count and bring.
+fn delivered<R: Threads + Wait + Sync>(
+    rt: &R,
+    alloc: Global,
+    hub: &Hub,
+    tellers: &mut Vec<Teller>,
+) -> Result<(u32, u32, Vec<u8>), Fault>
+    requires { AreOf hub.now tellers.old.items }
+{
+    let mut third = last(hub, tellers)?;
+    let second = last(hub, tellers)?;
+    let first = last(hub, tellers)?;
+    funded(rt, hub, &mut third)?;
+    meanwhile(rt, alloc, hub, third, (first, second))
+}
+
 // A sweep gets what a beneficiary wasn't told of yet, by the originators' numbers, and what follows then brings nothing.
 #[test]
 fn sweep_delivers(rt: HostRuntime) -> Result<(), Fault> {
     let alloc = rt.alloc();
     let (hub, mut tellers) = Hub::open(alloc, settings(alloc)?, 3)?;
-    let mut third = last(&hub, &mut tellers)?;
-    let second = last(&hub, &mut tellers)?;
-    let first = last(&hub, &mut tellers)?;
-    funded(&rt, &hub, &mut third)?;
-    let (new, again, originators) = meanwhile(&rt, alloc, &hub, third, (first, second))?;
-    assert_eq!(rt; (new, again), (2, 0));
-    assert_eq!(rt; originators.as_slice(), [0, 2].as_slice());
+    let (new, again, originators) = delivered(&rt, alloc, &hub, &mut tellers)?;
+    same(&rt, (new, again, originators.as_slice()), (2, 0, &[0, 2]));
     Ok(())
 }
 
@@ -200,10 +210,8 @@ fn timed_out<R: Wait>(
 fn sweeps_time_out_and_learn(rt: HostRuntime) -> Result<(), Fault> {
     let (hub, mut tellers) = Hub::open(rt.alloc(), settings(rt.alloc())?, 1)?;
     let mut teller = last(&hub, &mut tellers)?;
-    assert_eq!(rt;
-        timed_out(&rt, &hub, &mut teller)?,
-        (0, 1, 1, 0, State::Decided(Outcome::TimedOut))
-    );
+    let swept = timed_out(&rt, &hub, &mut teller)?;
+    same(&rt, swept, (0, 1, 1, 0, State::Decided(Outcome::TimedOut)));
     Ok(())
 }
 
@@ -246,6 +254,6 @@ fn swept<R: Wait>(rt: &R, hub: &Hub, teller: &mut Teller) -> Result<(u32, u32, u
 fn sweep_goes_by_deadline(rt: HostRuntime) -> Result<(), Fault> {
     let (hub, mut tellers) = Hub::open(rt.alloc(), settings_with(rt.alloc(), 3, 0)?, 1)?;
     let mut teller = last(&hub, &mut tellers)?;
-    assert_eq!(rt; swept(&rt, &hub, &mut teller)?, (2, 1, 3));
+    same(&rt, swept(&rt, &hub, &mut teller)?, (2, 1, 3));
     Ok(())
 }

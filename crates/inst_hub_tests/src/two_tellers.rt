@@ -1,9 +1,10 @@
 // One teller submits a transfer, and another confirms it.
 ghost use Rattle.inst_hub.specs.Calls.{IsOf};
 
-use crate::asking::{ask, confirm, last, position_of, state_of, submitted};
+use crate::asking::{ask, confirm, last, money, state_of, submitted};
+use crate::comparing::same;
 use inst_base::Fault;
-use inst_command::{Command, Outcome, State};
+use inst_command::{Outcome, State};
 use inst_hub::{Hub, Teller};
 use inst_rows::settings;
 use std::sync::Wait;
@@ -29,14 +30,14 @@ fn see<R: Wait>(rt: &R, hub: &Hub, first: &mut Teller, second: &mut Teller) -> R
     let first_before_meeting = first.peek(&ticket);
     hub.meet(first, second);
     let seen_first = first.peek(&ticket);
-    let (position, _) = ask(rt, hub, second, 0, Command::Position, 2_000)?;
+    let position = money(rt, hub, second, 0, 2_000)?;
     Ok(Sights {
         submitted,
         confirmed: state_of(&confirmed),
         second: seen_second,
         first_before_meeting,
         first: seen_first,
-        position: position_of(&position),
+        position,
     })
 }
 
@@ -54,6 +55,6 @@ fn two_tellers(rt: HostRuntime) -> Result<(), Fault> {
         first: accepted,
         position: Some((30_000, 0, 30_000)),
     };
-    assert_eq!(rt; see(&rt, &hub, &mut first, &mut second)?, expected);
+    same(&rt, see(&rt, &hub, &mut first, &mut second)?, expected);
     Ok(())
 }

@@ -1,9 +1,8 @@
-ghost use Rattle.std.specs.Prelude.{◌≡◌, ◌<◌, [], ◌∷◌, ◌++◌, OnOk, OnErr, IfOk, IsOk, IsOkUnless};
+ghost use Rattle.std.specs.Prelude.{◌≡◌, ◌<◌, [], ◌∷◌, ◌++◌, OnOk, OnErr, IfOk, IsOk};
 
 use crate::Event;
-use inst_base::Fault;
 use inst_command::Outcome;
-use std::alloc::Global;
+use std::alloc::{AllocError, Global};
 use std::marker::Model;
 
 /// One participant's history: its kept events, the oldest first.
@@ -40,10 +39,9 @@ impl Journal {
         }
     }
 
-    /// A journal with the same events, or `Memory`. It copies each event.
-    pub fn copy(&self) -> Result<Journal, Fault>
+    /// A journal with the same events. It copies each event.
+    pub fn copy(&self) -> Result<Journal, AllocError>
         ensures ok { IfOk result (λ journal. journal.events ≡ self.now.events) }
-        ensures only { IsOkUnless result Fault.Memory }
     {
         // The check is told of a type of another crate inside an event only where a function names it.
         let _: Option<Outcome> = None;
@@ -59,23 +57,21 @@ impl Journal {
         self.events.as_slice()
     }
 
-    /// Makes room for one more event, or answers `Memory`. The events stay as they are.
-    pub fn reserve(&mut self) -> Result<(), Fault>
+    /// Makes room for one more event. The events stay as they are.
+    pub fn reserve(&mut self) -> Result<(), AllocError>
         ensures events { self.new.events ≡ self.old.events }
         ensures room { OnOk result (0 < self.new.room) }
-        ensures only { IsOkUnless result Fault.Memory }
     {
         self.events.try_reserve(1)?;
         Ok(())
     }
 
-    /// Adds an event at the end. Where there is room it succeeds; else it may answer `Memory`, and
+    /// Adds an event at the end. Where there is room it succeeds; else memory may be refused, and
     /// the events stay as they are.
-    pub fn push(&mut self, event: Event) -> Result<(), Fault>
+    pub fn push(&mut self, event: Event) -> Result<(), AllocError>
         ensures ok { OnOk result (self.new.events ≡ self.old.events ++ event ∷ []) }
         ensures err { OnErr result (self.new.events ≡ self.old.events) }
         ensures room { 0 < self.old.room → IsOk result }
-        ensures only { IsOkUnless result Fault.Memory }
     {
         // The check is told of a type of another crate inside an event only where a function names it.
         let _: Option<Outcome> = None;

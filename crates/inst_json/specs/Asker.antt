@@ -2,29 +2,30 @@
 -- behind what is refused of an amount. This hub's own choice.
 use Rattle.std.specs.Prelude.{Result, Ok}
 use Rattle.inst_base.specs.Moment.{moment_of}
-use Rattle.inst_base.specs.declared.fault.Fault.{Fault}
 use Rattle.inst_settings.specs.Settings.{HubSettings}
 use Rattle.inst_command.specs.declared.ask.Ask.{Ask}
 use Rattle.inst_command.specs.declared.command.Command.{Command}
 use Rattle.inst_scan.specs.Fields.{LineFields}
-use Rattle.inst_json.specs.Refusals.{◌>>=◌}
+use Rattle.inst_json.specs.Refusals.{◌>>=◌, in_field}
 use Rattle.inst_json.specs.Fields.{whole_in, code_in}
 use Rattle.inst_json.specs.Checks.{participant_of}
 use Rattle.inst_json.specs.declared.asker.Asker.{Asker}
 use Rattle.inst_json.specs.declared.asker.KnownAsker.{KnownAsker}
+use Rattle.inst_json.specs.declared.name.Name.TheVariants as name
+use Rattle.inst_json.specs.declared.refusal.Refusal.{Refusal}
 
 -- the code of who asks, and the reading in absolute milliseconds
-unfoldable pub asker_of : LineFields → Result Asker Fault
+unfoldable pub asker_of : LineFields → Result Asker Refusal
 asker_of line = do
-  who ← code_in line.who
-  at ← whole_in line.at
+  who ← in_field name.Who (code_in line.who)
+  at ← in_field name.At (whole_in line.at)
   Ok (record { who = who; at = at })
 
 -- the number of who asks, and the moment
-unfoldable pub known_of : HubSettings → Asker → Result KnownAsker Fault
+unfoldable pub known_of : HubSettings → Asker → Result KnownAsker Refusal
 known_of s asker = do
-  at ← moment_of s.base asker.at
-  who ← participant_of s asker.who
+  at ← in_field name.At (moment_of s.base asker.at)
+  who ← in_field name.Who (participant_of s asker.who)
   Ok (record { who = who; at = at })
 
 -- what a known participant asks

@@ -4,88 +4,89 @@
 -- the scheme's messages (EPC004-16, chapter 4: datasets); fields and order are this hub's own choice.
 use Rattle.std.specs.Prelude.{Result, Ok}
 use Rattle.inst_base.specs.Text.{identifier_of}
-use Rattle.inst_base.specs.declared.fault.Fault.{Fault}
 use Rattle.inst_settings.specs.Settings.{HubSettings}
 use Rattle.inst_command.specs.declared.ask.Ask.{Ask}
 use Rattle.inst_command.specs.declared.command.Command.TheVariants as command
 use Rattle.inst_scan.specs.Fields.{LineFields}
-use Rattle.inst_json.specs.Refusals.{◌>>=◌}
+use Rattle.inst_json.specs.Refusals.{◌>>=◌, in_field}
 use Rattle.inst_json.specs.Fields.{text_in, whole_in, code_in, reason_in, count_in}
 use Rattle.inst_json.specs.Checks.{amount_of, stamp_of, participant_of}
 use Rattle.inst_json.specs.Asker.{asker_of, known_of, asking}
-use Rattle.inst_json.specs.Verb.{verb_of}
+use Rattle.inst_json.specs.Verb.{verb_in}
 use Rattle.inst_json.specs.declared.asker.Asker.{Asker}
 use Rattle.inst_json.specs.declared.command.Funding.{Funding}
 use Rattle.inst_json.specs.declared.command.Received.{Received}
+use Rattle.inst_json.specs.declared.name.Name.TheVariants as name
+use Rattle.inst_json.specs.declared.refusal.Refusal.{Refusal}
 use Rattle.inst_json.specs.declared.verb.Verb.{Verb}
 use Rattle.inst_json.specs.declared.verb.Verb.TheVariants as verb
 
 -- what is funded or defunded, and by whom
-unfoldable pub funding_of : HubSettings → Asker → LineFields → Result Funding Fault
+unfoldable pub funding_of : HubSettings → Asker → LineFields → Result Funding Refusal
 funding_of s asker line = do
-  reference ← text_in line.reference
-  cents ← whole_in line.cents
-  reference ← identifier_of reference
-  cents ← amount_of s cents
+  reference ← in_field name.Reference (text_in line.reference)
+  cents ← in_field name.Cents (whole_in line.cents)
+  reference ← in_field name.Reference (identifier_of reference)
+  cents ← in_field name.Cents (amount_of s cents)
   asker ← known_of s asker
   Ok (record { asker = asker; reference = reference; cents = cents })
 
 -- a submission
-unfoldable pub submit_of : HubSettings → Asker → LineFields → Result Ask Fault
+unfoldable pub submit_of : HubSettings → Asker → LineFields → Result Ask Refusal
 submit_of s asker line = do
-  id ← text_in line.id
-  to ← code_in line.to
-  cents ← whole_in line.cents
-  stamp ← whole_in line.stamp
-  id ← identifier_of id
-  cents ← amount_of s cents
-  stamp ← stamp_of s stamp
+  id ← in_field name.Id (text_in line.id)
+  to ← in_field name.To (code_in line.to)
+  cents ← in_field name.Cents (whole_in line.cents)
+  stamp ← in_field name.Stamp (whole_in line.stamp)
+  id ← in_field name.Id (identifier_of id)
+  cents ← in_field name.Cents (amount_of s cents)
+  stamp ← in_field name.Stamp (stamp_of s stamp)
   asker ← known_of s asker
-  to ← participant_of s to
+  to ← in_field name.To (participant_of s to)
   Ok (asking asker (command.Submit (record { id = id; to = to; cents = cents; stamp = stamp })))
 
 -- the transfer that a beneficiary confirms or rejects
-unfoldable pub received_of : HubSettings → Asker → LineFields → Result Received Fault
+unfoldable pub received_of : HubSettings → Asker → LineFields → Result Received Refusal
 received_of s asker line = do
-  from ← code_in line.from
-  id ← text_in line.id
-  id ← identifier_of id
+  from ← in_field name.From (code_in line.from)
+  id ← in_field name.Id (text_in line.id)
+  id ← in_field name.Id (identifier_of id)
   asker ← known_of s asker
-  from ← participant_of s from
+  from ← in_field name.From (participant_of s from)
   Ok (record { asker = asker; from = from; id = id })
 
 -- a rejection
-unfoldable pub reject_of : HubSettings → Asker → LineFields → Result Ask Fault
+unfoldable pub reject_of : HubSettings → Asker → LineFields → Result Ask Refusal
 reject_of s asker line = do
-  reason ← reason_in line.reason
+  reason ← in_field name.Reason (reason_in line.reason)
   transfer ← received_of s asker line
   Ok (asking transfer.asker (command.Reject transfer.from transfer.id reason))
 
 -- an investigation
-unfoldable pub investigate_of : HubSettings → Asker → LineFields → Result Ask Fault
+unfoldable pub investigate_of : HubSettings → Asker → LineFields → Result Ask Refusal
 investigate_of s asker line = do
-  id ← text_in line.id
-  id ← identifier_of id
+  id ← in_field name.Id (text_in line.id)
+  id ← in_field name.Id (identifier_of id)
   asker ← known_of s asker
   Ok (asking asker (command.Investigate id))
 
 -- a fetch of forwarded transfers
-unfoldable pub fetch_of : HubSettings → Asker → LineFields → Result Ask Fault
+unfoldable pub fetch_of : HubSettings → Asker → LineFields → Result Ask Refusal
 fetch_of s asker line = do
-  max ← count_in line.max
+  max ← in_field name.Max (count_in line.max)
   asker ← known_of s asker
   Ok (asking asker (command.Fetch max))
 
 -- a question for statement lines
-unfoldable pub statement_of : HubSettings → Asker → LineFields → Result Ask Fault
+unfoldable pub statement_of : HubSettings → Asker → LineFields → Result Ask Refusal
 statement_of s asker line = do
-  skip ← whole_in line.skip
-  count ← count_in line.count
+  skip ← in_field name.Skip (whole_in line.skip)
+  count ← in_field name.Count (count_in line.count)
   asker ← known_of s asker
   Ok (asking asker (command.Statement skip count))
 
 -- the ask of a command line with a verb
-unfoldable pub command_of : HubSettings → Asker → LineFields → Verb → Result Ask Fault
+unfoldable pub command_of : HubSettings → Asker → LineFields → Verb → Result Ask Refusal
 command_of s asker line verb.Fund = do
   funding ← funding_of s asker line
   Ok (asking funding.asker (command.Fund funding.reference funding.cents))
@@ -105,9 +106,8 @@ command_of s asker line verb.Position = do
 command_of s asker line verb.Statement = statement_of s asker line
 
 -- the ask of a command line
-unfoldable pub ask_of : HubSettings → LineFields → Result Ask Fault
+unfoldable pub ask_of : HubSettings → LineFields → Result Ask Refusal
 ask_of s line = do
-  name ← text_in line.cmd
-  verb ← verb_of name
+  verb ← in_field name.Cmd (verb_in line.cmd)
   asker ← asker_of line
   command_of s asker line verb

@@ -1,3 +1,4 @@
+pub mod Name
 pub mod Refusals
 pub mod Fields
 pub mod Verb

@@ -9,11 +9,12 @@ use Rattle.inst_base.specs.declared.fault.Fault.{Fault}
 use Rattle.inst_base.specs.declared.fault.Fault.TheVariants.{NotJson}
 use Rattle.inst_settings.specs.Settings.{HubSettings}
 use Rattle.inst_command.specs.declared.ask.Ask.{Ask}
-use Rattle.inst_json.specs.Refusals.{◌>>=◌}
+use Rattle.inst_json.specs.Refusals.{◌>>=◌, as_whole, by_fault}
 use Rattle.inst_command.specs.declared.step.Step.{Step}
 use Rattle.inst_scan.specs.Fields.{fields_of}
 use Rattle.inst_json.specs.Commands.{ask_of}
 use Rattle.inst_json.specs.Steps.{step_of}
+use Rattle.inst_json.specs.declared.refusal.Refusal.{Refusal}
 
 -- the value of JSON that a text is, before its numbers are read
 abbrev pub document : List ℕ → Option Json
@@ -23,14 +24,22 @@ document text = option_and_then (λ p. if_last p.0 p.1) (value max_depth (tokens
 unfoldable pub json_of : List ℕ → Result Data Fault
 json_of line = ok_or (if is_utf8 line then read line else None) NotJson
 
--- the ask of a line
-unfoldable pub command_of_line : HubSettings → List ℕ → Result Ask Fault
-command_of_line s line = do
-  value ← json_of line
+-- what a line asks, or why it asks nothing
+unfoldable pub ask_of_line : HubSettings → List ℕ → Result Ask Refusal
+ask_of_line s line = do
+  value ← as_whole (json_of line)
   ask_of s (fields_of value)
 
--- the step of a script line
-unfoldable pub step_of_line : HubSettings → List ℕ → Result Step Fault
-step_of_line s line = do
-  value ← json_of line
+-- the same, with no more than what the reply tells
+unfoldable pub command_of_line : HubSettings → List ℕ → Result Ask Fault
+command_of_line s line = by_fault (ask_of_line s line)
+
+-- which step a script line is, or why it is none
+unfoldable pub move_of_line : HubSettings → List ℕ → Result Step Refusal
+move_of_line s line = do
+  value ← as_whole (json_of line)
   step_of s (fields_of value)
+
+-- the same, with no more than what the reply tells
+unfoldable pub step_of_line : HubSettings → List ℕ → Result Step Fault
+step_of_line s line = by_fault (move_of_line s line)

@@ -1,68 +1,69 @@
 -- The steps of script lines. Each is a table of its fields, in which no order counts, and then the checks of
 -- what they hold, in the order in which refusals are told: moments, participants. Steps are this hub's own.
 use Rattle.std.specs.Prelude.{ℕ, List, Result, Ok, Err, if◌then◌else◌, codes}
-use Rattle.inst_base.specs.declared.fault.Fault.{Fault}
 use Rattle.inst_base.specs.declared.fault.Fault.TheVariants.{BadField}
 use Rattle.inst_settings.specs.Settings.{HubSettings, same_text}
 use Rattle.inst_command.specs.declared.step.Step.{Step}
 use Rattle.inst_command.specs.declared.step.Step.TheVariants as step
 use Rattle.inst_scan.specs.Fields.{LineFields}
-use Rattle.inst_json.specs.Refusals.{◌>>=◌}
+use Rattle.inst_json.specs.Refusals.{◌>>=◌, in_field}
 use Rattle.inst_json.specs.Fields.{text_in, code_in, place_in, is_there}
 use Rattle.inst_json.specs.Checks.{participant_of}
 use Rattle.inst_json.specs.Asker.{asker_of, known_of}
 use Rattle.inst_json.specs.Commands.{ask_of}
+use Rattle.inst_json.specs.declared.name.Name.TheVariants as name
+use Rattle.inst_json.specs.declared.refusal.Refusal.{Refusal}
 use Rattle.inst_json.specs.declared.step.Passing.{Passing}
 
 -- a participant, and the place of an originator's transfer that it comes to know of
-unfoldable pub passing_of : HubSettings → LineFields → Result Passing Fault
+unfoldable pub passing_of : HubSettings → LineFields → Result Passing Refusal
 passing_of s line = do
-  who ← code_in line.who
-  from ← code_in line.from
-  place ← place_in line.place
-  who ← participant_of s who
-  from ← participant_of s from
+  who ← in_field name.Who (code_in line.who)
+  from ← in_field name.From (code_in line.from)
+  place ← in_field name.Place (place_in line.place)
+  who ← in_field name.Who (participant_of s who)
+  from ← in_field name.From (participant_of s from)
   Ok (record { who = who; from = from; place = place })
 
 -- the transfer at a place of `from` comes to the asker
-unfoldable pub deliver_of : HubSettings → LineFields → Result Step Fault
+unfoldable pub deliver_of : HubSettings → LineFields → Result Step Refusal
 deliver_of s line = do
   passing ← passing_of s line
   Ok (step.Deliver passing.from passing.place passing.who)
 
 -- the asker books the decided outcome of the transfer at a place of `from`
-unfoldable pub learn_of : HubSettings → LineFields → Result Step Fault
+unfoldable pub learn_of : HubSettings → LineFields → Result Step Refusal
 learn_of s line = do
   passing ← passing_of s line
   Ok (step.Learn passing.who passing.from passing.place)
 
 -- the asker books the outcome of its own transfer at a place, or times it out when due
-unfoldable pub expire_of : HubSettings → LineFields → Result Step Fault
+unfoldable pub expire_of : HubSettings → LineFields → Result Step Refusal
 expire_of s line = do
   asker ← asker_of line
-  place ← place_in line.place
+  place ← in_field name.Place (place_in line.place)
   asker ← known_of s asker
   Ok (step.Expire asker.who place asker.at)
 
 -- the step that a name stands for
-abbrev pub step_named : HubSettings → LineFields → List ℕ → Result Step Fault
-step_named s line name =
-    if same_text name (codes "deliver") then deliver_of s line else
-    (if same_text name (codes "learn") then learn_of s line else
-    (if same_text name (codes "expire") then expire_of s line else Err BadField))
+abbrev pub step_named : HubSettings → LineFields → List ℕ → Result Step Refusal
+step_named s line text =
+    if same_text text (codes "deliver") then deliver_of s line else
+    (if same_text text (codes "learn") then learn_of s line else
+    (if same_text text (codes "expire") then expire_of s line else in_field name.Step (Err BadField)))
 
 -- the step that the field `step` names
-unfoldable pub move_of : HubSettings → LineFields → Result Step Fault
+unfoldable pub move_of : HubSettings → LineFields → Result Step Refusal
 move_of s line = do
-  name ← text_in line.step
-  step_named s line name
+  text ← in_field name.Step (text_in line.step)
+  step_named s line text
 
 -- the ask of a command line, as a step
-unfoldable pub asked_of : HubSettings → LineFields → Result Step Fault
+unfoldable pub asked_of : HubSettings → LineFields → Result Step Refusal
 asked_of s line = do
   ask ← ask_of s line
   Ok (step.Ask ask)
 
 -- the step of a script line: an object with the field `step`, whatever it holds, is read by that field alone
-unfoldable pub step_of : HubSettings → LineFields → Result Step Fault
+unfoldable pub step_of : HubSettings → LineFields → Result Step Refusal
 step_of s line = if is_there line.step then move_of s line else asked_of s line

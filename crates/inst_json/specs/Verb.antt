@@ -3,6 +3,9 @@ use Rattle.std.specs.Prelude.{ℕ, List, Result, Ok, Err, if◌then◌else◌, c
 use Rattle.inst_base.specs.declared.fault.Fault.{Fault}
 use Rattle.inst_base.specs.declared.fault.Fault.TheVariants.{BadField}
 use Rattle.inst_settings.specs.Settings.{same_text}
+use Rattle.inst_scan.specs.Fields.{Found}
+use Rattle.inst_json.specs.Refusals.{◌>>=◌}
+use Rattle.inst_json.specs.Fields.{text_in}
 use Rattle.inst_json.specs.declared.verb.Verb.{Verb}
 use Rattle.inst_json.specs.declared.verb.Verb.TheVariants.{Fund, Defund, Submit, Confirm, Reject, Investigate, Fetch, Position, Statement}
 
@@ -18,3 +21,7 @@ verb_of name =
     (if same_text name (codes "fetch") then Ok Fetch else
     (if same_text name (codes "position") then Ok Position else
     (if same_text name (codes "statement") then Ok Statement else Err BadField))))))))
+
+-- the verb in a field
+unfoldable pub verb_in : Found → Result Verb Fault
+verb_in field = text_in field >>= verb_of

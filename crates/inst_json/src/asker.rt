@@ -6,7 +6,9 @@ ghost use Rattle.inst_json.specs.Asker.{asker_of, known_of, asking};
 
 use crate::checks::{moment, participant};
 use crate::fields::{code, whole};
-use inst_base::{Code, Fault, Moment};
+use crate::refusal::in_field;
+use crate::{Name, Refusal};
+use inst_base::{Code, Moment};
 use inst_command::{Ask, Command};
 use inst_scan::Fields;
 use inst_settings::Settings;
@@ -27,12 +29,12 @@ pub(crate) struct KnownAsker {
 
 /// The asker of a line, or `BadField`.
 #[tactic(auto, unfolding(crate::specs::Asker::asker_of))]
-pub(crate) fn asker_of(line: &Fields<'_>) -> Result<Asker, Fault>
+pub(crate) fn asker_of(line: &Fields<'_>) -> Result<Asker, Refusal>
     ensures { result ≡ asker_of (fields_told line.now) }
 {
     Ok(Asker {
-        who: code(line.who)?,
-        at: whole(line.at)?,
+        who: in_field(Name::Who, code(line.who))?,
+        at: in_field(Name::At, whole(line.at))?,
     })
 }
 
@@ -40,12 +42,12 @@ impl Asker {
     /// The asker as a participant, or `BadMoment` where the reading is outside the moments of the
     /// hub, and else `UnknownParticipant`.
     #[tactic(auto, unfolding(crate::specs::Asker::known_of))]
-    pub(crate) fn known(&self, settings: &Settings) -> Result<KnownAsker, Fault>
+    pub(crate) fn known(&self, settings: &Settings) -> Result<KnownAsker, Refusal>
         ensures value { result ≡ known_of settings.now self.now }
         ensures fits { IfOk result (λ asker. is_participant settings.now asker.who ≡ true) }
     {
-        let at = moment(settings, self.at)?;
-        let who = participant(settings, &self.who)?;
+        let at = in_field(Name::At, moment(settings, self.at))?;
+        let who = in_field(Name::Who, participant(settings, &self.who))?;
         Ok(KnownAsker { who, at })
     }
 }

@@ -8,8 +8,10 @@ ghost use Rattle.inst_json.specs.Commands.{funding_of, submit_of, received_of, r
 use crate::asker::{Asker, KnownAsker, asker_of};
 use crate::checks::{amount, participant, time_stamp};
 use crate::fields::{code, count, reason, text, whole};
-use crate::verb::{Verb, verb_of};
-use inst_base::{Cents, Fault, Ident};
+use crate::refusal::in_field;
+use crate::verb::{Verb, verb_in};
+use crate::{Name, Refusal};
+use inst_base::{Cents, Ident};
 use inst_command::{Ask, Command, Submission};
 use inst_scan::Fields;
 use inst_settings::Settings;
@@ -24,15 +26,15 @@ struct Funding {
 
 /// What a fund or defund command says, or the first refusal of its line.
 #[tactic(auto, unfolding(crate::specs::Commands::funding_of))]
-fn funding_of(settings: &Settings, asker: &Asker, line: &Fields<'_>) -> Result<Funding, Fault>
+fn funding_of(settings: &Settings, asker: &Asker, line: &Fields<'_>) -> Result<Funding, Refusal>
     ensures value { result ≡ funding_of settings.now asker.now (fields_told line.now) }
     ensures asker_fits { IfOk result (λ funding. is_participant settings.now funding.asker.who ≡ true) }
     ensures cents_fit { IfOk result (λ funding. is_within_ceiling settings.now funding.cents ≡ true) }
 {
-    let reference = text(line.reference)?;
-    let cents = whole(line.cents)?;
-    let reference = Ident::new(reference)?;
-    let cents = amount(settings, cents)?;
+    let reference = in_field(Name::Reference, text(line.reference))?;
+    let cents = in_field(Name::Cents, whole(line.cents))?;
+    let reference = in_field(Name::Reference, Ident::new(reference))?;
+    let cents = in_field(Name::Cents, amount(settings, cents))?;
     let asker = asker.known(settings)?;
     Ok(Funding {
         asker,
@@ -43,19 +45,19 @@ fn funding_of(settings: &Settings, asker: &Asker, line: &Fields<'_>) -> Result<F
 
 /// A submission, or the first refusal of its line.
 #[tactic(auto, unfolding(crate::specs::Commands::submit_of))]
-fn submit(settings: &Settings, asker: &Asker, line: &Fields<'_>) -> Result<Ask, Fault>
+fn submit(settings: &Settings, asker: &Asker, line: &Fields<'_>) -> Result<Ask, Refusal>
     ensures value { result ≡ submit_of settings.now asker.now (fields_told line.now) }
     ensures fits { IfOk result (λ ask. ask_fits settings.now ask ≡ true) }
 {
-    let id = text(line.id)?;
-    let to = code(line.to)?;
-    let cents = whole(line.cents)?;
-    let stamp = whole(line.stamp)?;
-    let id = Ident::new(id)?;
-    let cents = amount(settings, cents)?;
-    let stamp = time_stamp(settings, stamp)?;
+    let id = in_field(Name::Id, text(line.id))?;
+    let to = in_field(Name::To, code(line.to))?;
+    let cents = in_field(Name::Cents, whole(line.cents))?;
+    let stamp = in_field(Name::Stamp, whole(line.stamp))?;
+    let id = in_field(Name::Id, Ident::new(id))?;
+    let cents = in_field(Name::Cents, amount(settings, cents))?;
+    let stamp = in_field(Name::Stamp, time_stamp(settings, stamp))?;
     let asker = asker.known(settings)?;
-    let to = participant(settings, &to)?;
+    let to = in_field(Name::To, participant(settings, &to))?;
     Ok(asker.asks(Command::Submit(Submission {
         id,
         to,
@@ -74,72 +76,72 @@ struct Received {
 
 /// What a confirmation or rejection is of, or the first refusal of its line.
 #[tactic(auto, unfolding(crate::specs::Commands::received_of))]
-fn received_of(settings: &Settings, asker: &Asker, line: &Fields<'_>) -> Result<Received, Fault>
+fn received_of(settings: &Settings, asker: &Asker, line: &Fields<'_>) -> Result<Received, Refusal>
     ensures value { result ≡ received_of settings.now asker.now (fields_told line.now) }
     ensures asker_fits { IfOk result (λ transfer. is_participant settings.now transfer.asker.who ≡ true) }
     ensures from_fits { IfOk result (λ transfer. is_participant settings.now transfer.from ≡ true) }
 {
-    let from = code(line.from)?;
-    let id = text(line.id)?;
-    let id = Ident::new(id)?;
+    let from = in_field(Name::From, code(line.from))?;
+    let id = in_field(Name::Id, text(line.id))?;
+    let id = in_field(Name::Id, Ident::new(id))?;
     let asker = asker.known(settings)?;
-    let from = participant(settings, &from)?;
+    let from = in_field(Name::From, participant(settings, &from))?;
     Ok(Received { asker, from, id })
 }
 
 /// A rejection, or the first refusal of its line.
 #[tactic(auto, unfolding(crate::specs::Commands::reject_of))]
-fn reject(settings: &Settings, asker: &Asker, line: &Fields<'_>) -> Result<Ask, Fault>
+fn reject(settings: &Settings, asker: &Asker, line: &Fields<'_>) -> Result<Ask, Refusal>
     ensures value { result ≡ reject_of settings.now asker.now (fields_told line.now) }
     ensures fits { IfOk result (λ ask. ask_fits settings.now ask ≡ true) }
 {
-    let reason = reason(line.reason)?;
+    let reason = in_field(Name::Reason, reason(line.reason))?;
     let Received { asker, from, id } = received_of(settings, asker, line)?;
     Ok(asker.asks(Command::Reject { from, id, reason }))
 }
 
 /// An investigation, or the first refusal of its line.
 #[tactic(auto, unfolding(crate::specs::Commands::investigate_of))]
-fn investigate(settings: &Settings, asker: &Asker, line: &Fields<'_>) -> Result<Ask, Fault>
+fn investigate(settings: &Settings, asker: &Asker, line: &Fields<'_>) -> Result<Ask, Refusal>
     ensures value { result ≡ investigate_of settings.now asker.now (fields_told line.now) }
     ensures fits { IfOk result (λ ask. ask_fits settings.now ask ≡ true) }
 {
-    let id = text(line.id)?;
-    let id = Ident::new(id)?;
+    let id = in_field(Name::Id, text(line.id))?;
+    let id = in_field(Name::Id, Ident::new(id))?;
     let asker = asker.known(settings)?;
     Ok(asker.asks(Command::Investigate { id }))
 }
 
 /// A fetch of forwarded transfers, or the first refusal of its line.
 #[tactic(auto, unfolding(crate::specs::Commands::fetch_of))]
-fn fetch(settings: &Settings, asker: &Asker, line: &Fields<'_>) -> Result<Ask, Fault>
+fn fetch(settings: &Settings, asker: &Asker, line: &Fields<'_>) -> Result<Ask, Refusal>
     ensures value { result ≡ fetch_of settings.now asker.now (fields_told line.now) }
     ensures fits { IfOk result (λ ask. ask_fits settings.now ask ≡ true) }
 {
-    let max = count(line.max)?;
+    let max = in_field(Name::Max, count(line.max))?;
     let asker = asker.known(settings)?;
     Ok(asker.asks(Command::Fetch { max }))
 }
 
 /// A question for statement lines, or the first refusal of its line.
 #[tactic(auto, unfolding(crate::specs::Commands::statement_of))]
-fn statement(settings: &Settings, asker: &Asker, line: &Fields<'_>) -> Result<Ask, Fault>
+fn statement(settings: &Settings, asker: &Asker, line: &Fields<'_>) -> Result<Ask, Refusal>
     ensures value { result ≡ statement_of settings.now asker.now (fields_told line.now) }
     ensures fits { IfOk result (λ ask. ask_fits settings.now ask ≡ true) }
 {
-    let skip = whole(line.skip)?;
-    let count = count(line.count)?;
+    let skip = in_field(Name::Skip, whole(line.skip))?;
+    let count = in_field(Name::Count, count(line.count))?;
     let asker = asker.known(settings)?;
     Ok(asker.asks(Command::Statement { skip, count }))
 }
 
 /// The ask of a command line's fields, or the first refusal of the line.
 #[tactic(auto, unfolding(crate::specs::Commands::ask_of, crate::specs::Commands::command_of))]
-pub(crate) fn ask_of(settings: &Settings, line: &Fields<'_>) -> Result<Ask, Fault>
+pub(crate) fn ask_of(settings: &Settings, line: &Fields<'_>) -> Result<Ask, Refusal>
     ensures value { result ≡ ask_of settings.now (fields_told line.now) }
     ensures fits { IfOk result (λ ask. ask_fits settings.now ask ≡ true) }
 {
-    let verb = verb_of(text(line.cmd)?)?;
+    let verb = in_field(Name::Cmd, verb_in(line.cmd))?;
     let asker = asker_of(line)?;
     match verb {
         Verb::Fund => {

@@ -9,6 +9,8 @@ use crate::asker::{KnownAsker, asker_of};
 use crate::checks::participant;
 use crate::command::ask_of;
 use crate::fields::{code, is_there, place, text};
+use crate::refusal::in_field;
+use crate::{Name, Refusal};
 use inst_base::Fault;
 use inst_command::Step;
 use inst_scan::Fields;
@@ -17,7 +19,7 @@ use inst_settings::Settings;
 /// The step of a script line's fields, or the first refusal of the line: what its field `step` names,
 /// or else its ask.
 #[tactic(auto, unfolding(crate::specs::Steps::step_of, crate::specs::Steps::asked_of))]
-pub(crate) fn step_of(settings: &Settings, line: &Fields<'_>) -> Result<Step, Fault>
+pub(crate) fn step_of(settings: &Settings, line: &Fields<'_>) -> Result<Step, Refusal>
     ensures value { result ≡ step_of settings.now (fields_told line.now) }
     ensures fits { IfOk result (λ step. step_fits settings.now step ≡ true) }
 {
@@ -29,15 +31,18 @@ pub(crate) fn step_of(settings: &Settings, line: &Fields<'_>) -> Result<Step, Fa
 
 /// The step that the field `step` names, or the first refusal of its line.
 #[tactic(auto, unfolding(crate::specs::Steps::move_of))]
-fn move_of(settings: &Settings, line: &Fields<'_>) -> Result<Step, Fault>
+fn move_of(settings: &Settings, line: &Fields<'_>) -> Result<Step, Refusal>
     ensures value { result ≡ move_of settings.now (fields_told line.now) }
     ensures fits { IfOk result (λ step. step_fits settings.now step ≡ true) }
 {
-    match text(line.step)? {
+    match in_field(Name::Step, text(line.step))? {
         "deliver" => deliver(settings, line),
         "learn" => learn(settings, line),
         "expire" => expire(settings, line),
-        _ => Err(Fault::BadField),
+        _ => Err(Refusal {
+            fault: Fault::BadField,
+            field: Some(Name::Step),
+        }),
     }
 }
 
@@ -51,22 +56,22 @@ struct Passing {
 
 /// What a delivery or a booking is of, or the first refusal of its line.
 #[tactic(auto, unfolding(crate::specs::Steps::passing_of))]
-fn passing_of(settings: &Settings, line: &Fields<'_>) -> Result<Passing, Fault>
+fn passing_of(settings: &Settings, line: &Fields<'_>) -> Result<Passing, Refusal>
     ensures value { result ≡ passing_of settings.now (fields_told line.now) }
     ensures who_fits { IfOk result (λ passing. is_participant settings.now passing.who ≡ true) }
     ensures from_fits { IfOk result (λ passing. is_participant settings.now passing.from ≡ true) }
 {
-    let who = code(line.who)?;
-    let from = code(line.from)?;
-    let place = place(line.place)?;
-    let who = participant(settings, &who)?;
-    let from = participant(settings, &from)?;
+    let who = in_field(Name::Who, code(line.who))?;
+    let from = in_field(Name::From, code(line.from))?;
+    let place = in_field(Name::Place, place(line.place))?;
+    let who = in_field(Name::Who, participant(settings, &who))?;
+    let from = in_field(Name::From, participant(settings, &from))?;
     Ok(Passing { who, from, place })
 }
 
 /// A delivery, or the first refusal of its line.
 #[tactic(auto, unfolding(crate::specs::Steps::deliver_of))]
-fn deliver(settings: &Settings, line: &Fields<'_>) -> Result<Step, Fault>
+fn deliver(settings: &Settings, line: &Fields<'_>) -> Result<Step, Refusal>
     ensures value { result ≡ deliver_of settings.now (fields_told line.now) }
     ensures fits { IfOk result (λ step. step_fits settings.now step ≡ true) }
 {
@@ -80,7 +85,7 @@ fn deliver(settings: &Settings, line: &Fields<'_>) -> Result<Step, Fault>
 
 /// A booking of what was decided, or the first refusal of its line.
 #[tactic(auto, unfolding(crate::specs::Steps::learn_of))]
-fn learn(settings: &Settings, line: &Fields<'_>) -> Result<Step, Fault>
+fn learn(settings: &Settings, line: &Fields<'_>) -> Result<Step, Refusal>
     ensures value { result ≡ learn_of settings.now (fields_told line.now) }
     ensures fits { IfOk result (λ step. step_fits settings.now step ≡ true) }
 {
@@ -90,12 +95,12 @@ fn learn(settings: &Settings, line: &Fields<'_>) -> Result<Step, Fault>
 
 /// An expiry, or the first refusal of its line.
 #[tactic(auto, unfolding(crate::specs::Steps::expire_of))]
-fn expire(settings: &Settings, line: &Fields<'_>) -> Result<Step, Fault>
+fn expire(settings: &Settings, line: &Fields<'_>) -> Result<Step, Refusal>
     ensures value { result ≡ expire_of settings.now (fields_told line.now) }
     ensures fits { IfOk result (λ step. step_fits settings.now step ≡ true) }
 {
     let asker = asker_of(line)?;
-    let place = place(line.place)?;
+    let place = in_field(Name::Place, place(line.place))?;
     let KnownAsker { who, at } = asker.known(settings)?;
     Ok(Step::Expire { who, place, at })
 }

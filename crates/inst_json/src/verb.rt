@@ -1,7 +1,10 @@
 ghost use Rattle.std.specs.Prelude.{◌≡◌};
-ghost use Rattle.inst_json.specs.Verb.{verb_of};
+ghost use Rattle.inst_scan.specs.Fields.{told};
+ghost use Rattle.inst_json.specs.Verb.{verb_of, verb_in};
 
+use crate::fields::text;
 use inst_base::Fault;
+use inst_scan::Field;
 
 /// What a command line asks for, by its field `cmd`.
 #[derive(Clone, Copy)]
@@ -19,7 +22,7 @@ pub(crate) enum Verb {
 
 /// The verb of this name, or `BadField` where no command has it.
 #[tactic(auto, unfolding(crate::specs::Verb::verb_of))]
-pub(crate) fn verb_of(name: &str) -> Result<Verb, Fault>
+fn verb_of(name: &str) -> Result<Verb, Fault>
     ensures { result ≡ verb_of name.now }
 {
     match name {
@@ -34,4 +37,12 @@ pub(crate) fn verb_of(name: &str) -> Result<Verb, Fault>
         "statement" => Ok(Verb::Statement),
         _ => Err(Fault::BadField),
     }
+}
+
+/// The verb in a field, or `BadField` where there is none.
+#[tactic(auto, unfolding(crate::specs::Verb::verb_in))]
+pub(crate) fn verb_in(field: Field<'_>) -> Result<Verb, Fault>
+    ensures { result ≡ verb_in (told field.entry) }
+{
+    verb_of(text(field)?)
 }

@@ -3,7 +3,7 @@ ghost use Rattle.std.specs.Prelude.{◌≡◌, IfOk};
 ghost use Rattle.inst_settings.specs.Settings.{participants};
 
 use inst_base::Code;
-use inst_settings::Settings;
+use inst_settings::{Numbers, Settings};
 use std::alloc::Global;
 use std::test::Fail;
 
@@ -19,14 +19,10 @@ pub(crate) fn hub(alloc: Global, ceiling: u64, base: u64) -> Result<Settings, Fa
         Code::new("BBBBFRPP")?,
         Code::new("CCCCITMM")?,
     ];
-    Ok(Settings::check(
-        codes.to_vec(alloc)?,
-        256,
-        256,
-        10_000,
-        0,
-        1000,
+    let numbers = Numbers {
         ceiling,
         base,
-    )?)
+        ..Numbers::DEFAULT
+    };
+    Ok(Settings::check(codes.to_vec(alloc)?, numbers)?)
 }

@@ -1,7 +1,7 @@
 // What lines are refused for, in the order of the refusals.
 use crate::hub::{MOST, hub};
 use inst_base::Fault;
-use inst_json::{read_command, read_step};
+use inst_json::{LineReader, Name, Refusal, read_command, read_step};
 use inst_settings::Settings;
 use std::process::Abort;
 use std::test::Fail;
@@ -148,5 +148,56 @@ fn refuses_steps(rt: &(impl Abort + AllocGlobal), hub: &Settings) {
 fn refuses_steps_in_order(rt: HostRuntime) -> Result<(), Fail> {
     let hub = hub(rt.alloc(), MOST, 0)?;
     refuses_steps(&rt, &hub);
+    Ok(())
+}
+
+/// A line, what it is refused for, and the name of the field by which.
+type Blame = (&'static str, Fault, Option<Name>, &'static str);
+
+/// Of commands.
+const BLAMED: &[Blame] = &[
+    ("{", Fault::NotJson, None, ""),
+    ("{}", Fault::BadField, Some(Name::Cmd), "cmd"),
+    (
+        r#"{"at":0,"cents":0,"cmd":"fund","ref":"","who":"DDDDESMM"}"#,
+        Fault::BadIdentifier,
+        Some(Name::Reference),
+        "ref",
+    ),
+    (
+        r#"{"at":9999999999999,"cents":0,"cmd":"submit","id":"T","stamp":0,"to":"DDDDESMM","who":"DDDDESMM"}"#,
+        Fault::BadAmount,
+        Some(Name::Cents),
+        "cents",
+    ),
+    (
+        r#"{"at":0,"cents":1,"cmd":"submit","id":"T","stamp":0,"to":"DDDDESMM","who":"AAAADEFF"}"#,
+        Fault::UnknownParticipant,
+        Some(Name::To),
+        "to",
+    ),
+];
+
+/// Each line is refused by its field.
+fn blames(rt: &(impl Abort + AllocGlobal), hub: &Settings) {
+    let mut reader = LineReader::new(rt.alloc());
+    for &(line, fault, field, name) in BLAMED {
+        let read = reader.read_ask(hub, line.as_bytes());
+        assert_eq!(rt; read, Err(Refusal { fault, field }), "{line}");
+        assert_eq!(rt; field.map_or("", Name::as_str), name);
+    }
+    let step = reader.read_move(
+        hub,
+        br#"{"from":"AAAADEFF","step":"learn","who":"AAAADEFF"}"#,
+    );
+    let field = Some(Name::Place);
+    let fault = Fault::BadField;
+    assert_eq!(rt; step, Err(Refusal { fault, field }));
+}
+
+#[test]
+fn blames_the_first_wrong_field(rt: HostRuntime) -> Result<(), Fail> {
+    let hub = hub(rt.alloc(), 1_000, 0)?;
+    blames(&rt, &hub);
     Ok(())
 }

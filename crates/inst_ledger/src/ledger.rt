@@ -1,4 +1,4 @@
-ghost use Rattle.std.specs.Prelude.{◌≡◌, ◌<◌, [], ◌∷◌, ◌++◌, IfOk, OnOk, IsOkUnless};
+ghost use Rattle.std.specs.Prelude.{◌≡◌, ◌<◌, [], ◌∷◌, ◌++◌, IfOk, OnOk};
 ghost use Rattle.inst_settings.specs.Lawful.{IsSettings};
 ghost use Rattle.inst_journal.specs.Opened.{openings};
 ghost use Rattle.inst_journal.specs.Sound.{IsSound};
@@ -9,13 +9,12 @@ mod reading;
 
 use crate::references::References;
 use crate::totals::Totals;
-use inst_base::Fault;
 use inst_command::Outcome;
 use inst_journal::{Event, Journal};
 use inst_settings::Settings;
 use inst_statement::KeptStatement;
 use inst_transfers::Transfers;
-use std::alloc::Global;
+use std::alloc::{AllocError, Global};
 use std::marker::Model;
 
 /// The books of one participant: its history, which is sound, and beside it running totals, tables and the
@@ -53,19 +52,17 @@ impl Model for Ledger {
 }
 
 /// A copy of the settings, in memory of its own: they have a table, and who moves a ledger doesn't move that.
-fn boxed(alloc: Global, settings: &Settings) -> Result<Box<Settings>, Fault>
+fn boxed(alloc: Global, settings: &Settings) -> Result<Box<Settings>, AllocError>
     ensures ok { IfOk result (λ b. b.value ≡ settings.now) }
     ensures lawful { IsSettings settings.now }
-    ensures only { IsOkUnless result Fault.Memory }
 {
     Ok(Box::new(alloc, settings.copy()?)?)
 }
 
 impl Ledger {
-    /// The books of the participant `who`, with no history. `Memory` where the settings can't be copied.
-    pub fn open(alloc: Global, settings: &Settings, who: u8) -> Result<Ledger, Fault>
+    /// The books of the participant `who`, with no history. They have a copy of the settings.
+    pub fn open(alloc: Global, settings: &Settings, who: u8) -> Result<Ledger, AllocError>
         ensures ok { IfOk result (λ l. l.book ≡ record { settings = settings.now; who = who; events = [] }) }
-        ensures only { IsOkUnless result Fault.Memory }
     {
         Ok(Ledger {
             settings: boxed(alloc, settings)?,
@@ -81,14 +78,14 @@ impl Ledger {
         })
     }
 
-    /// The books of the participant `who` with this history, opened again from them. `Memory` where it
-    /// can't be copied. It costs a look at a table for each event.
+    /// The books of the participant `who` with this history, opened again from them. It is copied. It costs
+    /// a look at a table for each event.
     pub fn open_from(
         alloc: Global,
         settings: &Settings,
         who: u8,
         journal: &Journal,
-    ) -> Result<Ledger, Fault>
+    ) -> Result<Ledger, AllocError>
         requires sound { IsSound settings.now who journal.now.events }
         requires few { openings journal.now.events < 500 }
         ensures ok { IfOk result (λ l. l.book ≡ record {
@@ -96,7 +93,6 @@ impl Ledger {
           who = who;
           events = journal.now.events ++ Event.Opened ∷ [];
         }) }
-        ensures only { IsOkUnless result Fault.Memory }
     {
         let mut ledger = Ledger::open(alloc, settings, who)?;
         ledger.keep_all(journal)?;
@@ -104,12 +100,12 @@ impl Ledger {
         Ok(ledger)
     }
 
-    /// Keeps all events of a history, the first ones. After `Memory` those are kept for which there was room.
-    fn keep_all(&mut self, journal: &Journal) -> Result<(), Fault>
+    /// Keeps all events of a history, the first ones. Where memory is refused those are kept for which there
+    /// was room.
+    fn keep_all(&mut self, journal: &Journal) -> Result<(), AllocError>
         requires blank { self.old.book.events ≡ [] }
         requires sound { IsSound self.old.book.settings self.old.book.who journal.now.events }
         ensures ok { OnOk result (self.new.book ≡ record self.old.book { events = journal.now.events }) }
-        ensures only { IsOkUnless result Fault.Memory }
     {
         // The check is told of a type of another crate inside an event only where a function names it.
         let _: Option<Outcome> = None;
@@ -128,12 +124,11 @@ impl Ledger {
         &self.journal
     }
 
-    /// Makes room for one more event that brings no new key, or answers `Memory`. The book stays as it is.
-    pub fn reserve(&mut self) -> Result<(), Fault>
+    /// Makes room for one more event that brings no new key. The book stays as it is.
+    pub fn reserve(&mut self) -> Result<(), AllocError>
         ensures book { self.new.book ≡ self.old.book }
         ensures table { self.new.table ≡ self.old.table }
         ensures room { OnOk result (0 < self.new.room) }
-        ensures only { IsOkUnless result Fault.Memory }
     {
         self.journal.reserve()?;
         self.statement.reserve()

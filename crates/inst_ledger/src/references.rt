@@ -1,10 +1,10 @@
 //! What is known of each funding, by its reference.
-ghost use Rattle.std.specs.Prelude.{◌≡◌, ℕ, List, None, OnOk, OnErr, IsOkUnless};
+ghost use Rattle.std.specs.Prelude.{◌≡◌, ℕ, List, None, OnOk, OnErr};
 ghost use Rattle.inst_ledger.specs.References.{funding_at, PutsFunding};
 
 use indexmap::IndexMap;
-use inst_base::{Cents, Fault, Ident};
-use std::alloc::Global;
+use inst_base::{Cents, Ident};
+use std::alloc::{AllocError, Global};
 
 /// A kept fund or defund command.
 #[derive(Clone, Copy, Debug, PartialEq, Eq)]
@@ -36,11 +36,10 @@ impl References {
         self.table.get(reference).copied()
     }
 
-    /// Puts the funding at this reference. After `Memory` all is as it was.
-    pub(crate) fn put(&mut self, reference: Ident, funding: Funding) -> Result<(), Fault>
+    /// Puts the funding at this reference. Where memory is refused all is as it was.
+    pub(crate) fn put(&mut self, reference: Ident, funding: Funding) -> Result<(), AllocError>
         ensures ok { OnOk result (PutsFunding self.old reference funding self.new) }
         ensures err { OnErr result ((key : List ℕ) → funding_at self.new key ≡ funding_at self.old key) }
-        ensures only { IsOkUnless result Fault.Memory }
     {
         self.table.insert(reference, funding)?;
         Ok(())

@@ -1,9 +1,11 @@
 //! Rows that are answered: by the ledger, by the plain functions on its events, and a statement by a walk over them.
 ghost use Rattle.std.specs.Prelude.{◌≡◌, ◌<◌, true, [], IfOk};
+ghost use Rattle.inst_settings.specs.Lawful.{IsSettings};
 ghost use Rattle.inst_command.specs.Ask.{command_fits};
 ghost use Rattle.inst_journal.specs.Opened.{openings};
 
 use crate::asked::{Asks, End, command, outcome};
+use crate::comparing::{same, same_at};
 use crate::told::{Told, are_lines, is_refused, is_reply};
 use inst_base::{Fault, Moment};
 use inst_command::{Ask, Outcome};
@@ -18,9 +20,41 @@ use std::test::Fail;
 /// What is asked, its reading, what is found of its transfer, and what is told.
 pub(crate) type Row = (Asks, u64, Option<End>, Told);
 
-/// Whether that is told, and that is to be kept.
-fn is_handled(handled: &Handled, told: &Told, wanted: &Option<Event>) -> bool {
-    is_reply(&handled.reply, told) && handled.kept == *wanted
+/// Whether the plain function that answers alone answers so.
+fn is_answered(
+    alloc: Global,
+    ledger: &Ledger,
+    ask: &Ask,
+    found: &Option<Outcome>,
+    told: &Told,
+) -> bool
+    requires { command_fits ledger.now.book.settings ask.now.command ≡ true }
+{
+    let (settings, who) = (ledger.settings(), ledger.who());
+    let journal = ledger.journal();
+    match reply_of(alloc, settings, who, journal, &ask.command, ask.at, *found) {
+        Ok(reply) => is_reply(&reply, told),
+        Err(fault) => is_refused(fault, told),
+    }
+}
+
+/// Whether the plain function that handles a command answers so, and says that this is to be kept.
+fn is_handled(
+    alloc: Global,
+    ledger: &Ledger,
+    ask: &Ask,
+    found: &Option<Outcome>,
+    told: &Told,
+    wanted: &Option<Event>,
+) -> bool
+    requires { command_fits ledger.now.book.settings ask.now.command ≡ true }
+{
+    let (settings, who) = (ledger.settings(), ledger.who());
+    let events = ledger.journal().events();
+    match handle_command(alloc, settings, who, events, &ask.command, ask.at, *found) {
+        Ok(handled) => is_reply(&handled.reply, told) && handled.kept == *wanted,
+        Err(fault) => is_refused(fault, told),
+    }
 }
 
 /// Compares what the plain functions answer, and what is to be kept of it.
@@ -31,38 +65,13 @@ fn plainly(
     found: &Option<Outcome>,
     told: &Told,
     wanted: &Option<Event>,
-) -> Result<(), Fail>
+)
     requires { command_fits ledger.now.book.settings ask.now.command ≡ true }
 {
-    let settings = ledger.settings();
-    let who = ledger.who();
-    let journal = ledger.journal();
-    let events = journal.events();
-    match reply_of(
-        rt.alloc(),
-        settings,
-        who,
-        journal,
-        &ask.command,
-        ask.at,
-        *found,
-    ) {
-        Ok(reply) => assert!(rt; is_reply(&reply, told), "{ask:?}"),
-        Err(fault) => assert!(rt; is_refused(fault, told), "{ask:?}"),
-    }
-    match handle_command(
-        rt.alloc(),
-        settings,
-        who,
-        events,
-        &ask.command,
-        ask.at,
-        *found,
-    ) {
-        Ok(handled) => assert!(rt; is_handled(&handled, told, wanted), "{ask:?}"),
-        Err(fault) => assert!(rt; is_refused(fault, told), "{ask:?}"),
-    }
-    Ok(())
+    let is_answered = is_answered(rt.alloc(), ledger, ask, found, told);
+    same_at(rt, *ask, is_answered, true);
+    let is_handled = is_handled(rt.alloc(), ledger, ask, found, told, wanted);
+    same_at(rt, *ask, is_handled, true);
 }
 
 /// Compares the lines that a walk over the events gives, where a statement is asked for.
@@ -75,7 +84,12 @@ fn by_a_walk(
     if let (Asks::Statement(skip, count), Told::Lines(wanted)) = (asks, told) {
         let _ = ledger.settings();
         let lines = statement(rt.alloc(), ledger.journal(), *skip, *count)?;
-        assert!(rt; are_lines(lines.as_slice(), wanted), "{lines:?}");
+        same_at(
+            rt,
+            lines.as_slice(),
+            are_lines(lines.as_slice(), wanted),
+            true,
+        );
     }
     Ok(())
 }
@@ -92,15 +106,15 @@ fn by_the_ledger(
 {
     match ledger.handle(rt.alloc(), &ask.command, ask.at, *found) {
         Ok(Handled { reply, kept }) => {
-            assert!(rt; is_reply(&reply, told), "{ask:?}");
-            plainly(rt, ledger, ask, found, told, &kept)?;
+            same_at(rt, *ask, is_reply(&reply, told), true);
+            plainly(rt, ledger, ask, found, told, &kept);
             if let Some(event) = kept {
                 ledger.keep(event)?;
             }
         }
         Err(fault) => {
-            assert!(rt; is_refused(fault, told), "{ask:?}");
-            plainly(rt, ledger, ask, found, told, &None)?;
+            same_at(rt, *ask, is_refused(fault, told), true);
+            plainly(rt, ledger, ask, found, told, &None);
         }
     }
     Ok(())
@@ -136,12 +150,14 @@ pub(crate) fn answers(
 
 /// So many events were kept.
 pub(crate) fn keeps(rt: &impl Abort, ledger: &Ledger, count: usize) {
-    assert_eq!(rt; ledger.journal().events().len(), count);
+    same(rt, ledger.journal().events().len(), count);
 }
 
 /// The ledger of the participant `who`, with no history.
 pub(crate) fn opened(alloc: Global, who: u8) -> Result<Ledger, Fail>
-    ensures { IfOk result (λ ledger. ledger.book.events ≡ []) }
+    ensures blank { IfOk result (λ ledger. ledger.book.events ≡ []) }
+    ensures own { IfOk result (λ ledger. ledger.book.who ≡ who) }
+    ensures lawful { IfOk result (λ ledger. IsSettings ledger.book.settings) }
 {
     let settings = settings(alloc)?;
     Ok(Ledger::open(alloc, &settings, who)?)

@@ -1,34 +1,32 @@
 //! What a participant is answered to which transfers were forwarded.
-ghost use Rattle.std.specs.Prelude.{◌≤◌};
+ghost use Rattle.std.specs.Prelude.{◌≡◌, ◌≤◌, []};
 ghost use Rattle.inst_settings.specs.Settings.{participants};
 ghost use Rattle.inst_settings.specs.Lawful.{IsSettings};
 
-use crate::answering::{Row, answers, keeps};
+use crate::answering::{Row, answers, keeps, opened};
 use crate::asked::{Asks, End};
+use crate::comparing::same;
 use crate::told::Told;
 use inst_base::{Cents, Fault, Ident, Moment};
 use inst_command::LineKind;
 use inst_journal::Event;
 use inst_ledger::Ledger;
-use inst_rows::settings;
-use inst_settings::Settings;
-use std::alloc::Global;
 use std::process::Abort;
 use std::test::Fail;
 
-/// A ledger of participant 1 to which a transfer of each of two originators was forwarded, of one identifier.
-fn opened(
-    alloc: Global,
-    settings: &Settings,
+/// A transfer of each of two originators is forwarded to participant 1, of one identifier.
+fn forward(
+    ledger: &mut Ledger,
     id: Ident,
     amounts: [Cents; 2],
     deadline: Moment,
-) -> Result<Ledger, Fault>
-    requires lawful { IsSettings settings.now }
-    requires three { 3 ≤ participants settings.now }
+) -> Result<(), Fault>
+    requires blank { ledger.old.book.events ≡ [] }
+    requires own { ledger.old.book.who ≡ 1 }
+    requires lawful { IsSettings ledger.old.book.settings }
+    requires three { 3 ≤ participants ledger.old.book.settings }
 {
     let [first, second] = amounts;
-    let mut ledger = Ledger::open(alloc, settings, 1)?;
     ledger.keep(Event::Forwarded {
         from: 0,
         id,
@@ -41,7 +39,7 @@ fn opened(
         cents: second,
         deadline,
     })?;
-    Ok(ledger)
+    Ok(())
 }
 
 /// A ledger of participant 1 to which T1 over so many cents was forwarded from participant 0, and another T1 from
@@ -51,16 +49,13 @@ pub(crate) fn forwarded(
     first: u64,
     second: u64,
 ) -> Result<Ledger, Fail> {
-    let settings = settings(rt.alloc())?;
-    assert!(rt; settings.participants() >= 3);
+    let id = Ident::new("T1")?;
     let amounts = [Cents::new(first)?, Cents::new(second)?];
-    Ok(opened(
-        rt.alloc(),
-        &settings,
-        Ident::new("T1")?,
-        amounts,
-        Moment::new(0, 11_000)?,
-    )?)
+    let deadline = Moment::new(0, 11_000)?;
+    let mut ledger = opened(rt.alloc(), 1)?;
+    assert!(rt; ledger.settings().participants() >= 3);
+    forward(&mut ledger, id, amounts, deadline)?;
+    Ok(ledger)
 }
 
 const FETCHES: &[Row] = &[
@@ -165,10 +160,11 @@ const CONFIRMS_AND_REJECTS: &[Row] = &[
 
 /// The credits were defunded, and T1 came from participant 0 and from nobody of the number 1.
 fn defunds_its_credits(rt: &impl Abort, ledger: &Ledger) -> Result<(), Fail> {
-    assert_eq!(rt; ledger.journal().net(), -20_000);
-    assert_eq!(rt; ledger.journal().credits(), 20_000);
+    let journal = ledger.journal();
+    same(rt, (journal.net(), journal.credits()), (-20_000, 20_000));
     let id = Ident::new("T1")?;
-    assert!(rt; ledger.is_forwarded(0, &id) && !ledger.is_forwarded(1, &id));
+    same(rt, ledger.is_forwarded(0, &id), true);
+    same(rt, ledger.is_forwarded(1, &id), false);
     Ok(())
 }
 

@@ -1,4 +1,5 @@
 //! Journals by themselves.
+use crate::comparing::same;
 use inst_base::{Cents, Fault, Ident, Moment};
 use inst_command::Outcome;
 use inst_journal::{Event, Journal};
@@ -6,20 +7,25 @@ use std::alloc::Global;
 use std::process::Abort;
 use std::test::Fail;
 
+/// The journal has this one event, and so does a copy of it.
+fn has_one(rt: &impl Abort, journal: &Journal, event: Event) -> Result<(), Fail> {
+    same(rt, journal.events(), [event].as_slice());
+    same(rt, journal.copy()?.events(), [event].as_slice());
+    Ok(())
+}
+
 #[test]
 fn reserves_and_pushes(rt: HostRuntime) -> Result<(), Fail> {
-    let mut journal = Journal::new(rt.alloc());
-    assert!(rt; journal.events().is_empty());
-    journal.reserve()?;
-    assert!(rt; journal.events().is_empty());
     let funded = Event::Funded {
         reference: Ident::new("F1")?,
         cents: Cents::new(50_000)?,
     };
+    let mut journal = Journal::new(rt.alloc());
+    same(&rt, journal.events().len(), 0);
+    journal.reserve()?;
+    same(&rt, journal.events().len(), 0);
     journal.push(funded)?;
-    assert_eq!(rt; journal.events(), [funded].as_slice());
-    assert_eq!(rt; journal.copy()?.events(), [funded].as_slice());
-    Ok(())
+    has_one(&rt, &journal, funded)
 }
 
 /// The event that takes a transfer over 100 cents to participant 1.
@@ -63,19 +69,22 @@ fn opened(alloc: Global, ids: [Ident; 3]) -> Result<Journal, Fault> {
 /// The live transfers are T2 at the first place and T3 at the second.
 fn has_two_live(rt: &impl Abort, journal: &Journal, ids: [Ident; 3]) -> Result<(), Fail> {
     let [first, second, third] = ids;
-    assert_eq!(rt; journal.live_submissions(0), 2);
-    let places = [&first, &second, &third].map(|id| journal.place_of(0, id));
-    assert_eq!(rt; places, [None, Some(0), Some(1)]);
-    let events = [0, 1, 2].map(|place| journal.taken_at(0, place));
-    assert_eq!(rt; events, [Some(taken(second)?), Some(taken(third)?), None]);
+    same(rt, journal.live_submissions(0), 2);
+    same(rt, journal.place_of(0, &first), None);
+    same(rt, journal.place_of(0, &second), Some(0));
+    same(rt, journal.place_of(0, &third), Some(1));
+    same(rt, journal.taken_at(0, 0), Some(taken(second)?));
+    same(rt, journal.taken_at(0, 1), Some(taken(third)?));
+    same(rt, journal.taken_at(0, 2), None);
     Ok(())
 }
 
 /// T1 of participant 0 is booked, and that of participant 2 was forwarded.
 fn has_two_of_one_name(rt: &impl Abort, journal: &Journal, id: &Ident) {
-    assert_eq!(rt; journal.booked(0, id), Some(Outcome::Accepted));
-    assert_eq!(rt; journal.booked(2, id), None);
-    assert!(rt; journal.is_forwarded(2, id) && !journal.is_forwarded(0, id));
+    same(rt, journal.booked(0, id), Some(Outcome::Accepted));
+    same(rt, journal.booked(2, id), None);
+    same(rt, journal.is_forwarded(2, id), true);
+    same(rt, journal.is_forwarded(0, id), false);
 }
 
 /// T1 is settled before the hub is opened again, T2 goes on at the first place, T3 comes to the second.

@@ -8,6 +8,8 @@ mod asked;
 #[cfg(test)]
 mod beneficiary;
 #[cfg(test)]
+mod comparing;
+#[cfg(test)]
 mod journals;
 #[cfg(test)]
 mod openings;

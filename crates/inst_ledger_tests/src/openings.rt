@@ -4,6 +4,7 @@ ghost use Rattle.std.specs.Prelude.{◌≡◌, []};
 use crate::answering::{Row, answered, answers, keeps, opened, opened_again};
 use crate::asked::{Asks, End};
 use crate::beneficiary::forwarded;
+use crate::comparing::same;
 use crate::told::Told;
 use inst_command::LineKind;
 use inst_journal::{Event, Journal};
@@ -57,8 +58,12 @@ fn goes_on(
     kept: usize,
     rows: &[Row],
 ) -> Result<(), Fail> {
-    assert!(rt; ledger.journal().events().len().checked_sub(1) == Some(kept));
-    assert!(rt; is_opened_last(ledger.journal()));
+    same(
+        rt,
+        ledger.journal().events().len().checked_sub(1),
+        Some(kept),
+    );
+    same(rt, is_opened_last(ledger.journal()), true);
     answers(rt, ledger, rows)
 }
 
@@ -96,7 +101,7 @@ fn keeps_an_opening(rt: &impl Abort, ledger: &mut Ledger) -> Result<(), Fail>
     ledger.reserve()?;
     keeps(rt, ledger, 0);
     ledger.keep(Event::Opened)?;
-    assert_eq!(rt; ledger.journal().events(), [Event::Opened].as_slice());
+    same(rt, ledger.journal().events(), [Event::Opened].as_slice());
     Ok(())
 }
 

@@ -1,6 +1,7 @@
 //! What a participant is answered that funds, submits and learns outcomes.
 use crate::answering::{Row, answered, keeps};
 use crate::asked::{Asks, End};
+use crate::comparing::{same, same_at};
 use crate::told::Told;
 use inst_base::{Fault, Ident};
 use inst_command::{LineKind, Outcome};
@@ -126,14 +127,12 @@ fn totals(ledger: &Ledger) -> [u128; 3] {
 /// T1 is paid, T2 timed out.
 fn has_paid(rt: &impl Abort, ledger: &Ledger) -> Result<(), Fail> {
     keeps(rt, ledger, 6);
-    assert_eq!(rt;
-        sums(ledger.journal()),
-        (45_000, [20_000, 0, 0, 25_000, 25_000])
-    );
-    assert_eq!(rt; totals(ledger), [0, 25_000, 25_000]);
-    assert_eq!(rt; (ledger.fundings(), ledger.live_submissions()), (2, 2));
+    let wanted = (45_000, [20_000, 0, 0, 25_000, 25_000]);
+    same(rt, sums(ledger.journal()), wanted);
+    same(rt, totals(ledger), [0, 25_000, 25_000]);
+    same(rt, (ledger.fundings(), ledger.live_submissions()), (2, 2));
     let second = Ident::new("T2")?;
-    assert_eq!(rt; ledger.booked(0, &second), Some(Outcome::TimedOut));
+    same(rt, ledger.booked(0, &second), Some(Outcome::TimedOut));
     Ok(())
 }
 
@@ -194,14 +193,14 @@ fn knows(ledger: &Ledger, id: &Ident) -> (bool, Option<u8>) {
 /// One funding and one transfer were kept.
 fn has_one_transfer(rt: &impl Abort, ledger: &Ledger) -> Result<(), Fail> {
     keeps(rt, ledger, 2);
-    assert_eq!(rt; ledger.fundings(), 1);
-    assert_eq!(rt; totals(ledger), [20_000, 50_000, 30_000]);
+    same(rt, ledger.fundings(), 1);
+    same(rt, totals(ledger), [20_000, 50_000, 30_000]);
     for (text, expected) in [
         ("T1", (true, Some(1))),
         ("T2", (false, None)),
         ("F1", (false, None)),
     ] {
-        assert_eq!(rt; knows(ledger, &Ident::new(text)?), expected, "{text}");
+        same_at(rt, text, knows(ledger, &Ident::new(text)?), expected);
     }
     Ok(())
 }

@@ -1,5 +1,5 @@
 //! Commands that are refused.
-use crate::answering::{Row, answered};
+use crate::answering::{Row, answered, keeps};
 use crate::asked::{Asks, End};
 use crate::told::Told;
 use inst_base::Fault;
@@ -74,6 +74,6 @@ const REFUSED: &[Row] = &[
 #[test]
 fn meets_the_first_refusal(rt: HostRuntime) -> Result<(), Fail> {
     let ledger = answered(&rt, 0, REFUSED)?;
-    assert_eq!(rt; ledger.journal().events().len(), 3);
+    keeps(&rt, &ledger, 3);
     Ok(())
 }

@@ -1,4 +1,5 @@
 //! Statements that are kept line by line, by themselves.
+use crate::comparing::same_at;
 use crate::told::{Shown, are_lines};
 use inst_base::{Cents, Ident};
 use inst_command::LineKind;
@@ -36,7 +37,12 @@ fn shows(
     wanted: &[Shown],
 ) -> Result<(), Fail> {
     let lines = statement.part(rt.alloc(), skip, count)?;
-    assert!(rt; are_lines(lines.as_slice(), wanted), "{lines:?}");
+    same_at(
+        rt,
+        lines.as_slice(),
+        are_lines(lines.as_slice(), wanted),
+        true,
+    );
     Ok(())
 }
 
@@ -65,24 +71,30 @@ fn shows_parts(rt: &(impl Abort + AllocGlobal), statement: &KeptStatement) -> Re
     shows(rt, statement, u64::MAX, u32::MAX, &[])
 }
 
-/// 500 cents are funded, 200 paid, 300 received and 100 defunded: four lines, of which parts are asked for. After an
-/// opening the lines count from 1 again, from the position that was reached.
+/// 500 cents are funded, 200 paid, 300 received and 100 defunded: four lines, of which parts are asked for.
+fn shows_four(rt: &(impl Abort + AllocGlobal), statement: &mut KeptStatement) -> Result<(), Fail> {
+    shows(rt, statement, 0, 10, &[])?;
+    for moves in MOVED {
+        add(rt, statement, moves)?;
+    }
+    shows_parts(rt, statement)
+}
+
+/// After an opening the lines count from 1 again, from the position that was reached.
+fn begins_again(
+    rt: &(impl Abort + AllocGlobal),
+    statement: &mut KeptStatement,
+) -> Result<(), Fail> {
+    statement.begin();
+    shows(rt, statement, 0, 10, &[])?;
+    add(rt, statement, &(LineKind::Funded, None, "F2", 300))?;
+    let line = (1, LineKind::Funded, None, "F2", 300, 800);
+    shows(rt, statement, 0, 10, &[line])
+}
+
 #[test]
 fn shows_what_moved_the_position(rt: HostRuntime) -> Result<(), Fail> {
     let mut statement = KeptStatement::new(rt.alloc());
-    shows(&rt, &statement, 0, 10, &[])?;
-    for moves in MOVED {
-        add(&rt, &mut statement, moves)?;
-    }
-    shows_parts(&rt, &statement)?;
-    statement.begin();
-    shows(&rt, &statement, 0, 10, &[])?;
-    add(&rt, &mut statement, &(LineKind::Funded, None, "F2", 300))?;
-    shows(
-        &rt,
-        &statement,
-        0,
-        10,
-        &[(1, LineKind::Funded, None, "F2", 300, 800)],
-    )
+    shows_four(&rt, &mut statement)?;
+    begins_again(&rt, &mut statement)
 }

@@ -1,6 +1,7 @@
 -- What is answered to a line as it is held, at any hub.
 use Rattle.std.proofs.Common.{◌≡◌, ◌≢◌, inl, inr, ℕ, ◌<◌, ◌≤◌, Bool, true, false, cond, List, [], ◌∷◌, ◌++◌, length, ◌⊎◌, Result, Ok, Err, IfOk, OnOk, refl, sym, ap, subst, ◌∙◌}
 use Rattle.std.proofs.lemmas.Bool.{le-ltb}
+use Rattle.std.specs.declared.alloc.AllocError.{AllocError}
 use Rattle.serde_json.specs.Written.{compact_text}
 use Rattle.inst_base.specs.declared.fault.Fault.{Fault}
 use Rattle.inst_base.specs.declared.fault.Fault.TheVariants.{LineTooLong, Memory}
@@ -166,7 +167,7 @@ command_read old middle new ask value answer is asked same follows same' can =
       can_be_written = can;
     })
 
-pub script_answered : (old new : Runner) (step : Step) (value : Result Step Fault) (result : Result Answer Fault) → value ≡ Ok step → IfOk result (λ answer. Runs old.world step answer new.world)
+pub script_answered : (old new : Runner) (step : Step) (value : Result Step Fault) (result : Result Answer AllocError) → value ≡ Ok step → IfOk result (λ answer. Runs old.world step answer new.world)
     → IfOk result (λ answer. answer_can_be_written (settings_of old.world) answer ≡ true) → settings_of new.world ≡ settings_of old.world
     → IfOk result (λ answer. RepliesToRead Play old new answer (λ past. script_answer past value) (λ past. after_script past value))
 script_answered old new step value (Ok answer) is runs can same = script_read old new step value answer is runs same can

@@ -8,3 +8,4 @@ pub mod RunLemmas
 pub mod Writing
 pub mod AnsweringLemmas
 pub mod RunBehind
+pub mod Checking

@@ -1,5 +1,5 @@
 -- The run behind lines.
-use Rattle.std.proofs.Common.{◌≡◌, ◌∙◌, ℕ, Bool, true, false, List, [], ◌∷◌, reverse, Result, Ok, Err, Option, Some, None, IfSome, OnOk, refl, sym, ap, subst}
+use Rattle.std.proofs.Common.{◌≡◌, ◌∙◌, ℕ, Bool, true, false, List, [], ◌∷◌, reverse, Result, Ok, Err, Option, Some, None, IfSome, refl, sym, ap, subst}
 use Rattle.std.proofs.lemmas.List.{reverse-reverse}
 use Rattle.std.specs.Prelude.{if◌then◌else◌}
 use Rattle.inst_base.specs.declared.fault.Fault.{Fault}
@@ -74,10 +74,9 @@ if_some_known (Some x) P Q gives h = gives x h
 if_some_known None P Q gives h = tt
 
 -- where all bytes of a reader are known and answered, the run of their lines keeps the headline
-pub served_keep : {A : Type 0} (r : Result A Fault) (o : Option (List ℕ)) (lines_in : List ℕ → List (List ℕ)) (mode : Mode) (s : HubSettings) (runner : Runner)
-    → OnOk r (IfSome o (λ bytes. Keeps mode (state_after (answering mode) (opened s) (lines_in bytes)) runner))
-    → OnOk r (IfSome o (λ bytes. LinesKeepTheHeadline (answering mode) s (lines_in bytes)))
-served_keep (Ok x) o lines_in mode s runner kept =
+pub kept_headline : (o : Option (List ℕ)) (lines_in : List ℕ → List (List ℕ)) (mode : Mode) (s : HubSettings) (runner : Runner)
+    → IfSome o (λ bytes. Keeps mode (state_after (answering mode) (opened s) (lines_in bytes)) runner)
+    → IfSome o (λ bytes. LinesKeepTheHeadline (answering mode) s (lines_in bytes))
+kept_headline o lines_in mode s runner kept =
     if_some_known o (λ bytes. Keeps mode (state_after (answering mode) (opened s) (lines_in bytes)) runner) (λ bytes. LinesKeepTheHeadline (answering mode) s (lines_in bytes))
     (λ bytes keeps. lines_keep mode s (lines_in bytes) runner keeps) kept
-served_keep (Err fault) o lines_in mode s runner kept = tt

@@ -5,6 +5,7 @@ use Rattle.std.specs.List.{list_all}
 use Rattle.std.proofs.lemmas.Bool.{and_parts, le-leb}
 use Rattle.std.proofs.lemmas.List.Elements.{All-contains}
 use Rattle.std.proofs.lemmas.List.Sums.{AllPass-from_list_all}
+use Rattle.std.specs.declared.alloc.AllocError.{AllocError}
 use Rattle.inst_base.specs.TimeLimit.{deadline_of, is_ahead, is_due}
 use Rattle.inst_base.specs.declared.fault.Fault.{Fault}
 use Rattle.inst_settings.specs.Settings.{HubSettings, is_participant}
@@ -149,6 +150,6 @@ answer_written s O L (Expire who place at) lawful opening steps fits = refl
 pub model_written : (s : HubSettings) (step : Step) (told : Answer) → step_fits s step ≡ true → IsOfModel s step told → answer_can_be_written s told ≡ true
 model_written s step told fits of = ap (answer_can_be_written s) of.answer_is ∙ answer_written s of.opening of.steps step of.lawful of.is_opening of.is_interleaving fits
 
-pub result_written : (s : HubSettings) (step : Step) (result : Result Answer Fault) → step_fits s step ≡ true → IfOk result (IsOfModel s step) → IfOk result (λ told. answer_can_be_written s told ≡ true)
+pub result_written : (s : HubSettings) (step : Step) (result : Result Answer AllocError) → step_fits s step ≡ true → IfOk result (IsOfModel s step) → IfOk result (λ told. answer_can_be_written s told ≡ true)
 result_written s step (Ok told) fits of = model_written s step told fits of
 result_written s step (Err fault) fits of = tt

@@ -7,3 +7,4 @@ pub mod Replies
 pub mod Progress
 pub mod Session
 pub mod Headline
+pub mod Check

@@ -1,5 +1,5 @@
 //! The answer to one line: all that a session knows of the world.
-ghost use Rattle.std.specs.Prelude.{◌≡◌, ◌≢◌, ◌++◌, ◌∷◌, [], true, false, IfOk, OnErr, OnOk, IsErrOf, IsOkUnless};
+ghost use Rattle.std.specs.Prelude.{◌≡◌, ◌≢◌, ◌++◌, ◌∷◌, [], true, false, IfOk, OnErr, OnOk, IsErrOf};
 ghost use Rattle.serde_json.specs.Written.{compact_text};
 ghost use Rattle.inst_json.specs.Replies.{answer_data, answer_can_be_written};
 ghost use Rattle.inst_json.specs.Lines.{command_of_line, step_of_line};
@@ -51,16 +51,15 @@ pub(crate) fn answer_part(
     append_answer(runner.settings(), &answer, out)
 }
 
-/// The answer to a line as it is held. The only error is `Memory`.
+/// The answer to a line as it is held.
 fn answer_to(
     reader: &mut LineReader,
     mode: Mode,
     runner: &mut Runner,
     is_long: bool,
     part: &[u8],
-) -> Result<Answer, Fault>
+) -> Result<Answer, AllocError>
     ensures ok { IfOk result (λ answer. RepliesToLine mode is_long part.now runner.old runner.new answer) }
-    ensures only { IsOkUnless result Fault.Memory }
 {
     if is_too_long(is_long, part.len()) {
         return Ok(Answer::Reply(Reply::Refused(Fault::LineTooLong)));
@@ -89,16 +88,15 @@ fn append_answer(settings: &Settings, answer: &Answer, out: &mut Vec<u8>) -> Res
     Ok(matches!(answer, Answer::Reply(Reply::Refused(_))))
 }
 
-/// The answer to a command, after which all transfers are followed up. The only error is `Memory`.
+/// The answer to a command, after which all transfers are followed up.
 fn answer_command(
     reader: &mut LineReader,
     runner: &mut Runner,
     line: &[u8],
-) -> Result<Answer, Fault>
+) -> Result<Answer, AllocError>
     ensures ok { IfOk result (λ answer. RepliesToRead Mode.Run runner.old runner.new answer
         (λ past. command_answer past (command_of_line runner.old.world.board.settings line.now))
         (λ past. after_command past (command_of_line runner.old.world.board.settings line.now))) }
-    ensures only { IsOkUnless result Fault.Memory }
 {
     match reader.read_command(runner.settings(), line) {
         Ok(ask) => {
@@ -111,12 +109,15 @@ fn answer_command(
     }
 }
 
-/// The answer to a step. The only error is `Memory`.
-fn answer_step(reader: &mut LineReader, runner: &mut Runner, line: &[u8]) -> Result<Answer, Fault>
+/// The answer to a step.
+fn answer_step(
+    reader: &mut LineReader,
+    runner: &mut Runner,
+    line: &[u8],
+) -> Result<Answer, AllocError>
     ensures ok { IfOk result (λ answer. RepliesToRead Mode.Play runner.old runner.new answer
         (λ past. script_answer past (step_of_line runner.old.world.board.settings line.now))
         (λ past. after_script past (step_of_line runner.old.world.board.settings line.now))) }
-    ensures only { IsOkUnless result Fault.Memory }
 {
     match reader.read_step(runner.settings(), line) {
         Ok(step) => runner.step(&step),
@@ -125,12 +126,11 @@ fn answer_step(reader: &mut LineReader, runner: &mut Runner, line: &[u8]) -> Res
 }
 
 /// What a line is answered that is refused in reading.
-fn refused(fault: Fault) -> Result<Answer, Fault>
+fn refused(fault: Fault) -> Result<Answer, AllocError>
     ensures ok { IfOk result (λ answer. (answer ≡ Answer.Reply (Reply.Refused fault)) × (fault ≢ Fault.Memory)) }
-    ensures only { IsOkUnless result Fault.Memory }
 {
     match fault {
-        Fault::Memory => Err(Fault::Memory),
+        Fault::Memory => Err(AllocError),
         fault => Ok(Answer::Reply(Reply::Refused(fault))),
     }
 }

@@ -2,6 +2,7 @@
 #![tactic(auto)]
 
 mod answer;
+mod check;
 mod limits;
 mod line_buffer;
 mod mode;
@@ -10,7 +11,8 @@ mod run;
 mod session;
 
 pub use answer::answer_line;
+pub use check::check_lines;
 pub use limits::{MOST_BYTES, MOST_LINE_BYTES, MOST_LINES};
 pub use mode::Mode;
-pub use run::{play_lines, run_lines};
+pub use run::{Served, play_lines, run_lines, serve_lines};
 pub use session::Counts;

@@ -57,8 +57,8 @@ pub fn run_lines<R: Read, W: Write>(
         (W.contents writer.old) (W.contents writer.new)
         (R.remaining reader.old) (R.remaining reader.new)) }
 {
-    let mut runner = Runner::open(alloc, settings)?;
-    answer_lines(alloc, Mode::Run, &mut runner, reader, writer)
+    let served = serve_lines(alloc, Mode::Run, settings, reader, writer)?;
+    Ok(served.counts)
 }
 
 /// Answers each line that the reader gives by one line to the writer, as `run_lines` does. Here a line is
@@ -91,12 +91,50 @@ pub fn play_lines<R: Read, W: Write>(
         (W.contents writer.old) (W.contents writer.new)
         (R.remaining reader.old) (R.remaining reader.new)) }
 {
+    let served = serve_lines(alloc, Mode::Play, settings, reader, writer)?;
+    Ok(served.counts)
+}
+
+/// A hub that has answered all the lines of a run, and how many there were.
+#[derive(Drop)]
+pub struct Served {
+    pub counts: Counts,
+    pub runner: Runner,
+}
+
+/// Answers each line that the reader gives by one line to the writer, as `run_lines` or `play_lines` does by the mode,
+/// and leaves the hub. `ReadFault`, `WriteFault` and `Memory` come as from `run_lines`.
+pub fn serve_lines<R: Read, W: Write>(
+    alloc: Global,
+    mode: Mode,
+    settings: &Settings,
+    reader: &mut R,
+    writer: &mut W,
+) -> Result<Served, Fault>
+    ensures end { OnOk result (IsAtEnd (R.remaining reader.new)) }
+    ensures output { OnOk result (IfSome (R.remaining reader.old) (λ bytes.
+        Appends (W.contents writer.old) (W.contents writer.new)
+        (output (answering mode) (opened settings.now) (lines_of bytes)))) }
+    ensures headline { OnOk result (IfSome (R.remaining reader.old) (λ bytes.
+        LinesKeepTheHeadline (answering mode) settings.now (lines_of bytes))) }
+    ensures runner { IfOk result (λ served. IfSome (R.remaining reader.old) (λ bytes.
+        Keeps mode (state_after (answering mode) (opened settings.now) (lines_of bytes)) served.runner)) }
+    ensures lines { IfOk result (λ served. IfSome (R.remaining reader.old) (λ bytes.
+        served.counts.lines ≡ length (lines_of bytes))) }
+    ensures refused { IfOk result (λ served. IfSome (R.remaining reader.old) (λ bytes.
+        served.counts.refused ≡ refusals (answering mode) (opened settings.now) (lines_of bytes))) }
+    ensures limits { OnOk result (IfSome (R.remaining reader.old) IsWithinLimits) }
+    ensures err { IfErr result (FailsAfter (answering mode) (opened settings.now)
+        (W.contents writer.old) (W.contents writer.new)
+        (R.remaining reader.old) (R.remaining reader.new)) }
+{
     let mut runner = Runner::open(alloc, settings)?;
-    answer_lines(alloc, Mode::Play, &mut runner, reader, writer)
+    let counts = answer_lines(alloc, mode, &mut runner, reader, writer)?;
+    Ok(Served { counts, runner })
 }
 
 /// Answers lines at a hub that is there, whatever it has gone through.
-pub(crate) fn answer_lines<R: Read, W: Write>(
+fn answer_lines<R: Read, W: Write>(
     alloc: Global,
     mode: Mode,
     runner: &mut Runner,

@@ -1,6 +1,9 @@
 // Input that is cut after each byte.
-use crate::serving::{Mode, Row, lines_of, replies_to, serve};
+use crate::comparing::same;
+use crate::serving::{Row, are_replies, lines_of, written};
+use inst_lines::Mode;
 use inst_rows::settings;
+use inst_settings::Settings;
 use std::alloc::Global;
 use std::process::Abort;
 use std::test::Fail;
@@ -89,21 +92,28 @@ fn commands(alloc: Global, rows: &'static [Row<'static>]) -> Result<Vec<Row<'sta
     Ok(commands)
 }
 
+/// Compares what is written to this front of the lines.
+fn cut_after(
+    rt: &(impl Abort + AllocGlobal),
+    mode: Mode,
+    settings: &Settings,
+    rows: &[Row],
+    front: &[u8],
+) -> Result<(), Fail> {
+    let written = written(rt.alloc(), mode, settings, front)?;
+    are_replies(rt, &written, rows, front.len())
+}
+
 /// Compares what is written where the lines are cut after each byte, and before the first one.
 fn cut_after_each_byte(
     rt: &(impl Abort + AllocGlobal),
     mode: Mode,
     rows: &[Row],
 ) -> Result<(), Fail> {
-    let alloc = rt.alloc();
-    let settings = settings(alloc)?;
-    let input = lines_of(alloc, rows)?;
+    let settings = settings(rt.alloc())?;
+    let input = lines_of(rt.alloc(), rows)?;
     for len in 0..=input.len() {
-        let mut reader = &input[..len];
-        let mut written = Vec::new(alloc);
-        serve(alloc, mode, &settings, &mut reader, &mut written)?;
-        let replies = replies_to(alloc, rows, len)?;
-        assert_eq!(rt; written.as_slice(), replies.as_slice(), "{len}");
+        cut_after(rt, mode, &settings, rows, &input[..len])?;
     }
     Ok(())
 }
@@ -111,7 +121,7 @@ fn cut_after_each_byte(
 #[test]
 fn statement_lines_cut_after_each_byte(rt: HostRuntime) -> Result<(), Fail> {
     let commands = commands(rt.alloc(), STATEMENT_LINES)?;
-    assert_eq!(rt; commands.len(), 9);
+    same(&rt, commands.len(), 9);
     cut_after_each_byte(&rt, Mode::Run, commands.as_slice())?;
     cut_after_each_byte(&rt, Mode::Play, STATEMENT_LINES)
 }

@@ -1,8 +1,10 @@
 // A reader that fails behind each byte, and a writer that fails behind each byte and in each flush.
+use crate::comparing::{same, same_at};
 use crate::failing_writers::{FullOnce, Manner, UnflushedOnce};
 use crate::pieces::Pieces;
-use crate::serving::{Mode, Row, lines_of, replies_to, serve};
+use crate::serving::{Row, are_replies, lines_of, serve, written};
 use inst_base::Fault;
+use inst_lines::Mode;
 use inst_rows::settings;
 use inst_settings::Settings;
 use std::process::Abort;
@@ -30,28 +32,35 @@ fn whole(bytes: &[u8]) -> usize {
         .map_or(0, |at| at + 1)
 }
 
-/// Compares what is answered where the reader fails behind each byte, and before the first one: the lines whose newline
-/// it gave.
+/// Compares what is answered where the reader fails behind these bytes: the lines whose newline it gave.
+fn read_fails(
+    rt: &(impl Abort + AllocGlobal),
+    settings: &Settings,
+    mode: Mode,
+    most: usize,
+    bytes: &[u8],
+) -> Result<(), Fail> {
+    let mut reader = Pieces {
+        bytes,
+        most,
+        fails: true,
+    };
+    let mut written = Vec::new(rt.alloc());
+    let outcome = serve(rt.alloc(), mode, settings, &mut reader, &mut written);
+    same_at(rt, bytes.len(), outcome, Err(Fault::ReadFault));
+    are_replies(rt, &written, FUND_THEN_POSITION, whole(bytes))
+}
+
+/// The reader fails behind each byte, and before the first one.
 fn reads_fail(
     rt: &(impl Abort + AllocGlobal),
     settings: &Settings,
     mode: Mode,
     most: usize,
 ) -> Result<(), Fail> {
-    let alloc = rt.alloc();
-    let input = lines_of(alloc, FUND_THEN_POSITION)?;
+    let input = lines_of(rt.alloc(), FUND_THEN_POSITION)?;
     for len in 0..=input.len() {
-        let bytes = &input[..len];
-        let mut reader = Pieces {
-            bytes,
-            most,
-            fails: true,
-        };
-        let mut written = Vec::new(alloc);
-        let outcome = serve(alloc, mode, settings, &mut reader, &mut written);
-        assert_eq!(rt; outcome, Err(Fault::ReadFault), "{len}");
-        let replies = replies_to(alloc, FUND_THEN_POSITION, whole(bytes))?;
-        assert_eq!(rt; written.as_slice(), replies.as_slice(), "{len}");
+        read_fails(rt, settings, mode, most, &input[..len])?;
     }
     Ok(())
 }
@@ -66,28 +75,46 @@ fn a_reader_fails_at_each_byte(rt: HostRuntime) -> Result<(), Fail> {
     Ok(())
 }
 
-/// Compares what is written where the writer is full behind each byte but the last, and before the first one.
+/// How the writer of a test takes bytes: so many at once, and how it fails.
+#[derive(Clone, Copy)]
+struct Taking {
+    most: usize,
+    manner: Manner,
+}
+
+/// Compares what is written where the writer is full behind so many bytes of the replies.
+fn write_fails(
+    rt: &(impl Abort + AllocGlobal),
+    settings: &Settings,
+    mode: Mode,
+    taking: Taking,
+    input: &[u8],
+    front: &[u8],
+) {
+    let mut reader = input;
+    let mut writer = FullOnce {
+        taken: Vec::new(rt.alloc()),
+        most: taking.most,
+        room: Some(front.len()),
+        manner: taking.manner,
+    };
+    let outcome = serve(rt.alloc(), mode, settings, &mut reader, &mut writer);
+    same_at(rt, front.len(), outcome, Err(Fault::WriteFault));
+    same(rt, writer.taken.as_slice(), front);
+}
+
+/// The writer is full behind each byte but the last, and before the first one.
 fn writes_fail(
     rt: &(impl Abort + AllocGlobal),
     settings: &Settings,
     mode: Mode,
-    most: usize,
-    manner: Manner,
+    taking: Taking,
 ) -> Result<(), Fail> {
-    let alloc = rt.alloc();
-    let input = lines_of(alloc, FUND_THEN_POSITION)?;
-    let replies = replies_to(alloc, FUND_THEN_POSITION, input.len())?;
+    let input = lines_of(rt.alloc(), FUND_THEN_POSITION)?;
+    let replies = written(rt.alloc(), mode, settings, &input)?;
+    are_replies(rt, &replies, FUND_THEN_POSITION, input.len())?;
     for room in 0..replies.len() {
-        let mut reader = input.as_slice();
-        let mut writer = FullOnce {
-            taken: Vec::new(alloc),
-            most,
-            room: Some(room),
-            manner,
-        };
-        let outcome = serve(alloc, mode, settings, &mut reader, &mut writer);
-        assert_eq!(rt; outcome, Err(Fault::WriteFault), "{room}");
-        assert_eq!(rt; writer.taken.as_slice(), &replies[..room]);
+        write_fails(rt, settings, mode, taking, &input, &replies[..room]);
     }
     Ok(())
 }
@@ -96,10 +123,11 @@ fn writes_fail(
 fn a_writer_fails_after_each_number_of_bytes(rt: HostRuntime) -> Result<(), Fail> {
     let settings = settings(rt.alloc())?;
     for most in SIZES {
-        writes_fail(&rt, &settings, Mode::Run, most, Manner::Fails)?;
-        writes_fail(&rt, &settings, Mode::Run, most, Manner::TakesNone)?;
-        writes_fail(&rt, &settings, Mode::Play, most, Manner::Fails)?;
-        writes_fail(&rt, &settings, Mode::Play, most, Manner::TakesNone)?;
+        for manner in [Manner::Fails, Manner::TakesNone] {
+            let taking = Taking { most, manner };
+            writes_fail(&rt, &settings, Mode::Run, taking)?;
+            writes_fail(&rt, &settings, Mode::Play, taking)?;
+        }
     }
     Ok(())
 }
@@ -109,36 +137,34 @@ fn a_writer_fails_after_each_number_of_bytes(rt: HostRuntime) -> Result<(), Fail
 fn flush_fails(
     rt: &(impl Abort + AllocGlobal),
     mode: Mode,
+    settings: &Settings,
     most: usize,
     before: usize,
     len: usize,
 ) -> Result<(), Fail> {
-    let alloc = rt.alloc();
-    let settings = settings(alloc)?;
-    let input = lines_of(alloc, FUND_THEN_POSITION)?;
+    let input = lines_of(rt.alloc(), FUND_THEN_POSITION)?;
     let mut reader = Pieces {
         bytes: input.as_slice(),
         most,
         fails: false,
     };
     let mut writer = UnflushedOnce {
-        taken: Vec::new(alloc),
+        taken: Vec::new(rt.alloc()),
         before,
         flushes: 0,
     };
-    let outcome = serve(alloc, mode, &settings, &mut reader, &mut writer);
-    assert_eq!(rt; outcome, Err(Fault::WriteFault));
-    let replies = replies_to(alloc, FUND_THEN_POSITION, len)?;
-    assert_eq!(rt; writer.taken.as_slice(), replies.as_slice());
-    Ok(())
+    let outcome = serve(rt.alloc(), mode, settings, &mut reader, &mut writer);
+    same_at(rt, len, outcome, Err(Fault::WriteFault));
+    are_replies(rt, &writer.taken, FUND_THEN_POSITION, len)
 }
 
 #[test]
 fn a_writer_fails_in_each_flush(rt: HostRuntime) -> Result<(), Fail> {
     // A flush comes after each read in which a line ends. The first line has 64 bytes with its newline, the second 43.
+    let settings = settings(rt.alloc())?;
     for (most, before, len) in [(1, 0, 64), (1, 1, 107), (4_096, 0, 107)] {
-        flush_fails(&rt, Mode::Run, most, before, len)?;
-        flush_fails(&rt, Mode::Play, most, before, len)?;
+        flush_fails(&rt, Mode::Run, &settings, most, before, len)?;
+        flush_fails(&rt, Mode::Play, &settings, most, before, len)?;
     }
     Ok(())
 }

@@ -1,8 +1,10 @@
 // When a run writes and flushes, as a reader and a writer note it.
+use crate::comparing::same;
 use crate::pieces::Pieces;
-use crate::serving::{BAD_FIELD, replies_to};
+use crate::serving::{BAD_FIELD, Row, are_replies};
 use inst_lines::{Counts, run_lines};
 use inst_rows::settings;
+use inst_settings::Settings;
 use std::cell::Cell;
 use std::io::{self, Read, Write};
 use std::process::Abort;
@@ -36,7 +38,7 @@ impl Log {
     fn assert_is(&self, rt: &impl Abort, expected: &[u8]) {
         let events = self.events.get();
         let len = self.len.get().min(events.len());
-        assert_eq!(rt; &events[..len], expected);
+        same(rt, &events[..len], expected);
     }
 }
 
@@ -75,16 +77,19 @@ impl Write for NotingWriter<'_> {
     }
 }
 
+/// Two lines that are refused.
+const LINES: &[Row] = &[(b"[]", BAD_FIELD), (b"[]", BAD_FIELD)];
+
 /// Compares the calls that a run makes over two lines `[]` which come in pieces of `most` bytes.
 fn run_pieces(
     rt: &(impl Abort + AllocGlobal),
+    settings: &Settings,
     input: &[u8],
     most: usize,
     events: &[u8],
 ) -> Result<(), Fail> {
     let alloc = rt.alloc();
     let log = Log::new();
-    let settings = settings(alloc)?;
     let mut reader = NotingReader {
         pieces: Pieces {
             bytes: input,
@@ -97,32 +102,27 @@ fn run_pieces(
         taken: Vec::new(alloc),
         log: &log,
     };
-    let counts = run_lines(alloc, &settings, &mut reader, &mut writer)?;
+    let counts = run_lines(alloc, settings, &mut reader, &mut writer)?;
     let both = Counts {
         lines: 2,
         refused: 2,
     };
-    assert_eq!(rt; counts, both);
-    let replies = replies_to(
-        alloc,
-        &[(b"[]", BAD_FIELD), (b"[]", BAD_FIELD)],
-        input.len(),
-    )?;
-    assert_eq!(rt; writer.taken.as_slice(), replies.as_slice());
+    same(rt, counts, both);
     log.assert_is(rt, events);
-    Ok(())
+    are_replies(rt, &writer.taken, LINES, input.len())
 }
 
 #[test]
 fn flushes_before_each_read(rt: HostRuntime) -> Result<(), Fail> {
     let cases: [(usize, &[u8]); 3] = [(3, b"rwwfrwwfr"), (9, b"rwwwfr"), (2, b"rrwwfrwwfr")];
+    let settings = settings(rt.alloc())?;
     for (most, events) in cases {
-        run_pieces(&rt, b"[]\n[]\n", most, events)?;
+        run_pieces(&rt, &settings, b"[]\n[]\n", most, events)?;
     }
     Ok(())
 }
 
 #[test]
 fn flushes_a_last_line_without_a_newline(rt: HostRuntime) -> Result<(), Fail> {
-    run_pieces(&rt, b"[]\n[]", 9, b"rwwfrwwf")
+    run_pieces(&rt, &settings(rt.alloc())?, b"[]\n[]", 9, b"rwwfrwwf")
 }

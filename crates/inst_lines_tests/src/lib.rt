@@ -2,6 +2,10 @@
 #![tactic(auto)]
 
 #[cfg(test)]
+mod checking;
+#[cfg(test)]
+mod comparing;
+#[cfg(test)]
 mod cuts;
 #[cfg(test)]
 mod failing;

@@ -1,7 +1,10 @@
 // Lines that are refused in reading, and the lines behind them.
-use crate::serving::{BAD_FIELD, Mode, NOT_JSON, Row, lines_of, replies_to, serve};
-use inst_lines::Counts;
+use crate::comparing::same;
+use crate::serving::{BAD_FIELD, NOT_JSON, Row, are_replies, lines_of, serve};
+use inst_lines::{Counts, Mode};
 use inst_rows::settings;
+use inst_settings::Settings;
+use std::alloc::Global;
 use std::process::Abort;
 use std::test::Fail;
 
@@ -19,61 +22,74 @@ const TOO_LONG: &str = r#"{"fault":"LineTooLong","number":16,"reply":"refused"}"
 fn refuses(
     rt: &(impl Abort + AllocGlobal),
     mode: Mode,
+    settings: &Settings,
     rows: &[Row],
     refused: u64,
 ) -> Result<(), Fail> {
-    let alloc = rt.alloc();
-    let settings = settings(alloc)?;
-    let input = lines_of(alloc, rows)?;
+    let input = lines_of(rt.alloc(), rows)?;
     let mut reader = input.as_slice();
-    let mut written = Vec::new(alloc);
-    let counts = serve(alloc, mode, &settings, &mut reader, &mut written)?;
+    let mut written = Vec::new(rt.alloc());
+    let counts = serve(rt.alloc(), mode, settings, &mut reader, &mut written)?;
     let all = Counts {
         lines: rows.len() as u64,
         refused,
     };
-    assert_eq!(rt; counts, all);
-    let replies = replies_to(alloc, rows, input.len())?;
-    assert_eq!(rt; written.as_slice(), replies.as_slice());
-    Ok(())
+    same(rt, counts, all);
+    are_replies(rt, &written, rows, input.len())
 }
 
-#[test]
-fn malformed_lines(rt: HostRuntime) -> Result<(), Fail> {
-    let mut longest = Vec::new(rt.alloc());
-    longest.resize(4_096, b' ')?;
-    let mut long = Vec::new(rt.alloc());
-    long.resize(4_097, b' ')?;
-    let mut huge = Vec::new(rt.alloc());
-    huge.resize(20_971_520, b'{')?;
+/// So many of one byte.
+fn filled(alloc: Global, len: usize, byte: u8) -> Result<Vec<u8>, Fail> {
+    let mut line = Vec::new(alloc);
+    line.resize(len, byte)?;
+    Ok(line)
+}
+
+/// The lines behind one that is too long, by a byte or by far, or has just the length, or is none, are answered.
+fn refuses_seven<'a>(
+    rt: &(impl Abort + AllocGlobal),
+    settings: &Settings,
+    long: &'a [u8],
+    longest: &'a [u8],
+    huge: &'a [u8],
+) -> Result<(), Fail> {
     let rows: [Row; 12] = [
-        (long.as_slice(), TOO_LONG),
+        (long, TOO_LONG),
         POSITION,
-        (longest.as_slice(), NOT_JSON),
+        (longest, NOT_JSON),
         POSITION,
         (b"", NOT_JSON),
         POSITION,
         (b"[]", BAD_FIELD),
         POSITION,
-        (huge.as_slice(), TOO_LONG),
+        (huge, TOO_LONG),
         (b"\xff\xfe", NOT_JSON),
         (b"{\"cmd\":\"sub", NOT_JSON),
         POSITION,
     ];
-    refuses(&rt, Mode::Run, &rows, 7)
+    refuses(rt, Mode::Run, settings, &rows, 7)
+}
+
+#[test]
+fn malformed_lines(rt: HostRuntime) -> Result<(), Fail> {
+    let settings = settings(rt.alloc())?;
+    let long = filled(rt.alloc(), 4_097, b' ')?;
+    let longest = filled(rt.alloc(), 4_096, b' ')?;
+    let huge = filled(rt.alloc(), 20_971_520, b'{')?;
+    refuses_seven(&rt, &settings, &long, &longest, &huge)
 }
 
 /// Compares the refusal of one line, whether it may be a step or not.
 fn refuses_one(rt: &(impl Abort + AllocGlobal), line: &[u8], reply: &str) -> Result<(), Fail> {
-    refuses(rt, Mode::Run, &[(line, reply)], 1)?;
-    refuses(rt, Mode::Play, &[(line, reply)], 1)
+    let settings = settings(rt.alloc())?;
+    refuses(rt, Mode::Run, &settings, &[(line, reply)], 1)?;
+    refuses(rt, Mode::Play, &settings, &[(line, reply)], 1)
 }
 
 #[test]
 fn nested_arrays_alone(rt: HostRuntime) -> Result<(), Fail> {
     for (depth, reply) in [(127, BAD_FIELD), (128, NOT_JSON)] {
-        let mut line = Vec::new(rt.alloc());
-        line.resize(depth, b'[')?;
+        let mut line = filled(rt.alloc(), depth, b'[')?;
         line.resize(2 * depth, b']')?;
         refuses_one(&rt, line.as_slice(), reply)?;
     }

@@ -1,9 +1,12 @@
 // As many lines as a run answers, and a byte more.
+use crate::comparing::same;
 use crate::serving::NOT_JSON;
 use inst_base::Fault;
 use inst_lines::{Counts, run_lines};
 use inst_rows::settings;
+use inst_settings::Settings;
 use std::io::{self, Write};
+use std::process::Abort;
 use std::test::Fail;
 
 /// How many bytes a refusal has, with its newline.
@@ -33,23 +36,32 @@ impl Write for Refusals {
     }
 }
 
+/// Compares how a run over so many newlines ends, and what is written.
+fn ends(
+    rt: &(impl Abort + AllocGlobal),
+    settings: &Settings,
+    newlines: &[u8],
+    expected: Result<Counts, Fault>,
+) {
+    let mut reader = newlines;
+    let mut writer = Refusals { taken: 0, right: 0 };
+    let outcome = run_lines(rt.alloc(), settings, &mut reader, &mut writer);
+    same(rt, outcome, expected);
+    let all = 1_000_000 * REFUSAL_BYTES;
+    same(rt, (writer.taken, writer.right), (all, all));
+}
+
 #[test]
 fn a_million_newlines(rt: HostRuntime) -> Result<(), Fail> {
-    let alloc = rt.alloc();
-    let settings = settings(alloc)?;
-    let mut input = Vec::new(alloc);
+    let settings = settings(rt.alloc())?;
+    let mut input = Vec::new(rt.alloc());
     input.resize(1_000_001, b'\n')?;
     let all = Counts {
         lines: 1_000_000,
         refused: 1_000_000,
     };
     for (len, expected) in [(1_000_000, Ok(all)), (1_000_001, Err(Fault::ReadFault))] {
-        let mut reader = &input[..len];
-        let mut writer = Refusals { taken: 0, right: 0 };
-        let outcome = run_lines(alloc, &settings, &mut reader, &mut writer);
-        assert_eq!(rt; outcome, expected);
-        assert_eq!(rt; writer.taken, 1_000_000 * REFUSAL_BYTES);
-        assert_eq!(rt; writer.right, 1_000_000 * REFUSAL_BYTES);
+        ends(&rt, &settings, &input[..len], expected);
     }
     Ok(())
 }

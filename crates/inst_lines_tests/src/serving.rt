@@ -1,9 +1,11 @@
 // Runs and plays of lines, and what they write.
+use crate::comparing::same_at;
 use inst_base::Fault;
-use inst_lines::{Counts, play_lines, run_lines};
+use inst_lines::{Counts, Mode, play_lines, run_lines};
 use inst_settings::Settings;
 use std::alloc::Global;
 use std::io::{Read, Write};
+use std::process::Abort;
 use std::test::Fail;
 
 /// A line, and its reply.
@@ -12,13 +14,6 @@ pub(crate) type Row<'a> = (&'a [u8], &'a str);
 pub(crate) const NOT_JSON: &str = r#"{"fault":"NotJson","number":1,"reply":"refused"}"#;
 
 pub(crate) const BAD_FIELD: &str = r#"{"fault":"BadField","number":2,"reply":"refused"}"#;
-
-/// Whether lines are commands alone, or steps too.
-#[derive(Clone, Copy)]
-pub(crate) enum Mode {
-    Run,
-    Play,
-}
 
 pub(crate) fn serve<R: Read, W: Write>(
     alloc: Global,
@@ -44,7 +39,7 @@ pub(crate) fn lines_of(alloc: Global, rows: &[Row]) -> Result<Vec<u8>, Fail> {
 }
 
 /// The replies to so many bytes of the lines, each with a newline. A line that is cut off is no JSON.
-pub(crate) fn replies_to(alloc: Global, rows: &[Row], len: usize) -> Result<Vec<u8>, Fail> {
+fn replies_to(alloc: Global, rows: &[Row], len: usize) -> Result<Vec<u8>, Fail> {
     let mut replies = Vec::new(alloc);
     let mut left = len;
     for (line, reply) in rows {
@@ -57,4 +52,29 @@ pub(crate) fn replies_to(alloc: Global, rows: &[Row], len: usize) -> Result<Vec<
         left = left.saturating_sub(line.len() + 1);
     }
     Ok(replies)
+}
+
+/// What is written to this input.
+pub(crate) fn written(
+    alloc: Global,
+    mode: Mode,
+    settings: &Settings,
+    input: &[u8],
+) -> Result<Vec<u8>, Fail> {
+    let mut reader = input;
+    let mut written = Vec::new(alloc);
+    serve(alloc, mode, settings, &mut reader, &mut written)?;
+    Ok(written)
+}
+
+/// Compares what is written with the replies to so many bytes of the lines.
+pub(crate) fn are_replies(
+    rt: &(impl Abort + AllocGlobal),
+    written: &[u8],
+    rows: &[Row],
+    len: usize,
+) -> Result<(), Fail> {
+    let replies = replies_to(rt.alloc(), rows, len)?;
+    same_at(rt, len, written, replies.as_slice());
+    Ok(())
 }

@@ -1,6 +1,5 @@
 -- A hub with a log that opened from journals, and what it has run.
-use Rattle.std.proofs.Common.{◌≡◌, ◌∙◌, ℕ, [], List, Option, Some, None, IfSome, Result, Ok, Err, IfOk, MatchResult, IsErrAnd, inr, ap, sym, subst}
-use Rattle.inst_base.specs.declared.fault.Fault.{Fault}
+use Rattle.std.proofs.Common.{◌≡◌, ◌∙◌, ℕ, [], List, Option, Some, None, IfSome, inr, ap, sym, subst}
 use Rattle.inst_settings.specs.Settings.{HubSettings}
 use Rattle.inst_command.specs.declared.step.Step.{Step}
 use Rattle.inst_journal.specs.History.{History}
@@ -40,15 +39,7 @@ pub some_weaker : {A : Type 0} (o : Option A) (P Q : A → Type 0) → ((x : A) 
 some_weaker None P Q more is = tt
 some_weaker (Some x) P Q more is = more x is
 
--- what holds of a value holds of it where another error takes the place of the one
-pub ok_kept : {A E D : Type 0} (r : Result A E) (q : Result A D) (F : E → D → Type 0) (P : A → Type 0) → MatchResult r (λ x. q ≡ Ok x) (λ e. IsErrAnd q (F e)) → IfOk r P → IfOk q P
-ok_kept (Ok x) q F P is here = subst (λ r. IfOk r P) (sym is) here
-ok_kept (Err e) (Ok x) F P is here = absurd is
-ok_kept (Err e) (Err d) F P is here = tt
-
 -- a hub that opened from these journals began so
-pub begun_from : {H : Type 0} (first : H → List ℕ) (answers : H → LineAnswers) (mode : Mode) (s : HubSettings) (journals : List History) → CanOpenFrom s journals → (r : Result H Fault)
-    → IfOk r (λ h. first h ≡ header_from mode s journals) → IfOk r (λ h. (answers h).mode ≡ mode) → IfOk r (λ h. Keeps mode (opened_from s journals) (answers h).runner)
-    → IfOk r (λ h. HasBegun mode s (first h) (answers h))
-begun_from first answers mode s journals can (Ok h) head of keeps = inr (journals, can, record { mode_is = of; keeps = keeps }, head)
-begun_from first answers mode s journals can (Err e) head of keeps = tt
+pub begun_from : (header : List ℕ) (answers : LineAnswers) (mode : Mode) (s : HubSettings) (journals : List History) → CanOpenFrom s journals
+    → header ≡ header_from mode s journals → answers.mode ≡ mode → Keeps mode (opened_from s journals) answers.runner → HasBegun mode s header answers
+begun_from header answers mode s journals can head of keeps = inr (journals, can, record { mode_is = of; keeps = keeps }, head)

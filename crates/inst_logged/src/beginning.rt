@@ -3,7 +3,7 @@ use crate::header::header_line;
 use inst_base::{Code, Fault};
 use inst_lines::Mode;
 use inst_log::first_line;
-use inst_settings::Settings;
+use inst_settings::{Numbers, Settings};
 use serde_json::Value;
 use std::alloc::{AllocError, Global};
 
@@ -48,17 +48,7 @@ fn settings_of(alloc: Global, value: &Value) -> Result<Option<Settings>, AllocEr
     let (Some(codes), Some(numbers)) = (codes_of(alloc, value)?, numbers_of(value)) else {
         return Ok(None);
     };
-    let checked = Settings::check(
-        codes,
-        numbers.places,
-        numbers.fundings,
-        numbers.limit,
-        numbers.margin,
-        numbers.ahead,
-        numbers.ceiling,
-        numbers.base,
-    );
-    match checked {
+    match Settings::check(codes, numbers) {
         Ok(settings) => Ok(Some(settings)),
         Err(Fault::Memory) => Err(AllocError),
         Err(_) => Ok(None),
@@ -81,17 +71,6 @@ fn codes_of(alloc: Global, value: &Value) -> Result<Option<Vec<Code>>, AllocErro
 }
 
 /// The numbers among the settings.
-#[derive(Clone, Copy)]
-struct Numbers {
-    places: u16,
-    fundings: u16,
-    limit: u32,
-    margin: u32,
-    ahead: u32,
-    ceiling: u64,
-    base: u64,
-}
-
 fn numbers_of(value: &Value) -> Option<Numbers> {
     Some(Numbers {
         places: u16::try_from(number(value, "places")?).ok()?,

@@ -1,5 +1,5 @@
 // A hub with a log: its opening, and whole runs of lines.
-ghost use Rattle.std.specs.Prelude.{◌≡◌, ◌≤◌, ◌<◌, ◌++◌, [], List, ℕ, length, take, drop, IsTrue, IfOk, IfErr, OnOk, IsOkUnless, MatchBool, MatchOption};
+ghost use Rattle.std.specs.Prelude.{◌≡◌, ◌≤◌, ◌<◌, ◌++◌, [], List, ℕ, length, take, drop, IsTrue, IfOk, IfErr, OnOk, MatchBool, MatchOption};
 ghost use Rattle.std.specs.Io.KnownBytes.{IsAtEnd};
 ghost use Rattle.sqlite_disk.specs.Disk.{Only};
 ghost use Rattle.inst_log.specs.Layout.{recovered, IsBatch, NoNewline};
@@ -22,13 +22,13 @@ mod finding;
 
 use crate::intake::Intake;
 use crate::{LineAnswers, LoggedError, first_batch, first_batch_from};
-use inst_base::Fault;
+use inst_agenda::Runner;
 use inst_journal::Journal;
 use inst_lines::Mode;
 use inst_log::{Answers, Log, LogError, Recorder, deliver};
 use inst_settings::Settings;
 use sqlite_disk::Disk;
-use std::alloc::Global;
+use std::alloc::{AllocError, Global};
 use std::io::{Read, Write};
 
 /// A hub in one thread that keeps each line before it hands out a byte of its reply.
@@ -43,20 +43,19 @@ pub struct LoggedHub<D: Disk> {
 
 impl<D: Disk + Drop> LoggedHub<D> {
     /// A hub of these settings that has answered nothing, with the disk of its log, of which nothing is read yet.
-    /// `Memory` where there is no room for its slots and places.
+    /// It has room for its slots and places.
     pub fn new(
         alloc: Global,
         mode: Mode,
         settings: &Settings,
         disk: D,
-    ) -> Result<LoggedHub<D>, Fault>
+    ) -> Result<LoggedHub<D>, AllocError>
         ensures unbegun { IfOk result (λ hub. IsUnbegun hub.header.items hub.intake) }
         ensures header { IfOk result (λ hub. hub.header.items ≡ header mode settings.now) }
         ensures mode { IfOk result (λ hub. hub.recorder.answers.mode ≡ mode) }
         ensures opened { IfOk result (λ hub. Keeps mode (opened settings.now) hub.recorder.answers.runner) }
         ensures settings { IfOk result (λ hub. settings_of hub.recorder.answers.runner.world ≡ settings.now) }
         ensures disk { IfOk result (λ hub. hub.recorder.log.disk ≡ disk) }
-        ensures only { IsOkUnless result Fault.Memory }
     {
         let answers = LineAnswers::open(alloc, mode, settings)?;
         let header = first_batch(alloc, mode, settings)?;
@@ -64,15 +63,15 @@ impl<D: Disk + Drop> LoggedHub<D> {
     }
 
     /// A hub of these settings that opens again from these journals, one for each participant by number, and has answered
-    /// nothing, with the disk of its log, of which nothing is read yet. `Memory` where there is no room for a copy of
-    /// them and for the places.
+    /// nothing, with the disk of its log, of which nothing is read yet. It has a copy of
+    /// them.
     pub fn new_from(
         alloc: Global,
         mode: Mode,
         settings: &Settings,
         journals: &[Journal],
         disk: D,
-    ) -> Result<LoggedHub<D>, Fault>
+    ) -> Result<LoggedHub<D>, AllocError>
         requires journals { CanOpenFrom settings.now journals.now }
         ensures unbegun { IfOk result (λ hub. IsUnbegun hub.header.items hub.intake) }
         ensures header { IfOk result (λ hub. hub.header.items ≡ header_from mode settings.now journals.now) }
@@ -80,7 +79,6 @@ impl<D: Disk + Drop> LoggedHub<D> {
         ensures opened { IfOk result (λ hub. Keeps mode (opened_from settings.now journals.now) hub.recorder.answers.runner) }
         ensures settings { IfOk result (λ hub. settings_of hub.recorder.answers.runner.world ≡ settings.now) }
         ensures disk { IfOk result (λ hub. hub.recorder.log.disk ≡ disk) }
-        ensures only { IsOkUnless result Fault.Memory }
     {
         let answers = LineAnswers::open_from(alloc, mode, settings, journals)?;
         let header = first_batch_from(alloc, mode, settings, journals)?;
@@ -93,13 +91,12 @@ impl<D: Disk + Drop> LoggedHub<D> {
         answers: LineAnswers,
         header: Vec<u8>,
         disk: D,
-    ) -> Result<LoggedHub<D>, Fault>
+    ) -> Result<LoggedHub<D>, AllocError>
         requires batch { IsBatch header.items }
         ensures unbegun { IfOk result (λ hub. IsUnbegun hub.header.items hub.intake) }
         ensures header { IfOk result (λ hub. hub.header ≡ header) }
         ensures answers { IfOk result (λ hub. hub.recorder.answers ≡ answers) }
         ensures disk { IfOk result (λ hub. hub.recorder.log.disk ≡ disk) }
-        ensures only { IsOkUnless result Fault.Memory }
     {
         let intake = Intake::new(alloc)?;
         Ok(LoggedHub {
@@ -119,6 +116,16 @@ impl<D: Disk + Drop> LoggedHub<D> {
         ensures { result.now ≡ settings_of self.now.recorder.answers.runner.world }
     {
         self.recorder.answers.runner.settings()
+    }
+
+    /// The hub without its log.
+    pub fn into_runner(self) -> Runner
+        ensures { result ≡ self.recorder.answers.runner }
+    {
+        let LoggedHub { recorder, .. } = self;
+        let Recorder { answers, .. } = recorder;
+        let LineAnswers { runner, .. } = answers;
+        runner
     }
 
     /// The disk of its log.

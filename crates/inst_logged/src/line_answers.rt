@@ -1,10 +1,9 @@
 // A hub in one thread answers the lines of a log.
-ghost use Rattle.std.specs.Prelude.{◌≡◌, ◌<◌, [], length, IfOk, OnOk, IsOkUnless, MatchOption};
+ghost use Rattle.std.specs.Prelude.{◌≡◌, ◌<◌, [], length, IfOk, OnOk, MatchOption};
 ghost use Rattle.inst_log.specs.Layout.{recovered};
 ghost use Rattle.inst_logged.specs.Answering.{SaysLines, AnswersLines, AnswersNext, AnswersFirst, told_of};
 
 use inst_agenda::Runner;
-use inst_base::Fault;
 use inst_journal::Journal;
 use inst_json::LineReader;
 use inst_lines::{Mode, answer_line};
@@ -29,10 +28,9 @@ impl LineAnswers {
     ghost use Rattle.inst_logged.specs.LineAnswers.{HasOpened};
     ghost use Rattle.inst_logged.specs.Answering.{opened_from};
 
-    /// A hub that opens for the first time. `Memory` where there is no room for its slots and places.
-    pub fn open(alloc: Global, mode: Mode, settings: &Settings) -> Result<LineAnswers, Fault>
+    /// A hub that opens for the first time.
+    pub fn open(alloc: Global, mode: Mode, settings: &Settings) -> Result<LineAnswers, AllocError>
         ensures opened { IfOk result (λ answers. HasOpened mode (opened settings.now) answers) }
-        ensures only { IsOkUnless result Fault.Memory }
     {
         let runner = Runner::open(alloc, settings)?;
         Ok(LineAnswers {
@@ -42,17 +40,15 @@ impl LineAnswers {
         })
     }
 
-    /// A hub that opens again from these journals, one for each participant by number. `Memory` where there is no room
-    /// for a copy of them and for the places.
+    /// A hub that opens again from these journals, one for each participant by number. It has a copy of them.
     pub fn open_from(
         alloc: Global,
         mode: Mode,
         settings: &Settings,
         journals: &[Journal],
-    ) -> Result<LineAnswers, Fault>
+    ) -> Result<LineAnswers, AllocError>
         requires journals { CanOpenFrom settings.now journals.now }
         ensures opened { IfOk result (λ answers. HasOpened mode (opened_from settings.now journals.now) answers) }
-        ensures only { IsOkUnless result Fault.Memory }
     {
         let world = World::open_from(alloc, settings, journals)?;
         let runner = Runner::new(alloc, world)?;

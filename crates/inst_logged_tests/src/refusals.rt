@@ -5,7 +5,7 @@ use inst_lines::Mode;
 use inst_log::LogError;
 use inst_logged::LoggedError;
 use inst_rows::{settings, settings_with};
-use inst_settings::Settings;
+use inst_settings::{Numbers, Settings};
 use std::alloc::Global;
 use std::process::Abort;
 use std::test::Fail;
@@ -20,16 +20,12 @@ fn reordered(alloc: Global) -> Result<Settings, Fail> {
         Code::new("CCCCITMM")?,
         Code::new("BBBBFRPP")?,
     ];
-    Ok(Settings::check(
-        codes.to_vec(alloc)?,
-        2,
-        4,
-        10_000,
-        0,
-        1_000,
-        99_999_999_999,
-        0,
-    )?)
+    let numbers = Numbers {
+        places: 2,
+        fundings: 4,
+        ..Numbers::DEFAULT
+    };
+    Ok(Settings::check(codes.to_vec(alloc)?, numbers)?)
 }
 
 /// Why a run with a file that has these bytes ends. It leaves the file and writes nothing.

@@ -4,10 +4,10 @@ use Rattle.inst_base.specs.declared.fault.Fault.{Fault}
 use Rattle.inst_settings.specs.Settings.{HubSettings}
 use Rattle.inst_settings.specs.Lawful.{IsSettings}
 use Rattle.inst_lines.specs.declared.mode.Mode.{Mode}
-use Rattle.inst_options.specs.Options.Task.{Drill}
+use Rattle.inst_options.specs.Options.Task.{Drill, Check}
 use Rattle.inst_options.specs.Asking.{AreChosen, AreWhole, AskToExplain, NameALog, NameTheLog}
 use Rattle.inst_options.specs.declared.wish.LogOptions.{LogOptions}
-use Rattle.inst_main.specs.Program.{AskForADrill, Drills, Fails, IsAnswered, IsEnding, IsServed, IsUnanswered, IsUndrilled, IsUnexplained, IsUnkept, task_of}
+use Rattle.inst_main.specs.Program.{AskForADrill, Checks, Drills, FailsAtLines, IsAnswered, IsEnding, IsServed, IsUnanswered, IsUnchecked, IsUndrilled, IsUnexplained, IsUnkept, task_of}
 use Rattle.inst_main.specs.declared.ending.Ending.{Ending}
 use Rattle.inst_main.specs.declared.ending.Ending.TheVariants as ending
 use Rattle.inst_main.proofs.Refusing.{undrillable}
@@ -27,7 +27,7 @@ pub drilled : (words : List (List ℕ)) (s : HubSettings) (transfers openings : 
     unread → Drills openings held held' → IsServed words unread left left' held held'
 drilled words s transfers openings unread left left' held held' lawful whole chosen still told =
     let asks : AskForADrill words = record { settings = s; lawful = lawful; whole = whole; transfers = transfers; openings = openings; chosen = chosen } in
-    inr (inr (still, inl (asks, told)))
+    inr (inr (inr (still, inl (asks, told))))
 
 -- a log wasn't taken, or its disk failed
 pub unkept : (words : List (List ℕ)) (unread unwritten untouched : Type 0) (fails : Fault → Type 0) (e : Ending) → NameALog words →
@@ -44,17 +44,17 @@ unkept_err words unread unwritten untouched fails (Err e) named both is = unkept
 -- lines weren't answered
 unanswered : (words : List (List ℕ)) (mode : Mode) (s : HubSettings) (log : Option LogOptions) (unread unwritten : Type 0)
     (left left' held held' : Option (List ℕ)) (e : Ending) → IsSettings s → AreWhole words → AreChosen words (task_of mode) s → NameTheLog words log →
-    IsUnanswered mode s log (unread × unwritten) left left' held held' e → IsEnding words unread unwritten (Fails words left left' held held') e
+    IsUnanswered mode s log (unread × unwritten) left left' held held' e → IsEnding words unread unwritten (FailsAtLines words left left' held held') e
 unanswered words mode s None unread unwritten left left' held held' (ending.Fault fault) lawful whole chosen named after =
-    inr (inl (record { mode = mode; settings = s; lawful = lawful; whole = whole; chosen = chosen; after = after }))
+    inr (inl (inl (record { mode = mode; settings = s; lawful = lawful; whole = whole; chosen = chosen; after = after })))
 unanswered words mode s None unread unwritten left left' held held' (ending.Log fault) lawful whole chosen named is = absurd is
 unanswered words mode s None unread unwritten left left' held held' ending.Unexplained lawful whole chosen named is = absurd is
 unanswered words mode s (Some log) unread unwritten left left' held held' e lawful whole chosen named is =
-    unkept words unread unwritten (unread × unwritten) (Fails words left left' held held') e named (λ both. both) is
+    unkept words unread unwritten (unread × unwritten) (FailsAtLines words left left' held held') e named (λ both. both) is
 
 pub unanswered_err : {A : Type 0} (words : List (List ℕ)) (mode : Mode) (s : HubSettings) (log : Option LogOptions) (unread unwritten : Type 0)
     (left left' held held' : Option (List ℕ)) (r : Result A Ending) → IsSettings s → AreWhole words → AreChosen words (task_of mode) s → NameTheLog words log →
-    IfErr r (IsUnanswered mode s log (unread × unwritten) left left' held held') → IfErr r (IsEnding words unread unwritten (Fails words left left' held held'))
+    IfErr r (IsUnanswered mode s log (unread × unwritten) left left' held held') → IfErr r (IsEnding words unread unwritten (FailsAtLines words left left' held held'))
 unanswered_err words mode s log unread unwritten left left' held held' (Ok x) lawful whole chosen named is = tt
 unanswered_err words mode s log unread unwritten left left' held held' (Err e) lawful whole chosen named is =
     unanswered words mode s log unread unwritten left left' held held' e lawful whole chosen named is
@@ -83,3 +83,19 @@ unexplained_err words word unread unwritten fails (Ok x) asked still is = tt
 unexplained_err words word unread unwritten fails (Err (ending.Fault fault)) asked still is = inr (inr (inl (inr is, still, inr (word, asked))))
 unexplained_err words word unread unwritten fails (Err (ending.Log fault)) asked still is = absurd is
 unexplained_err words word unread unwritten fails (Err ending.Unexplained) asked still is = (still, is.0, (word, asked, is.1))
+
+-- lines were checked
+pub checked : (words : List (List ℕ)) (s : HubSettings) (unread : Type 0) (left left' held held' : Option (List ℕ)) →
+    IsSettings s → AreWhole words → AreChosen words Check s → Checks s left left' held held' → IsServed words unread left left' held held'
+checked words s unread left left' held held' lawful whole chosen checks =
+    inr (inr (inl (record { settings = s; lawful = lawful; whole = whole; chosen = chosen; checks = checks })))
+
+-- they weren't
+pub unchecked_err : {A : Type 0} (words : List (List ℕ)) (s : HubSettings) (unread unwritten : Type 0) (left left' held held' : Option (List ℕ)) (r : Result A Ending) →
+    IsSettings s → AreWhole words → AreChosen words Check s → IfErr r (IsUnchecked s left held held') →
+    IfErr r (IsEnding words unread unwritten (FailsAtLines words left left' held held'))
+unchecked_err words s unread unwritten left left' held held' (Ok x) lawful whole chosen is = tt
+unchecked_err words s unread unwritten left left' held held' (Err (ending.Fault fault)) lawful whole chosen is =
+    inr (inl (inr (is.0, record { settings = s; lawful = lawful; whole = whole; chosen = chosen; part = is.1 })))
+unchecked_err words s unread unwritten left left' held held' (Err (ending.Log fault)) lawful whole chosen is = absurd is
+unchecked_err words s unread unwritten left left' held held' (Err ending.Unexplained) lawful whole chosen is = absurd is

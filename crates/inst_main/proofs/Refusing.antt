@@ -4,7 +4,7 @@ use Rattle.clap.specs.Words.{Row}
 use Rattle.inst_settings.specs.Settings.{HubSettings}
 use Rattle.inst_drill.specs.Plan.{MayDrill}
 use Rattle.inst_options.specs.Options.{AreGood, Chooses, HasSmallNumbers, IsTask, Task}
-use Rattle.inst_options.specs.Options.Task.{Run, Play, Drill}
+use Rattle.inst_options.specs.Options.Task.{Run, Play, Drill, Check}
 use Rattle.inst_options.specs.Asking.{AreChosen, AreUnfit, AreWhole}
 use Rattle.inst_options.proofs.Refused.{chosen_by, codes_one, given_one}
 use Rattle.inst_main.specs.Program.{AreRefused, MayDo}
@@ -13,6 +13,7 @@ use Rattle.inst_main.specs.Program.{AreRefused, MayDo}
 fits : (s : HubSettings) (task : Task) → AreGood s → MayDo s task → HasSmallNumbers task
 fits s Run good may = tt
 fits s Play good may = tt
+fits s Check good may = tt
 fits s (Drill transfers openings) good may =
     let transfers_most = may.places in
     let places_most = good.lawful.places_most in
@@ -31,6 +32,7 @@ other_drill : (name : List ℕ) (rows : List Row) (s : HubSettings) (transfers o
     ¬ (MayDrill s transfers openings) → (task : Task) (t : HubSettings) → IsTask name rows task → Chooses rows t → ¬ (AreGood t × MayDo t task)
 other_drill name rows s transfers openings drill chosen unfit Run t is chosen' good = let other : ⊥ = cc (is.1, drill.1) in absurd other
 other_drill name rows s transfers openings drill chosen unfit Play t is chosen' good = let other : ⊥ = cc (is, drill.0) in absurd other
+other_drill name rows s transfers openings drill chosen unfit Check t is chosen' good = let other : ⊥ = cc (is.1, drill.1) in absurd other
 other_drill name rows s transfers openings drill chosen unfit (Drill transfers' openings') t is chosen' good =
     let may = good.1 in
     let codes_same = codes_one rows t s chosen' chosen in

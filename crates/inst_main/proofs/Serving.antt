@@ -13,16 +13,17 @@ use Rattle.inst_faults.specs.declared.log_fault.LogFault.TheVariants.{DiskFault}
 use Rattle.inst_options.specs.Asking.{AreUnfit, AreWrong, AskForHelp, IsNoWish, IsRefusal, NameALog, faults_of}
 use Rattle.inst_options.specs.declared.error.WordsError.{WordsError}
 use Rattle.inst_options.specs.declared.error.WordsError.TheVariants as error
-use Rattle.inst_main.specs.Program.{status_of, status_of_ending, status_of_error, status_of_kind, AreRefused, AskForADrill, AskForAnExplanation, NameNoFault, IsEnding, IsUnkept, Fails}
+use Rattle.inst_main.specs.Program.{status_of, status_of_ending, status_of_error, status_of_kind, AreRefused, AskForADrill, AskForAnExplanation, NameNoFault, IsEnding, IsUnkept, FailsAtLines}
 use Rattle.inst_main.specs.declared.ending.Ending.{Ending}
 use Rattle.inst_main.specs.declared.ending.Ending.TheVariants as ending
 use Rattle.inst_main.proofs.Refusing.{refused}
 
 -- one more way to be served
-pub served : (S K U H D : Type 0) → S ⊎ (K ⊎ (U × D)) → S ⊎ (K ⊎ (U × (H ⊎ D)))
-served S K U H D (inl s) = inl s
-served S K U H D (inr (inl k)) = inr (inl k)
-served S K U H D (inr (inr (u, d))) = inr (inr (u, inr d))
+pub served : (S K C U H D : Type 0) → S ⊎ (K ⊎ (C ⊎ (U × D))) → S ⊎ (K ⊎ (C ⊎ (U × (H ⊎ D))))
+served S K C U H D (inl s) = inl s
+served S K C U H D (inr (inl k)) = inr (inl k)
+served S K C U H D (inr (inr (inl c))) = inr (inr (inl c))
+served S K C U H D (inr (inr (inr (u, d)))) = inr (inr (inr (u, inr d)))
 
 -- want of memory before a run with a log
 pub unkept_memory : {A : Type 0} (untouched : Type 0) (r : Result A Ending) (fault : Fault) → IsErrAnd r (λ e. e ≡ ending.Fault fault) → fault ≡ Memory → IfErr r (IsUnkept untouched)
@@ -43,7 +44,7 @@ Refused words = AreWrong words ⊎ (AreRefused words ⊎ (NameALog words ⊎ Nam
 
 abbrev Failed : List (List ℕ) → Type 0 → Type 0 → Option (List ℕ) → Option (List ℕ) → Option (List ℕ) → Option (List ℕ) → Type 0
 Failed words unread unwritten left left' held held' =
-    (unread × unwritten) ⊎ (((fault : Fault) × Fails words left left' held held' fault)
+    (unread × unwritten) ⊎ (((fault : Fault) × FailsAtLines words left left' held held' fault)
     ⊎ ((unread × (AskForADrill words ⊎ AskForAnExplanation words)) ⊎ NameALog words))
 
 pub two_is_not_zero : ◌≡◌ {A = ℕ} 2 0 → ⊥
@@ -71,20 +72,21 @@ module _ (words : List (List ℕ)) (unread unwritten : Type 0) (left left' held 
   of_failed fault bad (inl memory) = cc (memory, bad)
   of_failed fault bad (inr write) = cc (write, bad)
 
-  of_fault : (fault : Fault) → fault ≡ BadSettings → IsEnding words unread unwritten (Fails words left left' held held') (ending.Fault fault)
+  of_fault : (fault : Fault) → fault ≡ BadSettings → IsEnding words unread unwritten (FailsAtLines words left left' held held') (ending.Fault fault)
       → unread × unwritten × Refused words
   of_fault fault bad (inl h) = (h.1, h.2, inr (inl h.3))
-  of_fault fault bad (inr (inl f)) = absurd (no_settings _ _ _ _ f.after.bytes fault bad f.after.leaves)
+  of_fault fault bad (inr (inl (inl f))) = absurd (no_settings _ _ _ _ f.after.bytes fault bad f.after.leaves)
+  of_fault fault bad (inr (inl (inr c))) = absurd (c.0 bad)
   of_fault fault bad (inr (inr (inl h))) = absurd (of_failed fault bad h.0)
   of_fault fault bad (inr (inr (inr h))) = absurd (h.0 bad)
 
-  pub refused_ending : (e : Ending) → status_of_ending e ≡ 2 → IsEnding words unread unwritten (Fails words left left' held held') e
+  pub refused_ending : (e : Ending) → status_of_ending e ≡ 2 → IsEnding words unread unwritten (FailsAtLines words left left' held held') e
       → unread × unwritten × Refused words
   refused_ending (ending.Fault fault) is h = of_fault fault (only_settings fault is) h
   refused_ending (ending.Log fault) is h = let both = h.1 is in (both.0, both.1, inr (inr (inl h.0)))
   refused_ending ending.Unexplained is h = (h.0, h.1, inr (inr (inr h.2)))
 
-  pub failed_ending : (e : Ending) → IsEnding words unread unwritten (Fails words left left' held held') e
+  pub failed_ending : (e : Ending) → IsEnding words unread unwritten (FailsAtLines words left left' held held') e
       → Failed words unread unwritten left left' held held'
   failed_ending (ending.Fault fault) (inl h) = inl (h.1, h.2)
   failed_ending (ending.Fault fault) (inr (inl f)) = inr (inl (fault, f))

@@ -11,6 +11,7 @@ use Rattle.inst_settings.specs.Settings.{HubSettings}
 use Rattle.inst_settings.specs.Lawful.{IsSettings}
 use Rattle.inst_lines.specs.Answers.{output}
 use Rattle.inst_lines.specs.Answering.{answering, opened}
+use Rattle.inst_lines.specs.Check.{TellsPart, told_of}
 use Rattle.inst_lines.specs.Headline.{LinesKeepTheHeadline}
 use Rattle.inst_lines.specs.Lines.{lines_of}
 use Rattle.inst_lines.specs.Session.{FailsAfter}
@@ -23,7 +24,7 @@ use Rattle.inst_faults.specs.AnyFault.{IsNamed, name_of, number_of}
 use Rattle.inst_faults.specs.LogFault.{status_of_log}
 use Rattle.inst_faults.specs.declared.any_fault.AnyFault.{AnyFault}
 use Rattle.inst_options.specs.Options.{AreGood, Task}
-use Rattle.inst_options.specs.Options.Task.{Run, Play, Drill}
+use Rattle.inst_options.specs.Options.Task.{Run, Play, Drill, Check}
 use Rattle.inst_options.specs.Asking.{AreChosen, AreWhole, AskToExplain, NameALog}
 use Rattle.inst_options.specs.declared.error.WordsError.{WordsError}
 use Rattle.inst_options.specs.declared.error.WordsError.TheVariants as error
@@ -58,6 +59,7 @@ abbrev pub MayDo : HubSettings → Task → Type 0
 MayDo s Run = Unit {0}
 MayDo s Play = Unit {0}
 MayDo s (Drill transfers openings) = MayDrill s transfers openings
+MayDo s Check = Unit {0}
 
 -- the words are a whole command line, and ask for a drill at a hub
 pub record AskForADrill (words : List (List ℕ)) : Type 0 where
@@ -103,6 +105,31 @@ pub record Fails (words : List (List ℕ)) (left left' held held' : Option (List
   pub whole : AreWhole words
   pub chosen : AreChosen words (task_of mode) settings
   pub after : FailsAfter (answering mode) (opened settings) held held' left left' fault
+
+-- all that the reader had left was read, and told of each of its lines that no hub of these settings takes, and that alone
+abbrev pub Checks : HubSettings → Option (List ℕ) → Option (List ℕ) → Option (List ℕ) → Option (List ℕ) → Type 0
+Checks s left left' held held' = IsAtEnd left' × IfSome left (λ bytes. Appends held held' (told_of s bytes))
+
+-- so it was for the settings that the words choose
+pub record HasChecked (words : List (List ℕ)) (left left' held held' : Option (List ℕ)) : Type 0 where
+  pub settings : HubSettings
+  pub lawful : IsSettings settings
+  pub whole : AreWhole words
+  pub chosen : AreChosen words Check settings
+  pub checks : Checks settings left left' held held'
+
+-- it was ended by a fault, when no more than a front was told
+pub record FailsToCheck (words : List (List ℕ)) (left held held' : Option (List ℕ)) : Type 0 where
+  pub settings : HubSettings
+  pub lawful : IsSettings settings
+  pub whole : AreWhole words
+  pub chosen : AreChosen words Check settings
+  pub part : IfSome left (λ bytes. TellsPart settings bytes held held')
+
+-- lines were answered, or told of, until this fault
+abbrev pub FailsAtLines : List (List ℕ) → Option (List ℕ) → Option (List ℕ) → Option (List ℕ) → Option (List ℕ) → Fault → Type 0
+FailsAtLines words left left' held held' fault =
+    Fails words left left' held held' fault ⊎ ((fault ≢ BadSettings) × FailsToCheck words left held held')
 
 -- a drill of so many openings wrote what each of them came to, and that alone
 abbrev pub Drills : ℕ → Option (List ℕ) → Option (List ℕ) → Type 0
@@ -174,6 +201,13 @@ IsUnanswered mode s None untouched left left' held held' (ending.Log fault) = �
 IsUnanswered mode s None untouched left left' held held' ending.Unexplained = ⊥
 IsUnanswered mode s (Some log) untouched left left' held held' e = IsUnkept untouched e
 
+-- a check is ended by this fault, when no more than a front was told
+abbrev pub IsUnchecked : HubSettings → Option (List ℕ) → Option (List ℕ) → Option (List ℕ) → Ending → Type 0
+IsUnchecked s left held held' (ending.Fault fault) =
+    (fault ≢ BadSettings) × IfSome left (λ bytes. TellsPart s bytes held held')
+IsUnchecked s left held held' (ending.Log fault) = ⊥
+IsUnchecked s left held held' ending.Unexplained = ⊥
+
 -- a drill is ended by this fault: a hub of these settings can't do it, which leaves all unwritten, or it has failed
 abbrev pub IsUndrilled : HubSettings → ℕ → ℕ → Type 0 → Fault → Type 0
 IsUndrilled s transfers openings unwritten fault =
@@ -186,7 +220,8 @@ abbrev pub IsServed : List (List ℕ) → Type 0 →
 IsServed words unread left left' held held' =
     Serves words left left' held held'
     ⊎ (HasKept words left'
-    ⊎ (unread × (HasDrilled words held held' ⊎ (NameALog words ⊎ HasExplained words held held'))))
+    ⊎ (HasChecked words left left' held held'
+    ⊎ (unread × (HasDrilled words held held' ⊎ (NameALog words ⊎ HasExplained words held held')))))
 
 -- a hub can't do the drill and all is untouched, or a run has failed, or what reads nothing
 abbrev pub IsEnding : List (List ℕ) → Type 0 → Type 0 → (Fault → Type 0) → Ending → Type 0

@@ -8,6 +8,7 @@ ghost use Rattle.inst_logged.specs.Refused.{IsRefused};
 
 use crate::ending::Ending;
 use crate::logs::Logs;
+use crate::summary::sum_up;
 use inst_base::Fault;
 use inst_faults::LogFault;
 use inst_journal::Journal;
@@ -20,7 +21,7 @@ use sqlite_disk::Disk;
 use std::alloc::{AllocError, Global};
 use std::io::{Read, Write};
 
-/// Answers the lines of `reader`, each once it is in the log. Where the log begins with other settings, `errors` gets
+/// Answers the lines of `reader`, each once it is in the log, and sums up where `sums` says so. Where the log begins with other settings, `errors` gets
 /// those and the ones that are given.
 pub(crate) fn keep<L: Logs, R: Read, W: Write, E: Write>(
     logs: &L,
@@ -28,6 +29,7 @@ pub(crate) fn keep<L: Logs, R: Read, W: Write, E: Write>(
     mode: Mode,
     settings: &Settings,
     log: LogOptions<'_>,
+    sums: bool,
     reader: &mut R,
     writer: &mut W,
     errors: &mut E,
@@ -38,7 +40,12 @@ pub(crate) fn keep<L: Logs, R: Read, W: Write, E: Write>(
     let disk = logs.open(log.path)?;
     let mut hub = LoggedHub::of_log(alloc, mode, settings, disk).map_err(ending_of)?;
     match hub.run(alloc, log.told, reader, writer) {
-        Ok(()) => Ok(()),
+        Ok(()) => {
+            if sums {
+                sum_up(&mut hub.into_runner(), None, errors);
+            }
+            Ok(())
+        }
         Err(error) => {
             if let LoggedError::Log(LogError::OtherSettings) = error {
                 tell_settings(alloc, mode, settings, hub.into_disk(), errors);

@@ -7,6 +7,7 @@ mod keeping;
 mod logs;
 mod program;
 mod rows;
+mod summary;
 
 use logs::HostLogs;
 use program::program;

@@ -5,18 +5,20 @@ ghost use Rattle.inst_lines.specs.Answering.{answering, opened};
 ghost use Rattle.inst_lines.specs.Session.{FailsAfter};
 ghost use Rattle.inst_options.specs.Asking.{AskForHelp, AreWrong, IsWished, NameALog};
 ghost use Rattle.inst_main.specs.Program.{status_of, status_of_error, status_of_ending};
-ghost use Rattle.inst_main.specs.Program.{Answers, Serves, Fails, HasKept, HasDrilled, HasExplained};
+ghost use Rattle.inst_main.specs.Program.{Answers, Serves, Checks, HasKept, HasChecked, HasDrilled, HasExplained};
+ghost use Rattle.inst_main.specs.Program.{FailsAtLines};
 ghost use Rattle.inst_main.specs.Program.{AreRefused, AskForADrill, AskForAnExplanation, NameNoFault, IsServed, IsEnding};
-ghost use Rattle.inst_main.specs.Program.{IsAnswered, IsUnanswered, Drills, IsUndrilled, Explains, IsUnexplained};
+ghost use Rattle.inst_main.specs.Program.{IsAnswered, IsUnanswered, Drills, IsUndrilled, IsUnchecked, Explains, IsUnexplained};
 
 use crate::ending::Ending;
 use crate::keeping::{keep, next, show};
 use crate::logs::Logs;
+use crate::summary::sum_up;
 use clap::error::ErrorKind;
 use inst_base::Fault;
 use inst_drill::{Ungated, drill};
 use inst_faults::fault_of;
-use inst_lines::{Counts, Mode, play_lines, run_lines};
+use inst_lines::{Mode, check_lines, serve_lines};
 use inst_options::{LogOptions, Wish, WordsError, wished};
 use inst_settings::Settings;
 use std::alloc::Global;
@@ -29,7 +31,8 @@ use std::thread::Threads;
 /// same for a script, where each line is one step and nothing happens by itself. They have the same options; with a
 /// log, each line is in it before its reply is written, and the lines that it has come first. `log` tells what one has,
 /// and `next` begins one with the books of another.
-/// `drill` has two more, reads nothing, and drills a hub of these settings by threads: `writer` gets what each
+/// `check` tells which command lines of `reader` no hub of these settings takes, and answers none.
+/// `drill` has two more options, reads nothing, and drills a hub of these settings by threads: `writer` gets what each
 /// opening came to, and `errors` how far it is, where `is_watched`. `explain` tells what a fault usually means.
 /// Answers the exit status: 0 at the end of the input or of the drill and after
 /// `--help`, 2 for a command line that is wrong, with a text on `errors`, and for bad settings, 3
@@ -49,14 +52,16 @@ pub(crate) fn program<H: Threads + Wait + Sync, L: Logs, R: Read, W: Write, E: W
 ) -> u8
     ensures status { (result ≡ 0) ⊎ ((result ≡ 2) ⊎ (result ≡ 3)) }
 
-    // All the input is answered, or none is read: the words ask for a help text, or for a drill, and it is done.
+    // All the input is answered, or what no hub takes of it is told, or none is read: the words ask for a help text, or for a drill, and it is done.
     ensures served { result ≡ 0 → Serves (map string_bytes words.items)
         (R.remaining reader.old) (R.remaining reader.new) (W.contents writer.old) (W.contents writer.new)
         ⊎ (HasKept (map string_bytes words.items) (R.remaining reader.new)
+        ⊎ (HasChecked (map string_bytes words.items)
+        (R.remaining reader.old) (R.remaining reader.new) (W.contents writer.old) (W.contents writer.new)
         ⊎ ((reader.new ≡ reader.old) × (AskForHelp (map string_bytes words.items)
         ⊎ (HasDrilled (map string_bytes words.items) (W.contents writer.old) (W.contents writer.new)
         ⊎ (NameALog (map string_bytes words.items)
-        ⊎ HasExplained (map string_bytes words.items) (W.contents writer.old) (W.contents writer.new)))))) }
+        ⊎ HasExplained (map string_bytes words.items) (W.contents writer.old) (W.contents writer.new))))))) }
 
     // The words are wrong, or they are whole and choose no settings that a hub can have and do the task with, or they
     // name a log that isn't taken, or a fault that there isn't.
@@ -66,7 +71,7 @@ pub(crate) fn program<H: Threads + Wait + Sync, L: Logs, R: Read, W: Write, E: W
 
     // Memory was wanting before a run, or a run has failed, or what reads nothing: a drill, a log, or an explanation.
     ensures failed { result ≡ 3 → ((reader.new ≡ reader.old) × (writer.new ≡ writer.old))
-        ⊎ (((fault : SomeFault) × Fails (map string_bytes words.items)
+        ⊎ (((fault : SomeFault) × FailsAtLines (map string_bytes words.items)
         (R.remaining reader.old) (R.remaining reader.new) (W.contents writer.old) (W.contents writer.new) fault)
         ⊎ (((reader.new ≡ reader.old) × (AskForADrill (map string_bytes words.items)
         ⊎ AskForAnExplanation (map string_bytes words.items)))
@@ -180,25 +185,27 @@ fn serve<H: Threads + Wait + Sync, L: Logs, R: Read, W: Write, E: Write>(
         (R.remaining reader.old) (R.remaining reader.new) (W.contents writer.old) (W.contents writer.new)) }
     ensures err { (words : List (List ℕ)) → IsWished words wish.entry → IfErr result (IsEnding words
         (reader.new ≡ reader.old) (writer.new ≡ writer.old)
-        (Fails words (R.remaining reader.old) (R.remaining reader.new) (W.contents writer.old) (W.contents writer.new))) }
+        (FailsAtLines words (R.remaining reader.old) (R.remaining reader.new) (W.contents writer.old) (W.contents writer.new))) }
 {
     match wish {
-        Wish::Run(settings, log) => answer(
+        Wish::Run(settings, log, sums) => answer(
             logs,
             alloc,
             Mode::Run,
             &settings,
             log,
+            sums,
             reader,
             writer,
             errors,
         ),
-        Wish::Play(settings, log) => answer(
+        Wish::Play(settings, log, sums) => answer(
             logs,
             alloc,
             Mode::Play,
             &settings,
             log,
+            sums,
             reader,
             writer,
             errors,
@@ -209,19 +216,21 @@ fn serve<H: Threads + Wait + Sync, L: Logs, R: Read, W: Write, E: Write>(
             )?;
             Ok(())
         }
+        Wish::Check(settings) => check(alloc, &settings, reader, writer),
         Wish::Log(path) => show(logs, alloc, path, writer),
         Wish::Next(from, to) => next(logs, alloc, from, to),
         Wish::Explain(word) => explain(word, writer),
     }
 }
 
-/// Answers the lines of `reader` at a hub of these settings, with a log or without.
+/// Answers the lines of `reader` at a hub of these settings, with a log or without, and sums up what `sums` asks for.
 fn answer<L: Logs, R: Read, W: Write, E: Write>(
     logs: &L,
     alloc: Global,
     mode: Mode,
     settings: &Settings,
     log: Option<LogOptions<'_>>,
+    sums: bool,
     reader: &mut R,
     writer: &mut W,
     errors: &mut E,
@@ -233,31 +242,36 @@ fn answer<L: Logs, R: Read, W: Write, E: Write>(
         (R.remaining reader.old) (R.remaining reader.new) (W.contents writer.old) (W.contents writer.new)) }
 {
     match log {
-        Some(log) => keep(logs, alloc, mode, settings, log, reader, writer, errors),
+        Some(log) => keep(
+            logs, alloc, mode, settings, log, sums, reader, writer, errors,
+        ),
         None => {
-            answer_unkept(alloc, mode, settings, reader, writer)?;
+            answer_unkept(alloc, mode, settings, sums, reader, writer, errors)?;
             Ok(())
         }
     }
 }
 
 /// Answers the lines of `reader` at a hub of these settings, and keeps none.
-fn answer_unkept<R: Read, W: Write>(
+fn answer_unkept<R: Read, W: Write, E: Write>(
     alloc: Global,
     mode: Mode,
     settings: &Settings,
+    sums: bool,
     reader: &mut R,
     writer: &mut W,
-) -> Result<Counts, Fault>
+    errors: &mut E,
+) -> Result<(), Fault>
     ensures ok { OnOk result (Answers mode settings.now
         (R.remaining reader.old) (R.remaining reader.new) (W.contents writer.old) (W.contents writer.new)) }
     ensures err { IfErr result (FailsAfter (answering mode) (opened settings.now)
         (W.contents writer.old) (W.contents writer.new) (R.remaining reader.old) (R.remaining reader.new)) }
 {
-    match mode {
-        Mode::Run => run_lines(alloc, settings, reader, writer),
-        Mode::Play => play_lines(alloc, settings, reader, writer),
+    let mut served = serve_lines(alloc, mode, settings, reader, writer)?;
+    if sums {
+        sum_up(&mut served.runner, Some(served.counts), errors);
     }
+    Ok(())
 }
 
 /// Drills a hub of these settings.
@@ -277,6 +291,22 @@ fn drill_hub<H: Threads + Wait + Sync, W: Write, E: Write>(
     drill(
         rt, alloc, settings, transfers, openings, &Ungated, writer, errors, is_watched,
     )?;
+    Ok(())
+}
+
+/// Tells which lines of `reader` no hub of these settings takes.
+fn check<R: Read, W: Write>(
+    alloc: Global,
+    settings: &Settings,
+    reader: &mut R,
+    writer: &mut W,
+) -> Result<(), Ending>
+    ensures ok { OnOk result (Checks settings.now
+        (R.remaining reader.old) (R.remaining reader.new) (W.contents writer.old) (W.contents writer.new)) }
+    ensures err { IfErr result (IsUnchecked settings.now
+        (R.remaining reader.old) (W.contents writer.old) (W.contents writer.new)) }
+{
+    check_lines(alloc, settings, reader, writer)?;
     Ok(())
 }
 

@@ -1,19 +1,16 @@
 -- Options that choose no settings that a hub can have, and the faults that say so.
-use Rattle.std.proofs.Common.{◌≡◌, ⊎_elim, ◌<◌, ◌≤◌, ◌^◌, ℕ, Bool, true, false, List, length, map, get_or, Option, Some, None, Result, Ok, Err, option_map, IfErr, OnErr, OkIff, IsErrAnd, IsOkUnless, is_ok, Bor, ◌⊎◌, codes, refl, sym, ap, ap₂, subst, ◌∙◌, inl, inr, arith}
-use Rattle.std.specs.List.{list_all}
+use Rattle.std.proofs.Common.{◌≡◌, ⊎_elim, ◌<◌, ◌≤◌, ◌^◌, ℕ, true, false, List, length, Option, Some, None, Result, Ok, Err, option_map, IfErr, OnErr, OkIff, IsErrAnd, IsOkUnless, is_ok, ◌⊎◌, codes, sym, ap, ap₂, subst, ◌∙◌, inl, inr, arith}
 use Rattle.std.specs.Str.Parse.{digits_value, without_leading_plus}
 use Rattle.std.proofs.lemmas.Bool.{cases_lt}
-use Rattle.std.proofs.lemmas.List.{get_or-map, length-map}
-use Rattle.std.proofs.lemmas.List.Folds.{list_all_at}
 use Rattle.clap.specs.Words.{Row, subcommand_of}
-use Rattle.inst_base.specs.Text.{is_code}
+use Rattle.inst_codes.specs.Parts.{parts_of}
 use Rattle.inst_base.specs.declared.fault.Fault.{Fault}
 use Rattle.inst_base.specs.declared.fault.Fault.TheVariants.{BadSettings}
 use Rattle.inst_settings.specs.Settings.{HubSettings, same_text}
 use Rattle.inst_settings.specs.Lawful.{IsSettings, are_different}
 use Rattle.inst_options.specs.CommandLine.{command_line}
-use Rattle.inst_options.specs.Options.{AskForNone, ChooseNone, Chooses, Gives, GivesLog, GivesNoneBelow, IsTask, IsWish, SpeaksOfALog, Task, parts_of}
-use Rattle.inst_options.specs.Options.Task.{Run, Play, Drill}
+use Rattle.inst_options.specs.Options.{AskForNone, ChooseNone, Chooses, Gives, GivesLog, GivesNoneBelow, IsTask, IsWish, SpeaksOfALog, Task}
+use Rattle.inst_options.specs.Options.Task.{Run, Play, Drill, Check}
 use Rattle.inst_options.specs.Asking.{AreChosen, AreUnfit, AreWhole, IsNoWish, IsRefusal, IsWished, NameTheLog}
 use Rattle.inst_options.specs.declared.error.WordsError.TheVariants as error
 use Rattle.inst_options.specs.declared.wish.LogOptions.{LogOptions}
@@ -100,19 +97,6 @@ none_narrow (Err d) (Err e) bound n rows name same fits gives = λ m gives'.
       at_least (inl below) large = absurd (large below)
       at_least (inr least) large = least
 
--- a text that is no code is one of the parts
-false_of : (b : Bool) → ¬ (b ≡ true) → b ≡ false
-false_of true other = absurd (other refl)
-false_of false other = refl
-
-pub other_code : (items : List (Bor (List ℕ))) (i : ℕ) (d : Bor (List ℕ)) (texts : List (List ℕ)) → i < length items → map (λ part. part.now) items ≡ texts →
-    ¬ (is_code (get_or items i d).now ≡ true) → list_all is_code texts ≡ false
-other_code items i d texts below same other =
-    let now = λ (part : Bor (List ℕ)). part.now in
-    let within : i < length (map now items) = omega (arith, length-map items now) in
-    let here : is_code (get_or (map now items) i d.now) ≡ false = ap is_code (get_or-map now items i d d.now below) ∙ false_of _ other in
-    subst (λ (all : List (List ℕ)). list_all is_code all ≡ false) same (list_all_at is_code (map now items) i d.now within here)
-
 -- bad settings that are passed on, with why
 pub passed_on : {A : Type 0} (P : Type 0) (r : Result A Fault) (fault : Fault) → IsErrAnd r (λ e. e ≡ fault) → fault ≡ BadSettings → P → IfErr r (IsRefusal P)
 passed_on P (Ok x) fault is bad p = tt
@@ -135,6 +119,7 @@ none_of_all name rows none task s is chosen good = none s chosen good.0
 no_transfers : (name : List ℕ) (rows : List Row) → same_text name (codes "play") ≡ false → same_text name (codes "drill") ≡ true →
     GivesNoneBelow (2 ^ 16) rows (codes "transfers") → AskForNone name rows
 no_transfers name rows other drill none Run s is chosen good = let no : ⊥ = cc (is.1, drill) in absurd no
+no_transfers name rows other drill none Check s is chosen good = let no : ⊥ = cc (is.1, drill) in absurd no
 no_transfers name rows other drill none Play s is chosen good = let no : ⊥ = cc (is, other) in absurd no
 no_transfers name rows other drill none (Drill transfers openings) s is chosen good =
     let least = none transfers is.2.0 in
@@ -144,6 +129,7 @@ no_transfers name rows other drill none (Drill transfers openings) s is chosen g
 no_openings : (name : List ℕ) (rows : List Row) → same_text name (codes "play") ≡ false → same_text name (codes "drill") ≡ true →
     GivesNoneBelow (2 ^ 8) rows (codes "openings") → AskForNone name rows
 no_openings name rows other drill none Run s is chosen good = let no : ⊥ = cc (is.1, drill) in absurd no
+no_openings name rows other drill none Check s is chosen good = let no : ⊥ = cc (is.1, drill) in absurd no
 no_openings name rows other drill none Play s is chosen good = let no : ⊥ = cc (is, other) in absurd no
 no_openings name rows other drill none (Drill transfers openings) s is chosen good =
     let least = none openings is.2.1 in
@@ -190,11 +176,12 @@ names_it words name rows (Some log) whole at gives = (whole, (name, rows, at, in
 -- what the subcommand and its options ask for is what the words do
 pub wished_of : (words : List (List ℕ)) (name : List ℕ) (rows : List Row) (wish : Wish) → AreWhole words → subcommand_of command_line words ≡ Some (name, rows) →
     IsWish name rows wish → IsWished words wish
-wished_of words name rows (wish.Run s log) whole at is =
-    (is.0, whole, (name, rows, at, is.1, is.2), names_it words name rows log whole at is.3)
-wished_of words name rows (wish.Play s log) whole at is =
-    (is.0, whole, (name, rows, at, is.1, is.2), names_it words name rows log whole at is.3)
+wished_of words name rows (wish.Run s log sums) whole at is =
+    (is.0, whole, (name, rows, at, is.1, is.2), names_it words name rows log whole at is.3, (name, rows, at, is.4))
+wished_of words name rows (wish.Play s log sums) whole at is =
+    (is.0, whole, (name, rows, at, is.1, is.2), names_it words name rows log whole at is.3, (name, rows, at, is.4))
 wished_of words name rows (wish.Drill s transfers openings) whole at is = (is.0, whole, (name, rows, at, is.1, is.2))
+wished_of words name rows (wish.Check s) whole at is = (is.0, whole, (name, rows, at, is.1, is.2))
 wished_of words name rows (wish.Log path) whole at is = (whole, (name, rows, at, inl (inl is.0)))
 wished_of words name rows (wish.Next from to) whole at is = (whole, (name, rows, at, inl (inr is.0)))
 wished_of words name rows (wish.Explain word) whole at is = (whole, (name, rows, at, is.0, is.1))

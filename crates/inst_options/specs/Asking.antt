@@ -1,5 +1,5 @@
 -- What the words of a command line ask for, and why nothing.
-use Rattle.std.specs.Prelude.{◌≢◌, ◌⊎◌, ◌≡◌, ℕ, true, List, [], Option, Some, None, codes}
+use Rattle.std.specs.Prelude.{◌≢◌, ◌⊎◌, ◌≡◌, ℕ, Bool, true, List, [], Option, Some, None, codes}
 use Rattle.clap.specs.Words.{IsAmong, Kinds, Row, fault_of, first_of, kind_of, subcommand_of}
 use Rattle.clap.specs.declared.error.kind.ErrorKind.{ErrorKind}
 use Rattle.clap.specs.declared.error.kind.ErrorKind.TheVariants.{DisplayHelp, DisplayVersion, OutOfMemory}
@@ -8,8 +8,8 @@ use Rattle.inst_base.specs.declared.fault.Fault.TheVariants.{BadSettings, Memory
 use Rattle.inst_settings.specs.Settings.{HubSettings, same_text}
 use Rattle.inst_settings.specs.Lawful.{IsSettings}
 use Rattle.inst_options.specs.CommandLine.{command_line}
-use Rattle.inst_options.specs.Options.{AreGood, Chooses, HasSmallNumbers, IsTask, IsText, SpeaksOfALog, Task}
-use Rattle.inst_options.specs.Options.Task.{Run, Play, Drill}
+use Rattle.inst_options.specs.Options.{AreGood, Chooses, HasSmallNumbers, IsFlag, IsTask, IsText, SpeaksOfALog, Task}
+use Rattle.inst_options.specs.Options.Task.{Run, Play, Drill, Check}
 use Rattle.inst_options.specs.declared.bad_option.BadOption.{BadOption}
 use Rattle.inst_options.specs.declared.error.WordsError.{WordsError}
 use Rattle.inst_options.specs.declared.error.WordsError.TheVariants as error
@@ -52,6 +52,11 @@ abbrev pub NameTheLog : List (List ℕ) → Option LogOptions → Type 0
 NameTheLog words None = Unit {0}
 NameTheLog words (Some log) = NameALog words
 
+-- the words ask for a summary, or they don't
+abbrev pub AskForASummary : List (List ℕ) → Bool → Type 0
+AskForASummary words sums = (name : List ℕ) × (rows : List Row) × (subcommand_of command_line words ≡ Some (name, rows))
+    × IsFlag (codes "summary") rows sums
+
 -- the words are a whole command line, and ask for an explanation of the fault of this number or name
 abbrev pub AskToExplain : List (List ℕ) → List ℕ → Type 0
 AskToExplain words word = AreWhole words
@@ -60,10 +65,13 @@ AskToExplain words word = AreWhole words
 
 -- the words ask for this
 abbrev pub IsWished : List (List ℕ) → Wish → Type 0
-IsWished words (wish.Run s log) = IsSettings s × AreWhole words × AreChosen words Run s × NameTheLog words log
-IsWished words (wish.Play s log) = IsSettings s × AreWhole words × AreChosen words Play s × NameTheLog words log
+IsWished words (wish.Run s log sums) =
+    IsSettings s × AreWhole words × AreChosen words Run s × NameTheLog words log × AskForASummary words sums
+IsWished words (wish.Play s log sums) =
+    IsSettings s × AreWhole words × AreChosen words Play s × NameTheLog words log × AskForASummary words sums
 IsWished words (wish.Drill s transfers openings) =
     IsSettings s × AreWhole words × AreChosen words (Drill transfers openings) s
+IsWished words (wish.Check s) = IsSettings s × AreWhole words × AreChosen words Check s
 IsWished words (wish.Log path) = NameALog words
 IsWished words (wish.Next from to) = NameALog words
 IsWished words (wish.Explain word) = AskToExplain words word.now

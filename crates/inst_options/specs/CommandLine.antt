@@ -2,7 +2,7 @@
 use Rattle.std.specs.Prelude.{◌≡◌, ◌-◌, ◌^◌, ℕ, true, false, List, ◌∷◌, [], Some, codes}
 use Rattle.clap.specs.Words.{App, Rule, new_app, new_rule, with_rule, with_subcommand}
 use Rattle.clap.specs.Simple.{on_top}
-use Rattle.clap.specs.declared.builder.action.ArgAction.TheVariants.{Set}
+use Rattle.clap.specs.declared.builder.action.ArgAction.TheVariants.{Set, SetTrue}
 use Rattle.clap.specs.declared.builder.command.Command.{Command}
 use Rattle.clap.specs.declared.builder.command.Command.TheViews.{out-Command}
 use Rattle.clap.specs.declared.builder.value_parser.ValueParser.TheVariants.{Unsigned}
@@ -30,6 +30,10 @@ named_rule name = record (new_rule name) { long = Some name; required = true; ac
 -- how many replies are there already, as a whole number of 64 bits
 abbrev pub told_rule : Rule
 told_rule = record (new_rule (codes "told")) { long = Some (codes "told"); action = Some Set; parser = Some (Unsigned 0 (2 ^ 64 - 1)); value_names = 1 }
+
+-- whether the money of each participant is told at the end of a run
+abbrev pub summary_rule : Rule
+summary_rule = record (new_rule (codes "summary")) { long = Some (codes "summary"); action = Some SetTrue }
 
 -- the options of what a participant has room for
 abbrev pub with_room : App → App
@@ -69,13 +73,15 @@ drill_command =
     (number_rule (codes "transfers") (codes "200")))
     (number_rule (codes "openings") (codes "1"))
 
--- a subcommand that answers lines: the options of a hub, and those of its log
+-- a subcommand that answers lines: the options of a hub, those of its log, and a summary
 abbrev pub run_command : List ℕ → App
-run_command name = with_rule (with_rule (hub_command name) log_rule) told_rule
+run_command name = with_rule (with_rule (with_rule (hub_command name) log_rule) told_rule) summary_rule
 
--- the subcommands `run` and `play`, with the same options
+-- the subcommands that read lines: `run` and `play`, with the same options, and `check`, with those of a hub
 abbrev pub with_runs : App → App
-with_runs app = with_subcommand (with_subcommand app (run_command (codes "run")).top) (run_command (codes "play")).top
+with_runs app =
+    with_subcommand (with_subcommand (with_subcommand app (run_command (codes "run")).top) (run_command (codes "play")).top)
+    (hub_command (codes "check")).top
 
 -- the subcommand `log`
 abbrev pub log_command : App
@@ -97,6 +103,6 @@ fault_rule = record (new_rule (codes "fault")) { required = true; action = Some 
 abbrev pub explain_command : App
 explain_command = with_rule (new_app (codes "explain")) fault_rule
 
--- the whole command line: `run` and `play`, `drill`, `log` and `next`, `explain`
+-- the whole command line: `run`, `play` and `check`, `drill`, `log` and `next`, `explain`
 abbrev pub command_line : App
 command_line = with_subcommand (with_logs (with_subcommand (with_runs bare_command_line) drill_command.top)) explain_command.top

@@ -1,21 +1,24 @@
 -- The options of a subcommand, and the settings that their values choose. They are this hub's own choice.
-use Rattle.std.specs.Prelude.{◌⊎◌, ◌≡◌, ◌==◌, ◌<◌, ◌≤◌, ◌^◌, ℕ, true, false, List, Option, Some, None, codes}
-use Rattle.std.specs.List.{list_all, slice_split}
+use Rattle.std.specs.Prelude.{◌⊎◌, ◌≡◌, ◌<◌, ◌≤◌, ◌^◌, ℕ, Bool, true, false, List, Option, Some, None, codes}
+use Rattle.std.specs.List.{list_all}
 use Rattle.std.specs.Str.Parse.{IsNumeral, digits_value, without_leading_plus}
 use Rattle.clap.specs.Words.{Row, Text, first_of, one_of}
 use Rattle.inst_base.specs.Text.{is_code}
+use Rattle.inst_codes.specs.Parts.{parts_of}
 use Rattle.inst_settings.specs.Settings.{HubSettings, same_text}
 use Rattle.inst_settings.specs.Lawful.{IsSettings}
 use Rattle.inst_options.specs.declared.wish.LogOptions.{LogOptions}
 use Rattle.inst_options.specs.declared.wish.Wish.{Wish}
 use Rattle.inst_options.specs.declared.wish.Wish.TheVariants as wish
 
--- what the subcommand of a name does at a hub
+-- what the subcommand of a name does at a hub, or for one
 -- drill: so many transfers in each of so many openings
+-- check: which lines no such hub takes
 pub data Task : Type 0 where
   Run : Task
   Play : Task
   Drill : ℕ → ℕ → Task
+  Check : Task
 
 -- the option of this name has a text that is the number in digits, which may follow a plus
 abbrev pub Gives : List Row → List ℕ → ℕ → Type 0
@@ -41,6 +44,12 @@ GivesLog rows None = first_of (codes "log") rows ≡ None
 GivesLog rows (Some log) =
     (first_of (codes "log") rows ≡ Some log.path.now) × ((n : ℕ) → log.told ≡ Some n → Gives rows (codes "told") n)
 
+-- whether the option, which has no value, is there
+abbrev pub IsFlag : List ℕ → List Row → Bool → Type 0
+IsFlag name rows flag =
+    (one_of name rows ≡ Some (codes "true") → flag ≡ true)
+    × (((one_of name rows ≡ None) ⊎ (one_of name rows ≡ Some (codes "false"))) → flag ≡ false)
+
 -- the options say what was told, and name no log
 abbrev pub TellsOfNoLog : List Row → Type 0
 TellsOfNoLog rows = (first_of (codes "log") rows ≡ None) × IsGiven (codes "told") rows
@@ -55,16 +64,16 @@ SpeaksOfALog name rows =
 abbrev pub IsDrill : List Row → ℕ → ℕ → Type 0
 IsDrill rows transfers openings = Gives rows (codes "transfers") transfers × Gives rows (codes "openings") openings
 
--- what the subcommand of this name does, with these options; the one that is neither `play` nor `drill` is `run`
+-- what the subcommand of this name does, with these options; the one that is none of `play`, `drill` and
+-- `check` is `run`
 abbrev pub IsTask : List ℕ → List Row → Task → Type 0
-IsTask name rows Run = (same_text name (codes "play") ≡ false) × (same_text name (codes "drill") ≡ false)
+IsTask name rows Run =
+    (same_text name (codes "play") ≡ false) × (same_text name (codes "drill") ≡ false) × (same_text name (codes "check") ≡ false)
 IsTask name rows Play = same_text name (codes "play") ≡ true
 IsTask name rows (Drill transfers openings) =
     (same_text name (codes "play") ≡ false) × (same_text name (codes "drill") ≡ true) × IsDrill rows transfers openings
-
--- the texts between commas
-abbrev pub parts_of : List ℕ → List (List ℕ)
-parts_of = slice_split (λ b. b == 44)
+IsTask name rows Check =
+    (same_text name (codes "play") ≡ false) × (same_text name (codes "drill") ≡ false) × (same_text name (codes "check") ≡ true)
 
 -- the options choose these settings
 pub record Chooses (rows : List Row) (s : HubSettings) : Type 0 where
@@ -91,6 +100,7 @@ abbrev pub HasSmallNumbers : Task → Type 0
 HasSmallNumbers Run = Unit {0}
 HasSmallNumbers Play = Unit {0}
 HasSmallNumbers (Drill transfers openings) = (transfers < 2 ^ 16) × (openings < 2 ^ 8)
+HasSmallNumbers Check = Unit {0}
 
 -- the options of the subcommand of this name choose no settings that a hub can have, or no task that fits
 abbrev pub AskForNone : List ℕ → List Row → Type 0
@@ -99,10 +109,13 @@ AskForNone name rows =
 
 -- what the subcommand of this name asks for, with these options
 abbrev pub IsWish : List ℕ → List Row → Wish → Type 0
-IsWish name rows (wish.Run s log) = IsSettings s × IsTask name rows Run × Chooses rows s × GivesLog rows log
-IsWish name rows (wish.Play s log) = IsSettings s × IsTask name rows Play × Chooses rows s × GivesLog rows log
+IsWish name rows (wish.Run s log sums) =
+    IsSettings s × IsTask name rows Run × Chooses rows s × GivesLog rows log × IsFlag (codes "summary") rows sums
+IsWish name rows (wish.Play s log sums) =
+    IsSettings s × IsTask name rows Play × Chooses rows s × GivesLog rows log × IsFlag (codes "summary") rows sums
 IsWish name rows (wish.Drill s transfers openings) =
     IsSettings s × IsTask name rows (Drill transfers openings) × Chooses rows s
+IsWish name rows (wish.Check s) = IsSettings s × IsTask name rows Check × Chooses rows s
 IsWish name rows (wish.Log path) = (same_text name (codes "log") ≡ true) × IsText (codes "file") rows path.now
 IsWish name rows (wish.Next from to) =
     (same_text name (codes "next") ≡ true) × IsText (codes "log") rows from.now × IsText (codes "to") rows to.now

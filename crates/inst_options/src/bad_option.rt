@@ -5,6 +5,7 @@ ghost use Rattle.inst_options.specs.Options.{Gives};
 
 use crate::options::{text, whole};
 use clap::ArgMatches;
+use inst_settings::{MOST_AHEAD, MOST_BASE, MOST_CEILING, MOST_FUNDINGS, MOST_LIMIT, MOST_PLACES};
 
 /// An option whose value no hub can have beside the others.
 #[derive(Clone, Copy, Debug)]
@@ -29,43 +30,43 @@ const BOUNDS: &'static [Bound] = &[
     Bound {
         name: "places",
         least: 1,
-        most: 1024,
+        most: MOST_PLACES as u64,
         range: "1 to 1024",
     },
     Bound {
         name: "fundings",
         least: 1,
-        most: 1024,
+        most: MOST_FUNDINGS as u64,
         range: "1 to 1024",
     },
     Bound {
         name: "limit",
         least: 1,
-        most: 3_600_000,
+        most: MOST_LIMIT as u64,
         range: "1 to 3600000",
     },
     Bound {
         name: "ahead",
         least: 0,
-        most: 60_000,
+        most: MOST_AHEAD as u64,
         range: "0 to 60000",
     },
     Bound {
         name: "ceiling",
         least: 1,
-        most: 99_999_999_999,
+        most: MOST_CEILING,
         range: "1 to 99999999999",
     },
     Bound {
         name: "base",
         least: 0,
-        most: 4_611_686_018_427_387_904,
+        most: MOST_BASE,
         range: "0 to 4611686018427387904 (2^62)",
     },
     Bound {
         name: "transfers",
         least: 1,
-        most: 1024,
+        most: MOST_PLACES as u64,
         range: "1 to 1024 and at most the places",
     },
     Bound {

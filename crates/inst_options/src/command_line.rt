@@ -1,7 +1,7 @@
 ghost use Rattle.std.specs.Prelude.{◌≡◌, IfOk, false};
 ghost use Rattle.clap.specs.Words.{app_of, rule_of};
 ghost use Rattle.inst_options.specs.CommandLine.{participants_rule, number_rule, with_room, with_times, with_bounds, hub_command};
-ghost use Rattle.inst_options.specs.CommandLine.{file_rule, log_rule, told_rule, named_rule, fault_rule, log_command, next_command};
+ghost use Rattle.inst_options.specs.CommandLine.{file_rule, log_rule, told_rule, summary_rule, named_rule, fault_rule, log_command, next_command};
 ghost use Rattle.inst_options.specs.CommandLine.{run_command, drill_command, explain_command, with_runs, with_logs, IsLocal};
 ghost use Rattle.inst_options.specs.CommandLine.{command_line as the_command_line};
 
@@ -25,7 +25,7 @@ pub(crate) fn command_line<'a>(alloc: Global) -> Result<Command<'a>, AllocError>
     with_logs(alloc, program)?.subcommand(explain_command(alloc)?)
 }
 
-/// The subcommands `run` and `play`, with the options of a hub and of its log.
+/// The subcommands that read lines: `run` and `play`, with the options of a hub and of its log, and `check`.
 fn with_runs<'a>(alloc: Global, program: Command<'a>) -> Result<Command<'a>, AllocError>
     ensures shape { IfOk result (λ more. app_of more ≡ with_runs (app_of program.entry)) }
 {
@@ -42,7 +42,14 @@ fn with_runs<'a>(alloc: Global, program: Command<'a>) -> Result<Command<'a>, All
         "The same for a script of steps: each line is one step, and nothing happens by itself",
         texts::PLAY,
     )?;
-    program.subcommand(play)
+    let runs = program.subcommand(play)?;
+    let check = hub_command(
+        alloc,
+        "check",
+        "Tells which command lines of standard input no hub takes, and by which field",
+        texts::CHECK,
+    )?;
+    runs.subcommand(check)
 }
 
 /// The subcommands `log` and `next`, which read nothing.
@@ -97,7 +104,7 @@ fn explain_command<'a>(alloc: Global) -> Result<Command<'a>, AllocError>
         .arg(fault(alloc))
 }
 
-/// A subcommand that answers lines: the options of a hub, and those of its log.
+/// A subcommand that answers lines: the options of a hub, those of its log, and a summary.
 fn run_command<'a>(
     alloc: Global,
     name: &'a str,
@@ -108,7 +115,7 @@ fn run_command<'a>(
     ensures local { IfOk result (λ command. IsLocal command) }
 {
     let hub = hub_command(alloc, name, about, long_about)?;
-    hub.arg(log(alloc))?.arg(told(alloc))
+    hub.arg(log(alloc))?.arg(told(alloc))?.arg(summary(alloc))
 }
 
 /// The subcommand `drill`: the options of a hub, and two of its own.
@@ -305,6 +312,18 @@ fn told<'a>(alloc: Global) -> Arg<'a>
         .value_name("COUNT")
         .help(
             "How many replies of the log's lines are there already, if not all; the others are written first",
+        )
+}
+
+fn summary<'a>(alloc: Global) -> Arg<'a>
+    ensures rule { rule_of result ≡ summary_rule }
+    ensures local { result.global ≡ false }
+{
+    Arg::new(alloc, "summary")
+        .long("summary")
+        .action(ArgAction::SetTrue)
+        .help(
+            "Tells on standard error, at the end, how many lines there were, and each participant's money",
         )
 }
 

@@ -1,19 +1,18 @@
 // What the options of a subcommand ask for.
-ghost use Rattle.std.specs.Prelude.{◌≡◌, ◌^◌, ◌⊎◌, OkIff, true, IfOk, IfErr, OnErr, IsOkUnless, Some, None, false};
-ghost use Rattle.std.specs.Prelude.{map, codes};
-ghost use Rattle.std.specs.List.{list_all};
-ghost use Rattle.inst_base.specs.Text.{is_code};
+ghost use Rattle.std.specs.Prelude.{◌≡◌, ◌^◌, ◌⊎◌, IfOk, IfErr, OnErr, IsOkUnless, Some, None};
+ghost use Rattle.std.specs.Prelude.{codes};
 ghost use Rattle.clap.specs.Words.{first_of, found_of, rows_of};
-ghost use Rattle.inst_options.specs.Options.{GivesLog, TellsOfNoLog, SpeaksOfALog, IsText, IsWish, parts_of};
-ghost use Rattle.inst_options.specs.Options.{Gives, GivesNoneBelow, Chooses, ChooseNone, IsDrill, AskForNone};
+ghost use Rattle.inst_options.specs.Options.{GivesLog, TellsOfNoLog, SpeaksOfALog, IsText, IsWish};
+ghost use Rattle.inst_options.specs.Options.{IsFlag, Gives, GivesNoneBelow, Chooses, ChooseNone, IsDrill, AskForNone};
 ghost use Rattle.inst_options.specs.Asking.{IsRefusal};
 ghost use Rattle.inst_settings.specs.Lawful.{IsSettings};
 
 use crate::wish::{LogOptions, Wish};
 use clap::ArgMatches;
-use inst_base::{Code, Fault};
-use inst_settings::Settings;
-use std::alloc::{AllocError, Global};
+use inst_base::Fault;
+use inst_codes::codes;
+use inst_settings::{Numbers, Settings};
+use std::alloc::Global;
 
 /// What the subcommand of this name and its options ask for. `BadSettings` as from `hub_wish`.
 pub(crate) fn wish<'a>(
@@ -38,8 +37,8 @@ pub(crate) fn wish<'a>(
     hub_wish(alloc, name, options)
 }
 
-/// What the subcommand of this name, if it is one with a hub, and its options ask for. The one that is neither `play`
-/// nor `drill` is `run`. `BadSettings` as from `settings`, and then where a number of a drill is too large for any hub,
+/// What the subcommand of this name, if it is one with a hub, and its options ask for. The one that is none of `play`,
+/// `drill` and `check` is `run`. `BadSettings` as from `settings`, and then where a number of a drill is too large for any hub,
 /// or as from `log_options`.
 fn hub_wish<'a>(alloc: Global, name: &str, options: &ArgMatches<'a>) -> Result<Wish<'a>, Fault>
     ensures wish { IfOk result (IsWish name.now (rows_of (found_of options.now))) }
@@ -49,14 +48,24 @@ fn hub_wish<'a>(alloc: Global, name: &str, options: &ArgMatches<'a>) -> Result<W
     let settings = settings(alloc, options)?;
     if name == "play" {
         let log = log_options(options)?;
-        return Ok(Wish::Play(settings, log));
+        return Ok(Wish::Play(settings, log, flag(options, "summary")));
     }
     if name == "drill" {
         let (transfers, openings) = drill_options(options)?;
         return Ok(Wish::Drill(settings, transfers, openings));
     }
+    if name == "check" {
+        return Ok(Wish::Check(settings));
+    }
     let log = log_options(options)?;
-    Ok(Wish::Run(settings, log))
+    Ok(Wish::Run(settings, log, flag(options, "summary")))
+}
+
+/// Whether an option that has no value is there.
+fn flag(options: &ArgMatches<'_>, name: &str) -> bool
+    ensures { IsFlag name.now (rows_of (found_of options.now)) result }
+{
+    options.get_flag(name)
 }
 
 /// The log that the options ask for. `BadSettings` where they say what was told and name no log.
@@ -95,7 +104,7 @@ fn settings(alloc: Global, options: &ArgMatches<'_>) -> Result<Settings, Fault>
     ensures chosen { IfOk result (λ settings. Chooses (rows_of (found_of options.now)) settings) }
 {
     let participants = text(options, "participants")?;
-    let codes = codes(alloc, participants)?;
+    let codes = codes(alloc, participants.as_bytes())?;
     let places = small(options, "places")?;
     let fundings = small(options, "fundings")?;
     let limit = medium(options, "limit")?;
@@ -103,7 +112,16 @@ fn settings(alloc: Global, options: &ArgMatches<'_>) -> Result<Settings, Fault>
     let ahead = medium(options, "ahead")?;
     let ceiling = whole(options, "ceiling")?;
     let base = whole(options, "base")?;
-    Settings::check(codes, places, fundings, limit, margin, ahead, ceiling, base)
+    let numbers = Numbers {
+        places,
+        fundings,
+        limit,
+        margin,
+        ahead,
+        ceiling,
+        base,
+    };
+    Settings::check(codes, numbers)
 }
 
 /// The text of an option.
@@ -120,33 +138,6 @@ fn text_if_any<'a>(options: &ArgMatches<'a>, name: &str) -> &'a str
     ensures { IsText name.now (rows_of (found_of options.now)) result.now }
 {
     options.get_str(name).unwrap_or("")
-}
-
-/// The codes between the commas. Nothing is trimmed.
-fn codes(alloc: Global, text: &str) -> Result<Vec<Code>, Fault>
-    ensures codes { IfOk result (λ codes. codes.items ≡ parts_of text.now) }
-    ensures fault { IfErr result (IsRefusal (list_all is_code (parts_of text.now) ≡ false)) }
-{
-    let parts = parts(alloc, text)?;
-    let mut codes = Vec::new(alloc);
-    for part in &parts {
-        codes.push(code(part)?)?;
-    }
-    Ok(codes)
-}
-
-fn code(text: &str) -> Result<Code, Fault>
-    ensures code { OkIff result (is_code text.now ≡ true) text.now }
-    ensures fault { IsOkUnless result Fault.BadSettings }
-{
-    Code::new(text).map_err(|_| Fault::BadSettings)
-}
-
-/// The texts between the commas.
-fn parts(alloc: Global, text: &str) -> Result<Vec<&str>, AllocError>
-    ensures { IfOk result (λ parts. map (λ part. part.now) parts.items ≡ parts_of text.now) }
-{
-    text.split(',').collect(alloc)
 }
 
 /// The number of an option. The command line has read it as a whole number.

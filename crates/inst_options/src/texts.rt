@@ -18,6 +18,16 @@ A line in is a command, as in a run, or a step line; then its line out:
   {\"new\":true,\"reply\":\"step\"}
 docs/FORMATS.md has all commands, step lines, replies and refusals.";
 
+/// What `check` does, at length.
+pub(crate) const CHECK: &str = "\
+Tells which command lines of standard input no hub takes, and by which field
+
+All lines are read, and none is answered. For each that a hub of these settings refuses before it looks at its books
+there is a line on standard output:
+  line 3: fault 4 BadAmount in \"cents\"
+The field is missing or wrong. `inst_main explain BadAmount` tells what the fault usually means. Nothing at all is
+written where each line can be taken. A script of steps has other lines.";
+
 /// What `log` does, at length.
 pub(crate) const LOG: &str = "\
 Tells with which settings a log begins, and how many lines it has
@@ -56,14 +66,14 @@ Then the hub is closed, and standard output has four lines. Standard input isn't
   net N sum S          the net funding and the sum of all positions, in cents
 The first opening begins with nothing, and each other one with the books of the one before.";
 
-/// At the end of the help of `run`, `play` and `drill`.
+/// At the end of the help of `run`, `play`, `check` and `drill`.
 pub(crate) const MOMENTS: &str = "\
 Moments are milliseconds of any clock that all participants share; the hub has no clock of its own. They begin at
 the base and end 2^41 - 1 ms after it. Unix time in milliseconds fits base 0 until 2039-09-07. A hub that is to run
 past that needs a base near its start, as --base 1767225600000, which is 2026-01-01 00:00 UTC.
 
 Exit status: 0 at the end of the input or of the drill, 2 for wrong words or settings, 3 where fault 14, 17 or 18
-ended the run or the drill.";
+ended it.";
 
 /// At the end of the program's help.
 pub(crate) const PROGRAM: &str = "\

@@ -13,12 +13,14 @@ pub struct LogOptions<'a> {
 #[derive(Drop)]
 pub enum Wish<'a> {
     /// Commands are answered by a hub of these settings, which follows up all transfers after each; with a log or
-    /// without.
-    Run(Settings, Option<LogOptions<'a>>),
+    /// without, and at the end with a summary or without.
+    Run(Settings, Option<LogOptions<'a>>, bool),
     /// The same for a script of steps.
-    Play(Settings, Option<LogOptions<'a>>),
+    Play(Settings, Option<LogOptions<'a>>, bool),
     /// A hub of these settings is drilled by threads: so many transfers in each of so many openings.
     Drill(Settings, u16, u8),
+    /// What of lines no hub of these settings takes.
+    Check(Settings),
     /// What the log of this name has.
     Log(&'a str),
     /// A log of the first name is closed, and one of the second name begins with its books.

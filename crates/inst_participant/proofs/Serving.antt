@@ -1,6 +1,7 @@
 -- A participant serves an ask: its history grows, and the ticket is that of the reply.
 use Rattle.std.proofs.Common.{◌≡◌, ℕ, List, [], ◌∷◌, ◌++◌, append-nil, ⊎_elim, sym, ap, ◌∙◌, subst, Option, Some, None, Bool, inl, inr, refl}
 use Rattle.std.specs.Prelude.{Result}
+use Rattle.std.specs.declared.alloc.AllocError.{AllocError}
 use mathlib.Core.List.{IsPrefix}
 use Rattle.inst_base.specs.declared.fault.Fault.{Fault}
 use Rattle.inst_settings.specs.Settings.{HubSettings}
@@ -85,7 +86,7 @@ its_ticket x y u ask reply ticket ready same_who same_settings own sound answere
     go (Refused fault) t rep = t
 
 -- a delivery or a lesson tells one event more, if any
-pub told_one : (act : Act) (x : Participant) (k : Place) (result : Result Bool Fault) (y : Participant) → Does act x k result y → IsToldMore x.slot.events y.slot.events
+pub told_one : (act : Act) (x : Participant) (k : Place) (result : Result Bool AllocError) (y : Participant) → Does act x k result y → IsToldMore x.slot.events y.slot.events
 told_one Deliver x k result y (look, shows, keeps) = ⊎_elim
     (λ kept. delivered (delivery x.slot k look) (ap (λ (b : Book). b.events) kept.1))
     (λ refused. inl (ap (λ (b : Book). b.events) refused.1)) keeps

@@ -1,12 +1,11 @@
 -- A sweep under a lock, step by step: what holds of the participant after some of it, and what is left of it.
 use Rattle.std.proofs.Common.{◌≡◌, ◌≢◌, ℕ, zero, suc, ◌+◌, ◌-◌, ◌*◌, ◌<◌, ◌≤◌, Bool, true, false, List, [], ◌∷◌, ◌++◌, length, append-nil, append_assoc, arith, ◌&&◌, ◌||◌, ◌⊎◌, inl, inr, ⊎_elim, refl, sym, ap, ◌∙◌, subst, Option, Some, None}
-use Rattle.std.specs.Prelude.{Contains, nat_lt, nat_eq, Result, Ok, Err, IsOkUnless}
+use Rattle.std.specs.Prelude.{Contains, nat_lt, nat_eq, Result, Ok, Err, alloc_error}
 use Rattle.std.proofs.lemmas.Bool.{and_parts, ltb-true, eqb-true}
 use Rattle.std.proofs.lemmas.List.Elements.{Contains-append_cases}
 use Rattle.std.proofs.lemmas.Option.{slice_get_within}
+use Rattle.std.specs.declared.alloc.AllocError.{AllocError}
 use mathlib.Core.List.{IsPrefix}
-use Rattle.inst_base.specs.declared.fault.Fault.{Fault}
-use Rattle.inst_base.specs.declared.fault.Fault.TheVariants.{Memory}
 use Rattle.inst_due.specs.Due.{comes_after}
 use Rattle.inst_board.specs.declared.place.Place.{Place}
 use Rattle.inst_journal.specs.declared.event.Event.{Event}
@@ -95,7 +94,7 @@ fewer_pairs (Some pair) d k range index moment after = ⊎_elim
     or_cases false b h = inr h
 
 -- a lesson leaves the arrivals
-pub same_arrivals : (x : Participant) (k : Place) (result : Result Bool Fault) (y : Participant) → Does Learn x k result y → y.slot.arrivals ≡ x.slot.arrivals
+pub same_arrivals : (x : Participant) (k : Place) (result : Result Bool AllocError) (y : Participant) → Does Learn x k result y → y.slot.arrivals ≡ x.slot.arrivals
 same_arrivals x k result y (look, shows, keeps) = ⊎_elim
     (λ kept. ap (λ (b : Book). b.arrivals) kept.1 ∙ still (lesson x.slot k look))
     (λ refused. ap (λ (b : Book). b.arrivals) refused.1) keeps
@@ -107,39 +106,34 @@ same_arrivals x k result y (look, shows, keeps) = ⊎_elim
 pub position_within : (book : Book) (from : ℕ) (next : ℕ × Place) → IsNextUnbooked book from next → next.0 < length book.arrivals
 position_within book from next is = slice_get_within book.arrivals next.0 is.arrival is.there
 
-pub fewer_arrivals : (x : Participant) (k : Place) (result : Result Bool Fault) (y : Participant) (from position : ℕ) → IsNextUnbooked x.slot from (position, k) → Does Learn x k result y
+pub fewer_arrivals : (x : Participant) (k : Place) (result : Result Bool AllocError) (y : Participant) (from position : ℕ) → IsNextUnbooked x.slot from (position, k) → Does Learn x k result y
     → length y.slot.arrivals - (position + 1) < length x.slot.arrivals - from
 fewer_arrivals x k result y from position next does =
     let same : length y.slot.arrivals ≡ length x.slot.arrivals = ap length (same_arrivals x k result y does) in
     omega (arith, same, position_within x.slot from (position, k) next, next.within)
 
--- memory is all that is refused
-pub refused_as : (r : Result Bool Fault) (fault : Fault) → r ≡ Err fault → IsOkUnless r Memory → r ≡ Err Memory
-refused_as (Ok b) fault is only = let no : ⊥ = cc in absurd no
-refused_as (Err e) fault is only = ap Err only
-
 -- what is left of the own transfers after this pair is left of all of them
 abbrev pub LeftToExpire : ℕ → Option (ℕ × ℕ) → Participant → Participant → Type 0
 LeftToExpire t after start x = (whole : Bool) (y : Participant) → LetsExpire t after whole x y → LetsExpire t None whole start y
 
-pub expired_now : (t : ℕ) (after : Option (ℕ × ℕ)) (pair : ℕ × ℕ) (result : Result Bool Fault) (is_new : Bool) (start x z : Participant) → LeftToExpire t after start x
+pub expired_now : (t : ℕ) (after : Option (ℕ × ℕ)) (pair : ℕ × ℕ) (result : Result Bool AllocError) (is_new : Bool) (start x z : Participant) → LeftToExpire t after start x
     → IsNextDue x.slot after pair → MayExpire t x pair.1 result z → result ≡ Ok is_new → LeftToExpire t (Some pair) start z
 expired_now t after pair result is_new start x z left next may ok whole y rest =
-    left whole y (then_next_pair after pair is_new whole x z y next (subst (λ (r : Result Bool Fault). MayExpire t x pair.1 r z) ok may) rest)
+    left whole y (then_next_pair after pair is_new whole x z y next (subst (λ (r : Result Bool AllocError). MayExpire t x pair.1 r z) ok may) rest)
 
-pub expiry_refused_now : (t : ℕ) (after : Option (ℕ × ℕ)) (pair : ℕ × ℕ) (result : Result Bool Fault) (fault : Fault) (start x z : Participant) → LeftToExpire t after start x
-    → IsNextDue x.slot after pair → MayExpire t x pair.1 result z → result ≡ Err fault → IsOkUnless result Memory → LetsExpire t None false start z
-expiry_refused_now t after pair result fault start x z left next may is only =
-    left false z (refused_pair after pair x z next (subst (λ (r : Result Bool Fault). MayExpire t x pair.1 r z) (refused_as result fault is only) may))
+pub expiry_refused_now : (t : ℕ) (after : Option (ℕ × ℕ)) (pair : ℕ × ℕ) (result : Result Bool AllocError) (start x z : Participant) → LeftToExpire t after start x
+    → IsNextDue x.slot after pair → MayExpire t x pair.1 result z → result ≡ Err alloc_error → LetsExpire t None false start z
+expiry_refused_now t after pair result start x z left next may is =
+    left false z (refused_pair after pair x z next (subst (λ (r : Result Bool AllocError). MayExpire t x pair.1 r z) is may))
 
 -- what is left of the arrivals from here on is left of all of them
 abbrev pub LeftToLearn : ℕ → Participant → Participant → Type 0
 LeftToLearn from start x = (whole : Bool) (y : Participant) → LearnsAll from whole x y → LearnsAll 0 whole start y
 
-pub learnt_now : (from position : ℕ) (k : Place) (result : Result Bool Fault) (is_new : Bool) (start x z : Participant) → LeftToLearn from start x
+pub learnt_now : (from position : ℕ) (k : Place) (result : Result Bool AllocError) (is_new : Bool) (start x z : Participant) → LeftToLearn from start x
     → IsNextUnbooked x.slot from (position, k) → Does Learn x k result z → result ≡ Ok is_new → LeftToLearn (position + 1) start z
 learnt_now from position k result is_new start x z left next does ok whole y rest =
-    left whole y (then_next_arrival from position k is_new whole x z y next (subst (λ (r : Result Bool Fault). Does Learn x k r z) ok does) rest)
+    left whole y (then_next_arrival from position k is_new whole x z y next (subst (λ (r : Result Bool AllocError). Does Learn x k r z) ok does) rest)
 
 one_more_left : (i n : ℕ) → i < n → suc (n - (i + 1)) ≡ n - i
 one_more_left i n below = omega (arith, below)
@@ -162,7 +156,7 @@ used_now owner index places start x z below left looks whole y rest =
     left whole y (subst (λ (n : ℕ). DeliversFrom owner index n whole x y) (one_more_left index places below) (then_next index (places - (index + 1)) whole x z y looks rest))
 
 pub refused_now : (owner index places : ℕ) (start x y : Participant) → index < places → LeftOfPlaces owner index places start x
-    → LooksAt x (place_at owner index) (Err Memory) y → DeliversFrom owner 0 places false start y
+    → LooksAt x (place_at owner index) (Err alloc_error) y → DeliversFrom owner 0 places false start y
 refused_now owner index places start x y below left looks =
     left false y (subst (λ (n : ℕ). DeliversFrom owner index n false x y) (one_more_left index places below) (refused index (places - (index + 1)) x y looks))
 

@@ -1,12 +1,12 @@
 -- What follows from a command under the other side's lock: a transfer that was taken comes to its beneficiary, and an
 -- outcome is learnt by the other side. When this is done is this hub's own choice.
 use Rattle.std.specs.Prelude.{ℕ, Bool, is_some, List, Option, Some, None, Result, Ok, Err}
+use Rattle.std.specs.declared.alloc.AllocError.{AllocError}
 use Rattle.inst_command.specs.declared.command.Command.{Command}
 use Rattle.inst_command.specs.declared.command.Command.TheVariants.{Submit, Confirm, Reject, Investigate}
 use Rattle.inst_command.specs.declared.outcome.State.TheVariants.{Decided as IsDecided}
 use Rattle.inst_command.specs.declared.reply.Reply.{Reply}
 use Rattle.inst_command.specs.declared.reply.Reply.TheVariants.{State}
-use Rattle.inst_base.specs.declared.fault.Fault.{Fault}
 use Rattle.inst_board.specs.declared.place.Place.{Place}
 use Rattle.inst_board.specs.declared.look.Look.{Look}
 use Rattle.inst_board.specs.Learning.{Looks}
@@ -36,7 +36,7 @@ follow_up_of K (Investigate id) (State from asked (IsDecided outcome)) (Some k) 
 follow_up_of K command reply ticket = None
 
 -- nothing follows from what is refused for memory
-abbrev pub follow_up_after : List Event → Command → Result (Reply × Option Place) Fault → Option FollowUp
+abbrev pub follow_up_after : List Event → Command → Result (Reply × Option Place) AllocError → Option FollowUp
 follow_up_after K command (Ok answer) = follow_up_of K command answer.0 answer.1
 follow_up_after K command (Err fault) = None
 
@@ -45,7 +45,7 @@ abbrev pub Shows : SharedBoard → Place → Look → SharedBoard → Type 0
 Shows b k look c = Looks (settings_of b).margin knows has_role stood b k look c
 
 -- the participant gets the transfer of the place, or learns how it ended
-abbrev pub Does : Act → Participant → Place → Result Bool Fault → Participant → Type 0
+abbrev pub Does : Act → Participant → Place → Result Bool AllocError → Participant → Type 0
 Does Deliver x k result y = (look : Look) × Shows x.board k look y.board
     × Keeps (is_some (delivery x.slot k look)) x.slot (with_delivery x.slot k (delivery x.slot k look)) result y.slot
 Does Learn x k result y = (look : Look) × Shows x.board k look y.board

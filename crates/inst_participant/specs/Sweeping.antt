@@ -1,10 +1,9 @@
 -- What a sweep does under a participant's lock: each own transfer with nothing booked may expire, in order of deadline and
 -- place; then each forwarded one with nothing booked is learnt, in order of arrival; then each other originator's places
 -- are looked at, by number from the first to the first unused one, and what is new there comes. This hub's own choice.
-use Rattle.std.specs.Prelude.{◌≡◌, ◌≢◌, ℕ, zero, suc, ◌+◌, ◌-◌, ◌^◌, min, Bool, true, false, List, length, Option, Some, None, Result, Ok, Err}
+use Rattle.std.specs.Prelude.{◌≡◌, ◌≢◌, ℕ, zero, suc, ◌+◌, ◌-◌, ◌^◌, min, Bool, true, false, List, length, Option, Some, None, Result, Ok, Err, alloc_error}
+use Rattle.std.specs.declared.alloc.AllocError.{AllocError}
 use Rattle.inst_base.specs.TimeLimit.{is_due}
-use Rattle.inst_base.specs.declared.fault.Fault.{Fault}
-use Rattle.inst_base.specs.declared.fault.Fault.TheVariants.{Memory}
 use Rattle.inst_settings.specs.Settings.{participants}
 use Rattle.inst_board.specs.declared.place.Place.{Place}
 use Rattle.inst_board.specs.declared.look.Look.{Look}
@@ -20,7 +19,7 @@ use Rattle.inst_participant.specs.declared.follow_up.Act.TheVariants.{Deliver, L
 use Rattle.inst_participant.specs.Following.{Does, Shows}
 
 -- the own transfer at this index may expire at the reading
-abbrev pub MayExpire : ℕ → Participant → ℕ → Result Bool Fault → Participant → Type 0
+abbrev pub MayExpire : ℕ → Participant → ℕ → Result Bool AllocError → Participant → Type 0
 MayExpire t x index result y =
     Expires (settings_of x.board).margin knows has_role stood Stays x.board x.slot index t result y.board y.slot
 
@@ -31,7 +30,7 @@ pub data LetsExpire (t : ℕ) : Option (ℕ × ℕ) → Bool → Participant →
   then_next : (after : Option (ℕ × ℕ)) (pair : ℕ × ℕ) (is_new whole : Bool) (x z y : Participant) → IsNextDue x.slot after pair →
       MayExpire t x pair.1 (Ok is_new) z → LetsExpire t (Some pair) whole z y → LetsExpire t after whole x y
   refused : (after : Option (ℕ × ℕ)) (pair : ℕ × ℕ) (x y : Participant) → IsNextDue x.slot after pair →
-      MayExpire t x pair.1 (Err Memory) y → LetsExpire t after false x y
+      MayExpire t x pair.1 (Err alloc_error) y → LetsExpire t after false x y
 
 -- from x to y each forwarded transfer with nothing booked is learnt, from this position on in order of arrival, until
 -- none is left, or until memory is refused for one, and then nothing more is done
@@ -40,21 +39,21 @@ pub data LearnsAll : ℕ → Bool → Participant → Participant → Type 0 whe
   then_next : (from position : ℕ) (k : Place) (is_new whole : Bool) (x z y : Participant) → IsNextUnbooked x.slot from (position, k) →
       Does Learn x k (Ok is_new) z → LearnsAll (position + 1) whole z y → LearnsAll from whole x y
   refused : (from position : ℕ) (k : Place) (x y : Participant) → IsNextUnbooked x.slot from (position, k) →
-      Does Learn x k (Err Memory) y → LearnsAll from false x y
+      Does Learn x k (Err alloc_error) y → LearnsAll from false x y
 
 -- a place that is pending is used; memory may be refused for what it brings
-abbrev pub is_used : Result Bool Fault → Result Bool Fault
+abbrev pub is_used : Result Bool AllocError → Result Bool AllocError
 is_used (Ok is_new) = Ok true
 is_used (Err fault) = Err fault
 
 -- what is done with a place that shows this, and whether it is used: what is pending comes, if it is new
-abbrev pub Brings : Look → Participant → Place → Result Bool Fault → Participant → Type 0
+abbrev pub Brings : Look → Participant → Place → Result Bool AllocError → Participant → Type 0
 Brings Unused x k used y = (used ≡ Ok false) × (y ≡ x)
 Brings (Decided terms outcome) x k used y = (used ≡ Ok true) × (y ≡ x)
-Brings (Pending terms deadline) x k used y = (came : Result Bool Fault) × Does Deliver x k came y × (used ≡ is_used came)
+Brings (Pending terms deadline) x k used y = (came : Result Bool AllocError) × Does Deliver x k came y × (used ≡ is_used came)
 
 -- the place was looked at, and what is new there came, unless memory was refused for it
-pub record LooksAt (x : Participant) (k : Place) (used : Result Bool Fault) (y : Participant) : Type 0 where
+pub record LooksAt (x : Participant) (k : Place) (used : Result Bool AllocError) (y : Participant) : Type 0 where
   pub look : Look
   pub between : Participant
   pub same : between.slot ≡ x.slot
@@ -68,7 +67,7 @@ pub data DeliversFrom (owner : ℕ) : ℕ → ℕ → Bool → Participant → P
   unused : (index left : ℕ) (x y : Participant) → LooksAt x (place_at owner index) (Ok false) y → DeliversFrom owner index (suc left) true x y
   then_next : (index left : ℕ) (whole : Bool) (x z y : Participant) → LooksAt x (place_at owner index) (Ok true) z →
       DeliversFrom owner (index + 1) left whole z y → DeliversFrom owner index (suc left) whole x y
-  refused : (index left : ℕ) (x y : Participant) → LooksAt x (place_at owner index) (Err Memory) y → DeliversFrom owner index (suc left) false x y
+  refused : (index left : ℕ) (x y : Participant) → LooksAt x (place_at owner index) (Err alloc_error) y → DeliversFrom owner index (suc left) false x y
 
 -- from x to y so many originators' places are looked at, from this one on by number, but not the own, until memory is
 -- refused, and then nothing more is done

@@ -5,7 +5,6 @@ use Rattle.std.specs.List.{AllByRecursion}
 use Rattle.std.proofs.lemmas.Bool.{and_parts, ltb-true, eq-eqb, or_left, cases_Bool, cases_eq}
 use Rattle.std.proofs.lemmas.List.Elements.{Contains-append_cases}
 use Rattle.std.proofs.lemmas.List.Folds.{list_any-append}
-use Rattle.inst_base.specs.declared.fault.Fault.{Fault}
 use Rattle.inst_settings.specs.Settings.{HubSettings, participants}
 use Rattle.inst_command.specs.declared.entry.Entry.{Entry}
 use Rattle.inst_command.specs.declared.outcome.Outcome.{Outcome}
@@ -40,6 +39,7 @@ use Rattle.inst_slot.proofs.Found.{arrives_once}
 use Rattle.inst_journal.specs.Sound.{IsSound}
 use Rattle.std.proofs.lemmas.Bool.Decides.{nat_tests}
 use Rattle.std.proofs.lemmas.List.Sums.{sum_by-cons}
+use Rattle.std.specs.declared.alloc.AllocError.{AllocError}
 use Rattle.inst_together.specs.Together.{IsSettled}
 use Rattle.inst_together.proofs.Listing.{got, kept, counted_at, some_same}
 use Rattle.inst_parts.specs.Settling.{HasAll, IsReady, IsLater, IsBookedAt, HasCome, OwnAreBooked, ArrivedAreBooked, HaveCome}
@@ -245,12 +245,12 @@ module _ {B : Type 0} (settings : B → HubSettings) (knows : B → Fact → Typ
       lesson_later None is = same_later x refl
       lesson_later (Some e) is = event_later e is
 
-      pub learnt_later : (y : Book) (r : Result Bool Fault) → Keeps (is_some (lesson x k look)) x (with_event x (lesson x k look)) r y → IsLater settings knows has_role stays b x c y
+      pub learnt_later : (y : Book) (r : Result Bool AllocError) → Keeps (is_some (lesson x k look)) x (with_event x (lesson x k look)) r y → IsLater settings knows has_role stays b x c y
       learnt_later y r keeps = ⊎_elim
           (λ done. subst (λ (z : Book). IsLater settings knows has_role stays b x c z) (sym done.1) (lesson_later (lesson x k look) refl))
           (λ refused. same_later y refused.1) keeps
 
-      pub learnt_arrivals : (y : Book) (r : Result Bool Fault) → Keeps (is_some (lesson x k look)) x (with_event x (lesson x k look)) r y → y.arrivals ≡ x.arrivals
+      pub learnt_arrivals : (y : Book) (r : Result Bool AllocError) → Keeps (is_some (lesson x k look)) x (with_event x (lesson x k look)) r y → y.arrivals ≡ x.arrivals
       learnt_arrivals y r keeps = ⊎_elim
           (λ done. ap (λ (z : Book). z.arrivals) done.1 ∙ none_more (lesson x k look))
           (λ refused. ap (λ (z : Book). z.arrivals) refused.1) keeps
@@ -294,7 +294,7 @@ module _ {B : Type 0} (settings : B → HubSettings) (knows : B → Fact → Typ
       delivery_later None is = same_later x refl
       delivery_later (Some entry) is = entry_later entry is
 
-      pub delivered_later : (y : Book) (r : Result Bool Fault) → Keeps (is_some (delivery x k look)) x (with_delivery x k (delivery x k look)) r y → IsLater settings knows has_role stays b x c y
+      pub delivered_later : (y : Book) (r : Result Bool AllocError) → Keeps (is_some (delivery x k look)) x (with_delivery x k (delivery x k look)) r y → IsLater settings knows has_role stays b x c y
       delivered_later y r keeps = ⊎_elim
           (λ done. subst (λ (z : Book). IsLater settings knows has_role stays b x c z) (sym done.1) (delivery_later (delivery x k look) refl))
           (λ refused. same_later y refused.1) keeps
@@ -329,7 +329,7 @@ module _ {B : Type 0} (settings : B → HubSettings) (knows : B → Fact → Typ
           go true (Some w) e was = ap is_some was
           go false w e was = let no : ⊥ = cc in absurd no
 
-      pub learnt_booked : (y : Book) (r : Result Bool Fault) → Keeps (is_some (lesson x k look)) x (with_event x (lesson x k look)) r y → IfOk r (λ _. IsBookedAt knows b x k y)
+      pub learnt_booked : (y : Book) (r : Result Bool AllocError) → Keeps (is_some (lesson x k look)) x (with_event x (lesson x k look)) r y → IfOk r (λ _. IsBookedAt knows b x k y)
       learnt_booked y r keeps = ⊎_elim
           (λ done. if_ok r (λ id o lies kn.
           let s = looks.standing in
@@ -339,9 +339,9 @@ module _ {B : Type 0} (settings : B → HubSettings) (knows : B → Fact → Typ
           let look_is : look ≡ LookDecided f.terms o = looks.look_is ∙ ap look_of f.is in
           let named : f.terms.id ≡ id = ap (λ (u : Terms). u.id) (sym t_is) ∙ l.id_is in
           subst (λ (z : Book). is_some (booked k.owner id z.events) ≡ true) (sym done.1) (booked_with id f.terms o look_is named (party_of id lies) (booked k.owner id x.events) refl)))
-          (λ refused. subst (λ (q : Result Bool Fault). IfOk q (λ _. IsBookedAt knows b x k y)) (sym refused.0) tt) keeps
+          (λ refused. subst (λ (q : Result Bool AllocError). IfOk q (λ _. IsBookedAt knows b x k y)) (sym refused.0) tt) keeps
         where
-          if_ok : (q : Result Bool Fault) → IsBookedAt knows b x k y → IfOk q (λ _. IsBookedAt knows b x k y)
+          if_ok : (q : Result Bool AllocError) → IsBookedAt knows b x k y → IfOk q (λ _. IsBookedAt knows b x k y)
           if_ok (Ok v) h = h
           if_ok (Err v) h = tt
 
@@ -389,12 +389,12 @@ module _ {B : Type 0} (settings : B → HubSettings) (knows : B → Fact → Typ
               ShowsEnd : Standing → Outcome → Type 0
               ShowsEnd p z = Shows p (Decided z)
 
-      pub delivered_come : (y : Book) (r : Result Bool Fault) → Keeps (is_some (delivery x k look)) x (with_delivery x k (delivery x k look)) r y → IfOk r (λ _. HasCome knows b k y)
+      pub delivered_come : (y : Book) (r : Result Bool AllocError) → Keeps (is_some (delivery x k look)) x (with_delivery x k (delivery x k look)) r y → IfOk r (λ _. HasCome knows b k y)
       delivered_come y r keeps = ⊎_elim
           (λ done. if_ok r (subst (λ (z : Book). HasCome knows b k z) (sym done.1) (come_by looks.standing refl)))
-          (λ refused. subst (λ (q : Result Bool Fault). IfOk q (λ _. HasCome knows b k y)) (sym refused.0) tt) keeps
+          (λ refused. subst (λ (q : Result Bool AllocError). IfOk q (λ _. HasCome knows b k y)) (sym refused.0) tt) keeps
         where
-          if_ok : (q : Result Bool Fault) → HasCome knows b k y → IfOk q (λ _. HasCome knows b k y)
+          if_ok : (q : Result Bool AllocError) → HasCome knows b k y → IfOk q (λ _. HasCome knows b k y)
           if_ok (Ok v) h = h
           if_ok (Err v) h = tt
 

@@ -1,4 +1,4 @@
-ghost use Rattle.std.specs.Prelude.{◌≡◌, ℕ, ◌<◌, length, IfOk, IsOkUnless};
+ghost use Rattle.std.specs.Prelude.{◌≡◌, ℕ, ◌<◌, length, IfOk};
 ghost use Rattle.inst_board.specs.declared.about.About.TheVariants.{Opened};
 ghost use Rattle.inst_board.specs.declared.place.Place.{Place};
 ghost use Rattle.inst_board.specs.Standing.{about};
@@ -13,10 +13,10 @@ ghost use Rattle.inst_parts.specs.Apart.{IsPartsOf, AreLater, histories_of};
 ghost use Rattle.inst_parts.specs.Parts.{IsSettledAt};
 
 use crate::settled::{settle_each, settle_one};
-use inst_base::Fault;
 use inst_cell::SharedBoard;
 use inst_settings::Settings;
 use inst_slot::Slot;
+use std::alloc::AllocError;
 
 /// What a hub is taken apart into: the slots of its participants, by number, and one board with the roles of all of them.
 #[derive(Drop)]
@@ -48,26 +48,24 @@ impl Parts {
     }
 
     /// Books what is decided of the transfers in the book of `who`, its own by place and then those that came in order of
-    /// arrival, and gets what is pending for it, by originator and place. How many of these were new. `Memory` ends it,
-    /// and what was done before stands.
-    pub fn settle(&mut self, who: u8) -> Result<u32, Fault>
+    /// arrival, and gets what is pending for it, by originator and place. How many of these were new. Refused
+    /// memory ends it, and what was done before stands.
+    pub fn settle(&mut self, who: u8) -> Result<u32, AllocError>
         requires parts { (O : Opening) × IsPartsOf O self.old }
         requires participant { who < participants self.old.settings }
         ensures later { AreLater self.old self.new }
         ensures settled { IfOk result (λ _. IsSettledAt knows self.new.board who self.new.slots.items) }
         ensures count { IfOk result (λ count. count ≡ new_events (histories_of self.old who) (histories_of self.new who)) }
-        ensures only { IsOkUnless result Fault.Memory }
     {
         settle_one(&mut self.slots, &mut self.board, who)
     }
 
     /// Settles each participant by number: then the books are closed, and all that the board knew is in them.
-    pub fn settle_all(&mut self) -> Result<(), Fault>
+    pub fn settle_all(&mut self) -> Result<(), AllocError>
         requires parts { (O : Opening) × IsPartsOf O self.old }
         ensures later { AreLater self.old self.new }
         ensures closed { IfOk result (λ _. AreClosed self.old.settings (histories self.new.slots.items)) }
         ensures told { IfOk result (λ _. (k : Place) → knows self.old.board (about k Opened) → IsInTheBooks knows self.old.board (histories self.new.slots.items) k) }
-        ensures only { IsOkUnless result Fault.Memory }
     {
         settle_each(&self.settings, &mut self.slots, &mut self.board)
     }

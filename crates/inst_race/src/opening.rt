@@ -7,7 +7,7 @@ ghost use Rattle.inst_cell.specs.Opening.{AreOpened};
 use crate::participant::Participant;
 use inst_base::{Code, Fault};
 use inst_cell::SharedBoard;
-use inst_settings::Settings;
+use inst_settings::{Numbers, Settings};
 use std::alloc::Global;
 
 /// From a transfer's time stamp to its deadline, in milliseconds.
@@ -21,16 +21,14 @@ fn settings(alloc: Global, places: u16, margin: u32) -> Result<Settings, Fault>
         Code::new("BBBBFRPP")?,
         Code::new("CCCCITMM")?,
     ];
-    Settings::check(
-        codes.to_vec(alloc)?,
+    let numbers = Numbers {
         places,
-        4,
-        LIMIT,
+        fundings: 4,
+        limit: LIMIT,
         margin,
-        1_000,
-        99_999_999_999,
-        0,
-    )
+        ..Numbers::DEFAULT
+    };
+    Settings::check(codes.to_vec(alloc)?, numbers)
 }
 
 /// Each participant with its board.

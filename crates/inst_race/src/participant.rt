@@ -71,15 +71,15 @@ impl Participant {
     }
 
     pub(crate) fn deliver(&mut self, place: Place) -> Result<bool, Fault> {
-        self.slot.deliver(&mut self.board, place)
+        Ok(self.slot.deliver(&mut self.board, place)?)
     }
 
     pub(crate) fn learn(&mut self, place: Place) -> Result<bool, Fault> {
-        self.slot.learn(&mut self.board, place)
+        Ok(self.slot.learn(&mut self.board, place)?)
     }
 
     pub(crate) fn expire(&mut self, index: u16, at: Moment) -> Result<bool, Fault> {
-        self.slot.expire(&mut self.board, index, at)
+        Ok(self.slot.expire(&mut self.board, index, at)?)
     }
 
     pub(crate) fn journal(&self) -> &Journal {

@@ -45,7 +45,7 @@ fn deliver_to(slot: &mut Slot, board: &mut PlainBoard, place: Place) -> Result<b
     if slot.unfound() > 0 {
         return Err(Fault::BadField);
     }
-    slot.deliver(board, place)
+    Ok(slot.deliver(board, place)?)
 }
 
 /// What the slot of the participant `who` answers to the act.

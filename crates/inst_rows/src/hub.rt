@@ -4,7 +4,7 @@ ghost use Rattle.inst_settings.specs.Lawful.{IsSettings, settings_with as their_
 ghost use Rattle.inst_model.specs.Rows as rows;
 
 use inst_base::{Code, Fault};
-use inst_settings::Settings;
+use inst_settings::{Numbers, Settings};
 use std::alloc::Global;
 
 /// The number of `AAAADEFF`.
@@ -36,14 +36,11 @@ pub fn settings_with(alloc: Global, places: u16, margin: u32) -> Result<Settings
         Code::new("BBBBFRPP")?,
         Code::new("CCCCITMM")?,
     ];
-    Settings::check(
-        codes.to_vec(alloc)?,
+    let numbers = Numbers {
         places,
-        4,
-        10_000,
+        fundings: 4,
         margin,
-        1_000,
-        99_999_999_999,
-        0,
-    )
+        ..Numbers::DEFAULT
+    };
+    Settings::check(codes.to_vec(alloc)?, numbers)
 }

@@ -26,7 +26,7 @@ pub(crate) fn call<R: Wait>(
     if !ask.fits(hub.settings()) {
         return Err(Fault::BadField);
     }
-    hub.call(rt, teller, ask)
+    Ok(hub.call(rt, teller, ask)?)
 }
 
 /// What a command is answered. A refusal is an error.

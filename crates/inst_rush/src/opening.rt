@@ -4,7 +4,7 @@ ghost use Rattle.inst_hub.specs.Calls.{AreOf};
 
 use inst_base::{Code, Fault};
 use inst_hub::{Hub, Teller};
-use inst_settings::Settings;
+use inst_settings::{Numbers, Settings};
 use std::alloc::Global;
 
 /// From a transfer's time stamp to its deadline, in milliseconds.
@@ -30,16 +30,15 @@ fn settings(alloc: Global, size: Size) -> Result<Settings, Fault> {
         let text = format!(in alloc; "BANKDE{}{}", number / 10, number % 10)?;
         codes.push(Code::new(text.as_str())?)?;
     }
-    Settings::check(
-        codes,
-        size.places,
-        4,
-        LIMIT,
-        size.margin,
-        AHEAD,
-        99_999_999_999,
-        0,
-    )
+    let numbers = Numbers {
+        places: size.places,
+        fundings: 4,
+        limit: LIMIT,
+        margin: size.margin,
+        ahead: AHEAD,
+        ..Numbers::DEFAULT
+    };
+    Settings::check(codes, numbers)
 }
 
 /// The hub with a teller for each of so many threads, and one more that is in no thread.

@@ -53,5 +53,5 @@ pub(crate) fn ask_by<R: Wait>(
     if index >= tellers.len() {
         return Err(Fault::BadField);
     }
-    hub.call(rt, &mut tellers[index], ask)
+    Ok(hub.call(rt, &mut tellers[index], ask)?)
 }

@@ -2,7 +2,9 @@
 use Rattle.std.specs.Prelude.{◌≡◌, ℕ, ◌^◌, ◌<◌, ◌≤◌, Bool, true, ◌&&◌, not, List, [], ◌∷◌, length}
 use Rattle.std.specs.List.{list_any}
 use Rattle.inst_settings.specs.Settings.{HubSettings, same_text}
+use Rattle.inst_settings.specs.declared.numbers.Numbers.{Numbers}
 
+-- settings of these values
 abbrev pub settings_with : List (List ℕ) → ℕ → ℕ → ℕ → ℕ → ℕ → ℕ → ℕ → HubSettings
 settings_with codes places fundings limit margin ahead ceiling base = record {
   codes = codes;
@@ -13,6 +15,21 @@ settings_with codes places fundings limit margin ahead ceiling base = record {
   ahead = ahead;
   ceiling = ceiling;
   base = base;
+}
+
+-- the settings of these participants with these numbers, and the numbers of settings
+abbrev pub settings_of : List (List ℕ) → Numbers → HubSettings
+settings_of codes n = settings_with codes n.places n.fundings n.limit n.margin n.ahead n.ceiling n.base
+
+abbrev pub numbers_of : HubSettings → Numbers
+numbers_of s = record {
+  places = s.places;
+  fundings = s.fundings;
+  limit = s.limit;
+  margin = s.margin;
+  ahead = s.ahead;
+  ceiling = s.ceiling;
+  base = s.base;
 }
 
 -- whether no code stands twice

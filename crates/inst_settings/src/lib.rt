@@ -3,9 +3,11 @@
 
 mod codes;
 mod finder;
+mod numbers;
 mod ranges;
 mod settings;
 
+pub use numbers::Numbers;
 pub use ranges::{
     MOST_AHEAD, MOST_BASE, MOST_CEILING, MOST_FUNDINGS, MOST_LIMIT, MOST_PARTICIPANTS, MOST_PLACES,
 };

@@ -4,17 +4,20 @@ ghost use Rattle.inst_base.specs.Cents.{is_amount};
 
 use crate::codes::{are_different, index_of};
 use crate::finder::{Finder, Holders};
+use crate::numbers::Numbers;
 use crate::ranges::{
     MOST_AHEAD, MOST_BASE, MOST_CEILING, MOST_FUNDINGS, MOST_LIMIT, MOST_PARTICIPANTS, MOST_PLACES,
 };
 use inst_base::{Code, Fault};
+use std::alloc::AllocError;
 use std::marker::Model;
 
 /// The settings of a hub, in their ranges, with different codes.
 ///
 /// ```text
 /// let codes = vec![in alloc; Code::new("AAAADEFF")?, Code::new("BBBBFRPP")?]?;
-/// let settings = Settings::check(codes, 256, 256, 10_000, 0, 1_000, 99_999_999_999, 0)?;
+/// let numbers = Numbers { places: 1_024, ..Numbers::DEFAULT };
+/// let settings = Settings::check(codes, numbers)?;
 /// settings.index_of(&Code::new("BBBBFRPP")?) // Some(1)
 /// ```
 #[derive(Debug, Drop)]
@@ -63,28 +66,26 @@ impl Model for Settings {
 impl Settings {
     ghost use Rattle.inst_settings.specs.Settings.{HubSettings, participants, is_participant, is_within_ceiling};
     ghost use Rattle.inst_settings.specs.Codes.{index_of};
-    ghost use Rattle.inst_settings.specs.Lawful.{IsSettings, settings_with};
+    ghost use Rattle.inst_settings.specs.Lawful.{IsSettings, numbers_of, settings_of};
 
-    /// The settings with these values, or `BadSettings` where one is outside its range or a code
+    /// The settings with these numbers, or `BadSettings` where one is outside its range or a code
     /// stands twice: 1 to 256 participants, 1 to 1,024 places and fundings, a `limit` of 1 to
     /// 3,600,000 ms, a `margin` below it, an `ahead` of at most 60,000 ms, a `ceiling` of 1 to
     /// 99,999,999,999 cents and a `base` of at most 2^62 ms. The codes are compared each with each.
-    pub fn check(
-        codes: Vec<Code>,
-        places: u16,
-        fundings: u16,
-        limit: u32,
-        margin: u32,
-        ahead: u32,
-        ceiling: u64,
-        base: u64,
-    ) -> Result<Settings, Fault>
-        ensures ok { IfOk result (λ s. IsSettings s
-            × (s ≡ settings_with codes.items places fundings limit margin ahead ceiling base)) }
-        ensures err { OnErr result
-            (¬ IsSettings (settings_with codes.items places fundings limit margin ahead ceiling base)) }
+    pub fn check(codes: Vec<Code>, numbers: Numbers) -> Result<Settings, Fault>
+        ensures ok { IfOk result (λ s. IsSettings s × (s ≡ settings_of codes.items numbers)) }
+        ensures err { OnErr result (¬ IsSettings (settings_of codes.items numbers)) }
         ensures only { IsOkUnless result Fault.BadSettings }
     {
+        let Numbers {
+            places,
+            fundings,
+            limit,
+            margin,
+            ahead,
+            ceiling,
+            base,
+        } = numbers;
         if codes.is_empty() || codes.len() > MOST_PARTICIPANTS || !are_different(&codes) {
             return Err(Fault::BadSettings);
         }
@@ -111,11 +112,10 @@ impl Settings {
         })
     }
 
-    /// The same settings once more, or `Memory`.
-    pub fn copy(&self) -> Result<Settings, Fault>
+    /// The same settings once more.
+    pub fn copy(&self) -> Result<Settings, AllocError>
         ensures ok { IfOk result (λ s. s ≡ self.now) }
         ensures lawful { IsSettings self.now }
-        ensures only { IsOkUnless result Fault.Memory }
     {
         Ok(Settings {
             codes: self.codes.clone()?,
@@ -174,6 +174,21 @@ impl Settings {
         ensures { result ≡ is_participant self.now number }
     {
         usize::from(number) < self.codes.len()
+    }
+
+    /// The settings but for the participants.
+    pub fn numbers(&self) -> Numbers
+        ensures { result ≡ numbers_of self.now }
+    {
+        Numbers {
+            places: self.places,
+            fundings: self.fundings,
+            limit: self.limit,
+            margin: self.margin,
+            ahead: self.ahead,
+            ceiling: self.ceiling,
+            base: self.base,
+        }
     }
 
     /// How many submissions each originator may have taken.

@@ -13,22 +13,19 @@ use inst_base::{Cents, Code, Fault, Ident, Moment, Reason};
 use inst_board::{Board, Look, Place, Wish};
 use inst_cell::{MOST_TELLERS, SharedBoard, Teller};
 use inst_command::{Outcome, State};
-use inst_settings::Settings;
+use inst_settings::{Numbers, Settings};
 use inst_terms::Terms;
 use std::alloc::Global;
 
 fn settings(alloc: Global, margin: u32) -> Result<Settings, Fault> {
     let codes = [Code::new("AAAADEFF")?, Code::new("BBBBFRPP")?];
-    Settings::check(
-        codes.to_vec(alloc)?,
-        2,
-        4,
-        10_000,
+    let numbers = Numbers {
+        places: 2,
+        fundings: 4,
         margin,
-        1_000,
-        99_999_999_999,
-        0,
-    )
+        ..Numbers::DEFAULT
+    };
+    Settings::check(codes.to_vec(alloc)?, numbers)
 }
 
 /// The boards of a hub of two, and its teller.

@@ -3,7 +3,6 @@ use Rattle.std.proofs.Common.{◌≡◌, ℕ, zero, suc, ◌<◌, Bool, true, fa
 use Rattle.std.specs.Prelude.{slice_get, Contains, Result, Ok, Err, OnOk, OnErr}
 use Rattle.std.specs.List.{filter, cons_option}
 use Rattle.std.proofs.lemmas.List.Elements.{filter-append, filter_map-append, Contains-append_right}
-use Rattle.inst_base.specs.declared.fault.Fault.{Fault}
 use Rattle.inst_settings.specs.Settings.{HubSettings}
 use Rattle.inst_command.specs.declared.entry.Entry.{Entry}
 use Rattle.inst_command.specs.declared.outcome.Outcome.{Outcome}
@@ -101,7 +100,7 @@ booked_cases from id J e o is = go (booked from id J) refl
     go (Some p) some = inl (let h : Some p ≡ Some o = ap (λ (x : Option Outcome). or_else x (books from id e)) (sym some) ∙ whole in some ∙ h)
 
 -- an event that fits, kept or not, leaves the history sound
-pub kept_sound : (s : HubSettings) (who : ℕ) (J : List Event) (e : Event) (r : Result (Unit {0}) Fault) (new : List Event) → IsSound s who J → Fits s who J e
+pub kept_sound : {E : Type 0} (s : HubSettings) (who : ℕ) (J : List Event) (e : Event) (r : Result (Unit {0}) E) (new : List Event) → IsSound s who J → Fits s who J e
     → OnOk r (new ≡ J ++ e ∷ []) → OnErr r (new ≡ J) → IsSound s who new
 kept_sound s who J e (Ok u) new sound fits ok err = subst (λ (l : List Event). IsSound s who l) (sym ok) (sound_push s who J e sound fits)
 kept_sound s who J e (Err f) new sound fits ok err = subst (λ (l : List Event). IsSound s who l) (sym err) sound

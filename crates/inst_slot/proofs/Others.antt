@@ -1,6 +1,7 @@
 -- The books of the other participants over the same board stay what they are to it.
 use Rattle.std.proofs.Common.{◌≡◌, ◌≢◌, ℕ, Bool, true, false, cond, List, [], ◌∷◌, inl, inr, ◌⊎◌, ⊎_elim, refl, sym, ap, ◌∙◌, subst, Option, Some, None}
 use Rattle.std.specs.Prelude.{Result, ◌↔◌}
+use Rattle.std.specs.declared.alloc.AllocError.{AllocError}
 use Rattle.inst_base.specs.TimeLimit.{deadline_of, is_due}
 use Rattle.inst_base.specs.declared.fault.Fault.{Fault}
 use Rattle.inst_settings.specs.Settings.{HubSettings}
@@ -113,7 +114,7 @@ module _ {B : Type 0} (settings : B → HubSettings) (knows : B → Fact → Typ
         others_find k.0 k.1 ask.at answered.0 book.who a.may a.mine answered.3)
         (λ refused. others_look k.0 refused.2.look book.who refused.2.looks) s
 
-    pub others_expire : (book : Book) (index at : ℕ) (id : List ℕ) (result : Result Bool Fault) (new : Book) → IsLawfulBoard settings knows has_role b book → unbooked_at book index ≡ Some id
+    pub others_expire : (book : Book) (index at : ℕ) (id : List ℕ) (result : Result Bool AllocError) (new : Book) → IsLawfulBoard settings knows has_role b book → unbooked_at book index ≡ Some id
         → ExpiresFor margin knows has_role stood stays b book index at (Some id) result c new → KeepsOthers settings knows has_role b book.who c
     others_expire book index at id result new own e s = ⊎_elim
         (λ answered.

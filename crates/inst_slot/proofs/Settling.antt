@@ -2,6 +2,7 @@
 use Rattle.std.proofs.Common.{◌≡◌, ℕ, Bool, false, cond, List, ◌++◌, append-nil, inl, ⊎_elim, refl, sym, ap, ◌∙◌, subst, Option, Some, None, is_none, is_some}
 use Rattle.std.specs.Prelude.{slice_get, Result, ◌↔◌}
 use Rattle.std.proofs.lemmas.Bool.{false≢true}
+use Rattle.std.specs.declared.alloc.AllocError.{AllocError}
 use Rattle.inst_base.specs.declared.fault.Fault.{Fault}
 use Rattle.inst_settings.specs.Settings.{HubSettings}
 use Rattle.inst_command.specs.declared.ask.Ask.{Ask}
@@ -98,7 +99,7 @@ module _ {B : Type 0} (settings : B → HubSettings) (knows : B → Fact → Typ
       (λ refused. subst (λ (x : Book). IsLawfulBoard settings knows has_role c x) (sym refused.1) (only_looked k.0 k.1 ask.at refused.2))
       s
 
-  pub expires_keep : (index at : ℕ) (id : List ℕ) (result : Result Bool Fault) (new : Book) → unbooked_at book index ≡ Some id
+  pub expires_keep : (index at : ℕ) (id : List ℕ) (result : Result Bool AllocError) (new : Book) → unbooked_at book index ≡ Some id
       → ExpiresFor margin knows has_role stood stays b book index at (Some id) result c new → IsLawfulBoard settings knows has_role c new
   expires_keep index at id result new e s = ⊎_elim
       (λ answered.

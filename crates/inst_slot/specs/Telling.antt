@@ -1,8 +1,7 @@
 -- What a delivery, a lesson and an expiry do to a participant's books, by what its board shows or decides. A transfer is
 -- forwarded only while it is pending, and an outcome is booked once: this hub's own choice.
-use Rattle.std.specs.Prelude.{◌≡◌, ◌⊎◌, ℕ, Bool, true, false, not, ◌&&◌, ◌||◌, ◌==◌, is_some, is_none, if◌then◌else◌, List, [], ◌∷◌, ◌++◌, slice_get, Option, Some, None, Result, Ok, Err}
-use Rattle.inst_base.specs.declared.fault.Fault.{Fault}
-use Rattle.inst_base.specs.declared.fault.Fault.TheVariants.{Memory}
+use Rattle.std.specs.Prelude.{◌≡◌, ◌⊎◌, ℕ, Bool, true, false, not, ◌&&◌, ◌||◌, ◌==◌, is_some, is_none, if◌then◌else◌, List, [], ◌∷◌, ◌++◌, slice_get, Option, Some, None, Result, Ok, Err, alloc_error}
+use Rattle.std.specs.declared.alloc.AllocError.{AllocError}
 use Rattle.inst_command.specs.declared.entry.Entry.{Entry}
 use Rattle.inst_command.specs.declared.outcome.Outcome.{Outcome}
 use Rattle.inst_board.specs.declared.place.Place.{Place}
@@ -50,9 +49,9 @@ with_event book (Some event) = record book { events = book.events ++ event ∷ [
 
 -- A call that keeps something where there is something new: it answers whether there is, and the book is that after it;
 -- or memory was refused for it, and the book is as it was
-abbrev pub Keeps : Bool → Book → Book → Result Bool Fault → Book → Type 0
+abbrev pub Keeps : Bool → Book → Book → Result Bool AllocError → Book → Type 0
 Keeps is_new old after result new =
-    ((result ≡ Ok is_new) × (new ≡ after)) ⊎ ((result ≡ Err Memory) × (new ≡ old) × (is_new ≡ true))
+    ((result ≡ Ok is_new) × (new ≡ after)) ⊎ ((result ≡ Err alloc_error) × (new ≡ old) × (is_new ≡ true))
 
 -- the identifier of the transfer that the event takes
 abbrev pub taken_id : Event → Option (List ℕ)
@@ -80,15 +79,15 @@ booking from id (Some outcome) = Some (Booked from id outcome)
 -- An expiry of an own transfer with nothing booked, if any: it books what is found at its place; or memory was refused,
 -- and the book and the place stay as they were. Of no such transfer it does nothing
 abbrev pub ExpiresFor : {B : Type 0} → ℕ → (B → Fact → Type 0) → (B → ℕ → Type 0) → (B → Place → Outcome → Type 0) →
-    (B → B → Type 0) → B → Book → ℕ → ℕ → Option (List ℕ) → Result Bool Fault → B → Book → Type 0
+    (B → B → Type 0) → B → Book → ℕ → ℕ → Option (List ℕ) → Result Bool AllocError → B → Book → Type 0
 ExpiresFor margin knows has_role stood stays b book index at None result c new = (result ≡ Ok false) × (new ≡ book) × (c ≡ b)
 ExpiresFor margin knows has_role stood stays b book index at (Some id) result c new =
     ((found : Option Outcome) × (result ≡ Ok (is_some found)) × (new ≡ with_event book (booking book.who id found))
     × Finds margin knows has_role stood stays b (place_at book.who index) Expire at found c)
-    ⊎ ((result ≡ Err Memory) × (new ≡ book)
+    ⊎ ((result ≡ Err alloc_error) × (new ≡ book)
     × OnlyLooks margin knows has_role stood b (place_at book.who index) Expire at c)
 
 abbrev pub Expires : {B : Type 0} → ℕ → (B → Fact → Type 0) → (B → ℕ → Type 0) → (B → Place → Outcome → Type 0) →
-    (B → B → Type 0) → B → Book → ℕ → ℕ → Result Bool Fault → B → Book → Type 0
+    (B → B → Type 0) → B → Book → ℕ → ℕ → Result Bool AllocError → B → Book → Type 0
 Expires margin knows has_role stood stays b book index at result c new =
     ExpiresFor margin knows has_role stood stays b book index at (unbooked_at book index) result c new

@@ -1,5 +1,5 @@
 //! The live transfers that were forwarded to a participant, found by what the one table of its transfers holds of them.
-ghost use Rattle.std.specs.Prelude.{◌≡◌, ◌<◌, IfOk, length, map, IsOkUnless};
+ghost use Rattle.std.specs.Prelude.{◌≡◌, ◌<◌, IfOk, length, map};
 ghost use Rattle.std.specs.List.{list_any};
 ghost use Rattle.inst_journal.specs.Opened.{carried};
 ghost use Rattle.inst_transfers.specs.Held.{IsFound, AreRising};
@@ -9,14 +9,14 @@ ghost use Rattle.inst_slot.specs.Spots.{rows_of, arrivals_of, positions_of, book
 
 use crate::Arrival;
 use crate::arrival::awaits;
-use inst_base::{Fault, Moment};
+use inst_base::Moment;
 use inst_board::Place;
 use inst_command::Outcome;
 use inst_journal::Event;
 use inst_ledger::Ledger;
 use inst_terms::Terms;
 use inst_transfers::{Found, Side, Transfer};
-use std::alloc::Global;
+use std::alloc::{AllocError, Global};
 
 /// Where the table of transfers holds an arrival, and the index of its place: `None` for one that was carried over an
 /// opening, until its place is found.
@@ -94,11 +94,10 @@ fn booked_at(ledger: &Ledger, position: usize) -> Option<Outcome>
 }
 
 /// The live transfers that were forwarded, in order of arrival, where the history ends with an opening.
-pub(crate) fn carried_arrivals(alloc: Global, ledger: &Ledger) -> Result<Vec<Spot>, Fault>
+pub(crate) fn carried_arrivals(alloc: Global, ledger: &Ledger) -> Result<Vec<Spot>, AllocError>
     requires { carried ledger.now.book.events ≡ ledger.now.book.events }
     ensures ok { IfOk result (λ spots. arrivals_of (rows_of ledger.now.book.who ledger.now.book.events) spots.items ≡ map unplaced (live_inbox ledger.now.book.events)) }
     ensures spots { IfOk result (λ spots. AreSpots (rows_of ledger.now.book.who ledger.now.book.events) spots.items) }
-    ensures only { IsOkUnless result Fault.Memory }
 {
     // The check is told of a type of another crate inside an event only where a function names it.
     let _: Option<Outcome> = None;

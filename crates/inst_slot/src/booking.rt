@@ -1,5 +1,5 @@
 //! The outcome of a transfer that was found is booked.
-ghost use Rattle.std.specs.Prelude.{◌≡◌, ◌<◌, OnOk, OnErr, IsOk, IsOkUnless};
+ghost use Rattle.std.specs.Prelude.{◌≡◌, ◌<◌, OnOk, OnErr, IsOk};
 ghost use Rattle.inst_journal.specs.declared.event.Event.{Event};
 ghost use Rattle.inst_journal.specs.Sound.{Fits};
 ghost use Rattle.inst_ledger.specs.Book.{with_event};
@@ -10,10 +10,10 @@ ghost use Rattle.inst_slot.specs.Indexed.{own_ids};
 ghost use Rattle.inst_slot.specs.Waiting.{IsRight};
 
 use crate::waiting::Waiting;
-use inst_base::Fault;
 use inst_command::Outcome;
 use inst_ledger::Ledger;
 use inst_transfers::{Found, Side, Transfer};
+use std::alloc::AllocError;
 
 /// Books the outcome of a transfer that was found and lies at this index: one of the participant's own waits no more.
 /// It looks nothing up by its key.
@@ -23,7 +23,7 @@ pub(crate) fn book(
     found: &Found,
     index: u16,
     outcome: &Outcome,
-) -> Result<(), Fault>
+) -> Result<(), AllocError>
     requires there { IsFound ledger.old.table found.now }
     requires own { found.now.from ≡ ledger.old.book.who → IsOwnAt ledger.old.book found.now.id (place_at found.now.from index) }
     requires fits { Fits ledger.old.book.settings ledger.old.book.who ledger.old.book.events (Event.Booked found.now.from found.now.id outcome.now) }
@@ -32,7 +32,6 @@ pub(crate) fn book(
     ensures err { OnErr result (ledger.new.book ≡ ledger.old.book) }
     ensures right { IsRight ledger.new.book.settings ledger.new.book.who ledger.new.book.events (own_ids ledger.new.book.who ledger.new.book.events) waiting.new }
     ensures room { 0 < ledger.old.room → IsOk result }
-    ensures only { IsOkUnless result Fault.Memory }
 {
     // The check is told of an enum inside a struct only where a function names it.
     let _: Option<(Side, Transfer, Outcome)> = None;

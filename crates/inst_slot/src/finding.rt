@@ -1,12 +1,13 @@
 //! What a board makes of a place that a participant asks about.
-ghost use Rattle.std.specs.Prelude.{◌≡◌, ◌<◌, true, is_some, IfOk, OnErr, IsOkUnless};
+ghost use Rattle.std.specs.Prelude.{◌≡◌, ◌<◌, true, is_some, IfOk, OnErr};
 ghost use Rattle.inst_board.specs.Learning.{MayDecide};
 ghost use Rattle.inst_slot.specs.Asking.{Finds, OnlyLooks, stays_pending};
 
-use inst_base::{Fault, Moment};
+use inst_base::Moment;
 use inst_board::{Board, Look, Place, Wish};
 use inst_command::Outcome;
 use inst_ledger::Ledger;
+use std::alloc::AllocError;
 
 /// Whether the look shows a transfer that stays pending whatever becomes of the wish.
 fn stays_pending(margin: u32, wish: &Wish, at: Moment, look: &Look) -> bool
@@ -19,8 +20,8 @@ fn stays_pending(margin: u32, wish: &Wish, at: Moment, look: &Look) -> bool
 }
 
 /// What stands at the place after the wish was read at `at`: `None` where it stays pending, which takes
-/// no memory. Else there is room in the ledger for one more event; `Memory` comes before the board
-/// decides.
+/// no memory. Else there is room in the ledger for one more event; where that is refused the board
+/// decides nothing.
 pub(crate) fn find<B: Board>(
     ledger: &mut Ledger,
     board: &mut B,
@@ -28,13 +29,12 @@ pub(crate) fn find<B: Board>(
     place: Place,
     wish: Wish,
     at: Moment,
-) -> Result<Option<Outcome>, Fault>
+) -> Result<Option<Outcome>, AllocError>
     requires margin { margin ≡ (B.settings board.old).margin }
     requires may { MayDecide B.knows B.has_role board.old place wish }
     ensures found { IfOk result (λ found. Finds (B.settings board.old).margin B.knows B.has_role B.stood B.stays board.old place wish at found board.new) }
     ensures room { IfOk result (λ found. is_some found ≡ true → 0 < ledger.new.room) }
     ensures err { OnErr result (OnlyLooks (B.settings board.old).margin B.knows B.has_role B.stood board.old place wish at board.new) }
-    ensures only { IsOkUnless result Fault.Memory }
     ensures book { ledger.new.book ≡ ledger.old.book }
     ensures table { ledger.new.table ≡ ledger.old.table }
     ensures stays { B.stays board.old board.new }

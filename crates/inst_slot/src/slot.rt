@@ -1,4 +1,4 @@
-ghost use Rattle.std.specs.Prelude.{◌≡◌, [], IfOk, IfSome, IsOkUnless, IsTrue, position};
+ghost use Rattle.std.specs.Prelude.{◌≡◌, [], IfOk, IfSome, IsTrue, position};
 ghost use Rattle.inst_settings.specs.Lawful.{IsSettings};
 ghost use Rattle.inst_settings.specs.Settings.{is_participant};
 ghost use Rattle.inst_journal.specs.Booked.{takes};
@@ -16,14 +16,14 @@ mod telling;
 
 use crate::arrivals::{Spot, arrived_at};
 use crate::waiting::Waiting;
-use inst_base::{Fault, Ident};
+use inst_base::Ident;
 use inst_board::Place;
 use inst_command::Outcome;
 use inst_journal::Journal;
 use inst_ledger::Ledger;
 use inst_settings::Settings;
 use inst_transfers::{Side, Transfer};
-use std::alloc::Global;
+use std::alloc::{AllocError, Global};
 use std::marker::Model;
 
 /// The books of one participant, over a board that holds its role. Its history is sound, always. What a
@@ -63,10 +63,9 @@ impl Model for Slot {
 }
 
 impl Slot {
-    /// The slot of the participant `who`, with no history. `Memory` where the settings can't be copied.
-    pub fn open(alloc: Global, settings: &Settings, who: u8) -> Result<Slot, Fault>
+    /// The slot of the participant `who`, with no history. It has a copy of the settings.
+    pub fn open(alloc: Global, settings: &Settings, who: u8) -> Result<Slot, AllocError>
         ensures ok { IfOk result (λ slot. (slot.settings ≡ settings.now) × (slot.who ≡ who) × (slot.events ≡ []) × (slot.arrivals ≡ [])) }
-        ensures only { IsOkUnless result Fault.Memory }
     {
         Ok(Slot {
             alloc,

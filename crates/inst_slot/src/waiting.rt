@@ -1,16 +1,16 @@
 //! The own live transfers with nothing booked, in the order in which they are due.
-ghost use Rattle.std.specs.Prelude.{◌≡◌, ℕ, ◌<◌, ◌^◌, ◌++◌, ◌∷◌, [], ◌+◌, ◌&&◌, nat_eq, not, length, take, slice_get, IfOk, OnOk, OnErr, IsOkUnless};
+ghost use Rattle.std.specs.Prelude.{◌≡◌, ℕ, ◌<◌, ◌^◌, ◌++◌, ◌∷◌, [], ◌+◌, ◌&&◌, nat_eq, not, length, take, slice_get, IfOk, OnOk, OnErr};
 ghost use Rattle.inst_due.specs.Due.{has, Adds, IsLeast, comes_after};
 ghost use Rattle.inst_journal.specs.Opened.{carried};
 ghost use Rattle.inst_slot.specs.Indexed.{own_ids};
 ghost use Rattle.inst_slot.specs.Waiting.{books_own, IsWaiting};
 
-use inst_base::{Fault, Moment};
+use inst_base::Moment;
 use inst_command::Outcome;
 use inst_due::Due;
 use inst_journal::Event;
 use inst_ledger::Ledger;
-use std::alloc::Global;
+use std::alloc::{AllocError, Global};
 use std::marker::Model;
 
 /// The deadlines of the own live transfers in the order of their places, and of those that wait the
@@ -42,13 +42,12 @@ impl Waiting {
         }
     }
 
-    /// Adds the next transfer, or answers `Memory` and stays as it was.
-    pub(crate) fn add(&mut self, deadline: Moment) -> Result<(), Fault>
+    /// Adds the next transfer. Where memory is refused it stays as it was.
+    pub(crate) fn add(&mut self, deadline: Moment) -> Result<(), AllocError>
         requires { length self.old.deadlines < 2 ^ 16 }
         ensures deadlines { OnOk result (self.new.deadlines ≡ self.old.deadlines ++ deadline ∷ []) }
         ensures pairs { OnOk result (Adds self.old.pairs self.new.pairs deadline (length self.old.deadlines)) }
         ensures err { OnErr result (self.new ≡ self.old) }
-        ensures only { IsOkUnless result Fault.Memory }
     {
         let index = self.deadlines.as_slice().len() as u16;
         self.deadlines.try_reserve(1)?;
@@ -102,10 +101,9 @@ impl Waiting {
 }
 
 /// What waits, where the history ends with an opening.
-pub(crate) fn carried_waiting(alloc: Global, ledger: &Ledger) -> Result<Waiting, Fault>
+pub(crate) fn carried_waiting(alloc: Global, ledger: &Ledger) -> Result<Waiting, AllocError>
     requires { carried ledger.now.book.events ≡ ledger.now.book.events }
     ensures ok { IfOk result (λ w. IsWaiting ledger.now.book.settings ledger.now.book.who ledger.now.book.events w) }
-    ensures only { IsOkUnless result Fault.Memory }
 {
     let _: Option<Outcome> = None;
     let mut waiting = Waiting::new(alloc);

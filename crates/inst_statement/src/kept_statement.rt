@@ -1,10 +1,9 @@
-ghost use Rattle.std.specs.Prelude.{◌≡◌, ◌<◌, [], take, drop, IfOk, OnOk, IsOk, IsOkUnless};
+ghost use Rattle.std.specs.Prelude.{◌≡◌, ◌<◌, [], take, drop, IfOk, OnOk, IsOk};
 ghost use Rattle.inst_statement.specs.KeptStatement.{MayAdd, LeadsTo, Adds};
 
 use crate::movement::Movement;
-use inst_base::Fault;
 use inst_command::{Line, LineKind};
-use std::alloc::Global;
+use std::alloc::{AllocError, Global};
 use std::marker::Model;
 
 /// A participant's statement since the last opening, kept line by line, with the position after the last
@@ -69,14 +68,12 @@ impl KeptStatement {
         self.lines.clear();
     }
 
-    /// Makes room for one more line, or answers `Memory`. Where there is room it takes no memory. The
-    /// lines stay as they are.
-    pub fn reserve(&mut self) -> Result<(), Fault>
+    /// Makes room for one more line. Where there is room it takes no memory. The lines stay as they are.
+    pub fn reserve(&mut self) -> Result<(), AllocError>
         ensures lines { self.new.lines ≡ self.old.lines }
         ensures position { self.new.position ≡ self.old.position }
         ensures room { OnOk result (0 < self.new.room) }
         ensures enough { 0 < self.old.room → IsOk result }
-        ensures only { IsOkUnless result Fault.Memory }
     {
         self.lines.try_reserve(1)?;
         Ok(())
@@ -109,10 +106,9 @@ impl KeptStatement {
         });
     }
 
-    /// At most `count` lines after the first `skip`, or `Memory`. It costs the lines that it gives.
-    pub fn part(&self, alloc: Global, skip: u64, count: u32) -> Result<Vec<Line>, Fault>
+    /// At most `count` lines after the first `skip`. It costs the lines that it gives.
+    pub fn part(&self, alloc: Global, skip: u64, count: u32) -> Result<Vec<Line>, AllocError>
         ensures ok { IfOk result (λ lines. lines.items ≡ take count (drop skip self.now.lines)) }
-        ensures only { IsOkUnless result Fault.Memory }
     {
         let lines = self.lines();
         if skip >= lines.len() as u64 {

@@ -1,5 +1,5 @@
 //! What a walk knows of the transfers that it has passed, by their keys.
-ghost use Rattle.std.specs.Prelude.{◌≡◌, [], ◌∷◌, ◌++◌, List, OnOk, IsOkUnless};
+ghost use Rattle.std.specs.Prelude.{◌≡◌, [], ◌∷◌, ◌++◌, List, OnOk};
 ghost use Rattle.inst_journal.specs.declared.event.Event.{Event as Passed};
 ghost use Rattle.inst_journal.specs.Booked.{first_some};
 ghost use Rattle.inst_statement.specs.Movement.{came, sent, movement_of, accepted_movement};
@@ -7,10 +7,10 @@ ghost use Rattle.inst_statement.specs.Kept.{AreKept, IsNew};
 
 use crate::movement::Movement;
 use indexmap::IndexMap;
-use inst_base::{Cents, Fault, Ident};
+use inst_base::{Cents, Ident};
 use inst_command::{LineKind, Outcome};
 use inst_journal::Event;
-use std::alloc::Global;
+use std::alloc::{AllocError, Global};
 
 /// The transfers that were taken and forwarded so far, by their keys.
 #[derive(Drop)]
@@ -31,11 +31,10 @@ impl Transfers {
     }
 
     /// Keeps the transfer of an event, if it brings one.
-    pub(crate) fn keep(&mut self, event: &Event) -> Result<(), Fault>
+    pub(crate) fn keep(&mut self, event: &Event) -> Result<(), AllocError>
         ensures kept { (front : List Passed) → IsNew front event.now →
             AreKept front self.old.taken self.old.forwarded →
             OnOk result (AreKept (front ++ event.now ∷ []) self.new.taken self.new.forwarded) }
-        ensures only { IsOkUnless result Fault.Memory }
     {
         match event {
             Event::Taken { id, to, cents, .. } => {

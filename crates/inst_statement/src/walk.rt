@@ -1,26 +1,24 @@
-ghost use Rattle.std.specs.Prelude.{◌≡◌, IfOk, IsOkUnless};
+ghost use Rattle.std.specs.Prelude.{◌≡◌, IfOk};
 ghost use Rattle.inst_journal.specs.Statement.{statement_part};
 ghost use Rattle.inst_statement.specs.Someones.{IsSomeones};
 
 use crate::kept_statement::KeptStatement;
 use crate::transfers::Transfers;
-use inst_base::Fault;
 use inst_command::Line;
 use inst_journal::{Event, Journal};
-use std::alloc::Global;
+use std::alloc::{AllocError, Global};
 
-/// At most `count` lines after the first `skip` of a history's statement since its last opening, or
-/// `Memory`. For whoever has the history alone: one walk over its events, with the amounts of the
-/// transfers that were passed and the lines held meanwhile.
+/// At most `count` lines after the first `skip` of a history's statement since its last opening. For
+/// whoever has the history alone: one walk over its events, with the amounts of the transfers that were
+/// passed and the lines held meanwhile.
 pub fn statement(
     alloc: Global,
     journal: &Journal,
     skip: u64,
     count: u32,
-) -> Result<Vec<Line>, Fault>
+) -> Result<Vec<Line>, AllocError>
     requires sound { IsSomeones journal.now.events }
     ensures ok { IfOk result (λ lines. lines.items ≡ statement_part journal.now.events skip count) }
-    ensures only { IsOkUnless result Fault.Memory }
 {
     let mut transfers = Transfers::new(alloc);
     let mut statement = KeptStatement::new(alloc);

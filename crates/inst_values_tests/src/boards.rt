@@ -7,11 +7,12 @@ ghost use Rattle.inst_board.specs.declared.about.About.TheVariants.{Opened};
 ghost use Rattle.inst_board.specs.Standing.{IsPlace, about};
 ghost use Rattle.inst_board.specs.Plain.{kept_at, plain_knows};
 
+use crate::comparing::{same, same_at};
 use inst_base::{Cents, Code, Fault, Ident, Moment, Reason};
 use inst_board::laws::decide_plain_twice;
 use inst_board::{Board, Look, Place, PlainBoard, Wish};
 use inst_command::Outcome;
-use inst_settings::Settings;
+use inst_settings::{Numbers, Settings};
 use inst_terms::Terms;
 use std::alloc::Global;
 
@@ -34,7 +35,15 @@ fn settings(alloc: Global) -> Result<Settings, Fault>
     ensures { IfOk result (λ s. (participants s ≡ 2) × (s.places ≡ 3)) }
 {
     let codes = vec![in alloc; Code::new("AAAADEFF")?, Code::new("BBBBFRPP")?]?;
-    Settings::check(codes, 3, 3, 1000, 200, 1000, 1000, 0)
+    let numbers = Numbers {
+        places: 3,
+        fundings: 3,
+        limit: 1_000,
+        margin: 200,
+        ceiling: 1_000,
+        ..Numbers::DEFAULT
+    };
+    Settings::check(codes, numbers)
 }
 
 /// A board on which the last place of the first participant is pending.
@@ -96,7 +105,7 @@ fn each_wish_about_the_deadline(rt: HostRuntime) -> Result<(), Fault> {
         (Wish::Expire, 1001, Some(Outcome::TimedOut)),
     ] {
         let (found, look) = decided(rt.alloc(), wish, at)?;
-        assert!(rt; found == want && look == shown(want)?, "{wish:?} at {at}");
+        same_at(&rt, (wish, at), (found, look), (want, shown(want)?));
     }
     Ok(())
 }
@@ -117,17 +126,20 @@ fn a_second_wish_changes_nothing(rt: HostRuntime) -> Result<(), Fault> {
         ((Wish::Expire, 1), (Wish::Accept, 2), Outcome::Accepted),
     ] {
         let (_, found) = decided_twice(rt.alloc(), first, second)?;
-        assert_eq!(rt; found, Some(want));
+        same(&rt, found, Some(want));
     }
     Ok(())
 }
 
 #[test]
 fn what_was_not_opened_is_unused(rt: HostRuntime) -> Result<(), Fault> {
+    // The check is told of a type of another crate inside another one only where a function names it.
+    let _: Option<Outcome> = None;
     let settings = settings(rt.alloc())?;
     let mut board = PlainBoard::new(rt.alloc(), &settings)?;
     for (owner, index) in [(0, 0), (1, 2), (0, 3), (2, 0), (255, 65_535)] {
-        assert_eq!(rt; board.look(Place { owner, index }), Look::Unused);
+        let place = Place { owner, index };
+        same_at(&rt, place, board.look(place), Look::Unused);
     }
     Ok(())
 }

@@ -1,4 +1,5 @@
 // What waits for its deadline, in order.
+use crate::comparing::same;
 use inst_base::{Fault, Moment};
 use inst_due::Due;
 use std::process::Abort;
@@ -19,10 +20,10 @@ fn add_all(due: &mut Due, pairs: &[(Moment, u16)]) -> Result<(), Fault> {
 fn come_in_order(rt: &impl Abort, due: &Due, pairs: &[(Moment, u16)]) {
     let mut last = None;
     for pair in pairs {
-        last = due.next_after(last);
-        assert!(rt; last == Some(*pair));
+        same(rt, due.next_after(last), Some(*pair));
+        last = Some(*pair);
     }
-    assert!(rt; due.next_after(last).is_none());
+    same(rt, due.next_after(last), None);
 }
 
 /// Two pairs of the earlier deadline, by place, and then one of the later.
@@ -30,9 +31,9 @@ fn come_by_deadline(rt: &impl Abort, due: &mut Due) -> Result<(), Fault> {
     let early = moment(11_000)?;
     let late = moment(12_000)?;
     add_all(due, &[(late, 0), (early, 2), (early, 1), (early, 1)])?;
-    assert!(rt; due.first_due(moment(10_999)?).is_none());
-    assert!(rt; due.first_due(early) == Some((early, 1)));
-    assert!(rt; due.next_after(Some((early, 0))) == Some((early, 1)));
+    same(rt, due.first_due(moment(10_999)?), None);
+    same(rt, due.first_due(early), Some((early, 1)));
+    same(rt, due.next_after(Some((early, 0))), Some((early, 1)));
     come_in_order(rt, due, &[(early, 1), (early, 2), (late, 0)]);
     Ok(())
 }
@@ -45,8 +46,7 @@ fn pairs_come_by_deadline_and_then_by_place(rt: HostRuntime) -> Result<(), Fault
 
 /// Takes the pair out, where it is there.
 fn takes_out(rt: &impl Abort, due: &mut Due, deadline: Moment, index: u16, is_there: bool) {
-    let was_there = due.take_out(deadline, index);
-    assert!(rt; was_there == is_there);
+    same(rt, due.take_out(deadline, index), is_there);
 }
 
 /// A pair is taken out once, and then the next one is due.
@@ -57,8 +57,8 @@ fn takes_out_once(rt: &impl Abort, due: &mut Due) -> Result<(), Fault> {
     takes_out(rt, due, early, 1, false);
     takes_out(rt, due, early, 0, true);
     takes_out(rt, due, early, 0, false);
-    assert!(rt; due.first_due(early).is_none());
-    assert!(rt; due.first_due(late) == Some((late, 1)));
+    same(rt, due.first_due(early), None);
+    same(rt, due.first_due(late), Some((late, 1)));
     Ok(())
 }
 

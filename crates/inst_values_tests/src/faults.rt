@@ -1,23 +1,26 @@
 // Faults and the words that name them.
+use crate::comparing::same_at;
 use inst_base::Fault;
 use inst_faults::{AnyFault, LogFault, fault_of};
+
+const WORDS: &[(&str, Option<AnyFault>)] = &[
+    ("1", Some(AnyFault::Hub(Fault::NotJson))),
+    ("13", Some(AnyFault::Hub(Fault::Shortage))),
+    ("Shortage", Some(AnyFault::Hub(Fault::Shortage))),
+    ("19", Some(AnyFault::Log(LogFault::DiskFault))),
+    ("25", Some(AnyFault::Log(LogFault::LastOpening))),
+    ("LastOpening", Some(AnyFault::Log(LogFault::LastOpening))),
+    ("0", None),
+    ("26", None),
+    ("269", None),
+    ("shortage", None),
+    ("", None),
+];
 
 /// A fault is found by its number and by its name, from the first to the last, and no other word finds one.
 #[test]
 fn faults_are_found_by_number_and_by_name(rt: HostRuntime) {
-    for (word, wanted) in [
-        ("1", Some(AnyFault::Hub(Fault::NotJson))),
-        ("13", Some(AnyFault::Hub(Fault::Shortage))),
-        ("Shortage", Some(AnyFault::Hub(Fault::Shortage))),
-        ("19", Some(AnyFault::Log(LogFault::DiskFault))),
-        ("25", Some(AnyFault::Log(LogFault::LastOpening))),
-        ("LastOpening", Some(AnyFault::Log(LogFault::LastOpening))),
-        ("0", None),
-        ("26", None),
-        ("269", None),
-        ("shortage", None),
-        ("", None),
-    ] {
-        assert!(rt; fault_of(word) == wanted);
+    for (word, wanted) in WORDS {
+        same_at(&rt, *word, fault_of(word), *wanted);
     }
 }

@@ -4,6 +4,8 @@
 #[cfg(test)]
 mod boards;
 #[cfg(test)]
+mod comparing;
+#[cfg(test)]
 mod deadlines;
 #[cfg(test)]
 mod faults;

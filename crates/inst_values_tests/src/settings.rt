@@ -1,22 +1,10 @@
 // Settings to their bounds, and how participants are found by their codes.
+use crate::comparing::{same, same_at};
 use inst_base::{Code, Fault};
-use inst_settings::Settings;
+use inst_settings::{Numbers, Settings};
 use std::alloc::Global;
 use std::process::Abort;
 use std::test::Fail;
-
-/// The numbers of a setting: places, fundings, limit, margin, ahead, ceiling
-/// and base.
-#[derive(Clone, Copy, Debug, PartialEq, Eq)]
-struct Numbers {
-    places: u16,
-    fundings: u16,
-    limit: u32,
-    margin: u32,
-    ahead: u32,
-    ceiling: u64,
-    base: u64,
-}
 
 const LEAST: Numbers = Numbers {
     places: 1,
@@ -37,19 +25,6 @@ const MOST: Numbers = Numbers {
     ceiling: 99_999_999_999,
     base: 4_611_686_018_427_387_904,
 };
-
-fn check(codes: Vec<Code>, numbers: &Numbers) -> Result<Settings, Fault> {
-    Settings::check(
-        codes,
-        numbers.places,
-        numbers.fundings,
-        numbers.limit,
-        numbers.margin,
-        numbers.ahead,
-        numbers.ceiling,
-        numbers.base,
-    )
-}
 
 /// What the readers tell.
 fn told(settings: &Settings) -> Numbers {
@@ -75,65 +50,68 @@ fn codes(alloc: Global, count: u32) -> Result<Vec<Code>, Fail> {
     Ok(codes)
 }
 
+/// Each is one number past a bound.
+const PAST_BOUNDS: &[Numbers] = &[
+    Numbers { places: 0, ..LEAST },
+    Numbers {
+        fundings: 0,
+        ..LEAST
+    },
+    Numbers { limit: 0, ..LEAST },
+    Numbers {
+        ceiling: 0,
+        ..LEAST
+    },
+    Numbers {
+        places: 1025,
+        ..MOST
+    },
+    Numbers {
+        fundings: 1025,
+        ..MOST
+    },
+    Numbers {
+        limit: 3_600_001,
+        ..MOST
+    },
+    Numbers { margin: 1, ..LEAST },
+    Numbers {
+        margin: 3_600_000,
+        ..MOST
+    },
+    Numbers {
+        ahead: 60_001,
+        ..MOST
+    },
+    Numbers {
+        ceiling: 100_000_000_000,
+        ..MOST
+    },
+    Numbers {
+        base: 4_611_686_018_427_387_905,
+        ..MOST
+    },
+];
+
 #[test]
 fn numbers_to_their_bounds(rt: HostRuntime) -> Result<(), Fail> {
-    let alloc = rt.alloc();
     for numbers in [LEAST, MOST] {
-        let settings = check(codes(alloc, 1)?, &numbers)?;
-        assert_eq!(rt; told(&settings), numbers);
+        let settings = Settings::check(codes(rt.alloc(), 1)?, numbers)?;
+        same(&rt, told(&settings), numbers);
+        same(&rt, settings.numbers(), numbers);
     }
-    for numbers in [
-        Numbers { places: 0, ..LEAST },
-        Numbers {
-            fundings: 0,
-            ..LEAST
-        },
-        Numbers { limit: 0, ..LEAST },
-        Numbers {
-            ceiling: 0,
-            ..LEAST
-        },
-        Numbers {
-            places: 1025,
-            ..MOST
-        },
-        Numbers {
-            fundings: 1025,
-            ..MOST
-        },
-        Numbers {
-            limit: 3_600_001,
-            ..MOST
-        },
-        Numbers { margin: 1, ..LEAST },
-        Numbers {
-            margin: 3_600_000,
-            ..MOST
-        },
-        Numbers {
-            ahead: 60_001,
-            ..MOST
-        },
-        Numbers {
-            ceiling: 100_000_000_000,
-            ..MOST
-        },
-        Numbers {
-            base: 4_611_686_018_427_387_905,
-            ..MOST
-        },
-    ] {
-        let refusal = check(codes(alloc, 1)?, &numbers).err();
-        assert_eq!(rt; refusal, Some(Fault::BadSettings), "{numbers:?}");
+    for numbers in PAST_BOUNDS {
+        let refusal = Settings::check(codes(rt.alloc(), 1)?, *numbers).err();
+        same_at(&rt, *numbers, refusal, Some(Fault::BadSettings));
     }
     Ok(())
 }
 
 /// There are 256 participants, the last has the last number, and no other code has one.
 fn ends_at_the_last(rt: &impl Abort, settings: &Settings) -> Result<(), Fail> {
-    assert_eq!(rt; settings.participants(), 256);
+    same(rt, settings.participants(), 256);
     has_code(rt, settings, 255, &Code::new("AAAAD355")?);
-    assert_eq!(rt; settings.index_of(&Code::new("AAAAD356")?), None);
+    same(rt, settings.index_of(&Code::new("AAAAD356")?), None);
     Ok(())
 }
 
@@ -146,28 +124,28 @@ fn participants_to_their_bounds(rt: HostRuntime) -> Result<(), Fail> {
         (256, None),
         (257, Some(Fault::BadSettings)),
     ] {
-        let refusal = check(codes(alloc, count)?, &MOST).err();
-        assert_eq!(rt; refusal, fault, "{count}");
+        let refusal = Settings::check(codes(alloc, count)?, MOST).err();
+        same_at(&rt, count, refusal, fault);
     }
-    let settings = check(codes(alloc, 256)?, &MOST)?;
+    let settings = Settings::check(codes(alloc, 256)?, MOST)?;
     ends_at_the_last(&rt, &settings)
 }
 
 /// The code has this number, and the number this code.
 fn has_code(rt: &impl Abort, settings: &Settings, index: u8, code: &Code) {
-    assert_eq!(rt; settings.code(index), Some(code));
-    assert_eq!(rt; settings.index_of(code), Some(index));
+    same(rt, settings.code(index), Some(code));
+    same(rt, settings.index_of(code), Some(index));
 }
 
 /// There are three codes, numbered as they were given, and no other.
 fn numbers_codes(rt: &impl Abort, settings: &Settings, codes: &[Code; 3]) -> Result<(), Fail> {
-    assert_eq!(rt; told(settings), LEAST);
-    assert_eq!(rt; settings.participants(), 3);
+    same(rt, told(settings), LEAST);
+    same(rt, settings.participants(), 3);
     has_code(rt, settings, 0, &codes[0]);
     has_code(rt, settings, 1, &codes[1]);
     has_code(rt, settings, 2, &codes[2]);
-    assert_eq!(rt; settings.code(3), None);
-    assert_eq!(rt; settings.index_of(&Code::new("DDDDESMM")?), None);
+    same(rt, settings.code(3), None);
+    same(rt, settings.index_of(&Code::new("DDDDESMM")?), None);
     Ok(())
 }
 
@@ -186,8 +164,8 @@ fn refuses_a_code_twice(rt: &(impl Abort + AllocGlobal), codes: &[Code; 3]) -> R
         [first, second, first],
         [first, second, second],
     ] {
-        let refusal = check(twice.to_vec(rt.alloc())?, &LEAST).err();
-        assert!(rt; refusal == Some(Fault::BadSettings));
+        let refusal = Settings::check(twice.to_vec(rt.alloc())?, LEAST).err();
+        same(rt, refusal, Some(Fault::BadSettings));
     }
     Ok(())
 }
@@ -200,29 +178,34 @@ fn codes_are_numbered_as_given(rt: HostRuntime) -> Result<(), Fail> {
         Code::new("AAAADEFF123")?,
     ];
     refuses_a_code_twice(&rt, &codes)?;
-    let settings = check(codes.to_vec(rt.alloc())?, &LEAST)?;
+    let settings = Settings::check(codes.to_vec(rt.alloc())?, LEAST)?;
     copies_codes(&rt, &settings, &codes)
 }
 
-/// So many codes as banks have them, every third with a branch: other banks, the same bank in other
+const COUNTRIES: [&str; 8] = ["DE", "FR", "IT", "ES", "NL", "BE", "AT", "IE"];
+
+const BANKS: [&str; 8] = [
+    "LERC", "MEIS", "NEUN", "PIRO", "RABE", "SPEC", "TAUB", "UHUX",
+];
+
+/// The code with this number as banks have them, every third with a branch: other banks, the same bank in other
 /// countries and places, and other branches of one bank.
+fn bank_code(alloc: Global, index: u32) -> Result<Code, Fail> {
+    let bank = BANKS[(index % 8) as usize];
+    let country = COUNTRIES[(index / 8 % 8) as usize];
+    let place = 10 + index / 64;
+    let mut text = format!(in alloc; "{bank}{country}{place}")?;
+    if index % 3 == 0 {
+        text.push_str(format!(in alloc; "{}", 100 + u64::from(index))?.as_str())?;
+    }
+    Ok(Code::new(text.as_str())?)
+}
+
+/// So many of them.
 fn bank_codes(alloc: Global, count: u32) -> Result<Vec<Code>, Fail> {
-    let countries = ["DE", "FR", "IT", "ES", "NL", "BE", "AT", "IE"];
-    let banks = [
-        "LERC", "MEIS", "NEUN", "PIRO", "RABE", "SPEC", "TAUB", "UHUX",
-    ];
     let mut codes = Vec::new(alloc);
     for index in 0..count {
-        let bank = banks[(index % 8) as usize];
-        let country = countries[(index / 8 % 8) as usize];
-        let place = 10 + index / 64;
-        let branch = 100 + u64::from(index);
-        let text = if index % 3 == 0 {
-            format!(in alloc; "{bank}{country}{place}{branch}")?
-        } else {
-            format!(in alloc; "{bank}{country}{place}")?
-        };
-        codes.push(Code::new(text.as_str())?)?;
+        codes.push(bank_code(alloc, index)?)?;
     }
     Ok(codes)
 }
@@ -230,14 +213,10 @@ fn bank_codes(alloc: Global, count: u32) -> Result<Vec<Code>, Fail> {
 #[test]
 fn every_code_of_a_bank_has_its_number(rt: HostRuntime) -> Result<(), Fail> {
     let alloc = rt.alloc();
-    let settings = check(bank_codes(alloc, 64)?, &MOST)?;
+    let settings = Settings::check(bank_codes(alloc, 64)?, MOST)?;
     for (number, code) in bank_codes(alloc, 128)?.iter().enumerate() {
         let wanted = if number < 64 { Some(number) } else { None };
-        assert_eq!(rt;
-            settings.index_of(code).map(usize::from),
-            wanted,
-            "{code:?}"
-        );
+        same_at(&rt, *code, settings.index_of(code).map(usize::from), wanted);
     }
     Ok(())
 }

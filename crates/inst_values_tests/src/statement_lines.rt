@@ -3,9 +3,10 @@ ghost use Rattle.std.specs.Prelude.{◌≡◌, true, IfOk};
 ghost use Rattle.inst_settings.specs.Settings.{participants};
 ghost use Rattle.inst_command.specs.LineText.{line_fits};
 
+use crate::comparing::same;
 use inst_base::{Cents, Code, Ident};
 use inst_command::{Line, LineKind, line_text};
-use inst_settings::Settings;
+use inst_settings::{Numbers, Settings};
 use std::alloc::Global;
 use std::process::Abort;
 use std::test::Fail;
@@ -14,7 +15,7 @@ fn hub(alloc: Global) -> Result<Settings, Fail>
     ensures { IfOk result (λ s. participants s ≡ 2) }
 {
     let codes = [Code::new("AAAADEFF")?, Code::new("BBBBFRPP123")?];
-    Ok(Settings::check(codes.to_vec(alloc)?, 1, 1, 1, 0, 0, 1, 0)?)
+    Ok(Settings::check(codes.to_vec(alloc)?, Numbers::DEFAULT)?)
 }
 
 /// The line is laid out in 91 columns, so.
@@ -27,8 +28,7 @@ fn assert_text(
     requires { line_fits settings.now line.now ≡ true }
 {
     let text = line_text(rt.alloc(), settings, line)?;
-    assert_eq!(rt; text.len(), 91);
-    assert_eq!(rt; text.as_str(), wanted);
+    same(rt, (text.len(), text.as_str()), (91, wanted));
     Ok(())
 }
 

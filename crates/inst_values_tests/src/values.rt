@@ -1,4 +1,5 @@
 // Amounts, moments, codes, identifiers and faults, at their bounds.
+use crate::comparing::{same, same_at};
 use inst_base::{Cents, Code, Fault, Ident, Moment, Reason};
 use std::test::Fail;
 
@@ -15,11 +16,8 @@ fn amounts_to_their_bounds(rt: HostRuntime) {
         (100_000_000_000, Err(Fault::BadAmount)),
         (u64::MAX, Err(Fault::BadAmount)),
     ] {
-        assert_eq!(rt;
-            Cents::new(cents).map(|amount| amount.get()),
-            wanted,
-            "{cents}"
-        );
+        let amount = Cents::new(cents).map(|amount| amount.get());
+        same_at(&rt, cents, amount, wanted);
     }
 }
 
@@ -37,11 +35,11 @@ fn moments_to_their_bounds(rt: HostRuntime) -> Result<(), Fail> {
         (BASE, u64::MAX, Err(Fault::BadMoment)),
     ] {
         let past_base = Moment::new(base, ms).map(|moment| moment.past_base());
-        assert_eq!(rt; past_base, wanted, "{ms} from {base}");
+        same_at(&rt, (base, ms), past_base, wanted);
     }
     let last = Moment::new(BASE, BASE + PAST_BASE)?;
-    assert_eq!(rt; last.millis(BASE), 4_611_688_217_450_643_455);
-    assert_eq!(rt; last.millis(0), 2_199_023_255_551);
+    same(&rt, last.millis(BASE), 4_611_688_217_450_643_455);
+    same(&rt, last.millis(0), 2_199_023_255_551);
     Ok(())
 }
 
@@ -62,7 +60,7 @@ fn deadlines_to_the_last_moment(rt: HostRuntime) -> Result<(), Fail> {
         } else {
             None
         };
-        assert_eq!(rt; deadline, wanted, "{limit} after {ms}");
+        same_at(&rt, (ms, limit), deadline, wanted);
     }
     Ok(())
 }
@@ -80,10 +78,13 @@ fn readings_on_either_side_of_a_deadline(rt: HostRuntime) -> Result<(), Fail> {
         (11_001, false, false, true),
     ] {
         let at = Moment::new(0, ms)?;
-        assert_eq!(rt; at.is_in_time(deadline), in_time, "{ms}");
-        assert_eq!(rt; at.is_in_time_to_accept(2000, deadline), to_accept, "{ms}");
-        assert_eq!(rt; at.is_in_time_to_accept(0, deadline), in_time, "{ms}");
-        assert_eq!(rt; at.is_due(deadline), due, "{ms}");
+        let found = (
+            at.is_in_time(deadline),
+            at.is_in_time_to_accept(2000, deadline),
+            at.is_in_time_to_accept(0, deadline),
+            at.is_due(deadline),
+        );
+        same_at(&rt, ms, found, (in_time, to_accept, in_time, due));
     }
     Ok(())
 }
@@ -92,121 +93,142 @@ fn readings_on_either_side_of_a_deadline(rt: HostRuntime) -> Result<(), Fail> {
 fn stamps_on_either_side_of_what_is_ahead(rt: HostRuntime) -> Result<(), Fail> {
     let at = Moment::new(0, 1000)?;
     for (ms, is_ahead) in [(0, false), (1000, false), (2000, false), (2001, true)] {
-        assert_eq!(rt; Moment::new(0, ms)?.is_ahead(1000, at), is_ahead, "{ms}");
+        same_at(&rt, ms, Moment::new(0, ms)?.is_ahead(1000, at), is_ahead);
     }
     Ok(())
 }
+
+const CODES: &[&str] = &["AAAADEFF", "DDDDESMM123", "AZ09AZ09", "00000000000"];
+
+const NO_CODES: &[&str] = &[
+    "",
+    "AAAADEF",
+    "AAAADEFF1",
+    "AAAADEFF12",
+    "AAAADEFF1234",
+    "AAAADEFf",
+    "aAAADEFF",
+    "AAAA EFF",
+    "AAAADE/F",
+    "AAAADE:F",
+    "AAAADE@F",
+    "AAAADE[F",
+    "AAAADEÉ",
+];
 
 #[test]
 fn codes_by_length_and_set(rt: HostRuntime) -> Result<(), Fail> {
-    for text in ["AAAADEFF", "DDDDESMM123", "AZ09AZ09", "00000000000"] {
-        assert_eq!(rt; Code::new(text)?.text(), text);
+    for text in CODES {
+        same(&rt, Code::new(text)?.text(), *text);
     }
-    for text in [
-        "",
-        "AAAADEF",
-        "AAAADEFF1",
-        "AAAADEFF12",
-        "AAAADEFF1234",
-        "AAAADEFf",
-        "aAAADEFF",
-        "AAAA EFF",
-        "AAAADE/F",
-        "AAAADE:F",
-        "AAAADE@F",
-        "AAAADE[F",
-        "AAAADEÉ",
-    ] {
-        assert!(rt; Code::new(text) == Err(Fault::BadField), "{text}");
+    for text in NO_CODES {
+        same_at(&rt, *text, Code::new(text).err(), Some(Fault::BadField));
     }
     Ok(())
 }
+
+const REASONS: &[&str] = &["AC04", "AZ09", "0000"];
+
+const NO_REASONS: &[&str] = &[
+    "", "AC0", "AC045", "ac04", "AC0z", "AC 4", "A/04", "A:04", "A@04", "A[04", "ACÉ",
+];
 
 #[test]
 fn reasons_by_length_and_set(rt: HostRuntime) -> Result<(), Fail> {
-    for text in ["AC04", "AZ09", "0000"] {
-        assert_eq!(rt; Reason::new(text)?.text(), text);
+    for text in REASONS {
+        same(&rt, Reason::new(text)?.text(), *text);
     }
-    for text in [
-        "", "AC0", "AC045", "ac04", "AC0z", "AC 4", "A/04", "A:04", "A@04", "A[04", "ACÉ",
-    ] {
-        assert!(rt; Reason::new(text) == Err(Fault::BadField), "{text}");
+    for text in NO_REASONS {
+        same_at(&rt, *text, Reason::new(text).err(), Some(Fault::BadField));
     }
     Ok(())
 }
+
+const IDENTIFIERS: &[&str] = &[
+    "a",
+    " ",
+    "azAZ09/-?:().,'+ ",
+    "INV/2026-07 O'Brien (final) part 01",
+];
+
+const NO_IDENTIFIERS: &[&str] = &[
+    "",
+    "INV/2026-07 O'Brien (final) part 012",
+    "`",
+    "{",
+    "@",
+    "[",
+    ";",
+    ">",
+    "*",
+    "&",
+    "!",
+    "\"",
+    "\u{1f}",
+    "\n",
+    "=",
+    "_",
+    "é",
+    "T1\0",
+];
 
 #[test]
 fn identifiers_by_length_and_set(rt: HostRuntime) -> Result<(), Fail> {
-    for text in [
-        "a",
-        " ",
-        "azAZ09/-?:().,'+ ",
-        "INV/2026-07 O'Brien (final) part 01",
-    ] {
-        assert_eq!(rt; Ident::new(text)?.text(), text);
+    for text in IDENTIFIERS {
+        same(&rt, Ident::new(text)?.text(), *text);
     }
-    for text in [
-        "",
-        "INV/2026-07 O'Brien (final) part 012",
-        "`",
-        "{",
-        "@",
-        "[",
-        ";",
-        ">",
-        "*",
-        "&",
-        "!",
-        "\"",
-        "\u{1f}",
-        "\n",
-        "=",
-        "_",
-        "é",
-        "T1\0",
-    ] {
-        assert_eq!(rt; Ident::new(text), Err(Fault::BadIdentifier), "{text}");
+    for text in NO_IDENTIFIERS {
+        same_at(
+            &rt,
+            *text,
+            Ident::new(text).err(),
+            Some(Fault::BadIdentifier),
+        );
     }
     Ok(())
 }
+
+const SENTENCES: &[(Fault, &str)] = &[
+    (Fault::NotJson, "the line is no JSON text"),
+    (Fault::Expired, "the reading is too late"),
+    (Fault::Shortage, "the amount is above what is available"),
+    (Fault::WriteFault, "the output failed, or took no byte"),
+];
 
 #[test]
 fn faults_as_people_read_them(rt: HostRuntime) -> Result<(), Fail> {
-    for (fault, sentence) in [
-        (Fault::NotJson, "the line is no JSON text"),
-        (Fault::Expired, "the reading is too late"),
-        (Fault::Shortage, "the amount is above what is available"),
-        (Fault::WriteFault, "the output failed, or took no byte"),
-    ] {
-        assert_eq!(rt; format!(in rt.alloc(); "{fault}")?.as_str(), sentence);
+    for (fault, sentence) in SENTENCES {
+        let text = format!(in rt.alloc(); "{fault}")?;
+        same(&rt, text.as_str(), *sentence);
     }
     Ok(())
 }
 
+const NAMES: &[(Fault, u8, &str)] = &[
+    (Fault::NotJson, 1, "NotJson"),
+    (Fault::BadField, 2, "BadField"),
+    (Fault::BadIdentifier, 3, "BadIdentifier"),
+    (Fault::BadAmount, 4, "BadAmount"),
+    (Fault::BadMoment, 5, "BadMoment"),
+    (Fault::UnknownParticipant, 6, "UnknownParticipant"),
+    (Fault::SelfTransfer, 7, "SelfTransfer"),
+    (Fault::UnknownTransfer, 8, "UnknownTransfer"),
+    (Fault::Duplicate, 9, "Duplicate"),
+    (Fault::StampAhead, 10, "StampAhead"),
+    (Fault::Expired, 11, "Expired"),
+    (Fault::Full, 12, "Full"),
+    (Fault::Shortage, 13, "Shortage"),
+    (Fault::Memory, 14, "Memory"),
+    (Fault::BadSettings, 15, "BadSettings"),
+    (Fault::LineTooLong, 16, "LineTooLong"),
+    (Fault::ReadFault, 17, "ReadFault"),
+    (Fault::WriteFault, 18, "WriteFault"),
+];
+
 #[test]
 fn faults_by_number_and_name(rt: HostRuntime) -> Result<(), Fail> {
-    for (fault, number, name) in [
-        (Fault::NotJson, 1, "NotJson"),
-        (Fault::BadField, 2, "BadField"),
-        (Fault::BadIdentifier, 3, "BadIdentifier"),
-        (Fault::BadAmount, 4, "BadAmount"),
-        (Fault::BadMoment, 5, "BadMoment"),
-        (Fault::UnknownParticipant, 6, "UnknownParticipant"),
-        (Fault::SelfTransfer, 7, "SelfTransfer"),
-        (Fault::UnknownTransfer, 8, "UnknownTransfer"),
-        (Fault::Duplicate, 9, "Duplicate"),
-        (Fault::StampAhead, 10, "StampAhead"),
-        (Fault::Expired, 11, "Expired"),
-        (Fault::Full, 12, "Full"),
-        (Fault::Shortage, 13, "Shortage"),
-        (Fault::Memory, 14, "Memory"),
-        (Fault::BadSettings, 15, "BadSettings"),
-        (Fault::LineTooLong, 16, "LineTooLong"),
-        (Fault::ReadFault, 17, "ReadFault"),
-        (Fault::WriteFault, 18, "WriteFault"),
-    ] {
-        assert_eq!(rt; fault.number(), number, "{name}");
-        assert_eq!(rt; fault.name(), name);
+    for (fault, number, name) in NAMES {
+        same(&rt, (fault.number(), fault.name()), (*number, *name));
     }
     Ok(())
 }

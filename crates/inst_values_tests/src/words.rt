@@ -1,4 +1,5 @@
 // The words of a place, both ways, against numbers from outside.
+use crate::comparing::{same, same_at};
 use inst_base::{Cents, Fault, Ident, Moment, Reason};
 use inst_command::Outcome;
 use inst_terms::{Terms, Word, pack, pack_outcome, read_outcome, unpack};
@@ -21,13 +22,13 @@ fn rejected(reason: &str, at: u64) -> Result<Word, Fault> {
 }
 
 fn both_ways_terms(rt: &impl Abort, terms: Terms, words: [u64; 5]) {
-    assert_eq!(rt; pack(&terms), words);
-    assert_eq!(rt; unpack(&words), Some(terms));
+    same(rt, pack(&terms), words);
+    same(rt, unpack(&words), Some(terms));
 }
 
 fn both_ways_word(rt: &impl Abort, word: Word, number: u64) {
-    assert_eq!(rt; pack_outcome(&word), number);
-    assert_eq!(rt; read_outcome(number), Some(word));
+    same(rt, pack_outcome(&word), number);
+    same(rt, read_outcome(number), Some(word));
 }
 
 #[test]
@@ -93,7 +94,7 @@ fn words_that_no_terms_have(rt: HostRuntime) {
         [100_000_000_000 * 256, t1, 0, 0, 0],
         [u64::MAX, t1, 0, 0, 0],
     ] {
-        assert_eq!(rt; unpack(&words), None, "{words:?}");
+        same_at(&rt, words, unpack(&words), None);
     }
 }
 
@@ -102,6 +103,8 @@ const NINE_A: u64 = 4_720_623_483_429_609_665;
 
 #[test]
 fn words_that_no_outcome_has(rt: HostRuntime) {
+    // The check is told of a type of another crate inside another one only where a function names it.
+    let _: Option<Outcome> = None;
     let at = 2000 << 23;
     for word in [
         // Pending with a reason, and with moment 0.
@@ -114,6 +117,6 @@ fn words_that_no_outcome_has(rt: HostRuntime) {
         at + (1_679_616 << 2) + 2,
         at + (2_097_151 << 2) + 2,
     ] {
-        assert_eq!(rt; read_outcome(word), None, "{word}");
+        same_at(&rt, word, read_outcome(word), None);
     }
 }

@@ -2,7 +2,7 @@
 use Rattle.std.proofs.Common.{◌≡◌, ◌≢◌, ℕ, Bool, true, false, cond, ◌&&◌, ◌||◌, ◌==◌, List, [], ◌∷◌, Option, Some, None, is_none, is_some, Result, Ok, refl, sym, ap, subst, ◌∙◌, inl, inr, ◌⊎◌}
 use Rattle.std.specs.Prelude.{slice_get}
 use Rattle.std.proofs.lemmas.Bool.{cases_eq, cases_Bool, ne_eqb}
-use Rattle.inst_base.specs.declared.fault.Fault.{Fault}
+use Rattle.std.specs.declared.alloc.AllocError.{AllocError}
 use Rattle.inst_settings.specs.Settings.{HubSettings, same_text}
 use Rattle.inst_command.specs.Deciding.{expired}
 use Rattle.inst_command.specs.declared.outcome.Outcome.{Outcome}
@@ -91,7 +91,7 @@ module _ (s : HubSettings) (O : Opening) (opening : IsOpening s O) (L : List Ste
 
     module _ (book : Book) (member : IsMember s b q book) (events : book.events ≡ history s O L q) where
       -- nothing is seen, and nothing was done
-      nothing_run : (c : Contents) (result : Result Bool Fault) (new : Book) → tells (outcome s O (Expire q place at ∷ L)) q q (history s O L q) (at_place q (history s O L q) place) ≡ []
+      nothing_run : (c : Contents) (result : Result Bool AllocError) (new : Book) → tells (outcome s O (Expire q place at ∷ L)) q q (history s O L q) (at_place q (history s O L q) place) ≡ []
           → ((p n : ℕ) (x : Transfer) → at_place p (history s O L p) n ≡ Some x → outcome s O (Expire q place at ∷ L) p x.id ≡ outcome s O L p x.id)
           → (result ≡ Ok false) × (new ≡ book) × (c ≡ b) → RanOrNot s O (Expire q place at) L book result new c
       nothing_run c result new unseen same did =
@@ -106,7 +106,7 @@ module _ (s : HubSettings) (O : Opening) (opening : IsOpening s O) (L : List Ste
           )
 
       some_run : (margin : ℕ) (stays : Contents → Contents → Type 0) (x : Transfer) → at_place q (history s O L q) place ≡ Some x → booked book.who x.id book.events ≡ None
-          → (c : Contents) (result : Result Bool Fault) (new : Book)
+          → (c : Contents) (result : Result Bool AllocError) (new : Book)
           → ExpiresFor margin plain_knows (λ _ _. Unit {0}) plain_stood stays b book place at (Some x.id) result c new → RanOrNot s O (Expire q place at) L book result new c
       some_run margin stays x there none c result new did =
           elim did [
@@ -155,7 +155,7 @@ module _ (s : HubSettings) (O : Opening) (opening : IsOpening s O) (L : List Ste
               (expiry_tells s book x.id found (booked book.who x.id book.events) none)
 
       by_booked : (margin : ℕ) (stays : Contents → Contents → Type 0) (x : Transfer) → at_place q (history s O L q) place ≡ Some x → (o : Option Outcome) → booked book.who x.id book.events ≡ o
-          → (c : Contents) (result : Result Bool Fault) (new : Book)
+          → (c : Contents) (result : Result Bool AllocError) (new : Book)
           → ExpiresFor margin plain_knows (λ _ _. Unit {0}) plain_stood stays b book place at (cond (is_none o) (Some x.id) None) result c new → RanOrNot s O (Expire q place at) L book result new c
       by_booked margin stays x there None none c result new did = some_run margin stays x there none c result new did
       by_booked margin stays x there (Some z) some c result new did =
@@ -175,7 +175,7 @@ module _ (s : HubSettings) (O : Opening) (opening : IsOpening s O) (L : List Ste
               or_else_kept (outcome s O L p id) (taken_wants s (history s O L) (Expire q place at) p id (transfer id (history s O L p))) z is ∙ sym is
 
       by_place : (margin : ℕ) (stays : Contents → Contents → Type 0) (X : Option Transfer) → at_place q (history s O L q) place ≡ X
-          → (c : Contents) (result : Result Bool Fault) (new : Book)
+          → (c : Contents) (result : Result Bool AllocError) (new : Book)
           → ExpiresFor margin plain_knows (λ _ _. Unit {0}) plain_stood stays b book place at (if_unbooked book (elim X as (λ _. Option (List ℕ)) [ None ↦ None | Some x ↦ Some x.id ])) result c new
           → RanOrNot s O (Expire q place at) L book result new c
       by_place margin stays None nowhere c result new did =
@@ -183,7 +183,7 @@ module _ (s : HubSettings) (O : Opening) (opening : IsOpening s O) (L : List Ste
           (λ p n y is. undecided_same p y.id (λ same. subst (λ (r : ℕ). is_named y.id (at_place r (history s O L r) place) ≡ false) same (ap (is_named y.id) nowhere))) did
       by_place margin stays (Some x) there c result new did = by_booked margin stays x there (booked book.who x.id book.events) refl c result new did
 
-      pub expires_run : (margin : ℕ) (stays : Contents → Contents → Type 0) (c : Contents) (result : Result Bool Fault) (new : Book)
+      pub expires_run : (margin : ℕ) (stays : Contents → Contents → Type 0) (c : Contents) (result : Result Bool AllocError) (new : Book)
           → Expires margin plain_knows (λ _ _. Unit {0}) plain_stood stays b book place at result c new → RanOrNot s O (Expire q place at) L book result new c
       expires_run margin stays c result new did =
           let place_is : terms_in (slice_get (live_taken book.who book.events) place) ≡ at_place q (history s O L q) place =

@@ -1,7 +1,7 @@
 -- What a hub has run, after a step that was run or was refused its memory.
 use Rattle.std.proofs.Common.{◌≡◌, ℕ, List, ◌∷◌, Some, Result, Ok, Err, IfOk, OnErr, sym, ap, subst, ◌∙◌}
 use Rattle.std.specs.Prelude.{slice_get}
-use Rattle.inst_base.specs.declared.fault.Fault.{Fault}
+use Rattle.std.specs.declared.alloc.AllocError.{AllocError}
 use Rattle.inst_settings.specs.Settings.{HubSettings}
 use Rattle.inst_settings.specs.Lawful.{IsSettings}
 use Rattle.inst_command.specs.declared.reply.Answer.{Answer}
@@ -33,12 +33,12 @@ still_has_run old new same O L was =
     record { opening = r.0; steps = r.1; histories = r.2; board = r.3 }
 
 -- it has run something in any case
-pub goes_on : (old new : Hub) (step : Step) (result : Result Answer Fault) → HasRunSomething old → IfOk result (λ answer. Runs old step answer new) → OnErr result (IsAsBefore old new) → HasRunSomething new
+pub goes_on : (old new : Hub) (step : Step) (result : Result Answer AllocError) → HasRunSomething old → IfOk result (λ answer. Runs old step answer new) → OnErr result (IsAsBefore old new) → HasRunSomething new
 goes_on old new step (Ok answer) was ran refused = (was.0, step ∷ was.1, (ran was.0 was.1 was.2).1)
 goes_on old new step (Err fault) was ran refused = (was.0, was.1, still_has_run old new refused was.0 was.1 was.2)
 
 -- and what it answers is the model's
-pub of_model : (old new : Hub) (step : Step) (result : Result Answer Fault) → HasRunSomething old → IsSettings (settings_of old) → IfOk result (λ answer. Runs old step answer new)
+pub of_model : (old new : Hub) (step : Step) (result : Result Answer AllocError) → HasRunSomething old → IsSettings (settings_of old) → IfOk result (λ answer. Runs old step answer new)
     → IfOk result (IsOfModel (settings_of old) step)
 of_model old new step (Ok answer) was lawful ran = record {
   lawful = lawful;
@@ -50,6 +50,6 @@ of_model old new step (Ok answer) was lawful ran = record {
 }
 of_model old new step (Err fault) was lawful ran = tt
 
-pub unrun : (old new : Hub) (result : Result Answer Fault) → OnErr result (IsAsBefore old new) → OnErr result ((O : Opening) (L : List Step) → HasRun O L old → HasRun O L new)
+pub unrun : (old new : Hub) (result : Result Answer AllocError) → OnErr result (IsAsBefore old new) → OnErr result ((O : Opening) (L : List Step) → HasRun O L old → HasRun O L new)
 unrun old new (Ok answer) refused = tt
 unrun old new (Err fault) refused = still_has_run old new refused

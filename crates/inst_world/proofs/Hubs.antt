@@ -1,8 +1,9 @@
 -- The books of a hub as one slot acts.
 use Rattle.std.proofs.Common.{◌≡◌, ◌≢◌, ℕ, zero, suc, ◌<◌, Bool, true, false, List, [], ◌∷◌, length, get_or, set, Option, Some, None, is_some, Result, Ok, Err, IfOk, OnErr, refl, sym, ap, subst, ◌∙◌, inl, inr, ◌⊎◌, arith, length-set}
-use Rattle.std.specs.Prelude.{slice_get}
+use Rattle.std.specs.Prelude.{slice_get, alloc_error}
 use Rattle.std.proofs.lemmas.Option.{slice_get-get_or}
 use Rattle.std.proofs.lemmas.Bool.{cases_eq, ltb-true}
+use Rattle.std.specs.declared.alloc.AllocError.{AllocError}
 use Rattle.inst_base.specs.declared.fault.Fault.{Fault}
 use Rattle.inst_base.specs.declared.fault.Fault.TheVariants.{Memory}
 use Rattle.inst_settings.specs.Settings.{HubSettings, is_participant, participants}
@@ -128,16 +129,16 @@ as_before books b c p i slot new leads stays back same = record {
     set_back (y ∷ xs) zero x e = let is : x ≡ y = cc in ap (λ (z : Book). z ∷ xs) is
     set_back (y ∷ xs) (suc k) x e = ap (λ (zs : List Book). y ∷ zs) (set_back xs k x e)
 
-pub if_ok : {A : Type 0} (r : Result A Fault) (P : A → Type 0) → ((x : A) → r ≡ Ok x → P x) → IfOk r P
+pub if_ok : {A : Type 0} (r : Result A AllocError) (P : A → Type 0) → ((x : A) → r ≡ Ok x → P x) → IfOk r P
 if_ok (Ok x) P here = here x refl
 if_ok (Err e) P here = tt
 
-pub on_err : {A : Type 0} (r : Result A Fault) (P : Type 0) → ((e : Fault) → r ≡ Err e → P) → OnErr r P
+pub on_err : {A : Type 0} (r : Result A AllocError) (P : Type 0) → ((e : AllocError) → r ≡ Err e → P) → OnErr r P
 on_err (Ok x) P here = tt
 on_err (Err e) P here = here e refl
 
 -- a step that is answered by whether there is something new
-pub ran_ok : (books : List Book) (b c : Contents) (i : ℕ) (slot new : Book) (step : Step) (result : Result Bool Fault) → LeadsTo (record { books = books; board = b }) (actor step) i slot
+pub ran_ok : (books : List Book) (b c : Contents) (i : ℕ) (slot new : Book) (step : Step) (result : Result Bool AllocError) → LeadsTo (record { books = books; board = b }) (actor step) i slot
     → c.settings ≡ b.settings → step_fits b.settings step ≡ true
     → ((O : Opening) (L : List Step) → New (is_seen b.settings O L step (actor step)) ≡ answer b.settings O L step)
     → ((O : Opening) (L : List Step) → HasRun O L (record { books = books; board = b }) → RanOrNot b.settings O step L slot result new c)
@@ -147,14 +148,14 @@ ran_ok books b c i slot new step result leads stays fits answers ran =
       | inl done ↦
           let seen : x ≡ is_seen b.settings O L step (actor step) = ok_is (sym is ∙ done.0) in
           (ap (λ (y : Bool). New y) seen ∙ answers O L, has_run books b c i slot new O L step was leads stays fits done.1)
-      | inr refused ↦ let e : Ok x ≡ Err Memory = sym is ∙ refused.0 in let no : ⊥ = cc in absurd no
+      | inr refused ↦ let e : Ok x ≡ Err alloc_error = sym is ∙ refused.0 in let no : ⊥ = cc in absurd no
     ])
   where
-    ok_is : {x y : Bool} → ◌≡◌ {A = Result Bool Fault} (Ok x) (Ok y) → x ≡ y
+    ok_is : {x y : Bool} → ◌≡◌ {A = Result Bool AllocError} (Ok x) (Ok y) → x ≡ y
     ok_is e = cc
 
 -- where it is refused memory, it needs it
-pub ran_needs : (books : List Book) (b c : Contents) (slot new : Book) (step : Step) (result : Result Bool Fault)
+pub ran_needs : (books : List Book) (b c : Contents) (slot new : Book) (step : Step) (result : Result Bool AllocError)
     → ((O : Opening) (L : List Step) → is_seen b.settings O L step (actor step) ≡ true → NeedsMemory b.settings O L step)
     → ((O : Opening) (L : List Step) → HasRun O L (record { books = books; board = b }) → RanOrNot b.settings O step L slot result new c)
     → OnErr result (TakesMemory (record { books = books; board = b }) step)
@@ -165,15 +166,15 @@ ran_needs books b c slot new step result needs ran =
     ])
 
 -- memory was refused to a delivery or a lesson
-pub kept_refused : (b c : Contents) (place : Place) (look : Look) (is_new : Bool) (slot after new : Book) (result : Result Bool Fault) (margin : ℕ)
-    → Looks margin plain_knows (λ _ _. Unit {0}) plain_stood b place look c → Keeps is_new slot after result new → (e : Fault) → result ≡ Err e → (new ≡ slot) × IsTheSame b c
+pub kept_refused : (b c : Contents) (place : Place) (look : Look) (is_new : Bool) (slot after new : Book) (result : Result Bool AllocError) (margin : ℕ)
+    → Looks margin plain_knows (λ _ _. Unit {0}) plain_stood b place look c → Keeps is_new slot after result new → (e : AllocError) → result ≡ Err e → (new ≡ slot) × IsTheSame b c
 kept_refused b c place look is_new slot after new result margin looks keeps e is = elim keeps [
   | inl kept ↦ let f : Err e ≡ Ok is_new = sym is ∙ kept.0 in let no : ⊥ = cc in absurd no
   | inr refused ↦ (refused.1, board_looked b c place (looked margin b c place look looks).1)
 ]
 
-pub expiry_refused : (margin : ℕ) (stays : Contents → Contents → Type 0) (b c : Contents) (slot new : Book) (index at : ℕ) (id : Option (List ℕ)) (result : Result Bool Fault)
-    → ExpiresFor margin plain_knows (λ _ _. Unit {0}) plain_stood stays b slot index at id result c new → (e : Fault) → result ≡ Err e → (new ≡ slot) × IsTheSame b c
+pub expiry_refused : (margin : ℕ) (stays : Contents → Contents → Type 0) (b c : Contents) (slot new : Book) (index at : ℕ) (id : Option (List ℕ)) (result : Result Bool AllocError)
+    → ExpiresFor margin plain_knows (λ _ _. Unit {0}) plain_stood stays b slot index at id result c new → (e : AllocError) → result ≡ Err e → (new ≡ slot) × IsTheSame b c
 expiry_refused margin stays b c slot new index at None result did e is = let f : Err e ≡ Ok false = sym is ∙ did.0 in let no : ⊥ = cc in absurd no
 expiry_refused margin stays b c slot new index at (Some id) result did e is = elim did [
   | inl done ↦ let f : Err e ≡ Ok (is_some done.0) = sym is ∙ done.1 in let no : ⊥ = cc in absurd no
@@ -199,13 +200,13 @@ as_told (Ok r) reply other e = cc
 as_told (Err Memory) reply other e = absurd (other refl)
 as_told (Err _) reply other e = cc
 
-told_memory : (y : Result ReplyValue Fault) (e : Fault) → refusals_told y ≡ Err e → y ≡ Err Memory
+told_memory : (y : Result ReplyValue Fault) (e : AllocError) → refusals_told y ≡ Err e → y ≡ Err Memory
 told_memory (Ok r) e is = let no : ⊥ = cc in absurd no
 told_memory (Err Memory) e is = refl
 told_memory (Err _) e is = let no : ⊥ = cc in absurd no
 
 -- an ask
-pub asked_ok : (books : List Book) (b c : Contents) (i : ℕ) (slot new : Book) (ask : AskValue) (x r : Result ReplyValue Fault) (stays_as : Contents → Contents → Type 0) → LeadsTo (record { books = books; board = b }) ask.who i slot
+pub asked_ok : (books : List Book) (b c : Contents) (i : ℕ) (slot new : Book) (ask : AskValue) (x : Result ReplyValue Fault) (r : Result ReplyValue AllocError) (stays_as : Contents → Contents → Type 0) → LeadsTo (record { books = books; board = b }) ask.who i slot
     → c.settings ≡ b.settings → ask_fits b.settings ask ≡ true → is_some (request slot ask.command) ≡ decides slot ask.command
     → Applies b.settings.margin plain_knows (λ _ _. Unit {0}) plain_stood stays_as b slot ask x c new → r ≡ refusals_told x
     → IfOk r (λ reply. Runs (record { books = books; board = b }) (Ask ask) (Reply reply) (record { books = set books i new; board = c }))
@@ -220,11 +221,11 @@ asked_ok books b c i slot new ask x r stays_as leads stays fits decided did told
             has_run books b c i slot new O L (Ask ask) was leads stays fits done.1,
           )
       | inr refused ↦
-          let e : Ok reply ≡ Err Memory = sym is ∙ told_is ∙ ap refusals_told refused.0 in
+          let e : Ok reply ≡ Err alloc_error = sym is ∙ told_is ∙ ap refusals_told refused.0 in
           let no : ⊥ = cc in absurd no
     ])
 
-pub asked_needs : (books : List Book) (b c : Contents) (i : ℕ) (slot new : Book) (ask : AskValue) (x r : Result ReplyValue Fault) (stays_as : Contents → Contents → Type 0) → LeadsTo (record { books = books; board = b }) ask.who i slot
+pub asked_needs : (books : List Book) (b c : Contents) (i : ℕ) (slot new : Book) (ask : AskValue) (x : Result ReplyValue Fault) (r : Result ReplyValue AllocError) (stays_as : Contents → Contents → Type 0) → LeadsTo (record { books = books; board = b }) ask.who i slot
     → is_some (request slot ask.command) ≡ decides slot ask.command
     → Applies b.settings.margin plain_knows (λ _ _. Unit {0}) plain_stood stays_as b slot ask x c new → r ≡ refusals_told x
     → OnErr r (TakesMemory (record { books = books; board = b }) (Ask ask))
@@ -238,7 +239,7 @@ asked_needs books b c i slot new ask x r stays_as leads decided did told_is =
       | inr refused ↦ refused.3
     ])
 
-pub asked_err : (books : List Book) (b c : Contents) (i : ℕ) (slot new : Book) (ask : AskValue) (x r : Result ReplyValue Fault) (stays_as : Contents → Contents → Type 0) → LeadsTo (record { books = books; board = b }) ask.who i slot
+pub asked_err : (books : List Book) (b c : Contents) (i : ℕ) (slot new : Book) (ask : AskValue) (x : Result ReplyValue Fault) (r : Result ReplyValue AllocError) (stays_as : Contents → Contents → Type 0) → LeadsTo (record { books = books; board = b }) ask.who i slot
     → c.settings ≡ b.settings
     → Applies b.settings.margin plain_knows (λ _ _. Unit {0}) plain_stood stays_as b slot ask x c new → r ≡ refusals_told x
     → OnErr r (IsAsBefore (record { books = books; board = b }) (record { books = set books i new; board = c }))

@@ -1,8 +1,7 @@
 -- A delivery, a lesson and an expiry, over a board that has the model's outcomes, do what the model says.
-use Rattle.std.proofs.Common.{◌≡◌, ◌≢◌, ℕ, Bool, true, List, ◌∷◌, Option, is_some, Result, Ok, Err, refl, sym, ap, subst, ◌∙◌, inl, inr, ◌⊎◌}
+use Rattle.std.proofs.Common.{◌≡◌, ◌≢◌, ℕ, Bool, true, List, ◌∷◌, Option, is_some, Result, Ok, Err, refl, sym, ap, subst, ◌∙◌, inl, inr, ◌⊎◌, alloc_error}
 use Rattle.std.proofs.lemmas.Bool.{cases_eq}
-use Rattle.inst_base.specs.declared.fault.Fault.{Fault}
-use Rattle.inst_base.specs.declared.fault.Fault.TheVariants.{Memory}
+use Rattle.std.specs.declared.alloc.AllocError.{AllocError}
 use Rattle.inst_settings.specs.Settings.{HubSettings}
 use Rattle.inst_command.specs.declared.ask.Ask.{Ask as AskValue}
 use Rattle.inst_command.specs.declared.step.Step.{Step}
@@ -69,10 +68,10 @@ pub record Ran (s : HubSettings) (O : Opening) (step : Step) (L : List Step) (ne
   pub board : IsBoardOf s O (step ∷ L) c
 
 -- a step that is answered by whether there is something new was run; or memory was refused for that, and nothing changed
-abbrev pub RanOrNot : HubSettings → Opening → Step → List Step → Book → Result Bool Fault → Book → Contents → Type 0
+abbrev pub RanOrNot : HubSettings → Opening → Step → List Step → Book → Result Bool AllocError → Book → Contents → Type 0
 RanOrNot s O step L book result new c =
     ((result ≡ Ok (is_seen s O L step (actor step))) × Ran s O step L new c)
-    ⊎ ((result ≡ Err Memory) × (new ≡ book) × IsBoardOf s O L c × (is_seen s O L step (actor step) ≡ true))
+    ⊎ ((result ≡ Err alloc_error) × (new ≡ book) × IsBoardOf s O L c × (is_seen s O L step (actor step) ≡ true))
 
 pub no_ask_deliver : (from place to : ℕ) (ask : AskValue) → Deliver from place to ≡ Ask ask → ⊥
 no_ask_deliver from place to ask e = let no : ⊥ = cc in no
@@ -102,7 +101,7 @@ module _ (s : HubSettings) (O : Opening) (opening : IsOpening s O) (L : List Ste
       adds.is_new_is ∙ ap (λ (w : ℕ). is_some_entry (f w book.events)) member.who_is ∙ ap (λ (E : List Event). is_some_entry (f q E)) events ∙ sym seen.is_seen_is,
     )
 
-    pub delivers_run : (margin from place : ℕ) (look : Look) (c : Contents) (result : Result Bool Fault) (new : Book)
+    pub delivers_run : (margin from place : ℕ) (look : Look) (c : Contents) (result : Result Bool AllocError) (new : Book)
         → Looks margin plain_knows (λ _ _. Unit {0}) plain_stood b (place_at from place) look c
         → Keeps (is_some (delivery book (place_at from place) look)) book (with_delivery book (place_at from place) (delivery book (place_at from place) look)) result new
         → RanOrNot s O (Deliver from place q) L book result new c
@@ -129,7 +128,7 @@ module _ (s : HubSettings) (O : Opening) (opening : IsOpening s O) (L : List Ste
           | inr refused ↦ inr (refused.0, refused.1, still c same, sym a.1 ∙ refused.2)
         ]
 
-    pub learns_run : (margin from place : ℕ) (look : Look) (c : Contents) (result : Result Bool Fault) (new : Book)
+    pub learns_run : (margin from place : ℕ) (look : Look) (c : Contents) (result : Result Bool AllocError) (new : Book)
         → Looks margin plain_knows (λ _ _. Unit {0}) plain_stood b (place_at from place) look c
         → Keeps (is_some (lesson book (place_at from place) look)) book (with_event book (lesson book (place_at from place) look)) result new
         → RanOrNot s O (Learn q from place) L book result new c

@@ -1,7 +1,8 @@
 -- What a world of slots over one board has run: a list of steps since an opening. Its histories are the model's, and its
 -- board has, at each place, the live transfer that the model has there with its outcome, and nothing else. That one
 -- thread holds all slots is this hub's own choice.
-use Rattle.std.specs.Prelude.{◌≡◌, ◌⊎◌, ℕ, zero, suc, ◌<◌, true, List, [], ◌∷◌, ◌++◌, length, slice_get, Option, Some, None, Result, Ok, Err}
+use Rattle.std.specs.Prelude.{◌≡◌, ◌⊎◌, ℕ, zero, suc, ◌<◌, true, List, [], ◌∷◌, ◌++◌, length, slice_get, Option, Some, None, Result, Ok, Err, alloc_error}
+use Rattle.std.specs.declared.alloc.AllocError.{AllocError}
 use Rattle.inst_base.specs.declared.fault.Fault.{Fault}
 use Rattle.inst_base.specs.declared.fault.Fault.TheVariants.{Memory}
 use Rattle.inst_settings.specs.Settings.{HubSettings, participants}
@@ -131,7 +132,7 @@ new_books s zero = []
 new_books s (suc n) = new_books s n ++ new_book s n ∷ []
 
 -- what is answered, with each refusal but Memory as a reply
-abbrev pub refusals_told : Result Reply Fault → Result Reply Fault
+abbrev pub refusals_told : Result Reply Fault → Result Reply AllocError
 refusals_told (Ok reply) = Ok reply
-refusals_told (Err Memory) = Err Memory
+refusals_told (Err Memory) = Err alloc_error
 refusals_told (Err fault) = Ok (Refused fault)

@@ -1,5 +1,5 @@
 //! The slots of a hub, in a list by their participants' numbers, over one board.
-ghost use Rattle.std.specs.Prelude.{◌≡◌, true, ◌∷◌, length, IfOk, OnErr, IsOkUnless};
+ghost use Rattle.std.specs.Prelude.{◌≡◌, true, ◌∷◌, length, IfOk, OnErr};
 ghost use Rattle.inst_settings.specs.Settings.{participants, is_participant};
 ghost use Rattle.inst_settings.specs.Lawful.{IsSettings};
 ghost use Rattle.inst_command.specs.Ask.{ask_fits};
@@ -13,12 +13,11 @@ use inst_board::{Place, PlainBoard};
 use inst_command::{Answer, Ask, Reply, Step};
 use inst_settings::Settings;
 use inst_slot::Slot;
-use std::alloc::Global;
+use std::alloc::{AllocError, Global};
 
 /// One slot for each participant, with no history.
-pub(crate) fn open(alloc: Global, settings: &Settings) -> Result<Vec<Slot>, Fault>
+pub(crate) fn open(alloc: Global, settings: &Settings) -> Result<Vec<Slot>, AllocError>
     ensures ok { IfOk result (λ slots. slots.items ≡ new_books settings.now (participants settings.now)) }
-    ensures only { IsOkUnless result Fault.Memory }
 {
     let mut slots = Vec::new(alloc);
     for who in 0..settings.participants() {
@@ -32,14 +31,13 @@ pub(crate) fn step(
     slots: &mut Vec<Slot>,
     board: &mut PlainBoard,
     step: &Step,
-) -> Result<Answer, Fault>
+) -> Result<Answer, AllocError>
     requires hub { IsHub (record { books = slots.old.items; board = board.old }) }
     requires fits { step_fits board.old.settings step.now ≡ true }
     ensures ok { IfOk result (λ answer. Runs (record { books = slots.old.items; board = board.old }) step.now answer
         (record { books = slots.new.items; board = board.new })) }
     ensures err { OnErr result (IsAsBefore (record { books = slots.old.items; board = board.old }) (record { books = slots.new.items; board = board.new })) }
     ensures memory { OnErr result (TakesMemory (record { books = slots.old.items; board = board.old }) step.now) }
-    ensures only { IsOkUnless result Fault.Memory }
     ensures hub { IsHub (record { books = slots.new.items; board = board.new }) }
     ensures settings { board.new.settings ≡ board.old.settings }
 {
@@ -71,14 +69,13 @@ fn deliver(
     board: &mut PlainBoard,
     place: Place,
     to: u8,
-) -> Result<bool, Fault>
+) -> Result<bool, AllocError>
     requires hub { IsHub (record { books = slots.old.items; board = board.old }) }
     requires participants { (is_participant board.old.settings place.owner ≡ true) × (is_participant board.old.settings to ≡ true) }
     ensures ok { IfOk result (λ is_new. Runs (record { books = slots.old.items; board = board.old })
         (Step.Deliver place.owner place.index to) (Answer.New is_new) (record { books = slots.new.items; board = board.new })) }
     ensures err { OnErr result (IsAsBefore (record { books = slots.old.items; board = board.old }) (record { books = slots.new.items; board = board.new })) }
     ensures memory { OnErr result (TakesMemory (record { books = slots.old.items; board = board.old }) (Step.Deliver place.owner place.index to)) }
-    ensures only { IsOkUnless result Fault.Memory }
     ensures hub { IsHub (record { books = slots.new.items; board = board.new }) }
     ensures settings { board.new.settings ≡ board.old.settings }
 {
@@ -91,14 +88,13 @@ fn learn(
     board: &mut PlainBoard,
     who: u8,
     place: Place,
-) -> Result<bool, Fault>
+) -> Result<bool, AllocError>
     requires hub { IsHub (record { books = slots.old.items; board = board.old }) }
     requires participants { (is_participant board.old.settings who ≡ true) × (is_participant board.old.settings place.owner ≡ true) }
     ensures ok { IfOk result (λ is_new. Runs (record { books = slots.old.items; board = board.old })
         (Step.Learn who place.owner place.index) (Answer.New is_new) (record { books = slots.new.items; board = board.new })) }
     ensures err { OnErr result (IsAsBefore (record { books = slots.old.items; board = board.old }) (record { books = slots.new.items; board = board.new })) }
     ensures memory { OnErr result (TakesMemory (record { books = slots.old.items; board = board.old }) (Step.Learn who place.owner place.index)) }
-    ensures only { IsOkUnless result Fault.Memory }
     ensures hub { IsHub (record { books = slots.new.items; board = board.new }) }
     ensures settings { board.new.settings ≡ board.old.settings }
 {
@@ -112,14 +108,13 @@ fn expire(
     who: u8,
     index: u16,
     at: Moment,
-) -> Result<bool, Fault>
+) -> Result<bool, AllocError>
     requires hub { IsHub (record { books = slots.old.items; board = board.old }) }
     requires participant { is_participant board.old.settings who ≡ true }
     ensures ok { IfOk result (λ is_new. Runs (record { books = slots.old.items; board = board.old })
         (Step.Expire who index at) (Answer.New is_new) (record { books = slots.new.items; board = board.new })) }
     ensures err { OnErr result (IsAsBefore (record { books = slots.old.items; board = board.old }) (record { books = slots.new.items; board = board.new })) }
     ensures memory { OnErr result (TakesMemory (record { books = slots.old.items; board = board.old }) (Step.Expire who index at)) }
-    ensures only { IsOkUnless result Fault.Memory }
     ensures hub { IsHub (record { books = slots.new.items; board = board.new }) }
     ensures settings { board.new.settings ≡ board.old.settings }
 {
@@ -127,14 +122,13 @@ fn expire(
 }
 
 /// Answers an ask by the slot of its participant, a refusal as a reply.
-fn ask(slots: &mut Vec<Slot>, board: &mut PlainBoard, ask: &Ask) -> Result<Reply, Fault>
+fn ask(slots: &mut Vec<Slot>, board: &mut PlainBoard, ask: &Ask) -> Result<Reply, AllocError>
     requires hub { IsHub (record { books = slots.old.items; board = board.old }) }
     requires fits { ask_fits board.old.settings ask.now ≡ true }
     ensures ok { IfOk result (λ reply. Runs (record { books = slots.old.items; board = board.old })
         (Step.Ask ask.now) (Answer.Reply reply) (record { books = slots.new.items; board = board.new })) }
     ensures err { OnErr result (IsAsBefore (record { books = slots.old.items; board = board.old }) (record { books = slots.new.items; board = board.new })) }
     ensures memory { OnErr result (TakesMemory (record { books = slots.old.items; board = board.old }) (Step.Ask ask.now)) }
-    ensures only { IsOkUnless result Fault.Memory }
     ensures hub { IsHub (record { books = slots.new.items; board = board.new }) }
     ensures settings { board.new.settings ≡ board.old.settings }
 {
@@ -142,12 +136,12 @@ fn ask(slots: &mut Vec<Slot>, board: &mut PlainBoard, ask: &Ask) -> Result<Reply
 }
 
 /// What is answered, with each refusal but `Memory` as a reply.
-fn refusals_told(answer: Result<Reply, Fault>) -> Result<Reply, Fault>
+fn refusals_told(answer: Result<Reply, Fault>) -> Result<Reply, AllocError>
     ensures { result ≡ refusals_told answer }
 {
     match answer {
         Ok(reply) => Ok(reply),
-        Err(Fault::Memory) => Err(Fault::Memory),
+        Err(Fault::Memory) => Err(AllocError),
         Err(fault) => Ok(Reply::Refused(fault)),
     }
 }

@@ -1,4 +1,4 @@
-ghost use Rattle.std.specs.Prelude.{◌≡◌, true, IfOk, IsOkUnless};
+ghost use Rattle.std.specs.Prelude.{◌≡◌, true, IfOk};
 ghost use Rattle.inst_settings.specs.Settings.{is_participant};
 ghost use Rattle.inst_model.specs.Interleaving.{IsInterleaving};
 ghost use Rattle.inst_model.specs.Opening.{Opening};
@@ -7,13 +7,12 @@ ghost use Rattle.inst_world.specs.Headline.{run_of, KeepsTheHeadline, SeesTheSam
 
 use crate::trace::Trace;
 use crate::world::World;
-use inst_base::Fault;
 use inst_command::Step;
 use inst_settings::Settings;
-use std::alloc::Global;
+use std::alloc::{AllocError, Global};
 
 /// Two runs, each of a hub that opens for the first time, in which the participant `who` sees the same:
-/// whatever the others do, it gets the same of both. `Memory` where either run ends so.
+/// whatever the others do, it gets the same of both.
 ///
 /// ```text
 /// let (quiet, busy) = run_both(alloc, &settings, 1, &alone, &among_others)?;
@@ -25,7 +24,7 @@ pub fn run_both(
     who: u8,
     one: &[Step],
     other: &[Step],
-) -> Result<((World, Trace), (World, Trace)), Fault>
+) -> Result<((World, Trace), (World, Trace)), AllocError>
     requires one { IsInterleaving settings.now one.now }
     requires other { IsInterleaving settings.now other.now }
     requires participant { is_participant settings.now who ≡ true }
@@ -34,7 +33,6 @@ pub fn run_both(
     ensures other { IfOk result (λ r. KeepsTheHeadline settings.now (run_of Opening.First other.now (journal_of r.1.0) r.1.1.answers)) }
     ensures isolation { IfOk result (λ r. GotTheSame who (run_of Opening.First one.now (journal_of r.0.0) r.0.1.answers)
         (run_of Opening.First other.now (journal_of r.1.0) r.1.1.answers)) }
-    ensures only { IsOkUnless result Fault.Memory }
 {
     let first = World::run(alloc, settings, one)?;
     let second = World::run(alloc, settings, other)?;

@@ -1,4 +1,4 @@
-ghost use Rattle.std.specs.Prelude.{◌≡◌, ℕ, true, List, [], ◌∷◌, reverse, option_map, Some, None, IfOk, OnErr, IsOkUnless, IfSome};
+ghost use Rattle.std.specs.Prelude.{◌≡◌, ℕ, true, List, [], ◌∷◌, reverse, option_map, Some, None, IfOk, OnErr, IfSome};
 ghost use Rattle.inst_settings.specs.Settings.{is_participant};
 ghost use Rattle.inst_settings.specs.Lawful.{IsSettings};
 ghost use Rattle.inst_command.specs.Step.{step_fits};
@@ -19,13 +19,13 @@ mod next_opening;
 use crate::slots;
 use crate::trace::Trace;
 pub use closing::{MOST_OPENINGS, may_open, openings};
-use inst_base::{Fault, Ident, Moment};
+use inst_base::{Ident, Moment};
 use inst_board::{Board, Look, Place, PlainBoard};
 use inst_command::{Answer, Items, Step};
 use inst_journal::Journal;
 use inst_settings::Settings;
 use inst_slot::Slot;
-use std::alloc::Global;
+use std::alloc::{AllocError, Global};
 use std::marker::Model;
 
 /// A hub in one thread: a slot for each participant, over one plain board.
@@ -58,10 +58,9 @@ impl Model for World {
 }
 
 impl World {
-    /// A hub that opens for the first time. `Memory` where there is no room for its slots and places.
-    pub fn open(alloc: Global, settings: &Settings) -> Result<World, Fault>
+    /// A hub that opens for the first time.
+    pub fn open(alloc: Global, settings: &Settings) -> Result<World, AllocError>
         ensures ok { IfOk result (λ world. (world.board.settings ≡ settings.now) × HasRun Opening.First [] world) }
-        ensures only { IsOkUnless result Fault.Memory }
     {
         let settings = settings.copy()?;
         let board = PlainBoard::new(alloc, &settings)?;
@@ -100,16 +99,15 @@ impl World {
         slots
     }
 
-    /// Runs one step. A refused ask is answered by its refusal. The only error is `Memory`, which comes only
-    /// where an event is to be kept, or entries or lines are to be copied, and then the hub is as it was.
-    pub fn step(&mut self, step: &Step) -> Result<Answer, Fault>
+    /// Runs one step. A refused ask is answered by its refusal. Memory may be refused only where an
+    /// event is to be kept, or entries or lines are to be copied, and then the hub is as it was.
+    pub fn step(&mut self, step: &Step) -> Result<Answer, AllocError>
         requires fits { step_fits self.old.board.settings step.now ≡ true }
         ensures ok { IfOk result (λ answer. Runs self.old step.now answer self.new) }
         ensures model { IfOk result (λ answer. IsOfModel self.old.board.settings step.now answer) }
         ensures err { OnErr result (IsAsBefore self.old self.new) }
         ensures memory { OnErr result (TakesMemory self.old step.now) }
         ensures unrun { OnErr result ((O : Opening) (L : List Step) → HasRun O L self.old → HasRun O L self.new) }
-        ensures only { IsOkUnless result Fault.Memory }
         ensures settings { self.new.board.settings ≡ self.old.board.settings }
     {
         slots::step(&mut self.slots, &mut self.board, step)
@@ -152,16 +150,19 @@ impl World {
         self.slots[usize::from(from)].place_of(from, id)
     }
 
-    /// Runs the steps in order, at a hub that opens for the first time. `Memory` ends the run.
+    /// Runs the steps in order, at a hub that opens for the first time. Refused memory ends the run.
     ///
     /// What it returns keeps the headline: whoever sees the same in another run gets the same of it, a
     /// transfer has one outcome, its money is settled or released at most once, the positions sum to the
     /// net funding and what is untold, and the books fit one another.
-    pub fn run(alloc: Global, settings: &Settings, steps: &[Step]) -> Result<(World, Trace), Fault>
+    pub fn run(
+        alloc: Global,
+        settings: &Settings,
+        steps: &[Step],
+    ) -> Result<(World, Trace), AllocError>
         requires fits { IsInterleaving settings.now steps.now }
         ensures ran { IfOk result (λ r. (r.0.board.settings ≡ settings.now) × HasRun Opening.First (reverse steps.now) r.0) }
         ensures headline { IfOk result (λ r. KeepsTheHeadline settings.now (run_of Opening.First steps.now (journal_of r.0) r.1.answers)) }
-        ensures only { IsOkUnless result Fault.Memory }
     {
         let mut world = World::open(alloc, settings)?;
         let trace = world.run_steps(alloc, steps)?;
@@ -169,11 +170,10 @@ impl World {
     }
 
     /// Runs the steps in order.
-    fn run_steps(&mut self, alloc: Global, steps: &[Step]) -> Result<Trace, Fault>
+    fn run_steps(&mut self, alloc: Global, steps: &[Step]) -> Result<Trace, AllocError>
         requires fits { IsInterleaving self.old.board.settings steps.now }
         ensures ok { IfOk result (λ t. (O : Opening) → HasRun O [] self.old →
             HasRun O (reverse steps.now) self.new × (t.answers ≡ trace self.old.board.settings O (reverse steps.now))) }
-        ensures only { IsOkUnless result Fault.Memory }
         ensures settings { self.new.board.settings ≡ self.old.board.settings }
     {
         let mut answers = Vec::new(alloc);

@@ -2,12 +2,15 @@
 ghost use Rattle.std.specs.Prelude.{◌≡◌, IfOk};
 ghost use Rattle.inst_model.specs.Rows as rows;
 
-use inst_base::{Cents, Fault, Ident, Moment};
-use inst_command::{Answer, Command, Line, LineKind, Outcome, Reply, State, Step};
-use inst_journal::Journal;
+use crate::comparing::{same, same_at};
+use crate::told::{Told, is_told};
+use inst_base::{Fault, Ident, Moment};
+use inst_command::{Answer, Command, LineKind, Outcome, Step};
+use inst_journal::{Event, Journal};
 use inst_rows::{A, B, ask, books, confirm, fund, settings, submit};
 use inst_slot::Slot;
 use inst_world::World;
+use std::alloc::Global;
 use std::process::Abort;
 use std::test::Fail;
 
@@ -45,71 +48,68 @@ fn carried_over_an_opening_steps() -> Result<[Step; 7], Fault>
     ])
 }
 
-/// Whether the nth answer is that of a transfer that is carried over: it is reserved and known again, then
-/// confirmed, and stands in the statement once it is learnt.
-fn is_carried(nth: usize, answer: &Answer) -> Result<bool, Fault> {
-    let id = Ident::new("T1")?;
-    let cents = Cents::new(20_000)?;
-    let line = Line {
-        number: 1,
-        kind: LineKind::Paid,
-        other: Some(B),
-        id,
-        cents,
-        position: 30_000,
-    };
-    let reply = match answer {
-        Answer::New(is_new) => return Ok(nth == 5 && *is_new),
-        Answer::Reply(reply) => reply,
-    };
-    let is = match reply {
-        Reply::Position {
-            position,
-            reserved,
-            available,
-        } => nth == 0 && *position == 50_000 && *reserved == 20_000 && *available == 30_000,
-        Reply::Taken { id, deadline } => {
-            nth == 1 && id.text() == "T1" && *deadline == Moment::new(0, 11_000)?
-        }
-        Reply::Refused(fault) => nth == 2 && *fault == Fault::Duplicate,
-        Reply::Statement { lines } => {
-            let of_it: &[Line] = &[line];
-            (nth == 3 && lines.as_slice().is_empty()) || (nth == 6 && lines.as_slice() == of_it)
-        }
-        Reply::State { from, state, .. } => {
-            nth == 4 && *from == A && *state == State::Decided(Outcome::Accepted)
-        }
-        _ => false,
-    };
-    Ok(is)
+/// What is told of a transfer that is carried over: it is reserved and known again, then confirmed, and stands in the
+/// statement once it is learnt.
+const CARRIED: [Told; 7] = [
+    Told::Position(50_000, 20_000, 30_000),
+    Told::Taken("T1", 11_000),
+    Told::Refused(Fault::Duplicate),
+    Told::Lines(&[]),
+    Told::Decided(A, Outcome::Accepted),
+    Told::New(true),
+    Told::Lines(&[(1, LineKind::Paid, Some(B), "T1", 20_000, 30_000)]),
+];
+
+/// These are the answers.
+fn are_told(rt: &impl Abort, answers: &[Answer], told: &[Told]) {
+    same(rt, answers.len(), told.len());
+    for (nth, (answer, told)) in answers.iter().zip(told).enumerate() {
+        same_at(rt, nth, is_told(answer, told), true);
+    }
 }
 
 /// Each step is answered as where a transfer is carried over.
-fn carries(rt: &impl Abort, world: &mut World, steps: &[Step]) -> Result<(), Fail> {
-    for (nth, step) in steps.iter().enumerate() {
+fn carries(rt: &impl Abort, world: &mut World, steps: &[Step; 7]) -> Result<(), Fail> {
+    for (nth, (step, told)) in steps.iter().zip(&CARRIED).enumerate() {
         assert!(rt; step.fits(world.settings()));
         let answer = world.step(step)?;
-        assert!(rt; is_carried(nth, &answer)?, "{nth}");
+        same_at(rt, nth, is_told(&answer, told), true);
     }
     Ok(())
 }
 
+/// A hub that opens from books in which a transfer was delivered.
+fn opened_again(alloc: Global) -> Result<World, Fault> {
+    let settings = settings(alloc)?;
+    let books = books(alloc, &settings, &delivered()?)?;
+    Ok(World::open_from(alloc, &settings, &books)?)
+}
+
 #[test]
 fn carried_over_an_opening(rt: HostRuntime) -> Result<(), Fail> {
-    let settings = settings(rt.alloc())?;
-    let books = books(rt.alloc(), &settings, &delivered()?)?;
-    let mut world = World::open_from(rt.alloc(), &settings, &books)?;
+    let mut world = opened_again(rt.alloc())?;
     carries(&rt, &mut world, &carried_over_an_opening_steps()?)
 }
 
-/// Each slot has the events of its book and one more.
+/// All events but the last, if there is one.
+fn all_but_last(events: &[Event]) -> Option<&[Event]> {
+    match events {
+        [front @ .., _] => Some(front),
+        [] => None,
+    }
+}
+
+/// Each slot has the events of its book and one more, and each book its slot.
 fn go_on(rt: &impl Abort, slots: &[Slot], books: &[Journal]) {
+    same(rt, slots.len(), books.len());
     for (slot, book) in slots.iter().zip(books) {
         let _: Option<Outcome> = None;
-        let events = slot.journal().events();
-        assert_eq!(rt; events.len(), book.events().len() + 1);
-        assert_eq!(rt; &events[..book.events().len()], book.events());
-        assert_eq!(rt; slot.unfound(), 0);
+        same(rt, slot.unfound(), 0);
+        same(
+            rt,
+            all_but_last(slot.journal().events()),
+            Some(book.events()),
+        );
     }
 }
 
@@ -118,17 +118,7 @@ fn slots_by_number(rt: HostRuntime) -> Result<(), Fail> {
     let settings = settings(rt.alloc())?;
     let books = books(rt.alloc(), &settings, &delivered()?)?;
     let slots = World::open_from(rt.alloc(), &settings, &books)?.into_slots();
-    assert_eq!(rt; slots.len(), books.len());
     go_on(&rt, &slots, &books);
-    Ok(())
-}
-
-/// The seven answers are those where a transfer is carried over.
-fn are_carried(rt: &impl Abort, answers: &[Answer]) -> Result<(), Fail> {
-    for (nth, answer) in answers.iter().enumerate() {
-        assert!(rt; is_carried(nth, answer)?, "{nth}");
-    }
-    assert_eq!(rt; answers.len(), 7);
     Ok(())
 }
 
@@ -138,7 +128,8 @@ fn run_from_books(rt: HostRuntime) -> Result<(), Fail> {
     let books = books(rt.alloc(), &settings, &delivered()?)?;
     let steps = carried_over_an_opening_steps()?;
     let (_, trace) = World::run_from(rt.alloc(), &settings, &books, &steps)?;
-    are_carried(&rt, trace.answers.as_slice())
+    are_told(&rt, trace.answers.as_slice(), &CARRIED);
+    Ok(())
 }
 
 fn one_settled() -> Result<[Step; 7], Fault>
@@ -195,37 +186,15 @@ fn places_given_back_steps() -> Result<[Step; 6], Fault>
     ])
 }
 
-/// Whether the nth answer is that of a settled transfer, which gave its place back, and of a pending one,
-/// which has the first place.
-fn is_given_back(nth: usize, answer: &Answer) -> Result<bool, Fault> {
-    let reply = match answer {
-        Answer::New(is_new) => return Ok(nth == 4 && *is_new),
-        Answer::Reply(reply) => reply,
-    };
-    let is = match reply {
-        Reply::Taken { id, deadline } => {
-            let third = id.text() == "T3" && *deadline == Moment::new(0, 13_000)?;
-            let repeat = id.text() == "T1" && *deadline == Moment::new(0, 11_000)?;
-            (nth == 0 && third) || (nth == 3 && repeat)
-        }
-        Reply::Refused(fault) => nth == 1 && *fault == Fault::Full,
-        Reply::State { state, .. } => {
-            (nth == 2 && *state == State::Decided(Outcome::Accepted))
-                || (nth == 5 && *state == State::Decided(Outcome::TimedOut))
-        }
-        _ => false,
-    };
-    Ok(is)
-}
-
-/// The six answers are those where a place was given back.
-fn are_given_back(rt: &impl Abort, answers: &[Answer]) -> Result<(), Fail> {
-    for (nth, answer) in answers.iter().enumerate() {
-        assert!(rt; is_given_back(nth, answer)?, "{nth}");
-    }
-    assert_eq!(rt; answers.len(), 6);
-    Ok(())
-}
+/// What is told of a settled transfer, which gave its place back, and of a pending one, which has the first place.
+const GIVEN_BACK: [Told; 6] = [
+    Told::Taken("T3", 13_000),
+    Told::Refused(Fault::Full),
+    Told::Decided(A, Outcome::Accepted),
+    Told::Taken("T1", 11_000),
+    Told::New(true),
+    Told::Decided(A, Outcome::TimedOut),
+];
 
 #[test]
 fn places_given_back(rt: HostRuntime) -> Result<(), Fail> {
@@ -233,5 +202,6 @@ fn places_given_back(rt: HostRuntime) -> Result<(), Fail> {
     let books = books(rt.alloc(), &settings, &one_settled()?)?;
     let steps = places_given_back_steps()?;
     let (_, trace) = World::run_from(rt.alloc(), &settings, &books, &steps)?;
-    are_given_back(&rt, trace.answers.as_slice())
+    are_told(&rt, trace.answers.as_slice(), &GIVEN_BACK);
+    Ok(())
 }

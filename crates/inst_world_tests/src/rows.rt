@@ -1,4 +1,5 @@
 // Worked rows: lines in, lines out, over three participants with 2 places and 4 fundings each.
+use crate::comparing::same;
 use inst_lines::run_lines;
 use inst_rows::settings;
 use std::process::Abort;
@@ -14,7 +15,7 @@ pub(crate) fn row(
     let mut reader = input.as_bytes();
     let mut written = Vec::new(rt.alloc());
     run_lines(rt.alloc(), &settings, &mut reader, &mut written)?;
-    assert_eq!(rt; written.as_slice(), expected.as_bytes());
+    same(rt, written.as_slice(), expected.as_bytes());
     Ok(())
 }
 

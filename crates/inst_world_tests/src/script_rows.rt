@@ -1,4 +1,5 @@
 // Worked rows of a script of steps, over three participants with 2 places and 4 fundings each.
+use crate::comparing::same;
 use inst_lines::play_lines;
 use inst_rows::settings;
 use std::process::Abort;
@@ -10,7 +11,7 @@ fn row(rt: &(impl Abort + AllocGlobal), input: &str, expected: &str) -> Result<(
     let mut reader = input.as_bytes();
     let mut written = Vec::new(rt.alloc());
     play_lines(rt.alloc(), &settings, &mut reader, &mut written)?;
-    assert_eq!(rt; written.as_slice(), expected.as_bytes());
+    same(rt, written.as_slice(), expected.as_bytes());
     Ok(())
 }
 

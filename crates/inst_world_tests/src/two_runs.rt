@@ -2,11 +2,14 @@
 ghost use Rattle.std.specs.Prelude.{◌≡◌, IfOk};
 ghost use Rattle.inst_model.specs.Rows as rows;
 
-use inst_base::{Cents, Fault, Ident, Moment};
-use inst_command::{Answer, Command, Entry, Line, LineKind, Outcome, Reply, State, Step};
+use crate::comparing::same;
+use crate::told::{Told, is_told};
+use inst_base::Fault;
+use inst_command::{Answer, Command, LineKind, Outcome, Step};
 use inst_rows::{A, B, C, ask, confirm, fund, settings, submit};
 use inst_settings::Settings;
 use inst_world::run_both;
+use std::alloc::Global;
 use std::process::Abort;
 use std::test::Fail;
 
@@ -64,73 +67,59 @@ fn among_others() -> Result<[Step; 13], Fault>
     ])
 }
 
-/// Whether B is told so by its nth reply: it is handed out the transfer, told that it is accepted, and
-/// shown its line and its amount.
-fn is_told(nth: usize, answer: &Answer) -> Result<bool, Fault> {
-    let id = Ident::new("T1")?;
-    let cents = Cents::new(20_000)?;
-    let entry = Entry {
-        from: A,
-        id,
-        cents,
-        deadline: Moment::new(0, 11_000)?,
-    };
-    let line = Line {
-        number: 1,
-        kind: LineKind::Received,
-        other: Some(A),
-        id,
-        cents,
-        position: 20_000,
-    };
-    let Answer::Reply(reply) = answer else {
-        return Ok(false);
-    };
-    let is = match reply {
-        Reply::Inbox { entries } => nth == 0 && entries.as_slice() == [entry].as_slice(),
-        Reply::State { from, state, .. } => {
-            nth == 1 && *from == A && *state == State::Decided(Outcome::Accepted)
-        }
-        Reply::Statement { lines } => nth == 2 && lines.as_slice() == [line].as_slice(),
-        Reply::Position {
-            position,
-            reserved,
-            available,
-        } => nth == 3 && *position == 20_000 && *reserved == 0 && *available == 20_000,
-        _ => false,
-    };
-    Ok(is)
+/// What B is told: it is handed out the transfer, told that it is accepted, and shown its line and its amount.
+const TOLD: [Told; 4] = [
+    Told::Inbox(&[(A, "T1", 20_000, 11_000)]),
+    Told::Decided(A, Outcome::Accepted),
+    Told::Lines(&[(1, LineKind::Received, Some(A), "T1", 20_000, 20_000)]),
+    Told::Position(20_000, 0, 20_000),
+];
+
+/// Whether B is told so by its nth reply.
+fn is_nth(nth: usize, answer: &Answer) -> bool {
+    match TOLD.get(nth) {
+        Some(told) => is_told(answer, told),
+        None => false,
+    }
 }
 
 /// How many asks of B are answered as they must be, from the first on.
-fn told_to_b(steps: &[Step], answers: &[Answer]) -> Result<usize, Fault> {
+fn told_to_b(steps: &[Step], answers: &[Answer]) -> usize {
     let mut count = 0;
     for (step, answer) in steps.iter().zip(answers) {
         let is_b = matches!(step, Step::Ask(ask) if ask.who == B);
-        if is_b && is_told(count, answer)? {
+        if is_b && is_nth(count, answer) {
             count = count.saturating_add(1);
         }
     }
-    Ok(count)
+    count
 }
 
-/// All four asks of B are answered as they must be.
-fn tells_b(rt: &impl Abort, steps: &[Step], answers: &[Answer]) -> Result<(), Fail> {
-    assert_eq!(rt; told_to_b(steps, answers)?, 4);
-    Ok(())
+/// How many asks of B are answered as they must be, alone and among others' traffic.
+fn told_in_both(
+    alloc: Global,
+    settings: &Settings,
+    alone: &[Step; 7],
+    among_others: &[Step; 13],
+) -> Result<(usize, usize), Fault>
+    requires settings { settings.now ≡ rows.settings }
+    requires alone { alone.now ≡ rows.alone }
+    requires among_others { among_others.now ≡ rows.among_others }
+{
+    let (one, other) = run_both(alloc, settings, B, alone, among_others)?;
+    let (_, quiet) = one;
+    let (_, busy) = other;
+    let first = told_to_b(alone, quiet.answers.as_slice());
+    Ok((first, told_to_b(among_others, busy.answers.as_slice())))
 }
 
-/// Among others' traffic B is told what it is told alone.
+/// Among others' traffic B is told what it is told alone: all four asks are answered as they must be.
 fn hides_others(rt: &(impl Abort + AllocGlobal), settings: &Settings) -> Result<(), Fail>
     requires { settings.now ≡ rows.settings }
 {
-    let alone = alone()?;
-    let among_others = among_others()?;
-    let (one, other) = run_both(rt.alloc(), settings, B, &alone, &among_others)?;
-    let (_, quiet) = one;
-    let (_, busy) = other;
-    tells_b(rt, &alone, quiet.answers.as_slice())?;
-    tells_b(rt, &among_others, busy.answers.as_slice())
+    let told = told_in_both(rt.alloc(), settings, &alone()?, &among_others()?)?;
+    same(rt, told, (4, 4));
+    Ok(())
 }
 
 #[test]

@@ -1,4 +1,5 @@
 // Worlds, step by step and line by line, over three participants with 2 places and 4 fundings each.
+use crate::comparing::{same, same_at};
 use inst_agenda::{Runner, follow_up};
 use inst_base::{Cents, Fault, Ident, Moment, Reason};
 use inst_board::Place;
@@ -33,7 +34,7 @@ fn booked(from: u8, id: &str, outcome: Outcome) -> Result<Event, Fault> {
 fn journal_is(rt: &impl Abort, world: &World, who: u8, events: &[Event]) -> Result<(), Fail> {
     let _: Option<Outcome> = None;
     assert!(rt; world.settings().has_participant(who));
-    assert_eq!(rt; world.journal(who).events(), events);
+    same(rt, world.journal(who).events(), events);
     Ok(())
 }
 
@@ -43,8 +44,8 @@ fn money_is(rt: &impl Abort, world: &World, money: [(u64, u64); 3]) -> Result<()
         let who = who as u8;
         assert!(rt; world.settings().has_participant(who));
         let journal = world.journal(who);
-        assert_eq!(rt; journal.position(), u128::from(*position));
-        assert_eq!(rt; journal.reserved(), u128::from(*reserved));
+        let wanted = (u128::from(*position), u128::from(*reserved));
+        same_at(rt, who, (journal.position(), journal.reserved()), wanted);
     }
     Ok(())
 }
@@ -68,49 +69,66 @@ fn asks(rt: &impl Abort, world: &mut World, step: &Step) -> Result<(), Fail> {
 /// The transfer of the first participant to the second lies at its first place, and is pending until 11,000.
 fn lies_at_the_first_place(rt: &impl Abort, world: &mut World, id: &Ident) -> Result<(), Fail> {
     let place = Place { owner: 0, index: 0 };
-    assert_eq!(rt; world.beneficiary_at(place), Some(1));
-    assert_eq!(rt; world.pending_until(place), Some(Moment::new(0, 11_000)?));
+    same(rt, world.beneficiary_at(place), Some(1));
+    same(
+        rt,
+        world.pending_until(place),
+        Some(Moment::new(0, 11_000)?),
+    );
     assert!(rt; world.settings().has_participant(0));
-    assert_eq!(rt; world.place_of(0, id), Some(place));
+    same(rt, world.place_of(0, id), Some(place));
     Ok(())
 }
 
-#[test]
-fn a_world_goes_step_by_step(rt: HostRuntime) -> Result<(), Fail> {
-    // The check is told of a type of another crate inside a step only where a function names it.
-    let _: Option<(Ask, Command, Submission)> = None;
-    let settings = settings(rt.alloc())?;
-    let mut world = World::open(rt.alloc(), &settings)?;
-    assert_eq!(rt; world.settings().participants(), 3);
-    let funding = fund(0, "F1", 500, 0)?;
-    asks(&rt, &mut world, &funding)?;
-    let submission = submit(0, "T1", 1, 200, 1000, 1000)?;
-    asks(&rt, &mut world, &submission)?;
-    lies_at_the_first_place(&rt, &mut world, &Ident::new("T1")?)?;
+/// The second is told of a transfer of the first, once, and confirms it.
+fn is_confirmed(rt: &impl Abort, world: &mut World) -> Result<(), Fail> {
     let deliver = Step::Deliver {
         from: 0,
         place: 0,
         to: 1,
     };
-    steps_to(&rt, &mut world, &deliver, true)?;
-    steps_to(&rt, &mut world, &deliver, false)?;
-    let confirmation = confirm(1, 0, "T1", 2000)?;
-    asks(&rt, &mut world, &confirmation)?;
-    money_is(&rt, &world, [(500, 200), (200, 0), (0, 0)])?;
+    steps_to(rt, world, &deliver, true)?;
+    steps_to(rt, world, &deliver, false)?;
+    asks(rt, world, &confirm(1, 0, "T1", 2000)?)?;
+    money_is(rt, world, [(500, 200), (200, 0), (0, 0)])
+}
+
+/// The first learns it, once, and nothing is left that may expire.
+fn is_learnt(rt: &impl Abort, world: &mut World) -> Result<(), Fail> {
     let learn = Step::Learn {
         who: 0,
         from: 0,
         place: 0,
     };
-    steps_to(&rt, &mut world, &learn, true)?;
-    steps_to(&rt, &mut world, &learn, false)?;
+    steps_to(rt, world, &learn, true)?;
+    steps_to(rt, world, &learn, false)?;
     let expire = Step::Expire {
         who: 0,
         place: 0,
         at: Moment::new(0, 20_000)?,
     };
-    steps_to(&rt, &mut world, &expire, false)?;
-    money_is(&rt, &world, [(300, 0), (200, 0), (0, 0)])
+    steps_to(rt, world, &expire, false)?;
+    money_is(rt, world, [(300, 0), (200, 0), (0, 0)])
+}
+
+/// The first is funded, and submits a transfer to the second.
+fn is_submitted(rt: &impl Abort, world: &mut World) -> Result<(), Fail> {
+    // The check is told of a type of another crate inside a step only where a function names it.
+    let _: Option<(Ask, Command, Submission)> = None;
+    let funding = fund(0, "F1", 500, 0)?;
+    asks(rt, world, &funding)?;
+    let submission = submit(0, "T1", 1, 200, 1000, 1000)?;
+    asks(rt, world, &submission)?;
+    lies_at_the_first_place(rt, world, &Ident::new("T1")?)
+}
+
+#[test]
+fn a_world_goes_step_by_step(rt: HostRuntime) -> Result<(), Fail> {
+    let mut world = World::open(rt.alloc(), &settings(rt.alloc())?)?;
+    same(&rt, world.settings().participants(), 3);
+    is_submitted(&rt, &mut world)?;
+    is_confirmed(&rt, &mut world)?;
+    is_learnt(&rt, &mut world)
 }
 
 /// Runs the line as a run does, and goes over what it names and what is due; it must not be refused.

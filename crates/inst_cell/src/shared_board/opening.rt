@@ -1,5 +1,5 @@
 //! How the words of a hub are made, with a seat for each of its slots and tellers.
-ghost use Rattle.std.specs.Prelude.{◌≡◌, ◌⊎◌, ◌↔◌, Err, length, IfOk, IfErr, IsOkUnless};
+ghost use Rattle.std.specs.Prelude.{◌≡◌, ◌⊎◌, ◌↔◌, Err, length, IfOk, IfErr};
 ghost use Rattle.inst_cell.specs.View.{first_view, with_role, without_role, told};
 ghost use Rattle.inst_board.specs.declared.about.Fact.{Fact};
 ghost use Rattle.inst_cell.specs.Held.{settings_of, view_of, knows, AtOneTable};
@@ -52,9 +52,8 @@ impl SharedBoard {
     }
 
     /// A board with all roles, which knows nothing.
-    fn whole(alloc: Global, settings: &Settings) -> Result<SharedBoard, Fault>
+    fn whole(alloc: Global, settings: &Settings) -> Result<SharedBoard, AllocError>
         ensures board { IfOk result (λ b. (settings_of b ≡ settings.now) × (view_of b ≡ first_view settings.now)) }
-        ensures only { IsOkUnless result Fault.Memory }
     {
         let participants = settings.participants();
         let places = settings.places();
@@ -75,11 +74,10 @@ impl SharedBoard {
 
 impl SharedBoard {
     /// Tellers that know as much as this one, which is nothing.
-    fn admit(&mut self, alloc: Global, tellers: u8) -> Result<Vec<Teller>, Fault>
+    fn admit(&mut self, alloc: Global, tellers: u8) -> Result<Vec<Teller>, AllocError>
         requires { (f : Fact) → ¬ knows self.old f }
         ensures tellers { IfOk result (λ all. AreAdmitted self.old tellers all.items) }
         ensures same { IfOk result (λ _. AtOneTable self.old self.new × (view_of self.new ≡ view_of self.old)) }
-        ensures only { IsOkUnless result Fault.Memory }
     {
         let mut all = Vec::new(alloc);
         for _next in 0..tellers {
@@ -111,11 +109,10 @@ impl SharedBoard {
     }
 
     /// The boards of the participants, by number, each with its role alone: they know what this one, which
-    /// has all roles, knew. `Memory` where there is no room.
-    pub fn deal(self, alloc: Global) -> Result<Vec<SharedBoard>, Fault>
+    /// has all roles, knew.
+    pub fn deal(self, alloc: Global) -> Result<Vec<SharedBoard>, AllocError>
         requires { HasAllRoles self }
         ensures boards { IfOk result (λ boards. AreDealt self boards.items) }
-        ensures only { IsOkUnless result Fault.Memory }
     {
         let mut all = self;
         let mut boards = Vec::new(alloc);

@@ -1,5 +1,5 @@
 //! How a desk opens, with its hands.
-ghost use Rattle.std.specs.Prelude.{◌≡◌, ◌⊎◌, ◌↔◌, ◌<◌, ◌≤◌, [], Err, IfOk, IfErr, IsOkUnless, All, length};
+ghost use Rattle.std.specs.Prelude.{◌≡◌, ◌⊎◌, ◌↔◌, ◌<◌, ◌≤◌, [], Err, IfOk, IfErr, All, length};
 ghost use Rattle.crossbeam_queue.specs.Passes.{view, IsPassOf};
 ghost use Rattle.inst_desk.specs.Account.{first_account};
 ghost use Rattle.inst_desk.specs.Desk.{capacity_of, AreAllHandsOf, IsNewHand, MayOpen};
@@ -8,7 +8,7 @@ use super::Desk;
 use crate::hand::Hand;
 use crate::rule::{Dealing, Queue, Seat};
 use inst_base::Fault;
-use std::alloc::Global;
+use std::alloc::{AllocError, Global};
 
 /// How many jobs a desk holds at most.
 const MOST_ROOM: u16 = 4_096;
@@ -30,14 +30,13 @@ fn new_hand(seat: Seat) -> Hand
 
 impl Desk {
     /// So many hands, the first with this seat; together they have all its parts.
-    fn hands(&self, alloc: Global, seat: Seat, hands: u8) -> Result<Vec<Hand>, Fault>
+    fn hands(&self, alloc: Global, seat: Seat, hands: u8) -> Result<Vec<Hand>, AllocError>
         requires on { IsPassOf self.now.queue seat }
         requires first { view seat ≡ first_account }
         requires hands { (0 < hands) × (hands ≤ 16) }
         ensures enough { IfOk result (λ all. length all.items ≡ hands) }
         ensures all { IfOk result (λ all. AreAllHandsOf self.now all.items) }
         ensures new { IfOk result (λ all. All IsNewHand all.items) }
-        ensures only { IsOkUnless result Fault.Memory }
     {
         let mut seat = seat;
         let mut all = Vec::new(alloc);

@@ -1,5 +1,5 @@
 //! Calls of a hub, under the locks of participants.
-ghost use Rattle.std.specs.Prelude.{◌≡◌, ◌<◌, true, IfOk, IfSome, OnErr, IsOkUnless};
+ghost use Rattle.std.specs.Prelude.{◌≡◌, ◌<◌, true, IfOk, IfSome, OnErr};
 ghost use Rattle.inst_command.specs.Ask.{ask_fits};
 ghost use Rattle.inst_hub.specs.Calls.{IsOf, KnowsMore, Follows, Calls, Asks, IsLeft};
 ghost use Rattle.inst_row.specs.Row.{size};
@@ -7,30 +7,29 @@ ghost use Rattle.inst_row.specs.Row.{size};
 use super::Hub;
 use crate::gate::{Gate, Ungated};
 use crate::teller::Teller;
-use inst_base::Fault;
 use inst_cell::Ticket;
 use inst_command::{Ask, Reply};
 use inst_participant::FollowUp;
+use std::alloc::AllocError;
 use std::sync::Wait;
 
 impl Hub {
     /// What a command is answered, a refusal too, with a ticket where the reply tells of a live transfer. It waits
     /// while another thread has the asker's lock, and then for the other side's, under which what follows is done:
     /// the beneficiary gets what was taken, the other side learns an outcome. What follows and finds no memory is
-    /// dropped, and the reply stands. The only error is `Memory`, and then nothing was changed.
+    /// dropped, and the reply stands. Where memory is refused nothing was changed.
     pub fn call<R: Wait>(
         &self,
         rt: &R,
         teller: &mut Teller,
         ask: &Ask,
-    ) -> Result<(Reply, Option<Ticket>), Fault>
+    ) -> Result<(Reply, Option<Ticket>), AllocError>
         requires of { IsOf self.now teller.old }
         requires fits { ask_fits self.now.settings ask.now ≡ true }
         ensures of { IsOf self.now teller.new }
         ensures knows { KnowsMore teller.old teller.new }
         ensures call { IfOk result (λ answer. Calls self.now teller.old ask.now answer teller.new) }
         ensures left { OnErr result (IsLeft self.now teller.old ask.now teller.new) }
-        ensures only { IsOkUnless result Fault.Memory }
     {
         self.call_with(rt, teller, ask, &Ungated)
     }
@@ -42,14 +41,13 @@ impl Hub {
         teller: &mut Teller,
         ask: &Ask,
         gate: &G,
-    ) -> Result<(Reply, Option<Ticket>), Fault>
+    ) -> Result<(Reply, Option<Ticket>), AllocError>
         requires of { IsOf self.now teller.old }
         requires fits { ask_fits self.now.settings ask.now ≡ true }
         ensures of { IsOf self.now teller.new }
         ensures knows { KnowsMore teller.old teller.new }
         ensures call { IfOk result (λ answer. Calls self.now teller.old ask.now answer teller.new) }
         ensures left { OnErr result (IsLeft self.now teller.old ask.now teller.new) }
-        ensures only { IsOkUnless result Fault.Memory }
     {
         let (answer, follow_up) = self.ask(rt, teller, ask, gate)?;
         self.follow(rt, teller, follow_up);
@@ -63,7 +61,7 @@ impl Hub {
         teller: &mut Teller,
         ask: &Ask,
         gate: &G,
-    ) -> Result<((Reply, Option<Ticket>), Option<FollowUp>), Fault>
+    ) -> Result<((Reply, Option<Ticket>), Option<FollowUp>), AllocError>
         requires of { IsOf self.now teller.old }
         requires fits { ask_fits self.now.settings ask.now ≡ true }
         ensures of { IsOf self.now teller.new }
@@ -71,7 +69,6 @@ impl Hub {
         ensures call { IfOk result (λ r. Asks self.now teller.old ask.now r teller.new) }
         ensures lock { IfOk result (λ r. IfSome r.1 (λ f. f.who < size self.now.row)) }
         ensures left { OnErr result (IsLeft self.now teller.old ask.now teller.new) }
-        ensures only { IsOkUnless result Fault.Memory }
     {
         let lock = usize::from(ask.who);
         let mut participant = self.row.take(rt, &mut teller.seat, lock);

@@ -1,5 +1,5 @@
 //! A hub that opens again from the journals of its participants.
-ghost use Rattle.std.specs.Prelude.{◌≡◌, ◌⊎◌, ◌↔◌, ℕ, List, Err, IfOk, IfErr, IsOkUnless, length};
+ghost use Rattle.std.specs.Prelude.{◌≡◌, ◌⊎◌, ◌↔◌, ℕ, List, Err, IfOk, IfErr, length};
 ghost use Rattle.inst_settings.specs.Settings.{participants};
 ghost use Rattle.inst_board.specs.declared.about.Fact.{Fact};
 ghost use Rattle.inst_journal.specs.declared.event.Event.{Event};
@@ -26,7 +26,7 @@ use inst_row::LockRow;
 use inst_settings::Settings;
 use inst_slot::Slot;
 use inst_world::World;
-use std::alloc::Global;
+use std::alloc::{AllocError, Global};
 use std::snapshot::Snapshot;
 
 /// Opens the places of all live transfers on the board that has all roles.
@@ -47,10 +47,9 @@ fn seat(
     alloc: Global,
     slots: Vec<Slot>,
     boards: Vec<SharedBoard>,
-) -> Result<Vec<Option<Box<Participant>>>, Fault>
+) -> Result<Vec<Option<Box<Participant>>>, AllocError>
     requires { length boards.items ≡ length slots.items }
     ensures ok { IfOk result (λ all. unboxed all.items ≡ pairs seated slots.items boards.items) }
-    ensures only { IsOkUnless result Fault.Memory }
 {
     // The check is told of a type of another crate inside an event only where a function names it.
     let _: Option<Outcome> = None;
@@ -71,11 +70,10 @@ fn carry_over(
     settings: &Settings,
     journals: &[Journal],
     whole: SharedBoard,
-) -> Result<Vec<Option<Box<Participant>>>, Fault>
+) -> Result<Vec<Option<Box<Participant>>>, AllocError>
     requires journals { CanOpenFrom settings.now journals.now }
     requires whole { IsWhole settings.now whole }
     ensures ok { IfOk result (λ all. AreBehind whole (participants settings.now) (histories_from journals.now) (unboxed all.items)) }
-    ensures only { IsOkUnless result Fault.Memory }
 {
     let slots = World::open_from(alloc, settings, journals)?.into_slots();
     let mut whole = whole;

@@ -1,5 +1,5 @@
 //! How a hub opens, with its tellers.
-ghost use Rattle.std.specs.Prelude.{◌≡◌, ◌⊎◌, ◌↔◌, [], Err, IfOk, IfErr, IsOkUnless, length, ◌<◌};
+ghost use Rattle.std.specs.Prelude.{◌≡◌, ◌⊎◌, ◌↔◌, [], Err, IfOk, IfErr, length, ◌<◌};
 ghost use Rattle.atomic_table.specs.Seated.{TableId};
 ghost use Rattle.inst_settings.specs.Settings.{participants};
 ghost use Rattle.inst_cell.specs.Held.{settings_of};
@@ -24,7 +24,7 @@ use inst_participant::Participant;
 use inst_row::{LockRow, RowSeat};
 use inst_settings::Settings;
 use inst_slot::Slot;
-use std::alloc::Global;
+use std::alloc::{AllocError, Global};
 use std::snapshot::Snapshot;
 
 /// A participant with no history, over its board of a hub that opens.
@@ -33,11 +33,10 @@ fn participant(
     settings: &Settings,
     board: SharedBoard,
     who: u8,
-) -> Result<Box<Participant>, Fault>
+) -> Result<Box<Participant>, AllocError>
     requires { (table : TableId) × IsOpened settings.now table who board }
     ensures ok { IfOk result (λ x. IsBehind board who x.value) }
     ensures new { IfOk result (λ x. x.value.slot.events ≡ []) }
-    ensures only { IsOkUnless result Fault.Memory }
 {
     // The check is told of a type of another crate inside an event only where a function names it.
     let _: Option<Outcome> = None;
@@ -50,10 +49,9 @@ fn participants(
     alloc: Global,
     settings: &Settings,
     boards: Vec<SharedBoard>,
-) -> Result<Vec<Option<Box<Participant>>>, Fault>
+) -> Result<Vec<Option<Box<Participant>>>, AllocError>
     requires { (table : TableId) × AreBoards settings.now table boards.items }
     ensures ok { IfOk result (λ all. AreParticipants boards.items (unboxed all.items)) }
-    ensures only { IsOkUnless result Fault.Memory }
 {
     let mut all = Vec::new(alloc);
     let mut who = 0_u16;
@@ -74,7 +72,7 @@ pub(super) fn admit(
     row: &Row,
     seat: Seat,
     sights: Vec<inst_cell::Teller>,
-) -> Result<Vec<Teller>, Fault>
+) -> Result<Vec<Teller>, AllocError>
     requires some { 0 < size row.now }
     requires on { IsOn (row_id row.now) (key_of row.now) seat }
     requires all { HasAll seat }
@@ -82,7 +80,6 @@ pub(super) fn admit(
     ensures enough { IfOk result (λ all. length all.items ≡ length sights.items) }
     ensures new { IfOk result (λ all. AreNew (row_id row.now) (key_of row.now) (view_of seat).fronts all.items) }
     ensures parts { IfOk result (λ all. parts_of all.items ≡ 16) }
-    ensures only { IsOkUnless result Fault.Memory }
 {
     let mut seat = seat;
     let mut sights = sights;

@@ -1,5 +1,5 @@
 //! What a command is answered, and what the history is to keep of it.
-ghost use Rattle.std.specs.Prelude.{◌≡◌, ◌≤◌, true, false, take, drop, length, IfOk, IsOk, IsOkUnless};
+ghost use Rattle.std.specs.Prelude.{◌≡◌, ◌≤◌, true, false, take, drop, length, IfOk, IsOk};
 ghost use Rattle.inst_base.specs.Fault.{IsUnlessMemory};
 ghost use Rattle.inst_base.specs.Moment.{is_moment};
 ghost use Rattle.inst_base.specs.TimeLimit.{deadline_of};
@@ -17,7 +17,7 @@ use inst_base::{Cents, Fault, Ident, Moment};
 use inst_command::{Command, Entries, Entry, Lines, Outcome, Reply, Submission};
 use inst_journal::{Event, Handled, standing, still_pending};
 use inst_transfers::{Side, Transfer};
-use std::alloc::Global;
+use std::alloc::{AllocError, Global};
 
 impl Ledger {
     /// Whether a fund or defund command is new, and no repeat; `Duplicate` and `Full` come first.
@@ -189,11 +189,10 @@ impl Ledger {
     }
 
     /// What came with the transfers at these positions of the table. It looks nothing up by its key.
-    fn entries(&self, alloc: Global, positions: &[usize]) -> Result<Vec<Entry>, Fault>
+    fn entries(&self, alloc: Global, positions: &[usize]) -> Result<Vec<Entry>, AllocError>
         requires within { AreWithin (length (rows_of self.now.book.who self.now.book.events)) positions.now }
         ensures ok { IfOk result (λ entries. entries.items ≡
             entries_at (rows_of self.now.book.who self.now.book.events) positions.now) }
-        ensures only { IsOkUnless result Fault.Memory }
     {
         // The check is told of an enum inside a struct only where a function names it.
         let _: Option<(Side, Transfer, Outcome)> = None;
@@ -205,10 +204,9 @@ impl Ledger {
     }
 
     /// The next unread forwarded transfers, at most `max` of them. It takes no memory where all are read.
-    fn unread(&self, alloc: Global, max: u32) -> Result<Vec<Entry>, Fault>
+    fn unread(&self, alloc: Global, max: u32) -> Result<Vec<Entry>, AllocError>
         ensures ok { IfOk result (λ entries. entries.items ≡ take max (unread self.now.book.events)) }
         ensures none { length (unread self.now.book.events) ≡ 0 → IsOk result }
-        ensures only { IsOkUnless result Fault.Memory }
     {
         let rest = self.rest();
         if rest.is_empty() {

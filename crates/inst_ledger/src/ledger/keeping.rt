@@ -1,5 +1,5 @@
 //! Events that are kept, with all that stands beside them.
-ghost use Rattle.std.specs.Prelude.{◌≡◌, ◌<◌, false, OnOk, OnErr, IsOk, IsOkUnless};
+ghost use Rattle.std.specs.Prelude.{◌≡◌, ◌<◌, false, OnOk, OnErr, IsOk};
 ghost use Rattle.inst_journal.specs.Sound.{Fits};
 ghost use Rattle.inst_ledger.specs.Beside.{movement_booked, MayAddIf, AddsIf};
 ghost use Rattle.inst_ledger.specs.Book.{with_event, brings_key};
@@ -8,19 +8,19 @@ ghost use Rattle.inst_transfers.specs.Held.{IsFound};
 use super::Ledger;
 use crate::references::Funding;
 use crate::terms::Terms;
-use inst_base::{Cents, Fault, Ident};
+use inst_base::{Cents, Ident};
 use inst_command::{Entry, LineKind, Outcome};
 use inst_journal::Event;
 use inst_statement::{KeptStatement, Movement};
 use inst_transfers::{Found, Side, Transfer};
+use std::alloc::AllocError;
 
 impl Ledger {
     /// Keeps a funding.
-    fn keep_funded(&mut self, reference: Ident, cents: Cents) -> Result<(), Fault>
+    fn keep_funded(&mut self, reference: Ident, cents: Cents) -> Result<(), AllocError>
         requires { Fits self.old.book.settings self.old.book.who self.old.book.events (Event.Funded reference cents) }
         ensures ok { OnOk result (self.new.book ≡ with_event self.old.book (Event.Funded reference cents)) }
         ensures err { OnErr result (self.new.book ≡ self.old.book) }
-        ensures only { IsOkUnless result Fault.Memory }
     {
         let funding = Funding {
             is_defunding: false,
@@ -44,11 +44,10 @@ impl Ledger {
     }
 
     /// Keeps a defunding.
-    fn keep_defunded(&mut self, reference: Ident, cents: Cents) -> Result<(), Fault>
+    fn keep_defunded(&mut self, reference: Ident, cents: Cents) -> Result<(), AllocError>
         requires { Fits self.old.book.settings self.old.book.who self.old.book.events (Event.Defunded reference cents) }
         ensures ok { OnOk result (self.new.book ≡ with_event self.old.book (Event.Defunded reference cents)) }
         ensures err { OnErr result (self.new.book ≡ self.old.book) }
-        ensures only { IsOkUnless result Fault.Memory }
     {
         let funding = Funding {
             is_defunding: true,
@@ -72,13 +71,12 @@ impl Ledger {
     }
 
     /// Keeps a submission, and reserves its amount.
-    fn keep_taken(&mut self, id: Ident, terms: Terms) -> Result<(), Fault>
+    fn keep_taken(&mut self, id: Ident, terms: Terms) -> Result<(), AllocError>
         requires { Fits self.old.book.settings self.old.book.who self.old.book.events
             (Event.Taken id terms.to terms.cents terms.stamp) }
         ensures ok { OnOk result (self.new.book ≡
             with_event self.old.book (Event.Taken id terms.to terms.cents terms.stamp)) }
         ensures err { OnErr result (self.new.book ≡ self.old.book) }
-        ensures only { IsOkUnless result Fault.Memory }
     {
         let Terms { to, cents, stamp } = terms;
         let taken = Event::Taken {
@@ -98,13 +96,12 @@ impl Ledger {
     }
 
     /// Keeps a transfer that is forwarded to the participant.
-    fn keep_forwarded(&mut self, entry: Entry) -> Result<(), Fault>
+    fn keep_forwarded(&mut self, entry: Entry) -> Result<(), AllocError>
         requires { Fits self.old.book.settings self.old.book.who self.old.book.events
             (Event.Forwarded entry.from entry.id entry.cents entry.deadline) }
         ensures ok { OnOk result (self.new.book ≡
             with_event self.old.book (Event.Forwarded entry.from entry.id entry.cents entry.deadline)) }
         ensures err { OnErr result (self.new.book ≡ self.old.book) }
-        ensures only { IsOkUnless result Fault.Memory }
     {
         let Entry {
             from,
@@ -131,13 +128,12 @@ impl Ledger {
     }
 
     /// Books the outcome of a transfer, and releases and moves its amount.
-    fn keep_booked(&mut self, from: u8, id: Ident, outcome: &Outcome) -> Result<(), Fault>
+    fn keep_booked(&mut self, from: u8, id: Ident, outcome: &Outcome) -> Result<(), AllocError>
         requires { Fits self.old.book.settings self.old.book.who self.old.book.events
             (Event.Booked from id outcome.now) }
         ensures ok { OnOk result (self.new.book ≡ with_event self.old.book (Event.Booked from id outcome.now)) }
         ensures err { OnErr result (self.new.book ≡ self.old.book) }
         ensures room { 0 < self.old.room → IsOk result }
-        ensures only { IsOkUnless result Fault.Memory }
     {
         // The check is told of an enum inside a struct only where a function names it.
         let _: Option<(Side, Transfer, Outcome)> = None;
@@ -146,7 +142,7 @@ impl Ledger {
     }
 
     /// Books the outcome of a transfer that was found, and releases and moves its amount. It looks nothing up.
-    pub fn keep_found(&mut self, found: &Found, outcome: &Outcome) -> Result<(), Fault>
+    pub fn keep_found(&mut self, found: &Found, outcome: &Outcome) -> Result<(), AllocError>
         requires there { IsFound self.old.table found.now }
         requires fits { Fits self.old.book.settings self.old.book.who self.old.book.events
             (Event.Booked found.now.from found.now.id outcome.now) }
@@ -154,7 +150,6 @@ impl Ledger {
             with_event self.old.book (Event.Booked found.now.from found.now.id outcome.now)) }
         ensures err { OnErr result (self.new.book ≡ self.old.book) }
         ensures room { 0 < self.old.room → IsOk result }
-        ensures only { IsOkUnless result Fault.Memory }
     {
         let &Found {
             from,
@@ -181,12 +176,11 @@ impl Ledger {
     }
 
     /// Moves the read mark over what is handed out.
-    fn keep_fetched(&mut self, count: u32) -> Result<(), Fault>
+    fn keep_fetched(&mut self, count: u32) -> Result<(), AllocError>
         requires { Fits self.old.book.settings self.old.book.who self.old.book.events (Event.Fetched count) }
         ensures ok { OnOk result (self.new.book ≡ with_event self.old.book (Event.Fetched count)) }
         ensures err { OnErr result (self.new.book ≡ self.old.book) }
         ensures room { 0 < self.old.room → IsOk result }
-        ensures only { IsOkUnless result Fault.Memory }
     {
         let _ = self.journal.events().len();
         self.journal.push(Event::Fetched { count })?;
@@ -195,12 +189,11 @@ impl Ledger {
     }
 
     /// Begins anew after an opening: what is booked lives no more, and the fundings are given back.
-    fn keep_opened(&mut self) -> Result<(), Fault>
+    fn keep_opened(&mut self) -> Result<(), AllocError>
         requires { Fits self.old.book.settings self.old.book.who self.old.book.events Event.Opened }
         ensures ok { OnOk result (self.new.book ≡ with_event self.old.book Event.Opened) }
         ensures err { OnErr result (self.new.book ≡ self.old.book) }
         ensures room { 0 < self.old.room → IsOk result }
-        ensures only { IsOkUnless result Fault.Memory }
     {
         self.journal.push(Event::Opened)?;
         self.statement.begin();
@@ -209,14 +202,13 @@ impl Ledger {
         Ok(())
     }
 
-    /// Keeps an event that fits. After `Memory` the book is as it was. Where room was reserved it succeeds
-    /// for an event that brings no new key; for one that does, room is made for all of it first.
-    pub fn keep(&mut self, event: Event) -> Result<(), Fault>
+    /// Keeps an event that fits. Where memory is refused the book is as it was. Where room was reserved it
+    /// succeeds for an event that brings no new key; for one that does, room is made for all of it first.
+    pub fn keep(&mut self, event: Event) -> Result<(), AllocError>
         requires { Fits self.old.book.settings self.old.book.who self.old.book.events event }
         ensures ok { OnOk result (self.new.book ≡ with_event self.old.book event) }
         ensures err { OnErr result (self.new.book ≡ self.old.book) }
         ensures room { 0 < self.old.room → brings_key event ≡ false → IsOk result }
-        ensures only { IsOkUnless result Fault.Memory }
     {
         match event {
             Event::Funded { reference, cents } => self.keep_funded(reference, cents),

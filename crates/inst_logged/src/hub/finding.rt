@@ -8,7 +8,6 @@ use super::LoggedHub;
 use crate::LoggedError;
 use crate::beginning::books_behind;
 use inst_audit::can_open;
-use inst_base::Fault;
 use inst_books::{BookFault, read_books};
 use inst_journal::Journal;
 use inst_lines::Mode;
@@ -38,10 +37,10 @@ impl<D: Disk + Drop> LoggedHub<D> {
     {
         let bytes = read_file(alloc, &mut disk)?;
         let Some(text) = books_behind(alloc, mode, settings, &bytes)? else {
-            return LoggedHub::new(alloc, mode, settings, disk).map_err(unmade);
+            return Ok(LoggedHub::new(alloc, mode, settings, disk)?);
         };
         let journals = journals_of(alloc, settings, text)?;
-        LoggedHub::new_from(alloc, mode, settings, &journals, disk).map_err(unmade)
+        Ok(LoggedHub::new_from(alloc, mode, settings, &journals, disk)?)
     }
 }
 
@@ -53,13 +52,8 @@ fn journals_of(alloc: Global, settings: &Settings, text: &[u8]) -> Result<Vec<Jo
     match can_open(alloc, settings, &journals) {
         Ok(true) => Ok(journals),
         Ok(false) => Err(LoggedError::Books),
-        Err(fault) => Err(unmade(fault)),
+        Err(error) => Err(LoggedError::from(error)),
     }
-}
-
-/// Nothing but memory is ever missing.
-fn unmade(_: Fault) -> LoggedError {
-    LoggedError::Log(LogError::Memory)
 }
 
 /// Why books weren't read.

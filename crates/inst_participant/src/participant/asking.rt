@@ -1,5 +1,5 @@
 //! What a participant is asked under its lock.
-ghost use Rattle.std.specs.Prelude.{◌≡◌, true, IfOk, OnErr, IsOkUnless, Ok, Err};
+ghost use Rattle.std.specs.Prelude.{◌≡◌, true, IfOk, OnErr, Ok, Err, alloc_error};
 ghost use Rattle.inst_command.specs.Ask.{ask_fits};
 ghost use Rattle.inst_journal.specs.Sound.{IsSound};
 ghost use Rattle.inst_board.specs.Learning.{KnowTheSame};
@@ -14,15 +14,16 @@ use super::Participant;
 use inst_base::{Fault, Ident};
 use inst_cell::{Teller, Ticket};
 use inst_command::{Ask, Outcome, Reply};
+use std::alloc::AllocError;
 
 impl Participant {
     /// What a command of the participant is answered, a refusal too, and a ticket where it tells of a live transfer.
-    /// The only error is `Memory`, and then its history is as it was.
+    /// Where memory is refused its history is as it was.
     pub fn serve(
         &mut self,
         teller: &mut Teller,
         ask: &Ask,
-    ) -> Result<(Reply, Option<Ticket>), Fault>
+    ) -> Result<(Reply, Option<Ticket>), AllocError>
         requires ready { IsReady self.old }
         requires own { ask.now.who ≡ self.old.slot.who }
         requires fits { ask_fits self.old.slot.settings ask.now ≡ true }
@@ -35,9 +36,8 @@ impl Participant {
         ensures serves { IfOk result (λ answer. Serves self.old ask.now (Ok answer.0) self.new) }
         ensures answered { IfOk result (λ answer. Answered self.old.slot.settings self.old.slot.who self.old.slot.events ask.now answer.0 self.new.slot.events) }
         ensures ticket { IfOk result (λ answer. IsTicket (sees teller.new) self.old.slot.settings self.old.slot.who ask.now.command self.new.slot.events answer.0 answer.1) }
-        ensures left { OnErr result (Serves self.old ask.now (Err Fault.Memory) self.new) }
+        ensures left { OnErr result (Serves self.old ask.now (Err alloc_error) self.new) }
         ensures err { OnErr result (self.new.slot ≡ self.old.slot) }
-        ensures only { IsOkUnless result Fault.Memory }
     {
         let reply = self.answer(ask)?;
         let ticket = self.ticket(teller, ask.who, &reply);
@@ -45,7 +45,7 @@ impl Participant {
     }
 
     /// What a command of the participant is answered, a refusal too.
-    fn answer(&mut self, ask: &Ask) -> Result<Reply, Fault>
+    fn answer(&mut self, ask: &Ask) -> Result<Reply, AllocError>
         requires ready { IsReady self.old }
         requires own { ask.now.who ≡ self.old.slot.who }
         requires fits { ask_fits self.old.slot.settings ask.now ≡ true }
@@ -56,7 +56,6 @@ impl Participant {
         ensures serves { Serves self.old ask.now result self.new }
         ensures answered { IfOk result (λ reply. Answered self.old.slot.settings self.old.slot.who self.old.slot.events ask.now reply self.new.slot.events) }
         ensures err { OnErr result (self.new.slot ≡ self.old.slot) }
-        ensures only { IsOkUnless result Fault.Memory }
     {
         // The check is told that a history is sound only by a call.
         let _ = self.slot.journal();
@@ -66,7 +65,7 @@ impl Participant {
             Ok(reply) => Ok(reply),
             Err(fault) => {
                 if fault == Fault::Memory {
-                    return Err(fault);
+                    return Err(AllocError);
                 }
                 Ok(Reply::Refused(fault))
             }

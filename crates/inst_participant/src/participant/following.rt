@@ -1,5 +1,5 @@
 //! What follows from a command under the other side's lock.
-ghost use Rattle.std.specs.Prelude.{◌≡◌, true, IfSome, IsOkUnless};
+ghost use Rattle.std.specs.Prelude.{◌≡◌, true, IfSome};
 ghost use Rattle.inst_settings.specs.Settings.{is_participant};
 ghost use Rattle.inst_command.specs.Ask.{command_fits};
 ghost use Rattle.inst_participant.specs.Behind.{IsReady, IsLater};
@@ -8,10 +8,10 @@ ghost use Rattle.inst_participant.specs.Told.{IsToldMore};
 
 use super::Participant;
 use crate::follow_up::{Act, FollowUp};
-use inst_base::Fault;
 use inst_board::{Board, Look, Place};
 use inst_cell::Ticket;
 use inst_command::{Command, Reply, State};
+use std::alloc::AllocError;
 
 impl Participant {
     /// What the other side has to do once the command was answered so: nothing where there is no ticket, and nothing
@@ -19,7 +19,7 @@ impl Participant {
     pub fn follow_up(
         &self,
         command: &Command,
-        answer: &Result<(Reply, Option<Ticket>), Fault>,
+        answer: &Result<(Reply, Option<Ticket>), AllocError>,
     ) -> Option<FollowUp>
         requires fits { command_fits self.now.slot.settings command.now ≡ true }
         ensures follows { result ≡ follow_up_after self.now.slot.events command.now answer.now }
@@ -58,14 +58,14 @@ impl Participant {
         self.board.look(place)
     }
 
-    /// Does this with the place: `true` where it brought something new. After `Memory` the history is as it was.
-    pub fn follow(&mut self, act: Act, place: Place) -> Result<bool, Fault>
+    /// Does this with the place: `true` where it brought something new. Where memory is refused the history is as it
+    /// was.
+    pub fn follow(&mut self, act: Act, place: Place) -> Result<bool, AllocError>
         requires ready { IsReady self.old }
         ensures ready { IsReady self.new }
         ensures later { IsLater self.old self.new }
         ensures does { Does act self.old place result self.new }
         ensures told { IsToldMore self.old.slot.events self.new.slot.events }
-        ensures only { IsOkUnless result Fault.Memory }
     {
         match act {
             Act::Deliver => self.slot.deliver(&mut self.board, place),

@@ -1,5 +1,5 @@
 //! What a participant does by itself about all its transfers, under its lock.
-ghost use Rattle.std.specs.Prelude.{◌≡◌, IfOk, None, is_ok, IsOkUnless};
+ghost use Rattle.std.specs.Prelude.{◌≡◌, IfOk, None, is_ok};
 ghost use Rattle.inst_settings.specs.Settings.{participants};
 ghost use Rattle.inst_participant.specs.Behind.{IsReady, IsLater};
 ghost use Rattle.inst_participant.specs.Told.{IsToldMore};
@@ -8,15 +8,16 @@ ghost use Rattle.inst_participant.specs.Told.{IsToldAll};
 
 use super::Participant;
 use crate::follow_up::Act;
-use inst_base::{Fault, Moment};
+use inst_base::Moment;
 use inst_board::{Look, Place};
+use std::alloc::AllocError;
 
 impl Participant {
     /// Lets each own transfer with nothing booked expire if it may at this reading, in order of deadline and place; then
     /// learns how the forwarded ones ended, in order of arrival; then gets what other originators have for it, by their
-    /// numbers and places. How many of these were new. `Memory` ends it: what was done before stands, and nothing is done
-    /// after it.
-    pub fn sweep(&mut self, at: Moment) -> Result<u32, Fault>
+    /// numbers and places. How many of these were new. Refused memory ends it: what was done before stands, and nothing is
+    /// done after it.
+    pub fn sweep(&mut self, at: Moment) -> Result<u32, AllocError>
         requires ready { IsReady self.old }
         ensures ready { IsReady self.new }
         ensures later { IsLater self.old self.new }
@@ -24,7 +25,6 @@ impl Participant {
         ensures sweeps { Sweeps at (is_ok result) self.old self.new }
         ensures count { IfOk result (λ count. count ≡ new_events self.old.slot.events self.new.slot.events) }
         ensures due { IfOk result (λ count. NothingDue at self.new) }
-        ensures only { IsOkUnless result Fault.Memory }
     {
         let before = self.slot.journal().events().len();
         self.let_expire(at)?;
@@ -35,13 +35,12 @@ impl Participant {
     }
 
     /// Lets each own transfer with nothing booked expire if it may.
-    fn let_expire(&mut self, at: Moment) -> Result<(), Fault>
+    fn let_expire(&mut self, at: Moment) -> Result<(), AllocError>
         requires ready { IsReady self.old }
         ensures ready { IsReady self.new }
         ensures later { IsLater self.old self.new }
         ensures told { IsToldAll self.old.slot.events self.new.slot.events }
         ensures expires { LetsExpire at None (is_ok result) self.old self.new }
-        ensures only { IsOkUnless result Fault.Memory }
     {
         let mut last = None;
         while let Some((deadline, index)) = self.slot.due_after(last) {
@@ -54,25 +53,23 @@ impl Participant {
     }
 
     /// Lets the own transfer at this index expire if it may: `true` where something was booked.
-    fn expire(&mut self, index: u16, at: Moment) -> Result<bool, Fault>
+    fn expire(&mut self, index: u16, at: Moment) -> Result<bool, AllocError>
         requires ready { IsReady self.old }
         ensures ready { IsReady self.new }
         ensures later { IsLater self.old self.new }
         ensures may { MayExpire at self.old index result self.new }
         ensures told { IsToldMore self.old.slot.events self.new.slot.events }
-        ensures only { IsOkUnless result Fault.Memory }
     {
         self.slot.expire(&mut self.board, index, at)
     }
 
     /// Learns how the forwarded transfers ended of which nothing is booked.
-    fn learn_all(&mut self) -> Result<(), Fault>
+    fn learn_all(&mut self) -> Result<(), AllocError>
         requires ready { IsReady self.old }
         ensures ready { IsReady self.new }
         ensures later { IsLater self.old self.new }
         ensures told { IsToldAll self.old.slot.events self.new.slot.events }
         ensures learns { LearnsAll 0 (is_ok result) self.old self.new }
-        ensures only { IsOkUnless result Fault.Memory }
     {
         let mut from = 0;
         while let Some((position, place)) = self.slot.unbooked_from(from) {
@@ -83,13 +80,12 @@ impl Participant {
     }
 
     /// Gets what all other originators have for it.
-    fn deliver_all(&mut self) -> Result<(), Fault>
+    fn deliver_all(&mut self) -> Result<(), AllocError>
         requires ready { IsReady self.old }
         ensures ready { IsReady self.new }
         ensures later { IsLater self.old self.new }
         ensures told { IsToldAll self.old.slot.events self.new.slot.events }
         ensures delivers { DeliversAll 0 (participants self.old.slot.settings) (is_ok result) self.old self.new }
-        ensures only { IsOkUnless result Fault.Memory }
     {
         let own = u16::from(self.slot.who());
         for owner in 0..self.slot.settings().participants() {
@@ -101,13 +97,12 @@ impl Participant {
     }
 
     /// Gets what this other originator has for it.
-    fn deliver_from(&mut self, owner: u8) -> Result<(), Fault>
+    fn deliver_from(&mut self, owner: u8) -> Result<(), AllocError>
         requires ready { IsReady self.old }
         ensures ready { IsReady self.new }
         ensures later { IsLater self.old self.new }
         ensures told { IsToldAll self.old.slot.events self.new.slot.events }
         ensures delivers { DeliversFrom owner 0 self.old.slot.settings.places (is_ok result) self.old self.new }
-        ensures only { IsOkUnless result Fault.Memory }
     {
         for index in 0..self.slot.settings().places() {
             if !self.look_at(Place { owner, index })? {
@@ -118,13 +113,12 @@ impl Participant {
     }
 
     /// Gets what is pending at the place, if it is for it and new: whether the place is used.
-    fn look_at(&mut self, place: Place) -> Result<bool, Fault>
+    fn look_at(&mut self, place: Place) -> Result<bool, AllocError>
         requires ready { IsReady self.old }
         ensures ready { IsReady self.new }
         ensures later { IsLater self.old self.new }
         ensures told { IsToldAll self.old.slot.events self.new.slot.events }
         ensures looks { LooksAt self.old place result self.new }
-        ensures only { IsOkUnless result Fault.Memory }
     {
         match self.look(place) {
             Look::Unused => Ok(false),

@@ -1,5 +1,5 @@
 //! What a participant asks of its slot.
-ghost use Rattle.std.specs.Prelude.{◌≡◌, ◌≢◌, IfErr, [], ◌∷◌, true, false, is_some, IfOk, OnErr, OnOk, IsOkUnless, Some, None, position};
+ghost use Rattle.std.specs.Prelude.{◌≡◌, ◌≢◌, IfErr, [], ◌∷◌, true, false, is_some, IfOk, OnErr, OnOk, Some, None, position};
 ghost use Rattle.inst_base.specs.Fault.{IsUnlessMemory};
 ghost use Rattle.inst_settings.specs.Settings.{is_participant};
 ghost use Rattle.inst_command.specs.Ask.{ask_fits};
@@ -20,6 +20,7 @@ use inst_board::{Board, Place, Wish};
 use inst_command::{Ask, Command, Outcome, Reply};
 use inst_journal::{Event, Handled};
 use inst_terms::Terms;
+use std::alloc::AllocError;
 
 impl Slot {
     /// What an ask is answered where its transfer is found so, and what is to be kept of it.
@@ -33,14 +34,18 @@ impl Slot {
     }
 
     /// Keeps a submission, and opens the next place for it.
-    fn take<B: Board>(&mut self, board: &mut B, terms: &Terms, stamp: Moment) -> Result<(), Fault>
+    fn take<B: Board>(
+        &mut self,
+        board: &mut B,
+        terms: &Terms,
+        stamp: Moment,
+    ) -> Result<(), AllocError>
         requires lawful { IsLawfulBoard B.settings B.knows B.has_role board.old self.old }
         requires participant { is_participant self.old.settings self.old.who ≡ true }
         requires fits { Fits self.old.settings self.old.who self.old.events (Event.Taken terms.now.id terms.now.to terms.now.cents stamp) }
         ensures ok { OnOk result (self.new ≡ with_event self.old (Some (Event.Taken terms.now.id terms.now.to terms.now.cents stamp))) }
         ensures opens { OnOk result (Opens (B.settings board.old).margin B.knows self.old (Event.Taken terms.now.id terms.now.to terms.now.cents stamp ∷ []) board.old board.new) }
         ensures err { OnErr result ((self.new ≡ self.old) × (board.new ≡ board.old)) }
-        ensures only { IsOkUnless result Fault.Memory }
         ensures stays { B.stays board.old board.new }
     {
         let index = self.ledger.live_submissions() as u16;
@@ -57,15 +62,15 @@ impl Slot {
                 self.open_place(board, index, terms, stamp);
                 Ok(())
             }
-            Err(fault) => {
+            Err(error) => {
                 self.waiting.take_back(index);
-                Err(fault)
+                Err(error)
             }
         }
     }
 
     /// Keeps an event that fits, but for an opening, and opens the next place where it takes a submission.
-    fn keep<B: Board>(&mut self, board: &mut B, event: &Event) -> Result<(), Fault>
+    fn keep<B: Board>(&mut self, board: &mut B, event: &Event) -> Result<(), AllocError>
         requires lawful { IsLawfulBoard B.settings B.knows B.has_role board.old self.old }
         requires participant { is_participant self.old.settings self.old.who ≡ true }
         requires fits { Fits self.old.settings self.old.who self.old.events event.now }
@@ -73,7 +78,6 @@ impl Slot {
         ensures ok { OnOk result (self.new ≡ with_event self.old (Some event.now)) }
         ensures opens { OnOk result (Opens (B.settings board.old).margin B.knows self.old (event.now ∷ []) board.old board.new) }
         ensures err { OnErr result ((self.new ≡ self.old) × (board.new ≡ board.old)) }
-        ensures only { IsOkUnless result Fault.Memory }
         ensures stays { B.stays board.old board.new }
     {
         match event {

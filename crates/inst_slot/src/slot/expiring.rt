@@ -13,11 +13,12 @@ use crate::arrivals::Spot;
 use crate::booking::book;
 use crate::finding::find;
 use crate::waiting::Waiting;
-use inst_base::{Fault, Moment};
+use inst_base::Moment;
 use inst_board::{Board, Place, Wish};
 use inst_command::Outcome;
 use inst_ledger::Ledger;
 use inst_transfers::{Found, Side, Transfer};
+use std::alloc::AllocError;
 
 impl Slot {
     /// Of the own live transfers with nothing booked, the pair of a deadline and an index that comes next
@@ -30,9 +31,14 @@ impl Slot {
     }
 
     /// Lets the participant's live transfer at this index expire at the reading `at`, and books what is
-    /// found: `true` where it is decided, and wasn't booked. After `Memory` the slot is as it was, and
-    /// nothing was decided.
-    pub fn expire<B: Board>(&mut self, board: &mut B, index: u16, at: Moment) -> Result<bool, Fault>
+    /// found: `true` where it is decided, and wasn't booked. Where memory is refused the slot is
+    /// as it was, and nothing was decided.
+    pub fn expire<B: Board>(
+        &mut self,
+        board: &mut B,
+        index: u16,
+        at: Moment,
+    ) -> Result<bool, AllocError>
         requires lawful { IsLawfulBoard B.settings B.knows B.has_role board.old self.old }
         ensures expires { Expires (B.settings board.old).margin B.knows B.has_role B.stood B.stays board.old self.old index at result board.new self.new }
         ensures lawful { IsLawfulBoard B.settings B.knows B.has_role board.new self.new }
@@ -79,7 +85,7 @@ fn let_expire<B: Board>(
     index: u16,
     at: Moment,
     arrivals: &[Spot],
-) -> Result<bool, Fault>
+) -> Result<bool, AllocError>
     requires lawful { IsLawfulBoard B.settings B.knows B.has_role board.old (over ledger.old.book arrivals.now) }
     requires unbooked { IsUnbooked ledger.old index found.now }
     requires spots { AreSpots (rows_of ledger.old.book.who ledger.old.book.events) arrivals.now }

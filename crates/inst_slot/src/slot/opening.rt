@@ -1,5 +1,5 @@
 //! A slot that opens again from its books, and finds the places of what was forwarded to it before.
-ghost use Rattle.std.specs.Prelude.{◌≡◌, ◌≤◌, ◌<◌, ◌++◌, ◌∷◌, [], true, map, count_by, IfOk, OnErr, IsOkUnless, IsTrue};
+ghost use Rattle.std.specs.Prelude.{◌≡◌, ◌≤◌, ◌<◌, ◌++◌, ◌∷◌, [], true, map, count_by, IfOk, OnErr, IsTrue};
 ghost use Rattle.std.specs.List.{list_any};
 ghost use Rattle.inst_base.specs.Moment.{is_moment};
 ghost use Rattle.inst_base.specs.TimeLimit.{deadline_of};
@@ -18,26 +18,26 @@ ghost use Rattle.inst_slot.specs.Opening.{opened_again, MayOpenAgain, OpensPlace
 use super::Slot;
 use crate::arrivals::{carried_arrivals, find_at};
 use crate::waiting::carried_waiting;
-use inst_base::{Fault, Moment};
+use inst_base::Moment;
 use inst_board::{Board, Look, Place};
 use inst_journal::{Event, Journal};
 use inst_ledger::Ledger;
 use inst_settings::Settings;
 use inst_terms::Terms;
-use std::alloc::Global;
+use std::alloc::{AllocError, Global};
 
 impl Slot {
     /// The slot of the participant `who` with this history, opened again from it: its live transfers get
-    /// the first places, in order of taking, and are pending there. After `Memory` the board is as it was.
-    /// The places of what was forwarded to the participant are then to be found by `adopt`. It walks the
-    /// history.
+    /// the first places, in order of taking, and are pending there. Where memory is refused the board is as
+    /// it was. The places of what was forwarded to the participant are then to be found by `adopt`. It walks
+    /// the history.
     pub fn open_from<B: Board>(
         alloc: Global,
         settings: &Settings,
         who: u8,
         board: &mut B,
         journal: &Journal,
-    ) -> Result<Slot, Fault>
+    ) -> Result<Slot, AllocError>
         requires participant { is_participant settings.now who ≡ true }
         requires sound { IsSound settings.now who journal.now.events }
         requires few { openings journal.now.events < 500 }
@@ -45,7 +45,6 @@ impl Slot {
         ensures ok { IfOk result (λ slot. slot ≡ opened_again settings.now who journal.now.events) }
         ensures opens { IfOk result (λ slot. OpensPlaces B.knows settings.now who (live_taken who slot.events) board.old board.new) }
         ensures err { OnErr result (board.new ≡ board.old) }
-        ensures only { IsOkUnless result Fault.Memory }
         ensures lawful { IfOk result (λ slot. IsLawfulBoard B.settings B.knows B.has_role board.new slot) }
         ensures others { KeepsOthers B.settings B.knows B.has_role board.old who board.new }
         ensures stays { B.stays board.old board.new }
@@ -56,11 +55,15 @@ impl Slot {
     }
 
     /// The books of a slot that opens again.
-    fn carry(alloc: Global, settings: &Settings, who: u8, journal: &Journal) -> Result<Slot, Fault>
+    fn carry(
+        alloc: Global,
+        settings: &Settings,
+        who: u8,
+        journal: &Journal,
+    ) -> Result<Slot, AllocError>
         requires sound { IsSound settings.now who journal.now.events }
         requires few { openings journal.now.events < 500 }
         ensures ok { IfOk result (λ slot. slot ≡ opened_again settings.now who journal.now.events) }
-        ensures only { IsOkUnless result Fault.Memory }
     {
         let ledger = Ledger::open_from(alloc, settings, who, journal)?;
         let arrivals = carried_arrivals(alloc, &ledger)?;

@@ -1,5 +1,5 @@
 //! What a board tells a slot: what is forwarded to it, and how its transfers ended.
-ghost use Rattle.std.specs.Prelude.{◌≡◌, true, is_some, OnErr, OnOk, IsOkUnless, Some};
+ghost use Rattle.std.specs.Prelude.{◌≡◌, true, is_some, OnErr, OnOk, Some};
 ghost use Rattle.inst_board.specs.declared.look.Look.{Look};
 ghost use Rattle.inst_board.specs.Learning.{Looks};
 ghost use Rattle.inst_journal.specs.Sound.{IsSound, Fits};
@@ -11,10 +11,10 @@ use super::Slot;
 use crate::arrivals::Spot;
 use crate::booking::book;
 use crate::lesson::{Lesson, lesson_of};
-use inst_base::Fault;
 use inst_board::{Board, Look, Place};
 use inst_command::{Entry, Outcome};
 use inst_journal::Event;
+use std::alloc::AllocError;
 
 impl Slot {
     /// The transfer that a look at the place delivers.
@@ -41,11 +41,10 @@ impl Slot {
     }
 
     /// Keeps that the transfer was forwarded from the place.
-    fn forward(&mut self, place: Place, entry: Entry) -> Result<(), Fault>
+    fn forward(&mut self, place: Place, entry: Entry) -> Result<(), AllocError>
         requires fits { Fits self.old.settings self.old.who self.old.events (Event.Forwarded entry.from entry.id entry.cents entry.deadline) }
         ensures ok { OnOk result (self.new ≡ with_delivery self.old place (Some entry)) }
         ensures err { OnErr result (self.new ≡ self.old) }
-        ensures only { IsOkUnless result Fault.Memory }
     {
         // The check is told of a type of another crate inside an event only where a function names it.
         let _: Option<Outcome> = None;
@@ -70,8 +69,8 @@ impl Slot {
     }
 
     /// Forwards what is pending at the place, if it is for the participant and new to it: `true` where it
-    /// was. After `Memory` the slot is as it was.
-    pub fn deliver<B: Board>(&mut self, board: &mut B, place: Place) -> Result<bool, Fault>
+    /// was. Where memory is refused the slot is as it was.
+    pub fn deliver<B: Board>(&mut self, board: &mut B, place: Place) -> Result<bool, AllocError>
         requires lawful { IsLawfulBoard B.settings B.knows B.has_role board.old self.old }
         requires adopted { AllAreAdopted self.old }
         ensures delivers { (look : Look) × Looks (B.settings board.old).margin B.knows B.has_role B.stood board.old place look board.new
@@ -93,12 +92,11 @@ impl Slot {
     }
 
     /// Keeps an event that leaves the own live transfers as they are.
-    pub(super) fn book(&mut self, event: Event) -> Result<(), Fault>
+    pub(super) fn book(&mut self, event: Event) -> Result<(), AllocError>
         requires fits { Fits self.old.settings self.old.who self.old.events event }
         requires moves { moves_none event ≡ true }
         ensures ok { OnOk result (self.new ≡ with_event self.old (Some event)) }
         ensures err { OnErr result (self.new ≡ self.old) }
-        ensures only { IsOkUnless result Fault.Memory }
     {
         self.ledger.keep(event)?;
         let who = self.ledger.who();
@@ -107,8 +105,8 @@ impl Slot {
     }
 
     /// Books the outcome of a place of the participant's, if it is decided and not yet booked: `true`
-    /// where it was. After `Memory` the slot is as it was.
-    pub fn learn<B: Board>(&mut self, board: &mut B, place: Place) -> Result<bool, Fault>
+    /// where it was. Where memory is refused the slot is as it was.
+    pub fn learn<B: Board>(&mut self, board: &mut B, place: Place) -> Result<bool, AllocError>
         requires lawful { IsLawfulBoard B.settings B.knows B.has_role board.old self.old }
         ensures learns { (look : Look) × Looks (B.settings board.old).margin B.knows B.has_role B.stood board.old place look board.new
             × Keeps (is_some (lesson self.old place look)) self.old (with_event self.old (lesson self.old place look)) result self.new }

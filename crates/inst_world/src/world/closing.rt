@@ -1,5 +1,5 @@
 //! How a hub in one thread is closed, and its books are carried to the next opening.
-ghost use Rattle.std.specs.Prelude.{◌≡◌, ◌<◌, ◌++◌, ℕ, List, true, false, None, IfOk, IfSome, OnOk, IsOkUnless};
+ghost use Rattle.std.specs.Prelude.{◌≡◌, ◌<◌, ◌++◌, ℕ, List, true, false, None, IfOk, IfSome, OnOk};
 ghost use Rattle.inst_settings.specs.Settings.{is_participant, participants};
 ghost use Rattle.inst_command.specs.declared.step.Step.{Step};
 ghost use Rattle.inst_journal.specs.Opened.{openings};
@@ -10,10 +10,9 @@ ghost use Rattle.inst_world.specs.HasRun.{HasRun};
 ghost use Rattle.inst_world.specs.NextOpening.{books_of, AreJournalsOf, CanOpenFrom, AreCarried, HasClosed};
 
 use super::World;
-use inst_base::Fault;
 use inst_command::{Outcome, Step};
 use inst_journal::{Event, Journal};
-use std::alloc::Global;
+use std::alloc::{AllocError, Global};
 
 /// How often books can be opened from.
 pub const MOST_OPENINGS: usize = 500;
@@ -45,11 +44,10 @@ pub fn may_open(journals: &[Journal]) -> bool
 
 impl World {
     /// The participant is told of the places of the originator.
-    fn tell_places(&mut self, who: u8, from: u8, places: u16) -> Result<(), Fault>
+    fn tell_places(&mut self, who: u8, from: u8, places: u16) -> Result<(), AllocError>
         requires who { is_participant self.old.board.settings who ≡ true }
         requires from { is_participant self.old.board.settings from ≡ true }
         ensures ran { OnOk result ((O : Opening) (L : List Step) → HasRun O L self.old → HasRun O (of_places who from places ++ L) self.new) }
-        ensures only { IsOkUnless result Fault.Memory }
         ensures settings { self.new.board.settings ≡ self.old.board.settings }
     {
         for place in 0..places {
@@ -61,11 +59,10 @@ impl World {
     }
 
     /// The participant is told of the places of all originators.
-    fn tell_originators(&mut self, who: u8) -> Result<(), Fault>
+    fn tell_originators(&mut self, who: u8) -> Result<(), AllocError>
         requires who { is_participant self.old.board.settings who ≡ true }
         ensures ran { OnOk result ((O : Opening) (L : List Step) → HasRun O L self.old →
             HasRun O (of_originators who self.old.board.settings.places (participants self.old.board.settings) ++ L) self.new) }
-        ensures only { IsOkUnless result Fault.Memory }
         ensures settings { self.new.board.settings ≡ self.old.board.settings }
     {
         let originators = self.settings().participants();
@@ -76,12 +73,11 @@ impl World {
         Ok(())
     }
 
-    /// Closes the hub: each participant is told of each place, one after another. `Memory` leaves some untold; the hub
-    /// may then be closed again.
-    pub fn close(&mut self) -> Result<(), Fault>
+    /// Closes the hub: each participant is told of each place, one after another. Where memory is refused some are
+    /// untold; the hub may then be closed again.
+    pub fn close(&mut self) -> Result<(), AllocError>
         ensures ran { OnOk result ((O : Opening) (L : List Step) → HasRun O L self.old → HasRun O (closing self.old.board.settings ++ L) self.new) }
         ensures closed { OnOk result (HasClosed self.new) }
-        ensures only { IsOkUnless result Fault.Memory }
         ensures settings { self.new.board.settings ≡ self.old.board.settings }
     {
         let participants = self.settings.participants();
@@ -91,11 +87,10 @@ impl World {
         Ok(())
     }
 
-    /// Copies of all journals, in the order of the participants. `Memory` where there is no room.
-    pub fn journals(&self, alloc: Global) -> Result<Vec<Journal>, Fault>
+    /// Copies of all journals, in the order of the participants.
+    pub fn journals(&self, alloc: Global) -> Result<Vec<Journal>, AllocError>
         ensures ok { IfOk result (λ journals. (O : Opening) (L : List Step) → HasRun O L self.now →
             AreJournalsOf self.now.board.settings (history self.now.board.settings O L) journals.items) }
-        ensures only { IsOkUnless result Fault.Memory }
     {
         let mut journals = Vec::new(alloc);
         let participants = self.settings().participants();
@@ -106,15 +101,14 @@ impl World {
     }
 
     /// Closes the hub, and copies its books for the next opening, or gives nothing where one was opened from 500 times
-    /// already. `Memory` as `close` has it.
-    pub fn carry(&mut self, alloc: Global) -> Result<Option<Vec<Journal>>, Fault>
+    /// already. Where memory is refused it leaves what `close` leaves.
+    pub fn carry(&mut self, alloc: Global) -> Result<Option<Vec<Journal>>, AllocError>
         ensures books { IfOk result (λ books. IfSome books (λ journals. (O : Opening) (L : List Step) → HasRun O L self.old →
             AreCarried self.old.board.settings O L journals.items)) }
         ensures can { IfOk result (λ books. IfSome books (λ journals. CanOpenFrom self.old.board.settings journals.items)) }
         ensures few { IfOk result (λ books. books ≡ None → (O : Opening) (L : List Step) → HasRun O L self.old →
             ¬ ((p : ℕ) → openings (history self.old.board.settings O (closing self.old.board.settings ++ L) p) < 500)) }
         ensures ran { OnOk result ((O : Opening) (L : List Step) → HasRun O L self.old → HasRun O (closing self.old.board.settings ++ L) self.new) }
-        ensures only { IsOkUnless result Fault.Memory }
         ensures settings { self.new.board.settings ≡ self.old.board.settings }
     {
         self.close()?;

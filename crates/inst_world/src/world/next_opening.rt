@@ -1,5 +1,5 @@
 //! A hub that opens again from the journals of its participants.
-ghost use Rattle.std.specs.Prelude.{◌≡◌, ◌+◌, List, [], reverse, IfOk, IsOkUnless};
+ghost use Rattle.std.specs.Prelude.{◌≡◌, ◌+◌, List, [], reverse, IfOk};
 ghost use Rattle.inst_settings.specs.Settings.{participants};
 ghost use Rattle.inst_settings.specs.Lawful.{IsSettings};
 ghost use Rattle.inst_board.specs.declared.place.Place.{Place};
@@ -12,26 +12,23 @@ ghost use Rattle.inst_world.specs.NextOpening.{books_of, opening_from, CanOpenFr
 
 use super::World;
 use crate::trace::Trace;
-use inst_base::Fault;
 use inst_board::{Board, Look, Place, PlainBoard};
 use inst_command::Step;
 use inst_journal::Journal;
 use inst_settings::Settings;
 use inst_slot::Slot;
-use std::alloc::Global;
+use std::alloc::{AllocError, Global};
 
 impl World {
     /// A hub that opens again from these journals, one for each participant by number. What was pending
-    /// goes on, what was decided gives its place back. They stay as they are. `Memory` where there is no
-    /// room for a copy of them and for the places.
+    /// goes on, what was decided gives its place back. They are copied, and stay as they are.
     pub fn open_from(
         alloc: Global,
         settings: &Settings,
         journals: &[Journal],
-    ) -> Result<World, Fault>
+    ) -> Result<World, AllocError>
         requires journals { CanOpenFrom settings.now journals.now }
         ensures ok { IfOk result (λ world. (world.board.settings ≡ settings.now) × HasRun (opening_from journals.now) [] world) }
-        ensures only { IsOkUnless result Fault.Memory }
     {
         let settings = settings.copy()?;
         let mut board = PlainBoard::new(alloc, &settings)?;
@@ -44,19 +41,18 @@ impl World {
         })
     }
 
-    /// Runs the steps in order, at a hub that opens again from these journals. `Memory` ends the run. What
+    /// Runs the steps in order, at a hub that opens again from these journals. Refused memory ends the run. What
     /// it returns keeps what `run` promises.
     pub fn run_from(
         alloc: Global,
         settings: &Settings,
         journals: &[Journal],
         steps: &[Step],
-    ) -> Result<(World, Trace), Fault>
+    ) -> Result<(World, Trace), AllocError>
         requires journals { CanOpenFrom settings.now journals.now }
         requires fits { IsInterleaving settings.now steps.now }
         ensures ran { IfOk result (λ r. (r.0.board.settings ≡ settings.now) × HasRun (opening_from journals.now) (reverse steps.now) r.0) }
         ensures headline { IfOk result (λ r. KeepsTheHeadline settings.now (run_of (opening_from journals.now) steps.now (journal_of r.0) r.1.answers)) }
-        ensures only { IsOkUnless result Fault.Memory }
     {
         let mut world = World::open_from(alloc, settings, journals)?;
         let trace = world.run_steps(alloc, steps)?;
@@ -70,13 +66,12 @@ fn open_slots(
     settings: &Settings,
     board: &mut PlainBoard,
     journals: &[Journal],
-) -> Result<Vec<Slot>, Fault>
+) -> Result<Vec<Slot>, AllocError>
     requires journals { CanOpenFrom settings.now journals.now }
     requires settings { board.old.settings ≡ settings.now }
     requires unused { (place : Place) → kept_at board.old place ≡ KeptUnused }
     ensures ok { IfOk result (λ slots. AreOpenedAgain settings.now (books_of journals.now) (participants settings.now)
         (record { books = slots.items; board = board.new })) }
-    ensures only { IsOkUnless result Fault.Memory }
 {
     let mut slots = Vec::new(alloc);
     for who in 0..settings.participants() {

@@ -4,10 +4,12 @@ use Rattle.inst_audit.specs.Replaying.{AreAllKept}
 use Rattle.inst_audit.proofs.Replaying.{agreement_tells}
 use Rattle.inst_audit.proofs.audit.can_open.Goals as goal
 
-pub returns-in-Some-clause-can : goal.returns-in-Some-clause-can
-returns-in-Some-clause-can c =
+pub returns-in-Some : goal.returns-in-Some
+returns-in-Some c =
     let one_each : length c.args.journals.now ≡ participants c.args.settings.now = omega arith in
     let all : AreAllKept c.args.settings.now c.args.journals.now c.in-Some.ledgers.items =
     subst (λ o. IfSome o (λ ledgers. AreAllKept c.args.settings.now c.args.journals.now ledgers.items)) c.in-Some.is c.in_ok-ledgers.ensures.kept in
-    agreement_tells c.args.settings.now c.args.journals.now c.in-Some.ledgers.items c.deref.result.now c.limit.result c.books_agree.result one_each all
-    c.limit.ensures.value c.deref.ensures.value c.books_agree.ensures
+    record {
+      can = agreement_tells c.args.settings.now c.args.journals.now c.in-Some.ledgers.items c.deref.result.now c.limit.result c.books_agree.result one_each all
+          c.limit.ensures.value c.deref.ensures.value c.books_agree.ensures;
+    }

@@ -2,12 +2,11 @@ use Rattle.std.proofs.Common.{◌≡◌, ◌++◌, List}
 use Rattle.std.specs.Prelude.{map, Ok}
 use Rattle.std.specs.Vec.Iter.{into_iter_items}
 use Rattle.inst_crew.specs.declared.shift.Shift.{Shift}
-use Rattle.inst_crew.specs.Workers.{FailForMemory, IsGathered}
+use Rattle.inst_crew.specs.Workers.{IsGathered}
 use Rattle.inst_crew.proofs.gathering.gather.Given as goal
 
 abbrev pub invariant-loop-result : goal.invariant-loop-result
 invariant-loop-result l =
     (goal.iterator-loop-result).can_next l.result-iterator ×
     (goal.iterator-loop-result).is_finite l.result-iterator ×
-    FailForMemory (into_iter_items l.result-iterator) ×
     ((shifts : List Shift) × (l.fn.results.items ≡ map Ok shifts ++ into_iter_items l.result-iterator) × IsGathered shifts l.crew)

@@ -9,7 +9,7 @@ use Rattle.inst_crew.specs.Crew.{sweeper_of}
 use Rattle.inst_crew.specs.Later.{Pairs, IsLaterTeller}
 use Rattle.inst_crew.specs.Workers.{AllWork}
 use Rattle.inst_crew.proofs.Pairing.{all_ready, are_hands, are_tellers, same_parts, same_row, pairs_length}
-use Rattle.inst_crew.proofs.Together.{fails_from, Ran, ran}
+use Rattle.inst_crew.proofs.Together.{Ran, ran}
 use Rattle.inst_crew.proofs.running.run_crew.Given.{Over}
 use Rattle.inst_crew.proofs.running.run_crew.Goals as goal
 
@@ -18,11 +18,6 @@ start-worked-requires-clause-ready g c κs within =
     let hands = subst (λ (l : List Hand). AreHandsOf c.args.desk.now l) (sym c.in_ok-workers.ensures.hands) c.requires.hands in
     let tellers = subst (λ (l : List Teller). AreOf c.args.hub.now l) (sym c.in_ok-workers.ensures.tellers) c.requires.tellers in
     all_ready _ _ _ hands tellers
-
-pub gather-requires : goal.gather-requires
-gather-requires g c =
-    fails_from c.args.hub.now c.args.desk.now c.in_ok-workers.workers.items c.in_ok-results.results.items
-    (subst (λ r. IfOk r (λ all. AllWork c.args.hub.now c.args.desk.now c.in_ok-workers.workers.items all.items)) c.in_ok-results.was c.start-worked.ensures.worked)
 
 together : (g : Over) (c : goal.In_ok-crew-2 g) → Ran c.args.hub.now c.args.desk.now c.args.hands.items (c.args.tellers.items ++ sweeper_of c.args.sweep) c.in_ok-crew-2.crew
 together g c =

@@ -13,23 +13,27 @@ use Rattle.inst_lines.proofs.AnsweringLemmas.{command_read, read_ok, read_err, r
 use Rattle.inst_lines.proofs.Writing.{model_written}
 use Rattle.inst_lines.proofs.answer.answer_command.Goals as goal
 
-pub returns-in_ok-follow_up-in-Ok-clause-ok : goal.returns-in_ok-follow_up-in-Ok-clause-ok
-returns-in_ok-follow_up-in-Ok-clause-ok c =
+pub returns-in_ok-follow_up-in-Ok : goal.returns-in_ok-follow_up-in-Ok
+returns-in_ok-follow_up-in-Ok c =
     let old = c.args.runner.now in
     let line = c.args.line.now in
     let value : Result Ask Fault = command_of_line old.world.board.settings line in
     let read = subst (λ (s : HubSettings). IsUnlessMemory c.read_command.result (command_of_line s line)) c.settings.ensures c.read_command.ensures.value in
     let fits = subst (λ (s : HubSettings). ask_fits s c.in-Ok.ask ≡ true) c.settings.ensures c.in-Ok.ensures.fits in
     let e = c.in_ok-answer-in-Ok.ensures in
-    command_read old c.ask.new.self c.follow_up.new.runner c.in-Ok.ask value c.in_ok-answer-in-Ok.answer (read_ok c.read_command.result value c.in-Ok.ask c.in-Ok.is read)
-    e.ok c.ask.ensures.settings c.in_ok-follow_up-in-Ok.ensures.ok c.follow_up.ensures.settings (model_written old.world.board.settings (AskStep c.in-Ok.ask) c.in_ok-answer-in-Ok.answer fits e.model)
+    record {
+      ok = command_read old c.ask.new.self c.follow_up.new.runner c.in-Ok.ask value c.in_ok-answer-in-Ok.answer (read_ok c.read_command.result value c.in-Ok.ask c.in-Ok.is read)
+          e.ok c.ask.ensures.settings c.in_ok-follow_up-in-Ok.ensures.ok c.follow_up.ensures.settings (model_written old.world.board.settings (AskStep c.in-Ok.ask) c.in_ok-answer-in-Ok.answer fits e.model);
+    }
 
-pub returns-in-Err-clause-ok : goal.returns-in-Err-clause-ok
-returns-in-Err-clause-ok c =
+pub returns-in-Err : goal.returns-in-Err
+returns-in-Err c =
     let old = c.args.runner.now in
     let line = c.args.line.now in
     let value : Result Ask Fault = command_of_line old.world.board.settings line in
     let read = subst (λ (s : HubSettings). IsUnlessMemory c.read_command.result (command_of_line s line)) c.settings.ensures c.read_command.ensures.value in
-    IfOk-weaker c.refused.result _ _
-    (λ answer e. refused_read Run old c.in-Err.fault value command_answer after_command answer (λ past. refl) (λ past. refl) (read_err c.read_command.result value c.in-Err.fault c.in-Err.is e.1 read) e.0)
-    c.refused.ensures.ok
+    record {
+      ok = IfOk-weaker c.refused.result _ _
+          (λ answer e. refused_read Run old c.in-Err.fault value command_answer after_command answer (λ past. refl) (λ past. refl) (read_err c.read_command.result value c.in-Err.fault c.in-Err.is e.1 read) e.0)
+          c.refused.ensures.ok;
+    }

@@ -12,22 +12,26 @@ use Rattle.inst_lines.proofs.AnsweringLemmas.{script_answered, read_ok, read_err
 use Rattle.inst_lines.proofs.Writing.{result_written}
 use Rattle.inst_lines.proofs.answer.answer_step.Goals as goal
 
-pub returns-in-Ok-clause-ok : goal.returns-in-Ok-clause-ok
-returns-in-Ok-clause-ok c =
+pub returns-in-Ok : goal.returns-in-Ok
+returns-in-Ok c =
     let old = c.args.runner.now in
     let line = c.args.line.now in
     let value : Result Step Fault = step_of_line old.world.board.settings line in
     let read = subst (λ (s : HubSettings). IsUnlessMemory c.read_step.result (step_of_line s line)) c.settings.ensures c.read_step.ensures.value in
     let fits = subst (λ (s : HubSettings). step_fits s c.in-Ok.step ≡ true) c.settings.ensures c.in-Ok.ensures.fits in
     let e = c.step.ensures in
-    script_answered old c.step.new.self c.in-Ok.step value c.step.result (read_ok c.read_step.result value c.in-Ok.step c.in-Ok.is read) e.ok (result_written old.world.board.settings c.in-Ok.step c.step.result fits e.model) e.settings
+    record {
+      ok = script_answered old c.step.new.self c.in-Ok.step value c.step.result (read_ok c.read_step.result value c.in-Ok.step c.in-Ok.is read) e.ok (result_written old.world.board.settings c.in-Ok.step c.step.result fits e.model) e.settings;
+    }
 
-pub returns-in-Err-clause-ok : goal.returns-in-Err-clause-ok
-returns-in-Err-clause-ok c =
+pub returns-in-Err : goal.returns-in-Err
+returns-in-Err c =
     let old = c.args.runner.now in
     let line = c.args.line.now in
     let value : Result Step Fault = step_of_line old.world.board.settings line in
     let read = subst (λ (s : HubSettings). IsUnlessMemory c.read_step.result (step_of_line s line)) c.settings.ensures c.read_step.ensures.value in
-    IfOk-weaker c.refused.result _ _
-    (λ answer e. refused_read Play old c.in-Err.fault value script_answer after_script answer (λ past. refl) (λ past. refl) (read_err c.read_step.result value c.in-Err.fault c.in-Err.is e.1 read) e.0)
-    c.refused.ensures.ok
+    record {
+      ok = IfOk-weaker c.refused.result _ _
+          (λ answer e. refused_read Play old c.in-Err.fault value script_answer after_script answer (λ past. refl) (λ past. refl) (read_err c.read_step.result value c.in-Err.fault c.in-Err.is e.1 read) e.0)
+          c.refused.ensures.ok;
+    }

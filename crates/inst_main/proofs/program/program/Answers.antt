@@ -7,7 +7,7 @@ pub returns-in-Ok-serve-clause-served : goal.returns-in-Ok-serve-clause-served
 returns-in-Ok-serve-clause-served g c is =
     let words = map string_bytes c.args.words.items in
     let wished : IsWished words c.in-Ok.wish = rw c.deref.ensures.value at c.in-Ok.ensures.ok in
-    served _ _ _ _ _ (c.in-Ok-serve.ensures.ok words wished)
+    served _ _ _ _ _ _ (c.in-Ok-serve.ensures.ok words wished)
 
 pub returns-in-Ok-clause-refused : goal.returns-in-Ok-clause-refused
 returns-in-Ok-clause-refused g c is =
@@ -27,7 +27,7 @@ pub returns-clause-served : goal.returns-clause-served
 returns-clause-served g c is =
     let words = map string_bytes c.args.words.items in
     let none : IsNoWish words c.in-Err.error = rw c.deref.ensures.value at c.in-Err.ensures.err in
-    inr (inr (refl, inl (helped words c.in-Err.error none (sym c.tell_error.ensures.status ∙ is))))
+    inr (inr (inr (refl, inl (helped words c.in-Err.error none (sym c.tell_error.ensures.status ∙ is)))))
 
 pub returns-clause-refused : goal.returns-clause-refused
 returns-clause-refused g c is =

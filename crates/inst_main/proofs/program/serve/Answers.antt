@@ -1,6 +1,6 @@
 use Rattle.std.proofs.Common.{◌≡◌, refl}
 use Rattle.std.proofs.lemmas.Result.{on_ok_weaker}
-use Rattle.inst_main.proofs.Doing.{answered, drilled, unanswered_err, undrilled_err, unexplained_err}
+use Rattle.inst_main.proofs.Doing.{answered, checked, drilled, unanswered_err, unchecked_err, undrilled_err, unexplained_err}
 use Rattle.inst_main.proofs.program.serve.Goals as goal
 
 pub returns-in-Run-clause-ok : goal.returns-in-Run-clause-ok
@@ -41,3 +41,14 @@ pub returns-in-Explain-clause-err : goal.returns-in-Explain-clause-err
 returns-in-Explain-clause-err g c words wished =
     let is = rw c.in-Explain.is at wished in
     unexplained_err words c.in-Explain.word.now (c.args.reader.now ≡ c.args.reader.now) (c.explain.new.writer ≡ c.args.writer.now) _ c.explain.result is refl c.explain.ensures.err
+
+pub returns-in-Check-clause-ok : goal.returns-in-Check-clause-ok
+returns-in-Check-clause-ok g c words wished =
+    let is = rw c.in-Check.is at wished in
+    on_ok_weaker c.check.result (λ done. checked words c.in-Check.settings (c.check.new.reader ≡ c.args.reader.now) _ _ _ _ is.0 is.1 is.2 done) c.check.ensures.ok
+
+pub returns-in-Check-clause-err : goal.returns-in-Check-clause-err
+returns-in-Check-clause-err g c words wished =
+    let is = rw c.in-Check.is at wished in
+    unchecked_err words c.in-Check.settings (c.check.new.reader ≡ c.args.reader.now) (c.check.new.writer ≡ c.args.writer.now) _ _ _ _
+    c.check.result is.0 is.1 is.2 c.check.ensures.err

@@ -1,7 +1,8 @@
-use Rattle.std.proofs.Common.{rules, ◌≡◌, ◌^◌, Some, codes, sym, subst}
+use Rattle.std.proofs.Common.{rules, ◌≡◌, ◌^◌, ◌∙◌, Some, ap, codes, sym, subst}
 use Rattle.std.proofs.lemmas.Result.{IfOk-weaker}
 use Rattle.clap.specs.Words.{first_of, found_of, rows_of}
 use Rattle.inst_options.specs.Options.{Gives, GivesNoneBelow, Chooses, ChooseNone}
+use Rattle.inst_codes.specs.Parts.{parts_of}
 use Rattle.inst_settings.specs.Settings.{HubSettings}
 use Rattle.inst_settings.specs.Lawful.{IsSettings, settings_with}
 use Rattle.inst_options.proofs.Refused.{none_in_range, no_places, no_fundings, no_limit, no_margin, no_ahead, no_ceiling, no_base, passed_on, refused_by}
@@ -24,7 +25,7 @@ chosen c =
     let ahead : Gives rows (codes "ahead") c.in_ok-ahead.ahead = search rules in
     let ceiling : Gives rows (codes "ceiling") c.in_ok-ceiling.ceiling = search rules in
     let base : Gives rows (codes "base") c.in_ok-base.base = search rules in record {
-      participants = (_, text, c.in_ok-codes.ensures.codes);
+      participants = (_, text, c.in_ok-codes.ensures.codes ∙ ap parts_of c.as_bytes.ensures.value);
       places = places;
       fundings = fundings;
       limit = limit;

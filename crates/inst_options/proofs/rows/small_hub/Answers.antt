@@ -18,7 +18,7 @@ chosen = (
   codes "run",
   unwrap_or (option_map (λ p. p.1) (subcommand_of command_line small_hub)) [],
   refl,
-  (refl, refl),
+  (refl, refl, refl),
   record {
     participants = (codes "AAAADEFF,BBBBFRPP", refl, refl);
     places = (codes "2", refl, search rules, refl);

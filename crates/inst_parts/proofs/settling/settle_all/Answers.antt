@@ -1,6 +1,6 @@
 use Rattle.std.proofs.Common.{◌≢◌, ℕ}
 use Rattle.std.specs.Prelude.{Result, Ok, Err, IfOk}
-use Rattle.inst_base.specs.declared.fault.Fault.{Fault}
+use Rattle.std.specs.declared.alloc.AllocError.{AllocError}
 use Rattle.inst_together.specs.Together.{IsSettled}
 use Rattle.inst_parts.specs.Settling.{HaveCome}
 use Rattle.inst_parts.proofs.PlaceByPlace.{later_on, settled_then}
@@ -30,6 +30,6 @@ returns-clause-settled g c =
     c.learn_own.ensures.later c.learn_arrived.ensures.later c.deliver_all.ensures.later c.in_ok-learn_own.ensures.booked c.in_ok-learn_arrived.ensures.booked come)
     c.deliver_all.ensures.come
   where
-    if_ok : (r : Result (Unit {0}) Fault) (P Q : Unit {0} → Type 0) → ((v : Unit {0}) → P v → Q v) → IfOk r P → IfOk r Q
+    if_ok : (r : Result (Unit {0}) AllocError) (P Q : Unit {0} → Type 0) → ((v : Unit {0}) → P v → Q v) → IfOk r P → IfOk r Q
     if_ok (Ok v) P Q f h = f v h
     if_ok (Err e) P Q f h = tt

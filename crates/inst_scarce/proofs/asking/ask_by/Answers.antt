@@ -9,3 +9,10 @@ returns-clause-of g c = λ i t at. elim (set_cases c.args.tellers.now.items c.ar
   | inl here ↦ subst (λ (u : Teller). IsOf c.args.hub.now u) (sym here.1) c.call.ensures.of
   | inr other ↦ c.requires.of i t other.1
 ]
+
+-- and where memory was refused
+pub returns-in_err-call-clause-of : goal.returns-in_err-call-clause-of
+returns-in_err-call-clause-of g c = λ i t at. elim (set_cases c.args.tellers.now.items c.args.index i c.call.new.teller t (omega (arith, c.if-index-len.false, c.len.ensures)) at) [
+  | inl here ↦ subst (λ (u : Teller). IsOf c.args.hub.now u) (sym here.1) c.call.ensures.of
+  | inr other ↦ c.requires.of i t other.1
+]

@@ -73,8 +73,8 @@ loop-event-preserved c =
           )
     ]
 
-pub returns-clause-ok : goal.returns-clause-ok
-returns-clause-ok c =
+pub returns : goal.returns
+returns c =
     let book = c.args.ledger.now.book in
     let s : HubSettings = book.settings in
     let J : List Event = book.events in
@@ -85,7 +85,9 @@ returns-clause-ok c =
     ap (λ (l : List Event). map (deadline_in s) (taken_of book.who J l)) whole ∙ ap (λ (C : List Event). map (deadline_in s) (filter (takes_live book.who C) J)) (sym c.requires) in
     let D = c.loop-event.invariant.0 ∙ all in
     record {
-      deadlines = D;
-      pairs = λ d k. c.loop-event.invariant.1 d k ∙ ap (λ (l : List ℕ). at_deadline d (slice_get l k)) (c.loop-event.invariant.0 ∙ ap (λ (l : List Event). map (deadline_in s) (taken_of book.who J l)) whole)
-          ∙ carried_waits s book.who J d J k ∙ ap (λ (C : List Event). takes_waiting s book.who J d (slice_get (filter (takes_live book.who C) J) k)) (sym c.requires);
+      ok = record {
+        deadlines = D;
+        pairs = λ d k. c.loop-event.invariant.1 d k ∙ ap (λ (l : List ℕ). at_deadline d (slice_get l k)) (c.loop-event.invariant.0 ∙ ap (λ (l : List Event). map (deadline_in s) (taken_of book.who J l)) whole)
+            ∙ carried_waits s book.who J d J k ∙ ap (λ (C : List Event). takes_waiting s book.who J d (slice_get (filter (takes_live book.who C) J) k)) (sym c.requires);
+      };
     }

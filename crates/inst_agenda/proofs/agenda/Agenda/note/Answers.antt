@@ -3,7 +3,9 @@ use Rattle.inst_agenda.specs.Agenda.{Agenda, Notes}
 use Rattle.inst_agenda.proofs.Agendas.{notes}
 use Rattle.inst_agenda.proofs.agenda.Agenda.note.Goals as goal
 
-pub returns-clause-ok : goal.returns-clause-ok
-returns-clause-ok c =
-    subst (λ (old : Agenda). Notes old (record { waiting = c.self.inside.waiting.keys; next = c.insert.new.self.keys }) c.args.place) c.self.view_is
-    (notes c.self.inside.waiting.keys c.self.inside.next c.insert.new.self c.args.place c.in_ok-insert.ensures.updates)
+pub returns : goal.returns
+returns c =
+    record {
+      ok = subst (λ (old : Agenda). Notes old (record { waiting = c.self.inside.waiting.keys; next = c.insert.new.self.keys }) c.args.place) c.self.view_is
+          (notes c.self.inside.waiting.keys c.self.inside.next c.insert.new.self c.args.place c.in_ok-insert.ensures.updates);
+    }

@@ -12,7 +12,9 @@ loop-init c =
 pub loop-preserved : goal.loop-preserved
 loop-preserved c = one_more_empty c.args.self.now.books c.loop.journals.items c.push.new.self.items c.loop.counter c.new.result c.new.ensures c.in_ok-push.ensures.items c.loop.invariant
 
-pub returns-clause-ok : goal.returns-clause-ok
-returns-clause-ok c =
+pub returns : goal.returns
+returns c =
     let all : c.loop.counter ≡ c.args.more = omega (arith, c.loop-test.false, c.loop.auto.counter-end) in
-    subst (λ (n : ℕ). AreCopiesAnd c.args.self.now.books n c.loop.journals.items) all c.loop.invariant
+    record {
+      ok = subst (λ (n : ℕ). AreCopiesAnd c.args.self.now.books n c.loop.journals.items) all c.loop.invariant;
+    }

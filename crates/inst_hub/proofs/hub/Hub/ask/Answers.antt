@@ -1,9 +1,8 @@
 use Rattle.std.proofs.Common.{◌≡◌, true, subst}
 use Rattle.inst_row.specs.Row.{key_of}
-use Rattle.std.specs.Prelude.{Result, Ok, Err, Option, OnErr, IfOk, IfSome}
-use Rattle.inst_base.specs.declared.fault.Fault.{Fault}
+use Rattle.std.specs.Prelude.{Result, Ok, Err, Option, OnErr, IfOk, IfSome, alloc_error}
+use Rattle.std.specs.declared.alloc.AllocError.{AllocError}
 use Rattle.inst_settings.specs.Settings.{is_participant}
-use Rattle.inst_base.specs.declared.fault.Fault.TheVariants.{Memory}
 use Rattle.inst_command.specs.declared.reply.Reply.{Reply}
 use Rattle.inst_board.specs.declared.place.Place.{Place}
 use Rattle.inst_cell.specs.Seen.{sees}
@@ -44,8 +43,8 @@ returns-in_err-answer-clause-left g c =
     let found = out_of_box (key_of c.args.self.now.row).words.value c.from-lock.result c.args.teller.now.seat c.take-participant.new.seat c.take-participant.result x c.deref_mut.ensures.value
     c.take-participant.ensures.law.behind c.take-participant.ensures.goes_on c.take-participant.ensures.has c.take-participant.ensures.sees in
     let y = c.serve-answer.new.self in
-    let same = subst (λ (r : Result (Reply × Option Place) Fault). OnErr r (y.slot ≡ x.slot)) c.in_err-answer.was c.serve-answer.ensures.err in
-    let serves = subst (λ (r : Result (Reply × Option Place) Fault). OnErr r (Serves x c.args.ask.now (Err Memory) y)) c.in_err-answer.was c.serve-answer.ensures.left in
+    let same = subst (λ (r : Result (Reply × Option Place) AllocError). OnErr r (y.slot ≡ x.slot)) c.in_err-answer.was c.serve-answer.ensures.err in
+    let serves = subst (λ (r : Result (Reply × Option Place) AllocError). OnErr r (Serves x c.args.ask.now (Err alloc_error) y)) c.in_err-answer.was c.serve-answer.ensures.left in
     let u : Teller = record { sight = c.serve-answer.new.teller; seat = c.give.new.seat } in
     on_err c.from_residual.result (IsLeft c.args.self.now c.args.teller.now c.args.ask.now u)
     (left_at c.args.self.now c.args.teller.now u c.args.ask.now x y c.from-lock.result c.from-lock.ensures found.law found.goes_on
@@ -63,11 +62,11 @@ returns-clause-call g c =
     c.take-participant.ensures.law.behind c.take-participant.ensures.goes_on c.take-participant.ensures.has c.take-participant.ensures.sees in
     let y = c.serve-answer.new.self in
     let ask = c.args.ask.now in
-    let serves = subst (λ (r : Result (Reply × Option Place) Fault). IfOk r (λ answer. Serves x ask (Ok answer.0) y)) c.in_ok-answer.was c.serve-answer.ensures.serves in
-    let answered = subst (λ (r : Result (Reply × Option Place) Fault). IfOk r (λ answer. Answered x.slot.settings x.slot.who x.slot.events ask answer.0 y.slot.events)) c.in_ok-answer.was c.serve-answer.ensures.answered in
-    let ticket = subst (λ (r : Result (Reply × Option Place) Fault). IfOk r (λ answer. IsTicket (sees c.serve-answer.new.teller) x.slot.settings x.slot.who ask.command y.slot.events answer.0 answer.1)) c.in_ok-answer.was c.serve-answer.ensures.ticket in
+    let serves = subst (λ (r : Result (Reply × Option Place) AllocError). IfOk r (λ answer. Serves x ask (Ok answer.0) y)) c.in_ok-answer.was c.serve-answer.ensures.serves in
+    let answered = subst (λ (r : Result (Reply × Option Place) AllocError). IfOk r (λ answer. Answered x.slot.settings x.slot.who x.slot.events ask answer.0 y.slot.events)) c.in_ok-answer.was c.serve-answer.ensures.answered in
+    let ticket = subst (λ (r : Result (Reply × Option Place) AllocError). IfOk r (λ answer. IsTicket (sees c.serve-answer.new.teller) x.slot.settings x.slot.who ask.command y.slot.events answer.0 answer.1)) c.in_ok-answer.was c.serve-answer.ensures.ticket in
     let after = subst (λ (z : Participant). c.follow_up-follow_up.result ≡ follow_up_after z.slot.events ask.command c.serve-answer.result) c.deref.ensures c.follow_up-follow_up.ensures.follows in
-    let follows = subst (λ (r : Result (Reply × Option Place) Fault). c.follow_up-follow_up.result ≡ follow_up_after y.slot.events ask.command r) c.in_ok-answer.was after in
+    let follows = subst (λ (r : Result (Reply × Option Place) AllocError). c.follow_up-follow_up.result ≡ follow_up_after y.slot.events ask.command r) c.in_ok-answer.was after in
     asks_at c.args.self.now c.args.teller.now record { sight = c.serve-answer.new.teller; seat = c.give.new.seat } ask c.in_ok-answer.field-0 c.follow_up-follow_up.result x y c.from-lock.result c.from-lock.ensures
     found.law found.goes_on
     (seen_both c.args.teller.now.seat c.take-participant.new.seat c.give.new.seat c.from-lock.result x.slot.events y.slot.events found.sees c.give.ensures.sees)

@@ -37,8 +37,8 @@ seat-requires c =
     let slots : length c.into_slots-slots.result.items ≡ participants c.args.settings.now = ap length c.into_slots-slots.ensures.slots ∙ (c.into_slots-slots.ensures.hub.one_each ∙ ap participants ok.0) in
     boards ∙ sym slots
 
-pub returns-clause-ok : goal.returns-clause-ok
-returns-clause-ok c =
+pub returns : goal.returns
+returns c =
     let s = c.args.settings.now in
     let books = books_of c.args.journals.now in
     let world = c.in_ok-open_from.field-0 in
@@ -53,7 +53,9 @@ returns-clause-ok c =
     let known : (f : Fact) → knows whole f ↔ IsOpenedBelow s books (participants s) f =
     λ f. subst (λ (t : HubSettings). knows whole f ↔ IsOpenedBelow t books (participants t) f) begun (c.open_places.ensures.known books carried f) in
     let behind = behind_again s books c.requires.journals.books world ok.0 hub ok.1 first whole stays begun known c.in_ok-boards.boards.items c.in_ok-boards.ensures.boards in
-    if_ok_then _ _ c.seat.result
-    (λ all is. subst (λ (xs : List (Option Participant)). AreBehind first (participants s) (histories_from c.args.journals.now) xs)
-    (sym (is ∙ ap (λ (bs : List Book). pairs seated bs c.in_ok-boards.boards.items) c.into_slots-slots.ensures.slots)) behind)
-    c.seat.ensures.ok
+    record {
+      ok = if_ok_then _ _ c.seat.result
+          (λ all is. subst (λ (xs : List (Option Participant)). AreBehind first (participants s) (histories_from c.args.journals.now) xs)
+          (sym (is ∙ ap (λ (bs : List Book). pairs seated bs c.in_ok-boards.boards.items) c.into_slots-slots.ensures.slots)) behind)
+          c.seat.ensures.ok;
+    }

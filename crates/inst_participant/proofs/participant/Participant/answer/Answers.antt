@@ -75,7 +75,7 @@ returns-then-eq-clause-serves c =
     record {
       result = c.apply-answer.result;
       board = c.apply-answer.new.board;
-      passes_on = (same, c.in-Err.is ∙ ap (λ (f : Fault). Err f) same);
+      passes_on = c.in-Err.is ∙ ap (λ (f : Fault). Err f) same;
       applies = c.apply-answer.ensures.applies;
       same = unchanged c.apply-answer.new.board;
     }

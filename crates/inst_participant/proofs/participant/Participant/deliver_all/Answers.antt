@@ -1,7 +1,7 @@
 use Rattle.std.proofs.lemmas.Result.{err_from_is_err_and}
 use Rattle.std.proofs.Common.{◌≡◌, ◌∙◌, ℕ, ◌+◌, true, false, is_ok, subst, sym, ap}
 use Rattle.std.specs.Prelude.{Result}
-use Rattle.inst_base.specs.declared.fault.Fault.{Fault}
+use Rattle.std.specs.declared.alloc.AllocError.{AllocError}
 use Rattle.inst_settings.specs.Settings.{HubSettings, participants}
 use Rattle.inst_participant.specs.declared.participant.Participant.{Participant}
 use Rattle.inst_participant.specs.Sweeping.{DeliversFrom, DeliversAll}
@@ -37,7 +37,7 @@ pub returns-in_err-deliver_from-clause-delivers : goal.returns-in_err-deliver_fr
 returns-in_err-deliver_from-clause-delivers c =
     let count : c.participants-owner-end.result ≡ participants c.args.self.now.slot.settings = c.participants-owner-end.ensures.value ∙ ap (λ (s : HubSettings). participants s) c.settings.ensures.settings in
     let who : c.from-own.result ≡ c.loop-owner.self.slot.who = c.from-own.ensures ∙ (c.who.ensures ∙ sym c.loop-owner.invariant.0.later.who) in
-    subst (λ (r : Result (Unit {0}) Fault). DeliversAll 0 (participants c.args.self.now.slot.settings) (is_ok r) c.args.self.now c.deliver_from.new.self) (sym (err_from_is_err_and c.from_residual.result c.from_residual.ensures.1).1)
+    subst (λ (r : Result (Unit {0}) AllocError). DeliversAll 0 (participants c.args.self.now.slot.settings) (is_ok r) c.args.self.now c.deliver_from.new.self) (sym (err_from_is_err_and c.from_residual.result c.from_residual.ensures.1).1)
     (subst (λ (n : ℕ). DeliversAll 0 n false c.args.self.now c.deliver_from.new.self) count
     (owner_refused c.loop-owner.owner c.participants-owner-end.result c.args.self.now c.loop-owner.self c.deliver_from.new.self c.loop-owner-test.true (λ is. c.if-owner-own.true (is ∙ sym who)) c.loop-owner.invariant.1
-    (subst (λ (r : Result (Unit {0}) Fault). DeliversFrom c.loop-owner.owner 0 c.loop-owner.self.slot.settings.places (is_ok r) c.loop-owner.self c.deliver_from.new.self) c.in_err-deliver_from.was c.deliver_from.ensures.delivers)))
+    (subst (λ (r : Result (Unit {0}) AllocError). DeliversFrom c.loop-owner.owner 0 c.loop-owner.self.slot.settings.places (is_ok r) c.loop-owner.self c.deliver_from.new.self) c.in_err-deliver_from.was c.deliver_from.ensures.delivers)))

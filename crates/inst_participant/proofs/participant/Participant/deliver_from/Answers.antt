@@ -1,11 +1,11 @@
 use Rattle.std.proofs.lemmas.Result.{err_from_is_err_and}
 use Rattle.std.proofs.Common.{◌≡◌, ◌∙◌, ℕ, Bool, true, false, is_ok, sym, subst, ap}
 use Rattle.std.specs.Prelude.{Result, Ok}
-use Rattle.inst_base.specs.declared.fault.Fault.{Fault}
+use Rattle.std.specs.declared.alloc.AllocError.{AllocError}
 use Rattle.inst_settings.specs.Settings.{HubSettings}
 use Rattle.inst_slot.specs.Book.{place_at}
 use Rattle.inst_participant.specs.Sweeping.{LooksAt, DeliversFrom}
-use Rattle.inst_participant.proofs.Sweeping.{told_twice, on_then, unused_now, used_now, refused_now, all_looked_at, refused_as}
+use Rattle.inst_participant.proofs.Sweeping.{told_twice, on_then, unused_now, used_now, refused_now, all_looked_at}
 use Rattle.inst_participant.proofs.participant.Participant.deliver_from.Goals as goal
 
 pub returns-in_err-look_at-clause-told : goal.returns-in_err-look_at-clause-told
@@ -34,7 +34,7 @@ returns-clause-delivers c =
 pub returns-in_err-look_at-clause-delivers : goal.returns-in_err-look_at-clause-delivers
 returns-in_err-look_at-clause-delivers c =
     let places : c.places-index-end.result ≡ c.args.self.now.slot.settings.places = c.places-index-end.ensures.value ∙ ap (λ (s : HubSettings). s.places) c.settings.ensures.settings in
-    subst (λ (r : Result (Unit {0}) Fault). DeliversFrom c.args.owner 0 c.args.self.now.slot.settings.places (is_ok r) c.args.self.now c.look_at.new.self) (sym (err_from_is_err_and c.from_residual.result c.from_residual.ensures.1).1)
+    subst (λ (r : Result (Unit {0}) AllocError). DeliversFrom c.args.owner 0 c.args.self.now.slot.settings.places (is_ok r) c.args.self.now c.look_at.new.self) (sym (err_from_is_err_and c.from_residual.result c.from_residual.ensures.1).1)
     (subst (λ (n : ℕ). DeliversFrom c.args.owner 0 n false c.args.self.now c.look_at.new.self) places
     (refused_now c.args.owner c.loop-index.index c.places-index-end.result c.args.self.now c.loop-index.self c.look_at.new.self c.loop-index-test.true c.loop-index.invariant.1
-    (subst (λ (r : Result Bool Fault). LooksAt c.loop-index.self (place_at c.args.owner c.loop-index.index) r c.look_at.new.self) (refused_as c.look_at.result _ c.in_err-look_at.was c.look_at.ensures.only) c.look_at.ensures.looks)))
+    (subst (λ (r : Result Bool AllocError). LooksAt c.loop-index.self (place_at c.args.owner c.loop-index.index) r c.look_at.new.self) c.in_err-look_at.was c.look_at.ensures.looks)))

@@ -1,12 +1,12 @@
 use Rattle.std.proofs.lemmas.Result.{err_from_is_err_and}
 use Rattle.std.proofs.Common.{true, false, is_ok, Bool, sym, subst}
 use Rattle.std.specs.Prelude.{Result}
-use Rattle.inst_base.specs.declared.fault.Fault.{Fault}
+use Rattle.std.specs.declared.alloc.AllocError.{AllocError}
 use Rattle.inst_participant.specs.declared.follow_up.Act.TheVariants.{Learn}
 use Rattle.inst_participant.specs.Following.{Does}
 use Rattle.inst_participant.specs.Sweeping.{LearnsAll}
 use Rattle.inst_participant.specs.Sweeping.LearnsAll.{none_left, refused}
-use Rattle.inst_participant.proofs.Sweeping.{on_then, told_some, learnt_now, refused_as}
+use Rattle.inst_participant.proofs.Sweeping.{on_then, told_some, learnt_now}
 use Rattle.inst_participant.proofs.participant.Participant.learn_all.Goals as goal
 
 pub loop-position-preserved : goal.loop-position-preserved
@@ -22,6 +22,6 @@ returns-clause-learns c = c.loop-position.invariant.1 true c.loop-position.self 
 
 pub returns-in_err-follow-clause-learns : goal.returns-in_err-follow-clause-learns
 returns-in_err-follow-clause-learns c =
-    subst (λ (r : Result (Unit {0}) Fault). LearnsAll 0 (is_ok r) c.args.self.now c.follow.new.self) (sym (err_from_is_err_and c.from_residual.result c.from_residual.ensures.1).1)
+    subst (λ (r : Result (Unit {0}) AllocError). LearnsAll 0 (is_ok r) c.args.self.now c.follow.new.self) (sym (err_from_is_err_and c.from_residual.result c.from_residual.ensures.1).1)
     (c.loop-position.invariant.1 false c.follow.new.self (refused c.loop-position.from c.in-Some.position c.in-Some.place c.loop-position.self c.follow.new.self c.in-Some.ensures.next
-    (subst (λ (r : Result Bool Fault). Does Learn c.loop-position.self c.in-Some.place r c.follow.new.self) (refused_as c.follow.result _ c.in_err-follow.was c.follow.ensures.only) c.follow.ensures.does)))
+    (subst (λ (r : Result Bool AllocError). Does Learn c.loop-position.self c.in-Some.place r c.follow.new.self) c.in_err-follow.was c.follow.ensures.does)))

@@ -1,7 +1,7 @@
 use Rattle.std.proofs.lemmas.Result.{err_from_is_err_and}
 use Rattle.std.proofs.Common.{rules, true, is_ok, None, sym, subst}
 use Rattle.std.specs.Prelude.{Result}
-use Rattle.inst_base.specs.declared.fault.Fault.{Fault}
+use Rattle.std.specs.declared.alloc.AllocError.{AllocError}
 use Rattle.inst_participant.specs.Sweeping.{LetsExpire}
 use Rattle.inst_participant.specs.Sweeping.LetsExpire.{none_left}
 use Rattle.inst_participant.proofs.Sweeping.{on_then, told_some, expired_now, expiry_refused_now}
@@ -21,6 +21,6 @@ returns-clause-expires c = c.loop-deadline.invariant.2 true c.loop-deadline.self
 
 pub returns-in_err-expire-clause-expires : goal.returns-in_err-expire-clause-expires
 returns-in_err-expire-clause-expires c =
-    subst (λ (r : Result (Unit {0}) Fault). LetsExpire c.args.at None (is_ok r) c.args.self.now c.expire.new.self) (sym (err_from_is_err_and c.from_residual.result c.from_residual.ensures.1).1)
-    (expiry_refused_now c.args.at c.loop-deadline.last _ c.expire.result _ c.args.self.now c.loop-deadline.self c.expire.new.self c.loop-deadline.invariant.2
-    c.in-Some.ensures c.expire.ensures.may c.in_err-expire.was c.expire.ensures.only)
+    subst (λ (r : Result (Unit {0}) AllocError). LetsExpire c.args.at None (is_ok r) c.args.self.now c.expire.new.self) (sym (err_from_is_err_and c.from_residual.result c.from_residual.ensures.1).1)
+    (expiry_refused_now c.args.at c.loop-deadline.last _ c.expire.result c.args.self.now c.loop-deadline.self c.expire.new.self c.loop-deadline.invariant.2
+    c.in-Some.ensures c.expire.ensures.may c.in_err-expire.was)

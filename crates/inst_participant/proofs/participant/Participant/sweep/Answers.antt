@@ -1,7 +1,7 @@
 use Rattle.std.proofs.lemmas.Result.{err_from_is_err_and}
 use Rattle.std.proofs.Common.{ℕ, true, false, is_ok, sym, subst, ◌∙◌}
 use Rattle.std.specs.Prelude.{Result, None}
-use Rattle.inst_base.specs.declared.fault.Fault.{Fault}
+use Rattle.std.specs.declared.alloc.AllocError.{AllocError}
 use Rattle.inst_settings.specs.Settings.{HubSettings, participants}
 use Rattle.inst_participant.specs.Sweeping.{LetsExpire, LearnsAll, DeliversAll, Sweeps}
 use Rattle.inst_participant.specs.Sweeping.Sweeps.{swept, lesson_refused, expiry_refused}
@@ -21,23 +21,23 @@ returns-clause-told c = told_twice _ _ _ (told_twice _ _ _ c.let_expire.ensures.
 
 pub returns-in_err-let_expire-clause-sweeps : goal.returns-in_err-let_expire-clause-sweeps
 returns-in_err-let_expire-clause-sweeps c =
-    subst (λ (r : Result ℕ Fault). Sweeps c.args.at (is_ok r) c.args.self.now c.let_expire.new.self) (sym (err_from_is_err_and c.from_residual.result c.from_residual.ensures.1).1)
+    subst (λ (r : Result ℕ AllocError). Sweeps c.args.at (is_ok r) c.args.self.now c.let_expire.new.self) (sym (err_from_is_err_and c.from_residual.result c.from_residual.ensures.1).1)
     (expiry_refused c.args.self.now c.let_expire.new.self
-    (subst (λ (r : Result (Unit {0}) Fault). LetsExpire c.args.at None (is_ok r) c.args.self.now c.let_expire.new.self) c.in_err-let_expire.was c.let_expire.ensures.expires))
+    (subst (λ (r : Result (Unit {0}) AllocError). LetsExpire c.args.at None (is_ok r) c.args.self.now c.let_expire.new.self) c.in_err-let_expire.was c.let_expire.ensures.expires))
 
 pub returns-in_err-learn_all-clause-sweeps : goal.returns-in_err-learn_all-clause-sweeps
 returns-in_err-learn_all-clause-sweeps c =
-    subst (λ (r : Result ℕ Fault). Sweeps c.args.at (is_ok r) c.args.self.now c.learn_all.new.self) (sym (err_from_is_err_and c.from_residual-in_err-learn_all.result c.from_residual-in_err-learn_all.ensures.1).1)
+    subst (λ (r : Result ℕ AllocError). Sweeps c.args.at (is_ok r) c.args.self.now c.learn_all.new.self) (sym (err_from_is_err_and c.from_residual-in_err-learn_all.result c.from_residual-in_err-learn_all.ensures.1).1)
     (lesson_refused c.args.self.now c.let_expire.new.self c.learn_all.new.self c.in_ok-let_expire.ensures.expires
-    (subst (λ (r : Result (Unit {0}) Fault). LearnsAll 0 (is_ok r) c.let_expire.new.self c.learn_all.new.self) c.in_err-learn_all.was c.learn_all.ensures.learns))
+    (subst (λ (r : Result (Unit {0}) AllocError). LearnsAll 0 (is_ok r) c.let_expire.new.self c.learn_all.new.self) c.in_err-learn_all.was c.learn_all.ensures.learns))
 
 pub returns-in_err-deliver_all-clause-sweeps : goal.returns-in_err-deliver_all-clause-sweeps
 returns-in_err-deliver_all-clause-sweeps c =
-    subst (λ (r : Result ℕ Fault). Sweeps c.args.at (is_ok r) c.args.self.now c.deliver_all.new.self) (sym (err_from_is_err_and c.from_residual-in_err-deliver_all.result c.from_residual-in_err-deliver_all.ensures.1).1)
+    subst (λ (r : Result ℕ AllocError). Sweeps c.args.at (is_ok r) c.args.self.now c.deliver_all.new.self) (sym (err_from_is_err_and c.from_residual-in_err-deliver_all.result c.from_residual-in_err-deliver_all.ensures.1).1)
     (swept false c.args.self.now c.let_expire.new.self c.learn_all.new.self c.deliver_all.new.self c.in_ok-let_expire.ensures.expires c.in_ok-learn_all.ensures.learns
     (subst (λ (n : HubSettings). DeliversAll 0 (participants n) false c.learn_all.new.self c.deliver_all.new.self)
     (c.learn_all.ensures.later.settings ∙ c.let_expire.ensures.later.settings)
-    (subst (λ (r : Result (Unit {0}) Fault). DeliversAll 0 (participants c.learn_all.new.self.slot.settings) (is_ok r) c.learn_all.new.self c.deliver_all.new.self) c.in_err-deliver_all.was c.deliver_all.ensures.delivers)))
+    (subst (λ (r : Result (Unit {0}) AllocError). DeliversAll 0 (participants c.learn_all.new.self.slot.settings) (is_ok r) c.learn_all.new.self c.deliver_all.new.self) c.in_err-deliver_all.was c.deliver_all.ensures.delivers)))
 
 pub returns-clause-sweeps : goal.returns-clause-sweeps
 returns-clause-sweeps c =

@@ -30,7 +30,6 @@ returns-in_ok-insert-in-Taken c = record {
       let e = c.in-Taken in
       subst (λ event. AreKept (front ++ event ∷ []) c.insert.new.self c.args.self.now.forwarded) (sym e.is)
       (kept_taken front e.id e.to e.cents e.stamp c.args.self.now.taken c.insert.new.self c.args.self.now.forwarded (subst (IsNew front) e.is new) c.in_ok-insert-in-Taken.ensures.updates kept);
-  only = tt;
 }
 
 pub returns-in_ok-insert-in-Forwarded : goal.returns-in_ok-insert-in-Forwarded
@@ -39,7 +38,6 @@ returns-in_ok-insert-in-Forwarded c = record {
       let e = c.in-Forwarded in
       subst (λ event. AreKept (front ++ event ∷ []) c.args.self.now.taken c.insert-in-Forwarded.new.self) (sym e.is)
       (kept_forwarded front e.from e.id e.cents e.deadline c.args.self.now.taken c.args.self.now.forwarded c.insert-in-Forwarded.new.self (subst (IsNew front) e.is new) c.in_ok-insert-in-Forwarded.ensures.updates kept);
-  only = tt;
 }
 
 pub returns-in_default : goal.returns-in_default
@@ -47,5 +45,4 @@ returns-in_default c = record {
   kept = λ front new kept.
       kept_other front c.args.event.now c.args.self.now.taken c.args.self.now.forwarded
       (λ id. none_sent c.args.event.now c.in_default.not-Taken id) (λ from id. none_came c.args.event.now c.in_default.not-Forwarded from id) kept;
-  only = tt;
 }

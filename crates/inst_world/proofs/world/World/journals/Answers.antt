@@ -30,14 +30,16 @@ loop-who-preserved c =
       ];
     }
 
-pub returns-clause-ok : goal.returns-clause-ok
-returns-clause-ok c =
+pub returns : goal.returns
+returns c =
     let inv = c.loop-who.invariant in
     let end : c.loop-who.who ≡ c.participants-participants.result = omega arith in
     let all : c.loop-who.who ≡ participants c.args.self.now.board.settings = end ∙ c.participants-participants.ensures.value ∙ ap participants c.settings.ensures in
-    λ O L was. record {
-      one_each = inv.one_each ∙ all;
-      same = λ p one.
-          let less : p < c.loop-who.who = omega (arith, ltb-true p (participants c.args.self.now.board.settings) one) in
-          inv.same p less ∙ inv.histories p less O L was;
+    record {
+      ok = λ O L was. record {
+        one_each = inv.one_each ∙ all;
+        same = λ p one.
+            let less : p < c.loop-who.who = omega (arith, ltb-true p (participants c.args.self.now.board.settings) one) in
+            inv.same p less ∙ inv.histories p less O L was;
+      };
     }

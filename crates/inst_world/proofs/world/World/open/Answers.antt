@@ -14,9 +14,11 @@ invariant_of-result c =
     let books = c.in_ok-slots.slots.items in
     (new_hub b u.1 books are, u.0, subst IsSettings (sym (u.0 ∙ c.in_ok-settings.ensures.ok)) c.copy.ensures.lawful, (First, [], new_has_run b u.1 books are))
 
-pub returns-clause-ok : goal.returns-clause-ok
-returns-clause-ok c =
+pub returns : goal.returns
+returns c =
     let b = c.in_ok-board.board in
     let u = c.in_ok-board.ensures.unused in
     let are = c.in_ok-slots.ensures.ok ∙ ap (λ (s : HubSettings). new_books s (participants s)) (sym u.0) in
-    (u.0 ∙ c.in_ok-settings.ensures.ok, new_has_run b u.1 c.in_ok-slots.slots.items are)
+    record {
+      ok = (u.0 ∙ c.in_ok-settings.ensures.ok, new_has_run b u.1 c.in_ok-slots.slots.items are);
+    }

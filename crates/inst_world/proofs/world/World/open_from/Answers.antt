@@ -33,12 +33,14 @@ invariant_of-result c =
       (opening_from c.args.journals.now, [], has_run_none s (books_of c.args.journals.now) can first opened hub a.finds a.hub),
     )
 
-pub returns-clause-ok : goal.returns-clause-ok
-returns-clause-ok c =
+pub returns : goal.returns
+returns c =
     let s = c.in_ok-settings.settings in
     let can = subst (λ (t : HubSettings). BooksCanOpen t (books_of c.args.journals.now)) (sym c.in_ok-settings.ensures.ok) c.requires.journals.books in
     let first : Hub = record { books = c.in_ok-slots.slots.items; board = c.open_slots.new.board } in
     let hub : Hub = record { books = c.adopt_all.new.slots.items; board = c.adopt_all.new.board } in
     let opened = c.in_ok-slots.ensures.ok in
     let a = c.adopt_all.ensures in
-    (a.finds.settings_are ∙ opened.settings_are ∙ c.in_ok-settings.ensures.ok, has_run_none s (books_of c.args.journals.now) can first opened hub a.finds a.hub)
+    record {
+      ok = (a.finds.settings_are ∙ opened.settings_are ∙ c.in_ok-settings.ensures.ok, has_run_none s (books_of c.args.journals.now) can first opened hub a.finds a.hub);
+    }

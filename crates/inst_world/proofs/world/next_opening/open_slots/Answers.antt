@@ -39,7 +39,9 @@ loop-who-preserved c =
     next_opened c.args.settings.now (books_of c.args.journals.now) c.loop-who.who c.loop-who.slots.items c.push.new.self.items c.loop-who.board c.open_from.new.board c.in_ok-open_from.field-0
     c.loop-who.invariant c.in_ok-push.ensures.items is f.opens f.lawful e.others e.stays
 
-pub returns-clause-ok : goal.returns-clause-ok
-returns-clause-ok c =
+pub returns : goal.returns
+returns c =
     let all : c.loop-who.who ≡ participants c.args.settings.now = omega arith in
-    subst (λ n. AreOpenedAgain c.args.settings.now (books_of c.args.journals.now) n (record { books = c.loop-who.slots.items; board = c.loop-who.board })) all c.loop-who.invariant
+    record {
+      ok = subst (λ n. AreOpenedAgain c.args.settings.now (books_of c.args.journals.now) n (record { books = c.loop-who.slots.items; board = c.loop-who.board })) all c.loop-who.invariant;
+    }

@@ -1,0 +1,69 @@
+-- What the calls of C do to the hub of a handle, and which status they answer. This hub's own choice.
+use Rattle.std.specs.Prelude.{◌≡◌, ◌⊎◌, ◌<◌, ◌≤◌, ℕ, false, List, [], ◌++◌, length, drop, Option, Some, None}
+use Rattle.inst_base.specs.Fault.{number_of}
+use Rattle.inst_base.specs.declared.fault.Fault.TheVariants.{BadSettings, Memory}
+use Rattle.inst_settings.specs.Settings.{HubSettings}
+use Rattle.inst_lines.specs.declared.mode.Mode.{Mode}
+use Rattle.inst_lines.specs.Answers.{AnswersLine}
+use Rattle.inst_lines.specs.Answering.{answering, Keeps}
+use Rattle.inst_c.specs.declared.hub.Hub.{Hub}
+use Rattle.inst_c.specs.declared.calls.Told.{Told}
+use Rattle.inst_c.specs.Hub.{HasOpened}
+use Rattle.inst_c.specs.Chosen.{AreOfAHub}
+
+-- all went well
+abbrev pub done : ℕ
+done = 0
+
+-- the handle has no open hub
+abbrev pub closed : ℕ
+closed = 100
+
+-- it has one already
+abbrev pub still_open : ℕ
+still_open = 101
+
+-- the buffer has no room for the whole reply
+abbrev pub short : ℕ
+short = 102
+
+-- a hub of these settings has opened
+pub record HasOpenedOf (s : HubSettings) (mode : Mode) (new : Option Hub) : Type 0 where
+  pub hub : Hub
+  pub is : new ≡ Some hub
+  pub opened : HasOpened mode s hub
+  pub good : AreOfAHub s
+
+-- a hub opens where none is open, if it can have the settings and there is memory for it
+abbrev pub Opens : HubSettings → Mode → Option Hub → Option Hub → ℕ → Type 0
+Opens s mode (Some hub) new status = (status ≡ still_open) × (new ≡ Some hub)
+Opens s mode None new status =
+    ((status ≡ done) × HasOpenedOf s mode new)
+    ⊎ (((status ≡ number_of Memory) × (new ≡ None))
+    ⊎ ((status ≡ number_of BadSettings) × ((new ≡ None) × ¬ (AreOfAHub s))))
+
+-- the hub has answered the line: as the model does, whatever it had gone through
+pub record HasAnswered (line : List ℕ) (old : Hub) (new : Option Hub) (told : Told) : Type 0 where
+  pub hub : Hub
+  pub is : new ≡ Some hub
+  pub mode_is : hub.mode ≡ old.mode
+  pub answers : AnswersLine (answering old.mode) (Keeps old.mode) false line old.runner hub.runner [] hub.reply.items told.is_refused
+  pub length_is : told.length ≡ length hub.reply.items
+
+-- a line is answered where a hub is open; where there is no memory for that, the hub is closed
+abbrev pub Answers : List ℕ → Option Hub → Option Hub → Told → Told → ℕ → Type 0
+Answers line None new was told status = (status ≡ closed) × ((new ≡ None) × (told ≡ was))
+Answers line (Some hub) new was told status =
+    ((status ≡ done) × HasAnswered line hub new told)
+    ⊎ ((status ≡ number_of Memory) × ((new ≡ None) × (told ≡ was)))
+
+-- bytes are copied to the front of a buffer, or nothing where it has no room for all of them
+abbrev pub CopiesBytes : List ℕ → List ℕ → List ℕ → ℕ → Type 0
+CopiesBytes bytes old new status =
+    ((status ≡ done) × ((length bytes ≤ length old) × (new ≡ bytes ++ drop (length bytes) old)))
+    ⊎ ((status ≡ short) × ((length old < length bytes) × (new ≡ old)))
+
+-- so is the last reply of the hub that is open
+abbrev pub Copies : Option Hub → List ℕ → List ℕ → ℕ → Type 0
+Copies None old new status = (status ≡ closed) × (new ≡ old)
+Copies (Some hub) old new status = CopiesBytes hub.reply.items old new status

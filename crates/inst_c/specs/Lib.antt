@@ -1,0 +1,4 @@
+pub mod Hub
+pub mod Held
+pub mod Chosen
+pub mod Calls

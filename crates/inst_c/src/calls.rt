@@ -1,0 +1,124 @@
+//! What C calls. The header `inst.h` says what each call is given, and what it answers.
+ghost use Rattle.std.specs.Prelude.{◌≡◌, IfOk, IfErr, None, if◌then◌else◌};
+ghost use Rattle.inst_c.specs.Hub.{HasOpened};
+ghost use Rattle.inst_c.specs.Held.{is_some};
+ghost use Rattle.inst_c.specs.Chosen.{chosen, mode_of, AreOfAHub, IsRefusal};
+ghost use Rattle.inst_c.specs.Calls.{Opens, Answers, Copies, CopiesBytes};
+
+use crate::chosen::{Chosen, mode};
+use crate::handle::Handle;
+use crate::hub::Hub;
+use crate::status::{CLOSED, DONE, SHORT, STILL_OPEN};
+use inst_base::Fault;
+use std::alloc::Global;
+
+/// How a line was answered.
+#[repr(C)]
+#[derive(Clone, Copy)]
+pub struct Told {
+    /// How many bytes the reply has, its newline among them.
+    pub length: usize,
+    /// Whether the reply is a refusal.
+    pub is_refused: bool,
+}
+
+/// Opens a hub for the first time.
+#[unsafe(no_mangle)]
+pub extern "C" fn inst_open(
+    alloc: Global,
+    handle: &mut Handle,
+    participants: &[u8],
+    settings: &Chosen,
+    is_play: bool,
+) -> u32
+    ensures { Opens (chosen participants.now settings.now) (mode_of is_play) handle.old.held.hub handle.new.held.hub result }
+{
+    if handle.is_open {
+        return STILL_OPEN;
+    }
+    match opened(alloc, participants, settings, is_play) {
+        Ok(hub) => {
+            handle.put(hub);
+            DONE
+        }
+        Err(fault) => u32::from(fault.number()),
+    }
+}
+
+/// A hub of these settings.
+fn opened(
+    alloc: Global,
+    participants: &[u8],
+    settings: &Chosen,
+    is_play: bool,
+) -> Result<Box<Hub>, Fault>
+    ensures opened { IfOk result (λ hub. HasOpened (mode_of is_play) (chosen participants.now settings.now) hub.value) }
+    ensures good { IfOk result (λ _. AreOfAHub (chosen participants.now settings.now)) }
+    ensures fault { IfErr result (IsRefusal (chosen participants.now settings.now)) }
+{
+    let settings = settings.settings(alloc, participants)?;
+    let hub = Hub::open(alloc, mode(is_play), &settings)?;
+    Ok(Box::new(alloc, hub)?)
+}
+
+/// Answers a line. The hub keeps the reply.
+#[unsafe(no_mangle)]
+pub extern "C" fn inst_answer(
+    alloc: Global,
+    handle: &mut Handle,
+    line: &[u8],
+    told: &mut Told,
+) -> u32
+    ensures { Answers line.now handle.old.held.hub handle.new.held.hub told.old told.new result }
+{
+    let Some(mut hub) = handle.take(alloc) else {
+        return CLOSED;
+    };
+    // Where memory was refused, the hub is let go.
+    let Ok(is_refused) = hub.answer(line) else {
+        return u32::from(Fault::Memory.number());
+    };
+    *told = Told {
+        length: hub.reply.len(),
+        is_refused,
+    };
+    handle.put(hub);
+    DONE
+}
+
+/// Copies the last reply to the front of a buffer.
+#[unsafe(no_mangle)]
+pub extern "C" fn inst_reply(alloc: Global, handle: &mut Handle, buffer: &mut [u8]) -> u32
+    ensures hub { handle.new.held.hub ≡ handle.old.held.hub }
+    ensures buffer { Copies handle.old.held.hub buffer.old buffer.new result }
+{
+    let Some(hub) = handle.take(alloc) else {
+        return CLOSED;
+    };
+    let status = copy(&hub.reply, buffer);
+    handle.put(hub);
+    status
+}
+
+/// Copies these bytes to the front of a buffer, if there is room for all of them.
+fn copy(bytes: &[u8], buffer: &mut [u8]) -> u32
+    ensures { CopiesBytes bytes.now buffer.old buffer.new result }
+{
+    if buffer.len() < bytes.len() {
+        return SHORT;
+    }
+    buffer[..bytes.len()].copy_from_slice(bytes);
+    DONE
+}
+
+/// Closes the hub, and frees all that it had.
+#[unsafe(no_mangle)]
+pub extern "C" fn inst_close(alloc: Global, handle: &mut Handle) -> u32
+    ensures none { handle.new.held.hub ≡ None }
+    ensures status { result ≡ (if is_some handle.old.held.hub then DONE else CLOSED) }
+{
+    match handle.take(alloc) {
+        Some(_) => DONE,
+        None => CLOSED,
+    }
+}

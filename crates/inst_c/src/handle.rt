@@ -1,0 +1,44 @@
+//! The handle that C has of a hub.
+ghost use Rattle.std.specs.Prelude.{◌≡◌, Some, None};
+ghost use Rattle.inst_c.specs.Held.{is_some, Takes};
+
+use crate::held::Held;
+use crate::hub::Hub;
+use std::alloc::Global;
+use std::mem;
+
+/// A hub, if one is open. In C it is a struct of a pointer and a `bool`, which begins with all bytes 0.
+#[repr(C)]
+#[derive(Drop)]
+pub struct Handle {
+    pub held: Held,
+    /// Whether a hub is open.
+    pub is_open: bool,
+    ghost same: { is_open ≡ is_some held.hub },
+}
+
+impl Handle {
+    /// Takes the hub, if one is open. The handle has none then.
+    pub fn take(&mut self, alloc: Global) -> Option<Box<Hub>>
+        ensures taken { Takes self.old.held.hub result }
+        ensures none { self.new.held.hub ≡ None }
+    {
+        let none = Handle {
+            held: Held::none(alloc),
+            is_open: false,
+        };
+        let Handle { held, is_open } = mem::replace(self, none);
+        if is_open { Some(held.into_box()) } else { None }
+    }
+
+    /// Has this hub from now on.
+    pub fn put(&mut self, hub: Box<Hub>)
+        requires { self.old.held.hub ≡ None }
+        ensures { self.new.held.hub ≡ Some hub.value }
+    {
+        *self = Handle {
+            held: Held::of(hub),
+            is_open: true,
+        };
+    }
+}

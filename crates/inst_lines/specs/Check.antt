@@ -1,0 +1,57 @@
+-- What is told of lines that no hub takes, before any hub answers them. The text is this hub's own choice.
+use Rattle.std.specs.Prelude.{◌≡◌, ℕ, ◌+◌, List, [], ◌∷◌, ◌++◌, Option, Some, None, Result, Ok, Err, if◌then◌else◌, codes}
+use Rattle.std.specs.Fmt.{decimal}
+use Rattle.std.specs.Io.KnownBytes.{Appends}
+use Rattle.inst_base.specs.Fault.{number_of, name_of}
+use Rattle.inst_base.specs.declared.fault.Fault.TheVariants.{LineTooLong}
+use Rattle.inst_settings.specs.Settings.{HubSettings}
+use Rattle.inst_json.specs.Lines.{ask_of_line}
+use Rattle.inst_json.specs.Name.{text_of}
+use Rattle.inst_json.specs.declared.name.Name.{Name}
+use Rattle.inst_json.specs.declared.refusal.Refusal.{Refusal}
+use Rattle.inst_lines.specs.Answers.{is_too_long}
+use Rattle.inst_lines.specs.Lines.{newline, lines_of}
+use Rattle.inst_lines.specs.Replies.{WritesPart}
+
+-- why something is refused, if it is
+abbrev pub refusal_in : {A : Type 0} → Result A Refusal → Option Refusal
+refusal_in (Ok x) = None
+refusal_in (Err refusal) = Some refusal
+
+-- why a command line is refused by itself, if it is
+abbrev pub refusal_of : HubSettings → List ℕ → Option Refusal
+refusal_of s line =
+    if is_too_long line then Some (record { fault = LineTooLong; field = None }) else refusal_in (ask_of_line s line)
+
+-- where it is wrong
+abbrev pub field_text : Option Name → List ℕ
+field_text None = []
+field_text (Some name) = codes " in \"" ++ text_of name ++ codes "\""
+
+-- the line that tells of a refusal of the line of this number
+abbrev pub refusal_text : ℕ → Refusal → List ℕ
+refusal_text n refusal =
+    ((((((codes "line " ++ decimal n) ++ codes ": fault ") ++ decimal (number_of refusal.fault)) ++ codes " ")
+    ++ name_of refusal.fault) ++ field_text refusal.field) ++ newline ∷ []
+
+-- the same, if it is refused
+abbrev pub told_if : ℕ → Option Refusal → List ℕ
+told_if n None = []
+told_if n (Some refusal) = refusal_text n refusal
+
+-- what is told of the line of this number
+abbrev pub told_line : HubSettings → ℕ → List ℕ → List ℕ
+told_line s n line = told_if n (refusal_of s line)
+
+-- what is told of lines, of which the first has this number
+abbrev pub told_lines : HubSettings → ℕ → List (List ℕ) → List ℕ
+told_lines s n [] = []
+told_lines s n (line ∷ lines) = told_line s n line ++ told_lines s (n + 1) lines
+
+-- what is told of the lines of some bytes
+abbrev pub told_of : HubSettings → List ℕ → List ℕ
+told_of s bytes = told_lines s 1 (lines_of bytes)
+
+-- no more than a front of it is written
+abbrev pub TellsPart : HubSettings → List ℕ → Option (List ℕ) → Option (List ℕ) → Type 0
+TellsPart s bytes before after = WritesPart before after (told_of s bytes)

@@ -1,0 +1,138 @@
+//! What is wrong with lines by themselves, before any hub answers them.
+ghost use Rattle.std.specs.Prelude.{◌≡◌, ◌<◌, ◌⊎◌, ◌++◌, OnOk, IfOk, IfErr, IfSome, OnErr};
+ghost use Rattle.std.specs.Io.KnownBytes.{Appends, IsAtEnd};
+ghost use Rattle.inst_lines.specs.Check.{refusal_of, refusal_text, field_text, told_line, told_lines, told_of, TellsPart};
+ghost use Rattle.inst_lines.specs.Lines.{lines_of};
+
+use crate::limits::MOST_LINE_BYTES;
+use crate::line_buffer::find_newline;
+use crate::replies::ReplyBuffer;
+use inst_base::Fault;
+use inst_json::piece::{push_number, push_text};
+use inst_json::{LineReader, Name, Refusal};
+use inst_settings::Settings;
+use std::alloc::{AllocError, Global};
+use std::io::{ErrorKind, Read, Write};
+
+/// Tells of each command line that the reader gives and that no hub of these settings takes, one line each to the
+/// writer: its number from 1, the fault, and the field that is missing or wrong, as in
+/// `line 3: fault 4 BadAmount in "cents"`. What a hub refuses by its books isn't told. All is read before anything is
+/// written, and held in memory.
+///
+/// `ReadFault` comes where a read fails, `Memory` where there is none, and nothing is written then; `WriteFault` where
+/// a write fails or takes no byte.
+pub fn check_lines<R: Read, W: Write>(
+    alloc: Global,
+    settings: &Settings,
+    reader: &mut R,
+    writer: &mut W,
+) -> Result<(), Fault>
+    ensures end { OnOk result (IsAtEnd (R.remaining reader.new)) }
+    ensures told { OnOk result (IfSome (R.remaining reader.old) (λ bytes.
+        Appends (W.contents writer.old) (W.contents writer.new) (told_of settings.now bytes))) }
+    ensures err { OnErr result (IfSome (R.remaining reader.old) (λ bytes.
+        TellsPart settings.now bytes (W.contents writer.old) (W.contents writer.new))) }
+    ensures only { IfErr result (λ fault. (fault ≡ Fault.Memory) ⊎ ((fault ≡ Fault.ReadFault) ⊎ (fault ≡ Fault.WriteFault))) }
+{
+    let mut input = Vec::new(alloc);
+    read_all(reader, &mut input)?;
+    let mut replies = ReplyBuffer::new(alloc);
+    tell_lines(alloc, settings, &input, &mut replies.bytes)?;
+    replies.deliver(writer)
+}
+
+/// Reads all that a reader gives. `Memory` where there is no room for it, and else `ReadFault`.
+fn read_all<R: Read>(reader: &mut R, input: &mut Vec<u8>) -> Result<(), Fault>
+    ensures end { OnOk result (IsAtEnd (R.remaining reader.new)) }
+    ensures bytes { OnOk result (IfSome (R.remaining reader.old) (λ bytes. input.new.items ≡ input.old.items ++ bytes)) }
+    ensures only { IfErr result (λ fault. (fault ≡ Fault.Memory) ⊎ (fault ≡ Fault.ReadFault)) }
+{
+    match reader.read_to_end(input) {
+        Ok(_) => Ok(()),
+        Err(error) if error.kind() == ErrorKind::OutOfMemory => Err(Fault::Memory),
+        Err(_) => Err(Fault::ReadFault),
+    }
+}
+
+/// Tells of the lines of an input at the end of `out`.
+fn tell_lines(
+    alloc: Global,
+    settings: &Settings,
+    input: &[u8],
+    out: &mut Vec<u8>,
+) -> Result<(), AllocError>
+    ensures { OnOk result (out.new.items ≡ out.old.items ++ told_of settings.now input.now) }
+{
+    let mut reader = LineReader::new(alloc);
+    let mut number = 0;
+    let mut rest = input;
+    while let Some(len) = find_newline(rest) {
+        number += 1;
+        tell_line(&mut reader, settings, number, &rest[..len], out)?;
+        rest = &rest[len + 1..];
+    }
+    if rest.is_empty() {
+        return Ok(());
+    }
+    tell_line(&mut reader, settings, number + 1, rest, out)
+}
+
+/// Tells at the end of `out` why the line of this number is refused, if it is.
+fn tell_line(
+    reader: &mut LineReader,
+    settings: &Settings,
+    number: usize,
+    line: &[u8],
+    out: &mut Vec<u8>,
+) -> Result<(), AllocError>
+    ensures { OnOk result (out.new.items ≡ out.old.items ++ told_line settings.now number line.now) }
+{
+    match refusal_of(reader, settings, line)? {
+        Some(refusal) => push_refusal(number, refusal, out),
+        None => Ok(()),
+    }
+}
+
+/// Why a command line is refused by itself, if it is.
+fn refusal_of(
+    reader: &mut LineReader,
+    settings: &Settings,
+    line: &[u8],
+) -> Result<Option<Refusal>, AllocError>
+    ensures { IfOk result (λ refusal. refusal ≡ refusal_of settings.now line.now) }
+{
+    if line.len() > MOST_LINE_BYTES {
+        return Ok(Some(Refusal::from(Fault::LineTooLong)));
+    }
+    match reader.read_ask(settings, line) {
+        Ok(_) => Ok(None),
+        Err(refusal) if refusal.fault == Fault::Memory => Err(AllocError),
+        Err(refusal) => Ok(Some(refusal)),
+    }
+}
+
+/// Puts the line that tells of a refusal at the end of `out`.
+fn push_refusal(number: usize, refusal: Refusal, out: &mut Vec<u8>) -> Result<(), AllocError>
+    ensures { OnOk result (out.new.items ≡ out.old.items ++ refusal_text number refusal) }
+{
+    push_text(out, "line ")?;
+    push_number(out, number as u64)?;
+    push_text(out, ": fault ")?;
+    push_number(out, u64::from(refusal.fault.number()))?;
+    push_text(out, " ")?;
+    push_text(out, refusal.fault.name())?;
+    push_field(refusal.field, out)?;
+    push_text(out, "\n")
+}
+
+/// Puts at the end of `out` by which field a line is refused, if it is by one.
+fn push_field(field: Option<Name>, out: &mut Vec<u8>) -> Result<(), AllocError>
+    ensures { OnOk result (out.new.items ≡ out.old.items ++ field_text field) }
+{
+    let Some(field) = field else {
+        return Ok(());
+    };
+    push_text(out, " in \"")?;
+    push_text(out, field.as_str())?;
+    push_text(out, "\"")
+}

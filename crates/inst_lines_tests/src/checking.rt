@@ -1,0 +1,69 @@
+// What is told of lines by themselves, and a hub that has answered lines.
+use inst_agenda::Runner;
+use inst_base::Moment;
+use inst_command::{Answer, Ask, Command, Reply, Step};
+use inst_lines::{Counts, Mode, check_lines, serve_lines};
+use inst_rows::{A, settings};
+use std::test::Fail;
+
+/// Five lines, the last one without a newline, of which the second and the fourth are no commands.
+const LINES: &str = r#"{"at":0,"cents":500,"cmd":"fund","ref":"F1","who":"AAAADEFF"}
+{"at":0,"cents":500,"cmd":"fund","who":"AAAADEFF"}
+{"at":0,"cents":500,"cmd":"submit","id":"T1","stamp":0,"to":"BBBBFRPP","who":"AAAADEFF"}
+
+{"at":10,"cents":100,"cmd":"defund","ref":"D1","who":"AAAADEFF"}"#;
+
+const TOLD: &str = "line 2: fault 2 BadField in \"ref\"\nline 4: fault 1 NotJson\n";
+
+#[test]
+fn tells_the_field_of_each_refused_line(rt: HostRuntime) -> Result<(), Fail> {
+    let alloc = rt.alloc();
+    let settings = settings(alloc)?;
+    let mut told = Vec::new(alloc);
+    check_lines(alloc, &settings, &mut LINES.as_bytes(), &mut told)?;
+    assert_eq!(rt; told.as_slice(), TOLD.as_bytes());
+    Ok(())
+}
+
+/// What the first participant is answered that asks for its position: that, what is reserved and what is available.
+fn money_of(runner: &mut Runner) -> Result<[u64; 3], Fail> {
+    let step = Step::Ask(Ask {
+        who: A,
+        command: Command::Position,
+        at: Moment::new(0, 0)?,
+    });
+    if !step.fits(runner.settings()) {
+        return Ok([0; 3]);
+    }
+    match runner.step(&step)? {
+        Answer::Reply(
+            Reply::Position {
+                position,
+                reserved,
+                available,
+            },
+        ) => Ok([position, reserved, available]),
+        _ => Ok([0; 3]),
+    }
+}
+
+#[test]
+fn leaves_the_hub_that_answered(rt: HostRuntime) -> Result<(), Fail> {
+    let alloc = rt.alloc();
+    let settings = settings(alloc)?;
+    let mut replies = Vec::new(alloc);
+    let mut served = serve_lines(
+        alloc,
+        Mode::Run,
+        &settings,
+        &mut LINES.as_bytes(),
+        &mut replies,
+    )?;
+    let counts = Counts {
+        lines: 5,
+        refused: 3,
+    };
+    assert_eq!(rt; served.counts, counts);
+    assert_eq!(rt; money_of(&mut served.runner)?, [500, 500, 0]);
+    Ok(())
+}
