@@ -1,0 +1,73 @@
+// Boards, slots over them, and values behind locks.
+ghost use Rattle.std.specs.Prelude.{◌≡◌, ◌<◌, true};
+ghost use Rattle.inst_command.specs.Ask.{ask_fits};
+ghost use Rattle.inst_board.specs.declared.about.About.TheVariants.{Opened};
+ghost use Rattle.inst_board.specs.declared.wish.Wish.TheVariants.{Accept};
+ghost use Rattle.inst_board.specs.Standing.{about};
+ghost use Rattle.inst_board.specs.Learning.{MayDecide};
+ghost use Rattle.inst_slot.specs.LawfulBoard.{IsLawfulBoard, AllAreAdopted};
+ghost use Rattle.inst_slot.specs.Asking.{AsksAdopted};
+ghost use Rattle.inst_cell.specs.Held.{AtOneTable, knows};
+ghost use Rattle.inst_cell.specs.Seen.{board_of};
+ghost use Rattle.inst_row.specs.Row.{row_id, key_of, size};
+ghost use Rattle.inst_row.specs.Seated.{IsOn, IsFree};
+
+use inst_base::{Fault, Moment};
+use inst_board::{Board, Look, Place, Wish};
+use inst_cell::{SharedBoard, Teller};
+use inst_command::{Ask, Outcome, Reply, State};
+use inst_row::{Lawful, LockRow, RowSeat};
+use inst_slot::Slot;
+use std::sync::Wait;
+
+/// What becomes of a place that its beneficiary accepts.
+pub fn board<B: Board>(board: &mut B, place: Place, at: Moment) -> (Option<Outcome>, Look)
+    requires { MayDecide B.knows B.has_role board.old place Accept }
+{
+    let outcome = board.decide(place, Wish::Accept, at); // what stands from now on, if anything
+    let look = board.look(place); // `Decided` with that outcome, or still `Pending`
+    (outcome, look)
+}
+
+/// What a slot answers, and what it is told and lets expire afterwards.
+pub fn slot<B: Board>(
+    slot: &mut Slot,
+    board: &mut B,
+    ask: &Ask,
+    place: Place,
+) -> Result<(Reply, u128), Fault>
+    requires own { ask.now.who ≡ slot.old.who }
+    requires fits { ask_fits slot.old.settings ask.now ≡ true }
+    requires lawful { IsLawfulBoard B.settings B.knows B.has_role board.old slot.old }
+    requires asked { AsksAdopted slot.old ask.now.command }
+    requires adopted { AllAreAdopted slot.old }
+{
+    let reply = slot.apply(board, ask)?; // or its refusal
+    slot.deliver(board, place)?; // true: a transfer of another's came
+    slot.learn(board, place)?; // true: an outcome was booked
+    slot.expire(board, 0, ask.at)?; // true: the first own transfer was decided and booked
+    Ok((reply, slot.position()))
+}
+
+/// What a teller sees of a place that it was told of.
+pub fn shared_board(board: &mut SharedBoard, teller: &mut Teller, place: Place) -> State
+    requires one { AtOneTable board.old (board_of teller.old) }
+    requires opened { knows board.old (about place Opened) }
+{
+    let ticket = board.tell(teller, place); // the teller knows what the board knows
+    teller.peek(&ticket) // `Pending` or `Decided`, never `Unused`
+}
+
+/// Takes the first lock of a row, and gives it back.
+pub fn row<T, E, K, L: Lawful<T, E, K>, R: Wait>(
+    rt: &R,
+    row: &LockRow<T, E, K, L>,
+    seat: &mut RowSeat<T, E, K>,
+)
+    requires on { IsOn (row_id row.now) (key_of row.now) seat.old }
+    requires some { 0 < size row.now }
+    requires free { IsFree seat.old }
+{
+    let value = row.take(rt, seat, 0); // waits for the first lock: its value keeps its law
+    row.give(seat, 0, value); // the same value, or one whose history goes on from it
+}

@@ -1,0 +1,85 @@
+// One participant's books, and the books of all.
+ghost use Rattle.std.specs.Prelude.{◌≡◌, true};
+ghost use Rattle.inst_command.specs.Ask.{command_fits};
+ghost use Rattle.inst_settings.specs.Settings.{is_participant};
+
+use inst_audit::can_open;
+use inst_base::{Cents, Fault, Ident, Moment};
+use inst_books::{BookFault, append_books, read_books};
+use inst_command::{Command, Line, Reply};
+use inst_journal::{Handled, Journal, reply_of};
+use inst_ledger::Ledger;
+use inst_settings::Settings;
+use inst_statement::statement;
+use inst_transfers::{Found, Transfers};
+use inst_world::World;
+use std::alloc::Global;
+
+/// What a participant would be answered, by its history alone.
+pub fn journal(
+    alloc: Global,
+    world: &World,
+    who: u8,
+    command: &Command,
+    at: Moment,
+) -> Result<(u128, Reply), Fault>
+    requires participant { is_participant world.now.board.settings who ≡ true }
+    requires fits { command_fits world.now.board.settings command.now ≡ true }
+{
+    let settings = world.settings();
+    let journal = world.journal(who); // kept events, a sound history
+    let available = journal.available();
+    let reply = reply_of(alloc, settings, who, journal, command, at, None)?;
+    Ok((available, reply))
+}
+
+/// The first ten lines of a participant's statement.
+pub fn statement_of(alloc: Global, world: &World, who: u8) -> Result<Vec<Line>, Fault>
+    requires participant { is_participant world.now.board.settings who ≡ true }
+{
+    let journal = world.journal(who);
+    let lines = statement(alloc, journal, 0, 10)?; // at most 10 lines, after the first 0
+    Ok(lines)
+}
+
+/// A transfer that was taken, found in the table.
+pub fn transfers(alloc: Global, stamp: Moment) -> Result<Option<Found>, Fault> {
+    let id = Ident::new("T1")?;
+    let mut table = Transfers::new(alloc, 0); // of participant 0
+    table.reserve()?; // room for one more
+    table.take(id, 1, Cents::new(20_000)?, stamp);
+    Ok(table.find(0, &id)) // its side, amount and outcome, with its position
+}
+
+/// What a ledger answers, and keeps.
+pub fn ledger(
+    alloc: Global,
+    ledger: &mut Ledger,
+    command: &Command,
+    at: Moment,
+) -> Result<Reply, Fault> {
+    if !command.fits(ledger.settings()) {
+        return Err(Fault::BadField);
+    }
+    let Handled { reply, kept } = ledger.handle(alloc, command, at, None)?; // or its refusal
+    if let Some(event) = kept {
+        ledger.keep(event)?;
+    }
+    Ok(reply)
+}
+
+/// Books that were read, as text again.
+pub fn books(alloc: Global, settings: &Settings, text: &[u8]) -> Result<Vec<u8>, BookFault> {
+    let journals = read_books(alloc, settings, text)?; // or `BadLine`
+    let mut lines = Vec::new(alloc);
+    append_books(settings, &journals, &mut lines)?; // one event a line
+    Ok(lines)
+}
+
+/// A hub that opens from journals, if it may.
+pub fn audit(alloc: Global, settings: &Settings, journals: &[Journal]) -> Result<World, Fault> {
+    if !can_open(alloc, settings, journals)? {
+        return Err(Fault::BadSettings);
+    }
+    Ok(World::open_from(alloc, settings, journals)?)
+}

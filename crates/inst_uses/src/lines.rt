@@ -1,0 +1,51 @@
+// The hub in one thread: step by step, and line by line.
+ghost use Rattle.std.specs.Prelude.{◌≡◌, true};
+ghost use Rattle.inst_command.specs.Ask.{ask_fits};
+
+use inst_agenda::{Runner, follow_up};
+use inst_base::Fault;
+use inst_command::{Answer, Ask, Reply, Step};
+use inst_json::{read_command, write_reply};
+use inst_lines::{Counts, run_lines};
+use inst_settings::Settings;
+use inst_world::World;
+use std::alloc::{AllocError, Global};
+use std::io::{Read, Write};
+
+/// The ask of a line, and the line of a refusal.
+pub fn json(alloc: Global, settings: &Settings, line: &[u8]) -> Result<(Ask, Vec<u8>), Fault> {
+    // The line is {"at":1000,"cmd":"position","who":"AAAADEFF"}.
+    let ask = read_command(alloc, settings, line)?; // participant 0 asks for its position
+    let reply = Reply::Refused(Fault::Shortage);
+    let text = write_reply(alloc, settings, &reply)?;
+    Ok((ask, text)) // {"fault":"Shortage","number":13,"reply":"refused"}
+}
+
+/// One step of a hub.
+pub fn world(world: &mut World, step: &Step) -> Result<Answer, Fault> {
+    if !step.fits(world.settings()) {
+        return Err(Fault::BadField);
+    }
+    let answer = world.step(step)?; // the reply of an ask, a refusal too, or whether it was new
+    Ok(answer)
+}
+
+/// An ask, and what follows from it.
+pub fn runner(runner: &mut Runner, ask: Ask) -> Result<Answer, AllocError>
+    requires { ask_fits runner.old.world.board.settings ask ≡ true }
+{
+    let answer = runner.ask(ask)?;
+    follow_up(runner, ask.at)?; // as if each live transfer had been gone over
+    Ok(answer)
+}
+
+/// A whole run of lines.
+pub fn run<R: Read, W: Write>(
+    alloc: Global,
+    settings: &Settings,
+    reader: &mut R,
+    writer: &mut W,
+) -> Result<Counts, Fault> {
+    let counts = run_lines(alloc, settings, reader, writer)?; // one reply for each line
+    Ok(counts) // how many lines there were, and how many were refused
+}

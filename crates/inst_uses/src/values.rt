@@ -1,0 +1,74 @@
+// Values, settings, asks, faults and codes.
+
+use inst_base::{Cents, Code, Fault, Ident, Moment};
+use inst_codes::codes;
+use inst_command::{Ask, Command, Submission};
+use inst_faults::fault_of;
+use inst_options::{Wish, wished};
+use inst_settings::{Numbers, Settings};
+use std::alloc::Global;
+
+/// A deadline, and whether a transfer is due by it.
+pub fn base() -> Result<(Cents, bool), Fault> {
+    let cents = Cents::new(20_000)?; // `BadAmount` at 0
+    let stamp = Moment::new(0, 1_000)?; // 1,000 ms past the base, which is 0 here
+    let at = Moment::new(0, 11_000)?;
+    if !stamp.has_deadline(10_000) {
+        return Err(Fault::BadMoment);
+    }
+    let deadline = stamp.deadline(10_000); // 11,000 ms past the base
+    Ok((cents, at.is_due(deadline))) // true
+}
+
+/// The settings of a hub of two participants.
+pub fn settings(alloc: Global) -> Result<Settings, Fault> {
+    let codes = vec![in alloc; Code::new("AAAADEFF")?, Code::new("BBBBFRPP")?]?;
+    let numbers = Numbers {
+        places: 1_024,
+        ..Numbers::DEFAULT
+    };
+    let settings = Settings::check(codes, numbers)?; // or `BadSettings`
+    let second = settings.index_of(&Code::new("BBBBFRPP")?); // Some(1)
+    second.ok_or(Fault::UnknownParticipant)?;
+    Ok(settings)
+}
+
+/// A submission of the first participant, which fits the hub.
+pub fn command(settings: &Settings, stamp: Moment) -> Result<Ask, Fault> {
+    let command = Command::Submit(Submission {
+        id: Ident::new("T1")?,
+        to: 1,
+        cents: Cents::new(20_000)?,
+        stamp,
+    });
+    let ask = Ask {
+        who: 0,
+        command,
+        at: stamp,
+    };
+    if !ask.fits(settings) {
+        return Err(Fault::BadField);
+    }
+    Ok(ask)
+}
+
+/// The number of a fault, with what to do about it.
+pub fn faults() -> Option<(u8, &'static str)> {
+    let fault = fault_of("Shortage")?; // or `fault_of("13")`
+    Some((fault.number(), fault.advice())) // 13
+}
+
+/// The codes of two participants.
+pub fn participants(alloc: Global) -> Result<Settings, Fault> {
+    let codes = codes(alloc, b"AAAADEFF,BBBBFRPP")?; // two codes, or `BadSettings`
+    Settings::check(codes, Numbers::DEFAULT)
+}
+
+/// The settings that the words of a command line choose for a run.
+pub fn options(alloc: Global, words: &[String]) -> Option<Settings> {
+    // The words are `run`, `--participants` and `AAAADEFF,BBBBFRPP`.
+    match wished(alloc, words) {
+        Ok(Wish::Run(settings, _, _)) => Some(settings), // two participants, and the defaults
+        _ => None, // they ask for something else, or for nothing, and the error says why
+    }
+}
