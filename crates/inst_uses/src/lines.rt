@@ -1,6 +1,7 @@
 // The hub in one thread: step by step, and line by line.
-ghost use Rattle.std.specs.Prelude.{◌≡◌, true};
+ghost use Rattle.std.specs.Prelude.{◌≡◌, true, IfOk};
 ghost use Rattle.inst_command.specs.Ask.{ask_fits};
+ghost use Rattle.inst_world.specs.HasRun.{IsOfModel};
 
 use inst_agenda::{Runner, follow_up};
 use inst_base::Fault;
@@ -13,7 +14,9 @@ use std::alloc::{AllocError, Global};
 use std::io::{Read, Write};
 
 /// The ask of a line, and the line of a refusal.
-pub fn json(alloc: Global, settings: &Settings, line: &[u8]) -> Result<(Ask, Vec<u8>), Fault> {
+pub fn json(alloc: Global, settings: &Settings, line: &[u8]) -> Result<(Ask, Vec<u8>), Fault>
+    ensures { IfOk result (λ r. ask_fits settings.now r.0 ≡ true) }
+{
     // The line is {"at":1000,"cmd":"position","who":"AAAADEFF"}.
     let ask = read_command(alloc, settings, line)?; // participant 0 asks for its position
     let reply = Reply::Refused(Fault::Shortage);
@@ -22,7 +25,9 @@ pub fn json(alloc: Global, settings: &Settings, line: &[u8]) -> Result<(Ask, Vec
 }
 
 /// One step of a hub.
-pub fn world(world: &mut World, step: &Step) -> Result<Answer, Fault> {
+pub fn world(world: &mut World, step: &Step) -> Result<Answer, Fault>
+    ensures { IfOk result (λ answer. IsOfModel world.old.board.settings step.now answer) }
+{
     if !step.fits(world.settings()) {
         return Err(Fault::BadField);
     }
@@ -34,8 +39,9 @@ pub fn world(world: &mut World, step: &Step) -> Result<Answer, Fault> {
 pub fn runner(runner: &mut Runner, ask: Ask) -> Result<Answer, AllocError>
     requires { ask_fits runner.old.world.board.settings ask ≡ true }
 {
+    let at = ask.at;
     let answer = runner.ask(ask)?;
-    follow_up(runner, ask.at)?; // as if each live transfer had been gone over
+    follow_up(runner, at)?; // as if each live transfer had been gone over
     Ok(answer)
 }
 

@@ -1,5 +1,5 @@
 // The hub that many threads use, and what stands round it.
-ghost use Rattle.std.specs.Prelude.{◌≡◌, ◌<◌, true, length, IfSome};
+ghost use Rattle.std.specs.Prelude.{◌≡◌, ◌<◌, true, length};
 ghost use Rattle.inst_command.specs.Ask.{ask_fits};
 ghost use Rattle.inst_model.specs.Opening.{Opening};
 ghost use Rattle.inst_cell.specs.Held.{AtOneTable};
@@ -21,7 +21,7 @@ use inst_hub::{Hub, Participant, Teller, Ungated};
 use inst_parts::Parts;
 use inst_settings::Settings;
 use std::alloc::{AllocError, Global};
-use std::io::{Write, empty, sink};
+use std::io::Write;
 use std::sync::Wait;
 use std::thread::Threads;
 

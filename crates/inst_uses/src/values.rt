@@ -1,15 +1,20 @@
 // Values, settings, asks, faults and codes.
+ghost use Rattle.std.specs.Prelude.{◌≡◌, true, IfOk};
+ghost use Rattle.inst_settings.specs.Settings.{participants};
+ghost use Rattle.inst_command.specs.Ask.{ask_fits};
 
-use inst_base::{Cents, Code, Fault, Ident, Moment};
+use inst_base::{Cents, Code, Fault, Moment};
 use inst_codes::codes;
-use inst_command::{Ask, Command, Submission};
+use inst_command::{Ask, Command};
 use inst_faults::fault_of;
 use inst_options::{Wish, wished};
 use inst_settings::{Numbers, Settings};
 use std::alloc::Global;
 
 /// A deadline, and whether a transfer is due by it.
-pub fn base() -> Result<(Cents, bool), Fault> {
+pub fn base() -> Result<(Cents, bool), Fault>
+    ensures { IfOk result (λ r. (r.0 ≡ 20000) × (r.1 ≡ true)) }
+{
     let cents = Cents::new(20_000)?; // `BadAmount` at 0
     let stamp = Moment::new(0, 1_000)?; // 1,000 ms past the base, which is 0 here
     let at = Moment::new(0, 11_000)?;
@@ -20,36 +25,30 @@ pub fn base() -> Result<(Cents, bool), Fault> {
     Ok((cents, at.is_due(deadline))) // true
 }
 
-/// The settings of a hub of two participants.
-pub fn settings(alloc: Global) -> Result<Settings, Fault> {
+/// The settings of a hub of two participants, and the number of the second.
+pub fn settings(alloc: Global) -> Result<(Settings, Option<u8>), Fault>
+    ensures { IfOk result (λ r. (participants r.0 ≡ 2) × (r.0.places ≡ 1024)) }
+{
     let codes = vec![in alloc; Code::new("AAAADEFF")?, Code::new("BBBBFRPP")?]?;
     let numbers = Numbers {
         places: 1_024,
         ..Numbers::DEFAULT
     };
     let settings = Settings::check(codes, numbers)?; // or `BadSettings`
-    let second = settings.index_of(&Code::new("BBBBFRPP")?); // Some(1)
-    second.ok_or(Fault::UnknownParticipant)?;
-    Ok(settings)
+    let second = settings.index_of(&Code::new("BBBBFRPP")?);
+    Ok((settings, second)) // Some(1)
 }
 
-/// A submission of the first participant, which fits the hub.
-pub fn command(settings: &Settings, stamp: Moment) -> Result<Ask, Fault> {
-    let command = Command::Submit(Submission {
-        id: Ident::new("T1")?,
-        to: 1,
-        cents: Cents::new(20_000)?,
-        stamp,
-    });
-    let ask = Ask {
-        who: 0,
-        command,
-        at: stamp,
-    };
+/// An ask of a participant that fits the hub.
+pub fn command(settings: &Settings, who: u8, at: Moment) -> Result<Ask, Fault>
+    ensures { IfOk result (λ ask. ask_fits settings.now ask ≡ true) }
+{
+    let command = Command::Fetch { max: 10 };
+    let ask = Ask { who, command, at };
     if !ask.fits(settings) {
-        return Err(Fault::BadField);
+        return Err(Fault::BadField); // no participant has this number
     }
-    Ok(ask)
+    Ok(ask) // the calls of the crates above ask for one that fits
 }
 
 /// The number of a fault, with what to do about it.
