@@ -24,6 +24,8 @@ pub struct Transfers {
     credits: u128,
     debits: u128,
     waiting: usize,
+    /// Where the table holds the transfer that was entered or booked last.
+    last: usize,
 }
 
 impl Model for Transfers {
@@ -61,11 +63,40 @@ impl Transfers {
             credits: 0,
             debits: 0,
             waiting: 0,
+            last: 0,
         }
     }
 
-    /// Looks a transfer up: the one look at the table that a step takes.
+    /// Looks a transfer up: the one look at the table that a step takes. What was entered or booked last, of which a
+    /// ticket and what follows ask next, is found without its key's hash.
     pub fn find(&self, from: u8, id: &Ident) -> Option<Found>
+        ensures { Finds self.now from id.now result }
+    {
+        match self.find_last(from, id) {
+            Some(found) => Some(found),
+            None => self.find_by_key(from, id),
+        }
+    }
+
+    /// The transfer that was entered or booked last, where it is this one.
+    fn find_last(&self, from: u8, id: &Ident) -> Option<Found>
+        ensures { IfSome result (λ found. Finds self.now from id.now (Some found)) }
+    {
+        let _ = &self.own;
+        let (key, transfer) = self.table.get_index(self.last)?;
+        if key.0 != from || key.1 != *id {
+            return None;
+        }
+        Some(Found {
+            from,
+            id: *id,
+            position: self.last,
+            transfer: *transfer,
+        })
+    }
+
+    /// Looks a transfer up by its key.
+    fn find_by_key(&self, from: u8, id: &Ident) -> Option<Found>
         ensures { Finds self.now from id.now result }
     {
         let _ = &self.own;
@@ -127,6 +158,7 @@ impl Transfers {
         };
         self.table.insert((self.who, id), transfer).unwrap();
         self.own.push_reserved(position);
+        self.last = position;
         self.reserved += u128::from(cents.get());
         self.waiting += 1;
     }
@@ -138,12 +170,14 @@ impl Transfers {
         ensures who { self.new.who ≡ self.old.who }
         ensures state { state_in self.new ≡ step self.old.who (state_in self.old) (Event.Forwarded from id cents deadline) }
     {
+        let position = self.table.len();
         let transfer = Transfer {
             cents,
             side: Side::Other { deadline },
             outcome: None,
         };
         self.table.insert((from, id), transfer).unwrap();
+        self.last = position;
     }
 
     /// Books the outcome of a transfer that was found. It takes no memory and looks nothing up.
@@ -163,6 +197,7 @@ impl Transfers {
             side,
             outcome: Some(outcome),
         };
+        self.last = found.position;
         let cents = u128::from(cents.get());
         match &side {
             Side::Own { .. } => {

@@ -3,7 +3,7 @@ use Rattle.std.proofs.lemmas.Map.Made.{lookup_key_passes}
 use Rattle.inst_transfers.specs.State.{Key, same_key}
 use Rattle.inst_transfers.specs.Held.{Held, IsFound}
 use Rattle.inst_transfers.proofs.Rows.{key_is}
-use Rattle.inst_transfers.proofs.transfers.Transfers.find.Goals as goal
+use Rattle.inst_transfers.proofs.transfers.Transfers.find_by_key.Goals as goal
 
 pub returns : goal.returns
 returns c =
