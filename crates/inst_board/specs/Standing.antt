@@ -9,6 +9,8 @@ use Rattle.inst_terms.specs.declared.word.Word.{Word}
 use Rattle.inst_terms.specs.declared.word.Word.TheVariants.{Unused as UnusedWord, Pending as PendingWord, Final as FinalWord}
 use Rattle.inst_terms.specs.WordLaw.{InTime}
 use Rattle.inst_board.specs.declared.place.Place.{Place}
+use Rattle.inst_board.specs.declared.glance.Glance.{Glance}
+use Rattle.inst_board.specs.declared.glance.Glance.TheVariants.{Unused as UnusedGlance, Pending as PendingGlance, Decided as DecidedGlance}
 use Rattle.inst_board.specs.declared.look.Look.{Look}
 use Rattle.inst_board.specs.declared.look.Look.TheVariants.{Unused, Pending, Decided as Ended}
 use Rattle.inst_board.specs.declared.about.About.{About}
@@ -71,6 +73,12 @@ abbrev pub look_of : Standing → Look
 look_of unused = Unused
 look_of (pending terms deadline) = Pending terms deadline
 look_of (final terms deadline outcome at) = Ended terms outcome
+
+-- what a look shows without the terms
+abbrev pub glance_of : Look → Glance
+glance_of Unused = UnusedGlance
+glance_of (Pending terms deadline) = PendingGlance deadline
+glance_of (Ended terms outcome) = DecidedGlance outcome
 
 abbrev pub about : Place → About → Fact
 about place what = record { place = place; about = what }

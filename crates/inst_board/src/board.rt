@@ -1,4 +1,4 @@
-use crate::{Look, Place, Wish};
+use crate::{Glance, Look, Place, Wish};
 use inst_base::Moment;
 use inst_command::Outcome;
 use inst_terms::Terms;
@@ -12,10 +12,11 @@ pub trait Board {
     ghost use Rattle.inst_command.specs.declared.outcome.Outcome.TheVariants.{TimedOut};
     ghost use Rattle.inst_terms.specs.declared.terms.Terms.{Terms};
     ghost use Rattle.inst_board.specs.declared.place.Place.{Place};
+    ghost use Rattle.inst_board.specs.declared.look.Look.{Look};
     ghost use Rattle.inst_board.specs.declared.about.About.{About};
     ghost use Rattle.inst_board.specs.declared.about.About.TheVariants.{Opened, HasTerms, Decided};
     ghost use Rattle.inst_board.specs.declared.about.Fact.{Fact};
-    ghost use Rattle.inst_board.specs.Standing.{Standing, IsPlace, Says, pending, about};
+    ghost use Rattle.inst_board.specs.Standing.{Standing, IsPlace, Says, pending, glance_of, about};
     ghost use Rattle.inst_board.specs.Learning.{Learns, KnowTheSame, KeepsWritten, Looks, MayDecide, Decides};
 
     /// The settings of the hub.
@@ -67,6 +68,15 @@ pub trait Board {
     fn look(&mut self, place: Place) -> Look
         ensures look { Looks (settings self.old).margin knows has_role stood self.old place result self.new }
         ensures outside { ¬ IsPlace (settings self.old) place → result ≡ Look.Unused }
+        ensures written { KeepsWritten wrote self.old (λ _. Unit {0}) self.new }
+        ensures stays { stays self.old self.new };
+
+    /// What a look at a place whose terms are known would show, without them.
+    fn glance(&mut self, place: Place) -> Glance
+        requires terms { (terms : Terms) × knows self.old (about place (HasTerms terms)) }
+
+        ensures look { (look : Look) × Looks (settings self.old).margin knows has_role stood self.old place look self.new
+            × (result ≡ glance_of look) }
         ensures written { KeepsWritten wrote self.old (λ _. Unit {0}) self.new }
         ensures stays { stays self.old self.new };
 

@@ -4,6 +4,7 @@
 
 mod about;
 mod board;
+mod glance;
 mod kept_word;
 pub mod laws;
 mod look;
@@ -13,6 +14,7 @@ mod wish;
 
 pub use about::{About, Fact};
 pub use board::Board;
+pub use glance::Glance;
 pub use look::Look;
 pub use place::Place;
 pub use plain::{Kept, PlainBoard};

@@ -4,7 +4,7 @@ ghost use Rattle.inst_board.specs.declared.plain.Kept.TheVariants.{Unused as Kep
 ghost use Rattle.inst_board.specs.Plain.{Puts, PutsTerms};
 
 use crate::kept_word::KeptWord;
-use crate::{Board, Look, Place, Wish};
+use crate::{Board, Glance, Look, Place, Wish};
 use inst_base::Moment;
 use inst_command::Outcome;
 use inst_settings::Settings;
@@ -217,8 +217,9 @@ impl Board for PlainBoard {
     ghost use Rattle.std.specs.Prelude.{◌≡◌, ◌≢◌, ◌≤◌};
     ghost use Rattle.inst_terms.specs.declared.terms.Terms.{Terms};
     ghost use Rattle.inst_board.specs.declared.place.Place.{Place};
-    ghost use Rattle.inst_board.specs.declared.about.About.TheVariants.{Opened};
-    ghost use Rattle.inst_board.specs.Standing.{IsPlace, pending, about, look_of};
+    ghost use Rattle.inst_board.specs.declared.look.Look.{Look};
+    ghost use Rattle.inst_board.specs.declared.about.About.TheVariants.{Opened, HasTerms};
+    ghost use Rattle.inst_board.specs.Standing.{IsPlace, pending, about, look_of, glance_of};
     ghost use Rattle.inst_board.specs.Learning.{Learns, KnowTheSame, KeepsWritten, Looks, Decides};
     ghost use Rattle.inst_board.specs.Plain.{Becomes, after, outcome_of, kept_at, standing_at};
     ghost use Rattle.std.proofs.Common.{refl, ◌∙◌, inl, ap};
@@ -288,6 +289,23 @@ impl Board for PlainBoard {
         ensures stays { self.new.settings ≡ self.old.settings }
     {
         self.shown(place)
+    }
+
+    #[inline(always)]
+    fn glance(&mut self, place: Place) -> Glance
+        requires terms { (terms : Terms) × plain_knows self.old (about place (HasTerms terms)) }
+
+        ensures exact { (result ≡ glance_of (look_of (standing_at self.old place))) × (self.new ≡ self.old) }
+        ensures look { (look : Look) × Looks self.old.settings.margin plain_knows (λ _ _. Unit {0}) plain_stood self.old place look self.new
+            × (result ≡ glance_of look) }
+        ensures written { KeepsWritten plain_wrote self.old (λ _. Unit {0}) self.new }
+        ensures stays { self.new.settings ≡ self.old.settings }
+    {
+        match self.look(place) {
+            Look::Unused => Glance::Unused,
+            Look::Pending(_, deadline) => Glance::Pending(deadline),
+            Look::Decided(_, outcome) => Glance::Decided(outcome),
+        }
     }
 
     fn decide(&mut self, place: Place, wish: Wish, at: Moment) -> Option<Outcome>

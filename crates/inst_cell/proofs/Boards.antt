@@ -14,12 +14,13 @@ use Rattle.inst_terms.proofs.Apart.{words_apart}
 use Rattle.inst_board.specs.declared.place.Place.{Place}
 use Rattle.inst_board.specs.declared.wish.Wish.{Wish}
 use Rattle.inst_board.specs.declared.wish.Wish.TheVariants.{Accept, Reject, Expire}
+use Rattle.inst_board.specs.declared.glance.Glance.TheVariants.{Unused as GlanceUnused, Pending as GlancePending, Decided as GlanceDecided}
 use Rattle.inst_board.specs.declared.look.Look.{Look}
 use Rattle.inst_board.specs.declared.look.Look.TheVariants.{Unused as LookUnused, Pending as LookPending, Decided as LookDecided}
 use Rattle.inst_board.specs.declared.about.About.{About}
 use Rattle.inst_board.specs.declared.about.About.TheVariants.{Opened, HasTerms, Due, Decided, DecidedAt}
 use Rattle.inst_board.specs.declared.about.Fact.{Fact}
-use Rattle.inst_board.specs.Standing.{Standing, unused, pending, final, IsPlace, IsLawful, Says, Shows as WordsShow, word_of, look_of, about}
+use Rattle.inst_board.specs.Standing.{Standing, unused, pending, final, IsPlace, IsLawful, Says, Shows as WordsShow, word_of, look_of, glance_of, about}
 use Rattle.inst_board.specs.Learning.{Learns, Looks, Answers, IsAnswer, IsParty}
 use Rattle.inst_board.specs.Wish.{wanted}
 use Rattle.inst_board.specs.Plain.{number_of}
@@ -174,6 +175,22 @@ pub look_decided : (p : Standing) (w : Word) (t : Terms) (o : Outcome) (m : ℕ)
 look_decided unused w t o m e f h = cc
 look_decided (pending u c) w t o m e f h = cc
 look_decided (final u c z n) w t o m e f h = let x : o ≡ z = cc in let y : t ≡ u = h u refl in cc
+
+-- a glance shows what a look shows, without the terms
+pub glance_unused : (p : Standing) (w : Word) → w ≡ word_of p → w ≡ Unused → GlanceUnused ≡ glance_of (look_of p)
+glance_unused unused w e f = refl
+glance_unused (pending t d) w e f = cc
+glance_unused (final t d o m) w e f = cc
+
+pub glance_pending : (p : Standing) (w : Word) (d : ℕ) → w ≡ word_of p → w ≡ Pending d → GlancePending d ≡ glance_of (look_of p)
+glance_pending unused w d e f = cc
+glance_pending (pending u c) w d e f = let x : d ≡ c = cc in cc
+glance_pending (final u c o m) w d e f = cc
+
+pub glance_decided : (p : Standing) (w : Word) (o : Outcome) (m : ℕ) → w ≡ word_of p → w ≡ Final o m → GlanceDecided o ≡ glance_of (look_of p)
+glance_decided unused w o m e f = cc
+glance_decided (pending u c) w o m e f = cc
+glance_decided (final u c z n) w o m e f = let x : o ≡ z = cc in cc
 
 pub terms_of : (p : Standing) (w : Word) → w ≡ word_of p → w ≢ Unused → (t : Terms) × Says p (HasTerms t)
 terms_of unused w e ne = absurd (ne e)

@@ -1,20 +1,22 @@
 //! What a board makes of a place that a participant asks about.
 ghost use Rattle.std.specs.Prelude.{◌≡◌, ◌<◌, true, is_some, IfOk, OnErr};
+ghost use Rattle.inst_board.specs.declared.look.Look.{Look};
 ghost use Rattle.inst_board.specs.Learning.{MayDecide};
+ghost use Rattle.inst_board.specs.Standing.{glance_of};
 ghost use Rattle.inst_slot.specs.Asking.{Finds, OnlyLooks, stays_pending};
 
 use inst_base::Moment;
-use inst_board::{Board, Look, Place, Wish};
+use inst_board::{Board, Glance, Place, Wish};
 use inst_command::Outcome;
 use inst_ledger::Ledger;
 use std::alloc::AllocError;
 
-/// Whether the look shows a transfer that stays pending whatever becomes of the wish.
-fn stays_pending(margin: u32, wish: &Wish, at: Moment, look: &Look) -> bool
-    ensures { result ≡ stays_pending margin wish.now at look.now }
+/// Whether the glance shows a transfer that stays pending whatever becomes of the wish.
+fn stays_pending(margin: u32, wish: &Wish, at: Moment, glance: &Glance) -> bool
+    ensures { (look : Look) → glance.now ≡ glance_of look → result ≡ stays_pending margin wish.now at look }
 {
-    match look {
-        Look::Pending(_, deadline) => wish.outcome(margin, *deadline, at).is_none(),
+    match glance {
+        Glance::Pending(deadline) => wish.outcome(margin, *deadline, at).is_none(),
         _ => false,
     }
 }
@@ -39,8 +41,8 @@ pub(crate) fn find<B: Board>(
     ensures table { ledger.new.table ≡ ledger.old.table }
     ensures stays { B.stays board.old board.new }
 {
-    let look = board.look(place);
-    if stays_pending(margin, &wish, at, &look) {
+    let glance = board.glance(place);
+    if stays_pending(margin, &wish, at, &glance) {
         return Ok(None);
     }
     ledger.reserve()?;

@@ -2,7 +2,7 @@
 use super::SharedBoard;
 use crate::words::{pack_terms, read_word};
 use inst_base::Moment;
-use inst_board::{Board, Look, Place, Wish};
+use inst_board::{Board, Glance, Look, Place, Wish};
 use inst_command::Outcome;
 use inst_terms::{Terms, Word};
 
@@ -67,6 +67,15 @@ impl Board for SharedBoard {
                 let terms = self.terms(place);
                 Look::Decided(terms, outcome)
             }
+        }
+    }
+
+    fn glance(&mut self, place: Place) -> Glance {
+        let word = self.load(place);
+        match read_word(word) {
+            Word::Unused => Glance::Unused,
+            Word::Pending(deadline) => Glance::Pending(deadline),
+            Word::Final(outcome, _) => Glance::Decided(outcome),
         }
     }
 
