@@ -24,3 +24,4 @@ pub mod Requests
 pub mod Answered
 pub mod Bookings
 pub mod Lessons
+pub mod Glancing

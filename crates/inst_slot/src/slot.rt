@@ -10,6 +10,7 @@ ghost use Rattle.inst_slot.specs.Book.{place_of, arrived_at};
 mod arrived;
 mod asking;
 mod expiring;
+mod learning;
 mod opening;
 mod reading;
 mod telling;

@@ -63,7 +63,7 @@ impl Slot {
 }
 
 /// The participant's own live transfer at this index, where nothing is booked of it. It looks nothing up by its key.
-fn unbooked_at(ledger: &Ledger, index: u16) -> Option<Found>
+pub(super) fn unbooked_at(ledger: &Ledger, index: u16) -> Option<Found>
     ensures { FindsUnbooked ledger.now index result }
 {
     // The check is told of an enum inside a struct only where a function names it.

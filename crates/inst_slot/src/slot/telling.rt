@@ -1,16 +1,14 @@
-//! What a board tells a slot: what is forwarded to it, and how its transfers ended.
+//! What a board tells a slot is forwarded to it.
 ghost use Rattle.std.specs.Prelude.{◌≡◌, true, is_some, OnErr, OnOk, Some};
 ghost use Rattle.inst_board.specs.declared.look.Look.{Look};
 ghost use Rattle.inst_board.specs.Learning.{Looks};
 ghost use Rattle.inst_journal.specs.Sound.{IsSound, Fits};
 ghost use Rattle.inst_slot.specs.LawfulBoard.{IsLawfulBoard, KeepsOthers, AllAreAdopted};
-ghost use Rattle.inst_slot.specs.Telling.{delivery, with_delivery, lesson, with_event, Keeps};
+ghost use Rattle.inst_slot.specs.Telling.{delivery, with_delivery, with_event, Keeps};
 ghost use Rattle.inst_slot.specs.Waiting.{moves_none};
 
 use super::Slot;
 use crate::arrivals::Spot;
-use crate::booking::book;
-use crate::lesson::{Lesson, lesson_of};
 use inst_board::{Board, Look, Place};
 use inst_command::{Entry, Outcome};
 use inst_journal::Event;
@@ -102,33 +100,5 @@ impl Slot {
         let who = self.ledger.who();
         self.waiting.book(&self.ledger, who, &event);
         Ok(())
-    }
-
-    /// Books the outcome of a place of the participant's, if it is decided and not yet booked: `true`
-    /// where it was. Where memory is refused the slot is as it was.
-    pub fn learn<B: Board>(&mut self, board: &mut B, place: Place) -> Result<bool, AllocError>
-        requires lawful { IsLawfulBoard B.settings B.knows B.has_role board.old self.old }
-        ensures learns { (look : Look) × Looks (B.settings board.old).margin B.knows B.has_role B.stood board.old place look board.new
-            × Keeps (is_some (lesson self.old place look)) self.old (with_event self.old (lesson self.old place look)) result self.new }
-        ensures lawful { IsLawfulBoard B.settings B.knows B.has_role board.new self.new }
-        ensures others { KeepsOthers B.settings B.knows B.has_role board.old self.old.who board.new }
-        ensures same { (self.new.settings ≡ self.old.settings) × (self.new.who ≡ self.old.who) }
-        ensures adopted { AllAreAdopted self.old → AllAreAdopted self.new }
-        ensures stays { B.stays board.old board.new }
-    {
-        let look = board.look(place);
-        match lesson_of(&self.ledger, self.arrivals.as_slice(), place, &look) {
-            None => Ok(false),
-            Some(Lesson { found, outcome }) => {
-                book(
-                    &mut self.ledger,
-                    &mut self.waiting,
-                    &found,
-                    place.index,
-                    &outcome,
-                )?;
-                Ok(true)
-            }
-        }
     }
 }

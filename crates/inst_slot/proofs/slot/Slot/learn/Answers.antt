@@ -1,131 +1,52 @@
-use Rattle.std.proofs.Common.{refl, inl, inr, is_some, sym, ap, ◌∙◌, subst, rules, ℕ, List, Some, Ok}
-use Rattle.inst_board.specs.declared.place.Place.{Place}
-use Rattle.inst_journal.specs.declared.event.Event.{Event}
-use Rattle.inst_journal.specs.declared.event.Event.TheVariants.{Booked}
-use Rattle.inst_ledger.specs.Book.{Book as Kept}
+use Rattle.std.proofs.Common.{refl, subst, List}
 use Rattle.inst_slot.specs.declared.arrivals.Spot.{Spot}
-use Rattle.inst_slot.specs.Answering.{over, IsOwnAt}
-use Rattle.inst_slot.specs.Book.{Book, place_at}
-use Rattle.inst_slot.specs.LawfulBoard.{IsLawfulBoard, AllAreAdopted}
-use Rattle.inst_slot.specs.Telling.{lesson, with_event}
-use Rattle.inst_slot.proofs.Bookings.{own_taken_at}
-use Rattle.inst_slot.proofs.Looking.{looked_on}
-use Rattle.inst_slot.proofs.Learning.{own_lies, lesson_keeps, lesson_fits}
+use Rattle.inst_slot.specs.Answering.{over}
+use Rattle.inst_slot.specs.Book.{Book}
+use Rattle.inst_slot.specs.Lessons.{LearnsOutcome}
+use Rattle.inst_slot.specs.Telling.{lesson}
+use Rattle.inst_slot.proofs.Glancing.{learns_keep, keeps_adopted, keeps_same}
 use Rattle.inst_slot.proofs.Others.{others_look}
-use Rattle.inst_slot.proofs.Spots.{spots_over, over_after}
 use Rattle.inst_slot.proofs.slot.Slot.learn.Goals as goal
 
-pub lesson_of-requires-clause-own : goal.lesson_of-requires-clause-own
-lesson_of-requires-clause-own g c = λ terms outcome shown mine.
+pub returns-in-Some-clause-learns : goal.returns-in-Some-clause-learns
+returns-in-Some-clause-learns g c =
     let b = g.B.Board in
-    let kept = c.self.inside.ledger.book in
-    let k : Place = c.args.place in
-    let book : Book = over kept c.self.inside.arrivals.items in
-    let was = subst (λ (x : Book). IsLawfulBoard b.settings b.knows b.has_role c.args.board.now x) (sym c.self.view_is) c.requires.lawful in
-    let at = own_lies b.settings b.knows b.has_role (b.settings c.args.board.now).margin b.stood c.args.board.now c.look-look.new.self k c.look-look.result c.look-look.ensures.look book was terms outcome shown mine in
-    subst (λ (n : ℕ). IsOwnAt kept terms.id (place_at n k.index)) (sym mine) (own_taken_at kept terms.id k.index at.to at.cents at.stamp c.self.invariant.0.1 at.there)
+    let told = subst (λ (l : List Spot). LearnsOutcome (b.settings c.args.board.now).margin b.knows b.has_role b.stood c.args.board.now (over c.self.inside.ledger.book l) c.args.place c.learn_own.result c.learn_own.new.board (over c.learn_own.new.ledger.book l))
+    c.as_slice.ensures.value c.learn_own.ensures.learns in
+    subst (λ (x : Book). LearnsOutcome (b.settings c.args.board.now).margin b.knows b.has_role b.stood c.args.board.now x c.args.place c.learn_own.result c.learn_own.new.board (over c.learn_own.new.ledger.book c.self.inside.arrivals.items)) c.self.view_is told
 
-pub book-requires-clause-fits : goal.book-requires-clause-fits
-book-requires-clause-fits g c =
+pub returns-in-Some-clause-lawful : goal.returns-in-Some-clause-lawful
+returns-in-Some-clause-lawful g c =
     let b = g.B.Board in
-    let book : Book = over c.self.inside.ledger.book c.self.inside.arrivals.items in
-    let was = subst (λ (x : Book). IsLawfulBoard b.settings b.knows b.has_role c.args.board.now x) (sym c.self.view_is) c.requires.lawful in
-    lesson_fits b.settings b.knows b.has_role (b.settings c.args.board.now).margin b.stood c.args.board.now c.look-look.new.self c.args.place c.look-look.result c.look-look.ensures.look book was _
-    (ap (λ (l : List Spot). lesson (over c.self.inside.ledger.book l) c.args.place c.look-look.result) (sym c.as_slice.ensures.value) ∙ c.in-Some.ensures.is)
-
-pub invariant_of-self-in-Some : goal.invariant_of-self-in-Some
-invariant_of-self-in-Some g c = (
-  c.in_ok-book-in-Some.ensures.right,
-  spots_over c.self.inside.ledger.book c.book.new.ledger.book _ c.self.inside.arrivals.items c.in_ok-book-in-Some.ensures.ok c.self.invariant.1,
-)
-
-pub returns-in_err-book-in-Some-clause-learns : goal.returns-in_err-book-in-Some-clause-learns
-returns-in_err-book-in-Some-clause-learns g c =
-    let S = c.self.inside.arrivals.items in (
-      c.look-look.result,
-      c.look-look.ensures.look,
-      inr (
-        search rules,
-        ap (λ (x : Kept). over x S) c.in_err-book-in-Some.ensures.err ∙ c.self.view_is,
-        ap is_some (ap (λ (x : Book). lesson x c.args.place c.look-look.result) (sym c.self.view_is)
-            ∙ ap (λ (l : List Spot). lesson (over c.self.inside.ledger.book l) c.args.place c.look-look.result) (sym c.as_slice.ensures.value) ∙ c.in-Some.ensures.is),
-      ),
-    )
-
-pub returns-in_err-book-in-Some-clause-lawful : goal.returns-in_err-book-in-Some-clause-lawful
-returns-in_err-book-in-Some-clause-lawful g c =
-    let b = g.B.Board in
-    let e = c.look-look.ensures in
     let book : Book = c.args.self.now in
-    subst (λ (x : Book). IsLawfulBoard b.settings b.knows b.has_role c.look-look.new.self x) (sym (ap (λ (x : Kept). over x c.self.inside.arrivals.items) c.in_err-book-in-Some.ensures.err ∙ c.self.view_is))
-    (looked_on b.settings b.knows b.has_role (b.settings c.args.board.now).margin b.stood c.args.board.now c.look-look.new.self c.args.place c.look-look.result e.look book
-    (g.met.B.Board.stays_settings c.args.board.now c.look-look.new.self e.stays) refl (λ r. (g.met.B.Board.stays_roles c.args.board.now c.look-look.new.self book.who e.stays).0 r) c.requires.lawful)
+    let told = subst (λ (l : List Spot). LearnsOutcome (b.settings c.args.board.now).margin b.knows b.has_role b.stood c.args.board.now (over c.self.inside.ledger.book l) c.args.place c.learn_own.result c.learn_own.new.board (over c.learn_own.new.ledger.book l))
+    c.as_slice.ensures.value c.learn_own.ensures.learns in
+    let learns = subst (λ (x : Book). LearnsOutcome (b.settings c.args.board.now).margin b.knows b.has_role b.stood c.args.board.now x c.args.place c.learn_own.result c.learn_own.new.board (over c.learn_own.new.ledger.book c.self.inside.arrivals.items)) c.self.view_is told in
+    learns_keep b.settings b.knows b.has_role (b.settings c.args.board.now).margin b.stood c.args.board.now c.learn_own.new.board c.args.place learns.0 learns.1 book c.requires.lawful
+    (g.met.B.Board.stays_settings c.args.board.now c.learn_own.new.board c.learn_own.ensures.stays) refl (λ r. (g.met.B.Board.stays_roles c.args.board.now c.learn_own.new.board book.who c.learn_own.ensures.stays).0 r)
+    c.learn_own.result (over c.learn_own.new.ledger.book c.self.inside.arrivals.items) learns.2
 
-pub returns-in_err-book-in-Some-clause-others : goal.returns-in_err-book-in-Some-clause-others
-returns-in_err-book-in-Some-clause-others g c =
+pub returns-in-Some-clause-others : goal.returns-in-Some-clause-others
+returns-in-Some-clause-others g c =
     let b = g.B.Board in
+    let e = c.learn_own.ensures in
     others_look b.settings b.knows b.has_role (b.settings c.args.board.now).margin b.stood b.stays (λ x y. g.met.B.Board.stays_settings x y) (λ x y p. g.met.B.Board.stays_roles x y p) (λ x k t o. g.met.B.Board.stood_seldom x k t o)
-    c.args.board.now c.look-look.new.self c.look-look.ensures.stays refl c.args.place c.look-look.result c.args.self.now.who c.look-look.ensures.look
+    c.args.board.now c.learn_own.new.board e.stays refl c.args.place e.learns.0 c.args.self.now.who e.learns.1
 
-pub returns-in_err-book-in-Some-clause-adopted : goal.returns-in_err-book-in-Some-clause-adopted
-returns-in_err-book-in-Some-clause-adopted g c = λ all.
-    subst (λ (x : Book). AllAreAdopted x) (sym (ap (λ (x : Kept). over x c.self.inside.arrivals.items) c.in_err-book-in-Some.ensures.err ∙ c.self.view_is)) all
-
-pub returns-in-None-clause-lawful : goal.returns-in-None-clause-lawful
-returns-in-None-clause-lawful g c =
+pub returns-in-Some-clause-same : goal.returns-in-Some-clause-same
+returns-in-Some-clause-same g c =
     let b = g.B.Board in
-    let e = c.look-look.ensures in
     let book : Book = c.args.self.now in
-    looked_on b.settings b.knows b.has_role (b.settings c.args.board.now).margin b.stood c.args.board.now c.look-look.new.self c.args.place c.look-look.result e.look book
-    (g.met.B.Board.stays_settings c.args.board.now c.look-look.new.self e.stays) refl (λ r. (g.met.B.Board.stays_roles c.args.board.now c.look-look.new.self book.who e.stays).0 r) c.requires.lawful
+    let told = subst (λ (l : List Spot). LearnsOutcome (b.settings c.args.board.now).margin b.knows b.has_role b.stood c.args.board.now (over c.self.inside.ledger.book l) c.args.place c.learn_own.result c.learn_own.new.board (over c.learn_own.new.ledger.book l))
+    c.as_slice.ensures.value c.learn_own.ensures.learns in
+    let learns = subst (λ (x : Book). LearnsOutcome (b.settings c.args.board.now).margin b.knows b.has_role b.stood c.args.board.now x c.args.place c.learn_own.result c.learn_own.new.board (over c.learn_own.new.ledger.book c.self.inside.arrivals.items)) c.self.view_is told in
+    keeps_same _ book (over c.learn_own.new.ledger.book c.self.inside.arrivals.items) (lesson book c.args.place learns.0) c.learn_own.result learns.2
 
-pub returns-in-None-clause-others : goal.returns-in-None-clause-others
-returns-in-None-clause-others g c =
+pub returns-in-Some-clause-adopted : goal.returns-in-Some-clause-adopted
+returns-in-Some-clause-adopted g c = λ all.
     let b = g.B.Board in
-    others_look b.settings b.knows b.has_role (b.settings c.args.board.now).margin b.stood b.stays (λ x y. g.met.B.Board.stays_settings x y) (λ x y p. g.met.B.Board.stays_roles x y p) (λ x k t o. g.met.B.Board.stood_seldom x k t o)
-    c.args.board.now c.look-look.new.self c.look-look.ensures.stays refl c.args.place c.look-look.result c.args.self.now.who c.look-look.ensures.look
-
-pub returns-in_ok-book-in-Some-clause-learns : goal.returns-in_ok-book-in-Some-clause-learns
-returns-in_ok-book-in-Some-clause-learns g c =
-    let S = c.self.inside.arrivals.items in
-    let x = c.in-Some.field-0 in
-    let event : Event = Booked x.found.from x.found.id x.outcome in
-    let is = ap (λ (x : Book). lesson x c.args.place c.look-look.result) (sym c.self.view_is)
-    ∙ ap (λ (l : List Spot). lesson (over c.self.inside.ledger.book l) c.args.place c.look-look.result) (sym c.as_slice.ensures.value) ∙ c.in-Some.ensures.is in (
-      c.look-look.result,
-      c.look-look.ensures.look,
-      inl (
-        ap (λ o. Ok (is_some o)) (sym is),
-        over_after c.self.inside.ledger.book c.book.new.ledger.book event S c.in_ok-book-in-Some.ensures.ok c.self.invariant.1
-            ∙ ap (λ (x : Book). with_event x (Some event)) c.self.view_is ∙ ap (with_event c.args.self.now) (sym is),
-      ),
-    )
-
-pub returns-in_ok-book-in-Some-clause-lawful : goal.returns-in_ok-book-in-Some-clause-lawful
-returns-in_ok-book-in-Some-clause-lawful g c =
-    let b = g.B.Board in
-    let e = c.look-look.ensures in
     let book : Book = c.args.self.now in
-    let S = c.self.inside.arrivals.items in
-    let x = c.in-Some.field-0 in
-    let event : Event = Booked x.found.from x.found.id x.outcome in
-    let is = ap (λ (x : Book). lesson x c.args.place c.look-look.result) (sym c.self.view_is)
-    ∙ ap (λ (l : List Spot). lesson (over c.self.inside.ledger.book l) c.args.place c.look-look.result) (sym c.as_slice.ensures.value) ∙ c.in-Some.ensures.is in
-    let new = over_after c.self.inside.ledger.book c.book.new.ledger.book event S c.in_ok-book-in-Some.ensures.ok c.self.invariant.1 ∙ ap (λ (x : Book). with_event x (Some event)) c.self.view_is in
-    subst (λ (x : Book). IsLawfulBoard b.settings b.knows b.has_role c.look-look.new.self x) (sym new)
-    (lesson_keeps b.settings b.knows b.has_role (b.settings c.args.board.now).margin b.stood c.args.board.now c.look-look.new.self c.args.place c.look-look.result e.look book c.requires.lawful event is
-    (g.met.B.Board.stays_settings c.args.board.now c.look-look.new.self e.stays) refl (λ r. (g.met.B.Board.stays_roles c.args.board.now c.look-look.new.self book.who e.stays).0 r))
-
-pub returns-in_ok-book-in-Some-clause-others : goal.returns-in_ok-book-in-Some-clause-others
-returns-in_ok-book-in-Some-clause-others g c =
-    let b = g.B.Board in
-    others_look b.settings b.knows b.has_role (b.settings c.args.board.now).margin b.stood b.stays (λ x y. g.met.B.Board.stays_settings x y) (λ x y p. g.met.B.Board.stays_roles x y p) (λ x k t o. g.met.B.Board.stood_seldom x k t o)
-    c.args.board.now c.look-look.new.self c.look-look.ensures.stays refl c.args.place c.look-look.result c.args.self.now.who c.look-look.ensures.look
-
-pub returns-in_ok-book-in-Some-clause-adopted : goal.returns-in_ok-book-in-Some-clause-adopted
-returns-in_ok-book-in-Some-clause-adopted g c = λ all.
-    let x = c.in-Some.field-0 in
-    let event : Event = Booked x.found.from x.found.id x.outcome in
-    let new = over_after c.self.inside.ledger.book c.book.new.ledger.book event c.self.inside.arrivals.items c.in_ok-book-in-Some.ensures.ok c.self.invariant.1
-    ∙ ap (λ (x : Book). with_event x (Some event)) c.self.view_is in
-    subst (λ (x : Book). AllAreAdopted x) (sym new) all
+    let told = subst (λ (l : List Spot). LearnsOutcome (b.settings c.args.board.now).margin b.knows b.has_role b.stood c.args.board.now (over c.self.inside.ledger.book l) c.args.place c.learn_own.result c.learn_own.new.board (over c.learn_own.new.ledger.book l))
+    c.as_slice.ensures.value c.learn_own.ensures.learns in
+    let learns = subst (λ (x : Book). LearnsOutcome (b.settings c.args.board.now).margin b.knows b.has_role b.stood c.args.board.now x c.args.place c.learn_own.result c.learn_own.new.board (over c.learn_own.new.ledger.book c.self.inside.arrivals.items)) c.self.view_is told in
+    keeps_adopted _ book (over c.learn_own.new.ledger.book c.self.inside.arrivals.items) (lesson book c.args.place learns.0) c.learn_own.result learns.2 all
