@@ -10,7 +10,7 @@ ghost use Rattle.inst_cell.specs.Held.{settings_of, knows, has_role, Stays, AtOn
 ghost use Rattle.inst_cell.specs.Seen.{board_of};
 
 use inst_base::{Cents, Code, Fault, Ident, Moment, Reason};
-use inst_board::{Board, Look, Place, Wish};
+use inst_board::{Board, Glance, Look, Place, Wish};
 use inst_cell::{MOST_TELLERS, SharedBoard, Teller};
 use inst_command::{Outcome, State};
 use inst_settings::{Numbers, Settings};
@@ -106,6 +106,15 @@ fn answer(board: &mut SharedBoard, who: u8, place: Place, wish: Wish, at: Moment
     }
 }
 
+/// What a glance shows of a place that a look shows opened.
+fn glanced(board: &mut SharedBoard, place: Place) -> Option<Glance> {
+    match board.look(place) {
+        Look::Unused => None,
+        Look::Pending(_terms, _) => Some(board.glance(place)),
+        Look::Decided(_terms, _) => Some(board.glance(place)),
+    }
+}
+
 /// What a caller sees before and after the beneficiary's wish at the reading, which it isn't told of, and
 /// how the transfer stands then.
 fn seen(
@@ -169,10 +178,14 @@ fn what_was_opened_is_dealt(rt: HostRuntime) -> Result<(), Fault> {
     let deadline = Moment::new(0, 11_000)?;
     let (mut first, mut second) = deal_two(rt.alloc(), place, &terms, deadline)?;
     assert_eq!(rt; first.look(place), Look::Pending(terms, deadline));
+    let pending = Some(Glance::Pending(deadline));
+    assert_eq!(rt; glanced(&mut first, place), pending);
     let at = Moment::new(0, 10_999)?;
     let accepted = answer(&mut second, 1, place, Wish::Accept, at);
     assert_eq!(rt; accepted, Some(Outcome::Accepted));
     assert_eq!(rt; first.look(place), Look::Decided(terms, Outcome::Accepted));
+    let decided = Some(Glance::Decided(Outcome::Accepted));
+    assert_eq!(rt; glanced(&mut first, place), decided);
     Ok(())
 }
 
