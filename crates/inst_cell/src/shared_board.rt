@@ -19,8 +19,8 @@ use std::sync::Arc;
 type Words = Table<(), View, Snapshot<Settings>, Law, Global>;
 
 /// One holder's board over the words that all boards and tellers of a hub share. Only `open` takes
-/// memory, and no call waits. A look costs one load, and five more where the place is opened; a decision
-/// one load and at most one exchange, which is never tried again.
+/// memory, and no call waits. A look costs one load, and five more where the place is opened; a glance one
+/// load; a decision one load and at most one exchange, which is never tried again.
 ///
 /// ```text
 /// let (boards, tellers) = SharedBoard::open(alloc, &settings, 2)?;
