@@ -3,9 +3,8 @@ use mir.Syntax.{impl, tnil, dnil}
 use mathlib.Core.Path.{◌≡◌, refl}
 use mathlib.Core.Bool.{true}
 use mathlib.Core.List.{[]}
-use Rattle.std.specs.Prelude.{Option, Some, None}
+use Rattle.std.specs.Prelude.{Option, Some, None, is_some}
 use Rattle.std.proofs.lemmas.Bool.{false≢true}
-use Rattle.inst_c.specs.Held.{is_some}
 use Rattle.inst_c.specs.declared.hub.Hub as declared
 use denote.Signature.{Slot, plain}
 use Rattle.std.proofs.BoxSteps.Form.{Bx}

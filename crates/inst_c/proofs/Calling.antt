@@ -1,5 +1,5 @@
 -- What a handle has behind a call.
-use Rattle.std.proofs.Common.{◌≡◌, ℕ, false, List, [], length, Option, Some, None, refl, inl, subst, sym}
+use Rattle.std.proofs.Common.{◌≡◌, ℕ, false, List, [], length, Option, Some, None, is_some, refl, inl, subst, sym}
 use Rattle.std.proofs.lemmas.Bool.{true≢false}
 use Rattle.inst_settings.specs.Settings.{HubSettings}
 use Rattle.inst_lines.specs.declared.mode.Mode.{Mode}
@@ -8,8 +8,7 @@ use Rattle.inst_lines.specs.Answering.{answering, Keeps}
 use Rattle.inst_c.specs.declared.hub.Hub.{Hub}
 use Rattle.inst_c.specs.declared.calls.Told.{Told}
 use Rattle.inst_c.specs.Hub.{HasOpened}
-use Rattle.inst_c.specs.Held.{is_some}
-use Rattle.inst_c.specs.Chosen.{AreOfAHub}
+use Rattle.inst_settings.specs.Lawful.{AreOfAHub}
 use Rattle.inst_c.specs.Calls.{Opens, Answers}
 
 -- a hub has opened where none was open

@@ -3,13 +3,13 @@ use Rattle.std.specs.Prelude.{◌≡◌, ◌⊎◌, ◌<◌, ◌≤◌, ℕ, fal
 use Rattle.inst_base.specs.Fault.{number_of}
 use Rattle.inst_base.specs.declared.fault.Fault.TheVariants.{BadSettings, Memory}
 use Rattle.inst_settings.specs.Settings.{HubSettings}
+use Rattle.inst_settings.specs.Lawful.{AreOfAHub}
 use Rattle.inst_lines.specs.declared.mode.Mode.{Mode}
 use Rattle.inst_lines.specs.Answers.{AnswersLine}
 use Rattle.inst_lines.specs.Answering.{answering, Keeps}
 use Rattle.inst_c.specs.declared.hub.Hub.{Hub}
 use Rattle.inst_c.specs.declared.calls.Told.{Told}
 use Rattle.inst_c.specs.Hub.{HasOpened}
-use Rattle.inst_c.specs.Chosen.{AreOfAHub}
 
 -- all went well
 abbrev pub done : ℕ

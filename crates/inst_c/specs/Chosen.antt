@@ -1,12 +1,10 @@
 -- The settings of a hub as C chooses them: participants as one text with commas, and numbers. This hub's own choice.
-use Rattle.std.specs.Prelude.{◌≡◌, ◌⊎◌, ℕ, Bool, true, List, if◌then◌else◌}
-use Rattle.std.specs.List.{list_all}
-use Rattle.inst_base.specs.Text.{is_code}
+use Rattle.std.specs.Prelude.{◌≡◌, ◌⊎◌, ℕ, Bool, List, if◌then◌else◌}
 use Rattle.inst_base.specs.declared.fault.Fault.{Fault}
 use Rattle.inst_base.specs.declared.fault.Fault.TheVariants.{BadSettings, Memory}
 use Rattle.inst_codes.specs.Parts.{parts_of}
 use Rattle.inst_settings.specs.Settings.{HubSettings}
-use Rattle.inst_settings.specs.Lawful.{IsSettings, settings_with}
+use Rattle.inst_settings.specs.Lawful.{AreOfAHub, settings_with}
 use Rattle.inst_lines.specs.declared.mode.Mode.{Mode}
 use Rattle.inst_lines.specs.declared.mode.Mode.TheVariants.{Run, Play}
 use Rattle.inst_c.specs.declared.chosen.Chosen.{Chosen}
@@ -19,11 +17,6 @@ chosen participants s =
 -- what a line stands for
 abbrev pub mode_of : Bool → Mode
 mode_of is_play = if is_play then Play else Run
-
--- a hub can have these settings
-pub record AreOfAHub (s : HubSettings) : Type 0 where
-  pub lawful : IsSettings s
-  pub codes_formed : list_all is_code s.codes ≡ true
 
 -- why no hub opens: want of memory, or settings that none can have
 abbrev pub IsRefusal : HubSettings → Fault → Type 0

@@ -1,5 +1,5 @@
 -- What C holds of a hub.
-use Rattle.std.specs.Prelude.{◌≡◌, Bool, true, false, Option, Some, None}
+use Rattle.std.specs.Prelude.{◌≡◌, Option, Some, None}
 use base.Fml.{Fml, ftrue}
 use denote.RawPtr.{Ptr}
 use Rattle.std.specs.Box.Ownership.{box_owns}
@@ -12,11 +12,6 @@ use Rattle.inst_c.specs.contracts.hub.Hub.{the_row}
 abbrev pub held_owns : Global → Ptr → Option Hub → Fml
 held_owns alloc p None = ftrue
 held_owns alloc p (Some hub) = box_owns (ghosts.dealloc_token alloc) the_row p hub
-
--- whether there is one
-abbrev pub is_some : Option Hub → Bool
-is_some None = false
-is_some (Some hub) = true
 
 -- the hub is taken, if there is one
 abbrev pub Takes : Option Hub → Option (Box Hub) → Type 0

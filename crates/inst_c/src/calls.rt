@@ -1,8 +1,8 @@
 //! What C calls. The header `inst.h` says what each call is given, and what it answers.
-ghost use Rattle.std.specs.Prelude.{◌≡◌, IfOk, IfErr, None, if◌then◌else◌};
+ghost use Rattle.std.specs.Prelude.{◌≡◌, IfOk, IfErr, None, is_some, if◌then◌else◌};
+ghost use Rattle.inst_settings.specs.Lawful.{AreOfAHub};
 ghost use Rattle.inst_c.specs.Hub.{HasOpened};
-ghost use Rattle.inst_c.specs.Held.{is_some};
-ghost use Rattle.inst_c.specs.Chosen.{chosen, mode_of, AreOfAHub, IsRefusal};
+ghost use Rattle.inst_c.specs.Chosen.{chosen, mode_of, IsRefusal};
 ghost use Rattle.inst_c.specs.Calls.{Opens, Answers, Copies, CopiesBytes};
 
 use crate::chosen::{Chosen, mode};

@@ -29,7 +29,8 @@ pub struct Chosen {
 }
 
 impl Chosen {
-    ghost use Rattle.inst_c.specs.Chosen.{chosen, AreOfAHub, IsRefusal};
+    ghost use Rattle.inst_settings.specs.Lawful.{AreOfAHub};
+    ghost use Rattle.inst_c.specs.Chosen.{chosen, IsRefusal};
 
     /// The settings, with the participants whose codes stand in the text with commas between them. `BadSettings` where
     /// no hub can have them, and `Memory` where there is no room for the codes.

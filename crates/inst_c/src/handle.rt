@@ -1,6 +1,6 @@
 //! The handle that C has of a hub.
-ghost use Rattle.std.specs.Prelude.{◌≡◌, Some, None};
-ghost use Rattle.inst_c.specs.Held.{is_some, Takes};
+ghost use Rattle.std.specs.Prelude.{◌≡◌, Some, None, is_some};
+ghost use Rattle.inst_c.specs.Held.{Takes};
 
 use crate::held::Held;
 use crate::hub::Hub;

@@ -1,6 +1,6 @@
 //! A hub behind a pointer that C holds, or none.
-ghost use Rattle.std.specs.Prelude.{◌≡◌, true, Option, Some, None};
-ghost use Rattle.inst_c.specs.Held.{held_owns, is_some};
+ghost use Rattle.std.specs.Prelude.{◌≡◌, true, Option, Some, None, is_some};
+ghost use Rattle.inst_c.specs.Held.{held_owns};
 ghost use Rattle.inst_c.specs.declared.hub.Hub.{Hub as TheHub};
 
 mod parts;

@@ -2,15 +2,16 @@
 use Rattle.std.proofs.Common.{◌<◌, ◌≤◌, ℕ, List, length, codes, subst, arith}
 use Rattle.clap.specs.Words.{Row}
 use Rattle.inst_settings.specs.Settings.{HubSettings}
+use Rattle.inst_settings.specs.Lawful.{AreOfAHub}
 use Rattle.inst_drill.specs.Plan.{MayDrill}
-use Rattle.inst_options.specs.Options.{AreGood, Chooses, HasSmallNumbers, IsTask, Task}
+use Rattle.inst_options.specs.Options.{Chooses, HasSmallNumbers, IsTask, Task}
 use Rattle.inst_options.specs.Options.Task.{Run, Play, Drill, Check}
 use Rattle.inst_options.specs.Asking.{AreChosen, AreUnfit, AreWhole}
 use Rattle.inst_options.proofs.Refused.{chosen_by, codes_one, given_one}
 use Rattle.inst_main.specs.Program.{AreRefused, MayDo}
 
 -- what a hub can do fits
-fits : (s : HubSettings) (task : Task) → AreGood s → MayDo s task → HasSmallNumbers task
+fits : (s : HubSettings) (task : Task) → AreOfAHub s → MayDo s task → HasSmallNumbers task
 fits s Run good may = tt
 fits s Play good may = tt
 fits s Check good may = tt
@@ -29,7 +30,7 @@ refused words unfit = record {
 
 -- a drill that the chosen hub can't do: the options choose no other one
 other_drill : (name : List ℕ) (rows : List Row) (s : HubSettings) (transfers openings : ℕ) → IsTask name rows (Drill transfers openings) → Chooses rows s →
-    ¬ (MayDrill s transfers openings) → (task : Task) (t : HubSettings) → IsTask name rows task → Chooses rows t → ¬ (AreGood t × MayDo t task)
+    ¬ (MayDrill s transfers openings) → (task : Task) (t : HubSettings) → IsTask name rows task → Chooses rows t → ¬ (AreOfAHub t × MayDo t task)
 other_drill name rows s transfers openings drill chosen unfit Run t is chosen' good = let other : ⊥ = cc (is.1, drill.1) in absurd other
 other_drill name rows s transfers openings drill chosen unfit Play t is chosen' good = let other : ⊥ = cc (is, drill.0) in absurd other
 other_drill name rows s transfers openings drill chosen unfit Check t is chosen' good = let other : ⊥ = cc (is.1, drill.1) in absurd other

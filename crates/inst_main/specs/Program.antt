@@ -8,7 +8,7 @@ use Rattle.clap.specs.declared.error.kind.ErrorKind.TheVariants.{DisplayHelp, Di
 use Rattle.inst_base.specs.declared.fault.Fault.{Fault}
 use Rattle.inst_base.specs.declared.fault.Fault.TheVariants.{BadSettings, Memory, WriteFault}
 use Rattle.inst_settings.specs.Settings.{HubSettings}
-use Rattle.inst_settings.specs.Lawful.{IsSettings}
+use Rattle.inst_settings.specs.Lawful.{AreOfAHub, IsSettings}
 use Rattle.inst_lines.specs.Answers.{output}
 use Rattle.inst_lines.specs.Answering.{answering, opened}
 use Rattle.inst_lines.specs.Check.{TellsPart, told_of}
@@ -23,7 +23,7 @@ use Rattle.inst_drill.specs.Report.{IsUnited, reports_text}
 use Rattle.inst_faults.specs.AnyFault.{IsNamed, name_of, number_of}
 use Rattle.inst_faults.specs.LogFault.{status_of_log}
 use Rattle.inst_faults.specs.declared.any_fault.AnyFault.{AnyFault}
-use Rattle.inst_options.specs.Options.{AreGood, Task}
+use Rattle.inst_options.specs.Options.{Task}
 use Rattle.inst_options.specs.Options.Task.{Run, Play, Drill, Check}
 use Rattle.inst_options.specs.Asking.{AreChosen, AreWhole, AskToExplain, NameALog}
 use Rattle.inst_options.specs.declared.error.WordsError.{WordsError}
@@ -73,7 +73,7 @@ pub record AskForADrill (words : List (List ℕ)) : Type 0 where
 -- the words are a whole command line and choose no settings that a hub can have and do the task with
 pub record AreRefused (words : List (List ℕ)) : Type 0 where
   pub whole : AreWhole words
-  pub none : (task : Task) (s : HubSettings) → AreChosen words task s → ¬ (AreGood s × MayDo s task)
+  pub none : (task : Task) (s : HubSettings) → AreChosen words task s → ¬ (AreOfAHub s × MayDo s task)
 
 -- what answers lines in this way is called
 abbrev pub task_of : Mode → Task

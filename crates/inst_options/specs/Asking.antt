@@ -6,9 +6,9 @@ use Rattle.clap.specs.declared.error.kind.ErrorKind.TheVariants.{DisplayHelp, Di
 use Rattle.inst_base.specs.declared.fault.Fault.{Fault}
 use Rattle.inst_base.specs.declared.fault.Fault.TheVariants.{BadSettings, Memory}
 use Rattle.inst_settings.specs.Settings.{HubSettings, same_text}
-use Rattle.inst_settings.specs.Lawful.{IsSettings}
+use Rattle.inst_settings.specs.Lawful.{AreOfAHub, IsSettings}
 use Rattle.inst_options.specs.CommandLine.{command_line}
-use Rattle.inst_options.specs.Options.{AreGood, Chooses, HasSmallNumbers, IsFlag, IsTask, IsText, SpeaksOfALog, Task}
+use Rattle.inst_options.specs.Options.{Chooses, HasSmallNumbers, IsFlag, IsTask, IsText, SpeaksOfALog, Task}
 use Rattle.inst_options.specs.Options.Task.{Run, Play, Drill, Check}
 use Rattle.inst_options.specs.declared.bad_option.BadOption.{BadOption}
 use Rattle.inst_options.specs.declared.error.WordsError.{WordsError}
@@ -79,7 +79,7 @@ IsWished words (wish.Explain word) = AskToExplain words word.now
 -- the words are a whole command line, and choose no settings that a hub can have, or no task that fits
 pub record AreUnfit (words : List (List ℕ)) : Type 0 where
   pub whole : AreWhole words
-  pub none : (task : Task) (s : HubSettings) → AreChosen words task s → ¬ (AreGood s × HasSmallNumbers task)
+  pub none : (task : Task) (s : HubSettings) → AreChosen words task s → ¬ (AreOfAHub s × HasSmallNumbers task)
 
 -- an error of the words of this kind, and want of memory as a fault
 abbrev pub IsOfKind : ErrorKind → WordsError → Type 0

@@ -1,12 +1,10 @@
 -- The options of a subcommand, and the settings that their values choose. They are this hub's own choice.
 use Rattle.std.specs.Prelude.{◌⊎◌, ◌≡◌, ◌<◌, ◌≤◌, ◌^◌, ℕ, Bool, true, false, List, Option, Some, None, codes}
-use Rattle.std.specs.List.{list_all}
 use Rattle.std.specs.Str.Parse.{IsNumeral, digits_value, without_leading_plus}
 use Rattle.clap.specs.Words.{Row, Text, first_of, one_of}
-use Rattle.inst_base.specs.Text.{is_code}
 use Rattle.inst_codes.specs.Parts.{parts_of}
 use Rattle.inst_settings.specs.Settings.{HubSettings, same_text}
-use Rattle.inst_settings.specs.Lawful.{IsSettings}
+use Rattle.inst_settings.specs.Lawful.{AreOfAHub, IsSettings}
 use Rattle.inst_options.specs.declared.wish.LogOptions.{LogOptions}
 use Rattle.inst_options.specs.declared.wish.Wish.{Wish}
 use Rattle.inst_options.specs.declared.wish.Wish.TheVariants as wish
@@ -86,14 +84,9 @@ pub record Chooses (rows : List Row) (s : HubSettings) : Type 0 where
   pub ceiling : Gives rows (codes "ceiling") s.ceiling
   pub base : Gives rows (codes "base") s.base
 
--- a hub can have these settings
-pub record AreGood (s : HubSettings) : Type 0 where
-  pub lawful : IsSettings s
-  pub codes_formed : list_all is_code s.codes ≡ true
-
 -- the options choose no settings that a hub can have
 abbrev pub ChooseNone : List Row → Type 0
-ChooseNone rows = (s : HubSettings) → Chooses rows s → ¬ (AreGood s)
+ChooseNone rows = (s : HubSettings) → Chooses rows s → ¬ (AreOfAHub s)
 
 -- the numbers of a drill are as small as a word can give them; lines have none
 abbrev pub HasSmallNumbers : Task → Type 0
@@ -105,7 +98,7 @@ HasSmallNumbers Check = Unit {0}
 -- the options of the subcommand of this name choose no settings that a hub can have, or no task that fits
 abbrev pub AskForNone : List ℕ → List Row → Type 0
 AskForNone name rows =
-    (task : Task) (s : HubSettings) → IsTask name rows task → Chooses rows s → ¬ (AreGood s × HasSmallNumbers task)
+    (task : Task) (s : HubSettings) → IsTask name rows task → Chooses rows s → ¬ (AreOfAHub s × HasSmallNumbers task)
 
 -- what the subcommand of this name asks for, with these options
 abbrev pub IsWish : List ℕ → List Row → Wish → Type 0

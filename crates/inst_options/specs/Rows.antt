@@ -2,8 +2,7 @@
 use Rattle.std.specs.Prelude.{◌≡◌, ℕ, List, [], ◌∷◌, codes}
 use Rattle.clap.specs.declared.error.kind.ErrorKind.TheVariants.{DisplayHelp, DisplayVersion, MissingRequiredArgument, MissingSubcommand}
 use Rattle.inst_settings.specs.Settings.{HubSettings}
-use Rattle.inst_settings.specs.Lawful.{settings_with}
-use Rattle.inst_options.specs.Options.{AreGood}
+use Rattle.inst_settings.specs.Lawful.{AreOfAHub, settings_with}
 use Rattle.inst_options.specs.Asking.{AreChosen, AreWhole, AskToExplain, faults_of}
 use Rattle.inst_options.specs.Options.Task.{Run, Play, Drill}
 
@@ -32,7 +31,7 @@ pub record SmallHub : Type 0 where
   pub script_chosen : AreChosen small_script Play small_settings
   pub drill_whole : AreWhole small_drill
   pub drill_chosen : AreChosen small_drill (Drill 2 1) small_settings
-  pub good : AreGood small_settings
+  pub good : AreOfAHub small_settings
 
 -- words that are no whole command line: `inst_main run`, `inst_main play`, `inst_main drill`, `inst_main`,
 -- `inst_main --help` and `inst_main --version`

@@ -73,7 +73,7 @@ the base and end 2^41 - 1 ms after it. Unix time in milliseconds fits base 0 unt
 past that needs a base near its start, as --base 1767225600000, which is 2026-01-01 00:00 UTC.
 
 Exit status: 0 at the end of the input or of the drill, 2 for wrong words or settings, 3 where fault 14, 17 or 18
-ended it.";
+ended it, or with a log fault 19.";
 
 /// At the end of the program's help.
 pub(crate) const PROGRAM: &str = "\

@@ -1,6 +1,7 @@
 -- Which settings a hub can have. The ranges are this hub's own choice.
 use Rattle.std.specs.Prelude.{◌≡◌, ℕ, ◌^◌, ◌<◌, ◌≤◌, Bool, true, ◌&&◌, not, List, [], ◌∷◌, length}
-use Rattle.std.specs.List.{list_any}
+use Rattle.std.specs.List.{list_all, list_any}
+use Rattle.inst_base.specs.Text.{is_code}
 use Rattle.inst_settings.specs.Settings.{HubSettings, same_text}
 use Rattle.inst_settings.specs.declared.numbers.Numbers.{Numbers}
 
@@ -57,3 +58,8 @@ pub record IsSettings (s : HubSettings) : Type 0 where
   pub ceiling_some : 1 ≤ s.ceiling
   pub ceiling_most : s.ceiling ≤ 99999999999
   pub base_most : s.base ≤ 2 ^ 62
+
+-- a hub can have them: they are in their ranges, and each code is one
+pub record AreOfAHub (s : HubSettings) : Type 0 where
+  pub lawful : IsSettings s
+  pub codes_formed : list_all is_code s.codes ≡ true

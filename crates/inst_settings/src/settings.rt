@@ -24,43 +24,19 @@ use std::marker::Model;
 pub struct Settings {
     codes: Vec<Code>,
     finder: Finder,
-    places: u16,
-    fundings: u16,
-    limit: u32,
-    margin: u32,
-    ahead: u32,
-    ceiling: u64,
-    base: u64,
+    numbers: Numbers,
 }
 
 impl Model for Settings {
     ghost use Rattle.inst_settings.specs.Settings.{HubSettings};
-    ghost use Rattle.inst_settings.specs.Lawful.{IsSettings};
+    ghost use Rattle.inst_settings.specs.Lawful.{IsSettings, settings_of};
     ghost use Rattle.inst_settings.specs.Finder.{TellsAll};
 
     ghost Value = { HubSettings };
 
-    ghost view = { λ s. record {
-      codes = s.codes.items;
-      places = s.places;
-      fundings = s.fundings;
-      limit = s.limit;
-      margin = s.margin;
-      ahead = s.ahead;
-      ceiling = s.ceiling;
-      base = s.base;
-    } };
+    ghost view = { λ s. settings_of s.codes.items s.numbers };
 
-    ghost invariant = { λ s. IsSettings (record {
-      codes = s.codes.items;
-      places = s.places;
-      fundings = s.fundings;
-      limit = s.limit;
-      margin = s.margin;
-      ahead = s.ahead;
-      ceiling = s.ceiling;
-      base = s.base;
-    }) × TellsAll s.codes.items s.finder.table };
+    ghost invariant = { λ s. IsSettings (settings_of s.codes.items s.numbers) × TellsAll s.codes.items s.finder.table };
 }
 
 impl Settings {
@@ -102,13 +78,7 @@ impl Settings {
         Ok(Settings {
             codes,
             finder,
-            places,
-            fundings,
-            limit,
-            margin,
-            ahead,
-            ceiling,
-            base,
+            numbers,
         })
     }
 
@@ -120,13 +90,7 @@ impl Settings {
         Ok(Settings {
             codes: self.codes.clone()?,
             finder: self.finder,
-            places: self.places,
-            fundings: self.fundings,
-            limit: self.limit,
-            margin: self.margin,
-            ahead: self.ahead,
-            ceiling: self.ceiling,
-            base: self.base,
+            numbers: self.numbers,
         })
     }
 
@@ -180,15 +144,7 @@ impl Settings {
     pub fn numbers(&self) -> Numbers
         ensures { result ≡ numbers_of self.now }
     {
-        Numbers {
-            places: self.places,
-            fundings: self.fundings,
-            limit: self.limit,
-            margin: self.margin,
-            ahead: self.ahead,
-            ceiling: self.ceiling,
-            base: self.base,
-        }
+        self.numbers
     }
 
     /// How many submissions each originator may have taken.
@@ -197,7 +153,7 @@ impl Settings {
         ensures some { 1 ≤ result }
         ensures most { result ≤ MOST_PLACES }
     {
-        self.places
+        self.numbers.places
     }
 
     /// How many fund and defund commands are kept for each participant.
@@ -206,7 +162,7 @@ impl Settings {
         ensures some { 1 ≤ result }
         ensures most { result ≤ MOST_FUNDINGS }
     {
-        self.fundings
+        self.numbers.fundings
     }
 
     /// From a transfer's time stamp to its deadline, in milliseconds.
@@ -215,7 +171,7 @@ impl Settings {
         ensures some { 1 ≤ result }
         ensures most { result ≤ MOST_LIMIT }
     {
-        self.limit
+        self.numbers.limit
     }
 
     /// How long before its deadline a transfer can't be accepted any more, in milliseconds.
@@ -223,7 +179,7 @@ impl Settings {
         ensures value { result ≡ self.now.margin }
         ensures below { result < self.now.limit }
     {
-        self.margin
+        self.numbers.margin
     }
 
     /// How far a time stamp may lie after the reading, in milliseconds.
@@ -231,7 +187,7 @@ impl Settings {
         ensures value { result ≡ self.now.ahead }
         ensures most { result ≤ MOST_AHEAD }
     {
-        self.ahead
+        self.numbers.ahead
     }
 
     /// The largest amount of one command, in cents.
@@ -240,7 +196,7 @@ impl Settings {
         ensures some { 1 ≤ result }
         ensures most { result ≤ MOST_CEILING }
     {
-        self.ceiling
+        self.numbers.ceiling
     }
 
     /// Whether one command may move so many cents: 1 to the ceiling.
@@ -248,7 +204,7 @@ impl Settings {
         ensures value { result ≡ is_within_ceiling self.now cents }
         ensures amount { result ≡ true → is_amount cents ≡ true }
     {
-        (1..=self.ceiling).contains(&cents)
+        (1..=self.numbers.ceiling).contains(&cents)
     }
 
     /// The absolute milliseconds from which moments are counted.
@@ -256,6 +212,6 @@ impl Settings {
         ensures value { result ≡ self.now.base }
         ensures most { result ≤ MOST_BASE }
     {
-        self.base
+        self.numbers.base
     }
 }

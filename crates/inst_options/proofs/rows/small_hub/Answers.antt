@@ -2,7 +2,7 @@ use Rattle.std.proofs.Common.{rules, [], option_map, refl, unwrap_or, codes, ari
 use Rattle.clap.specs.Words.{subcommand_of}
 use Rattle.clap.proofs.OnLiterals.{clap_on_literals}
 use Rattle.inst_options.specs.CommandLine.{command_line}
-use Rattle.inst_options.specs.Options.{AreGood}
+use Rattle.inst_settings.specs.Lawful.{AreOfAHub}
 use Rattle.inst_options.specs.Asking.{AreChosen, AreWhole}
 use Rattle.inst_options.specs.Rows.{small_drill, small_hub, small_script, small_settings}
 use Rattle.inst_options.specs.Options.Task.{Run, Play, Drill}
@@ -77,7 +77,7 @@ drill_chosen = (
   },
 )
 
-good : AreGood small_settings
+good : AreOfAHub small_settings
 good = record {
   lawful = record {
     participants_some = omega arith;

@@ -25,8 +25,7 @@ use denote.Triple.Table.{entered}
 use denote.Triple.Walked.{says, Stays, stay_dropped, walk_of, ends_at, Goes-dropped, walk_Meets}
 use Rattle.std.proofs.BoxSteps.Form.{D, B, word, box_typed}
 use Rattle.std.proofs.BoxSteps.Steps.{box_out, box_in}
-use Rattle.std.specs.Prelude.{Option}
-use Rattle.inst_c.specs.Held.{is_some}
+use Rattle.std.specs.Prelude.{Option, is_some}
 use Rattle.inst_c.specs.declared.hub.Hub.{Hub}
 use Rattle.inst_c.proofs.AsBox.{E, FromHeld as From, some_of}
 use Rattle.inst_c.specs.contracts.held.Held.{the_row as Held}
