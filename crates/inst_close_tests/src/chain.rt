@@ -1,4 +1,4 @@
-// Ten openings, each from the books of the one before: no key, no outcome and no cent is lost.
+//! Ten openings, each from the books of the one before: no key, no outcome and no cent is lost.
 use crate::asking::{investigated, one_paid};
 use crate::closing::{closed, opened, opened_again};
 use inst_base::Fault;

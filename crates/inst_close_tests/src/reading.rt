@@ -1,4 +1,4 @@
-// What is read in the books of three participants.
+//! What is read in the books of three participants.
 use inst_base::Fault;
 use inst_close::Books;
 use inst_command::State;

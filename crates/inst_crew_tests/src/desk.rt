@@ -1,4 +1,4 @@
-// What no contract says: in which order jobs are taken, and that a call fails only where it must.
+//! What no contract says: in which order jobs are taken, and that a call fails only where it must.
 ghost use Rattle.std.specs.Prelude.{◌≡◌, IfOk};
 ghost use Rattle.inst_desk.specs.Desk.{IsHandOf, parts_of};
 

@@ -1,4 +1,4 @@
-// A hub of three participants, and a desk with jobs for it.
+//! A hub of three participants, and a desk with jobs for it.
 ghost use Rattle.std.specs.Prelude.{◌≡◌, ◌+◌, IfOk, length};
 ghost use Rattle.inst_desk.specs.Desk.{IsHandOf, AreHandsOf};
 ghost use Rattle.inst_hub.specs.Calls.{IsOf, AreOf};

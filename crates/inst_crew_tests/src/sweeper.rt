@@ -1,10 +1,10 @@
-// A crew keeps what it saw, and its sweeper sweeps.
+//! A crew keeps what it saw, and its sweeper sweeps.
 ghost use Rattle.std.specs.Prelude.{IfOk};
 ghost use Rattle.inst_hub.specs.Calls.{IsOf};
 ghost use Rattle.inst_crew.specs.Crew.{MaySweep};
 
 use crate::setting::{desk, fund, last, settings, submission};
-use inst_base::{Fault, Moment};
+use inst_base::{Fault, Moment, mention};
 use inst_command::{Outcome, State};
 use inst_crew::{Sweep, run_crew};
 use inst_hub::{Hub, Teller, Ungated};
@@ -30,8 +30,7 @@ fn sweep(hub: &Hub, teller: Teller) -> Result<Sweep, Fault>
 
 /// What a crew of one saw of the one transfer that it submitted, and what is seen after a sweep beside another crew.
 fn see<R: Threads + Wait + Sync>(rt: &R, alloc: Global) -> Result<(usize, State, State), Fault> {
-    // The check is told of a type of another crate inside a state only where a function names it.
-    let _: Option<Outcome> = None;
+    mention::<Outcome>();
     let (hub, mut tellers) = Hub::open(alloc, settings(alloc)?, 2)?;
     let mut second = last(&hub, &mut tellers)?;
     fund(rt, &hub, &mut second)?;

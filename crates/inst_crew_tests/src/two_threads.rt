@@ -1,4 +1,4 @@
-// Two threads truly run at once: the one that is in the lock of participant 0 waits until the other is in that of 2.
+//! Two threads truly run at once: the one that is in the lock of participant 0 waits until the other is in that of 2.
 use crate::setting::{ask, desk, settings};
 use inst_base::Fault;
 use inst_command::Command;

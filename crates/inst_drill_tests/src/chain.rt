@@ -1,4 +1,4 @@
-// Ten openings, each from the books of the one before, in which threads submit, confirm and sweep.
+//! Ten openings, each from the books of the one before, in which threads submit, confirm and sweep.
 use crate::kept::{Kept, funded, kept_of};
 use inst_base::Fault;
 use inst_close::Books;

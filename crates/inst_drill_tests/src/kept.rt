@@ -1,4 +1,4 @@
-// What a book has of a transfer, by a walk over its events.
+//! What a book has of a transfer, by a walk over its events.
 use inst_base::{Fault, Ident};
 use inst_command::Outcome;
 use inst_journal::{Event, Journal};

@@ -1,4 +1,4 @@
-// What the tellers of a hub ask it.
+//! What the tellers of a hub ask it.
 ghost use Rattle.std.specs.Prelude.{◌≡◌, true, IfOk};
 ghost use Rattle.inst_command.specs.Ask.{ask_fits};
 ghost use Rattle.inst_hub.specs.Calls.{IsOf, AreOf};

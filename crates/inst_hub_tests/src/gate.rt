@@ -1,10 +1,10 @@
-// A call that has one participant's lock holds up other calls of that participant, and nobody else.
+//! A call that has one participant's lock holds up other calls of that participant, and nobody else.
 ghost use Rattle.inst_hub.specs.Calls.{IsOf, AreOf};
 
 use crate::asking::{ask, fitting, last, submitted};
 use crate::comparing::same;
 use crate::start::Start;
-use inst_base::Fault;
+use inst_base::{Fault, mention};
 use inst_command::{Command, Outcome, State};
 use inst_hub::{Gate, Hub, Teller, Ticket};
 use inst_rows::settings;
@@ -205,8 +205,7 @@ fn seen<R: Threads + Wait + Sync>(
 
 #[test]
 fn gate_lets_others_through(rt: HostRuntime) -> Result<(), Fault> {
-    // The check is told of a type of another crate inside another one only where a function names it.
-    let _: Option<Outcome> = None;
+    mention::<Outcome>();
     let (hub, mut tellers) = Hub::open(rt.alloc(), settings(rt.alloc())?, 4)?;
     let expected = Passed {
         passes: 1,

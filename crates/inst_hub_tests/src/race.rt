@@ -1,4 +1,4 @@
-// One thread confirms transfers at the last moment in time while another investigates them at the deadline.
+//! One thread confirms transfers at the last moment in time while another investigates them at the deadline.
 ghost use Rattle.inst_hub.specs.Calls.{IsOf, AreOf};
 
 use crate::asking::{ask, fund, last, money, state_of, submit};

@@ -1,4 +1,4 @@
-// A hub that opens again from the journals of a hub in one thread, which was closed with a transfer pending.
+//! A hub that opens again from the journals of a hub in one thread, which was closed with a transfer pending.
 ghost use Rattle.std.specs.Prelude.{◌≡◌, IfOk};
 ghost use Rattle.inst_model.specs.Rows as rows;
 ghost use Rattle.inst_hub.specs.Calls.{IsOf};

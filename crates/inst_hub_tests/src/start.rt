@@ -1,4 +1,4 @@
-// Where the threads of a test wait for one another, so that they go on at the same time.
+//! Where the threads of a test wait for one another, so that they go on at the same time.
 use std::sync::atomic::{AtomicU32, Ordering};
 use std::thread::yield_now;
 

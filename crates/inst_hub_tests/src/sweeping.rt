@@ -1,4 +1,4 @@
-// What sweeps count, and in which order they bring transfers.
+//! What sweeps count, and in which order they bring transfers.
 ghost use Rattle.inst_hub.specs.Calls.{IsOf, AreOf};
 
 use crate::asking::{ask, fitting, fund, investigate, last, state_of, submit, submitted};

@@ -1,4 +1,4 @@
-// One teller submits a transfer, and another confirms it.
+//! One teller submits a transfer, and another confirms it.
 ghost use Rattle.inst_hub.specs.Calls.{IsOf};
 
 use crate::asking::{ask, confirm, last, money, state_of, submitted};

@@ -1,6 +1,6 @@
-// Values of fields on both sides of their bounds.
+//! Values of fields on both sides of their bounds.
 use crate::hub::{MOST, hub};
-use inst_base::Fault;
+use inst_base::{Fault, mention};
 use inst_command::Command;
 use inst_json::read_command;
 use inst_settings::Settings;
@@ -79,8 +79,7 @@ fn refusal(
     value: &str,
     back: &str,
 ) -> Result<Option<Fault>, Fail> {
-    // The check is told of a type of another crate inside a result only where a function names it.
-    let _: Option<Command> = None;
+    mention::<Command>();
     let line = format!(in alloc; "{front}{value}{back}")?;
     let refusal = read_command(alloc, hub, line.as_bytes()).err();
     Ok(refusal)

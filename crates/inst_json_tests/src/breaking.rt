@@ -1,6 +1,6 @@
-// Which lines one pass knows to be no JSON, and which it leaves to be read in another way.
+//! Which lines one pass knows to be no JSON, and which it leaves to be read in another way.
 use crate::hub::{MOST, hub};
-use inst_base::Fault;
+use inst_base::{Fault, mention};
 use inst_command::Command;
 use inst_json::read_command;
 use inst_scan::{Fields, Form, scan_into};
@@ -131,8 +131,7 @@ fn is_left(line: &[u8]) -> bool {
 
 /// Why a line is refused, if it is.
 fn refusal(alloc: Global, hub: &Settings, line: &[u8]) -> Option<Fault> {
-    // The check is told of a type of another crate inside a result only where a function names it.
-    let _: Option<Command> = None;
+    mention::<Command>();
     read_command(alloc, hub, line).err()
 }
 

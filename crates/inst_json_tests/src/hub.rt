@@ -1,4 +1,4 @@
-// The hub that lines are read and written for.
+//! The hub that lines are read and written for.
 ghost use Rattle.std.specs.Prelude.{◌≡◌, IfOk};
 ghost use Rattle.inst_settings.specs.Settings.{participants};
 

@@ -1,4 +1,4 @@
-// Each command and each step as it is read.
+//! Each command and each step as it is read.
 use crate::hub::{MOST, hub};
 use inst_base::{Cents, Fault, Ident, Moment, Reason};
 use inst_command::{Ask, Command, Step, Submission};

@@ -1,4 +1,4 @@
-// What lines are refused for, in the order of the refusals.
+//! What lines are refused for, in the order of the refusals.
 use crate::hub::{MOST, hub};
 use inst_base::Fault;
 use inst_json::{LineReader, Name, Refusal, read_command, read_step};
@@ -182,11 +182,11 @@ const BLAMED: &[Blame] = &[
 fn blames(rt: &(impl Abort + AllocGlobal), hub: &Settings) {
     let mut reader = LineReader::new(rt.alloc());
     for &(line, fault, field, name) in BLAMED {
-        let read = reader.read_ask(hub, line.as_bytes());
+        let read = reader.read_blamed_command(hub, line.as_bytes());
         assert_eq!(rt; read, Err(Refusal { fault, field }), "{line}");
         assert_eq!(rt; field.map_or("", Name::as_str), name);
     }
-    let step = reader.read_move(
+    let step = reader.read_blamed_step(
         hub,
         br#"{"from":"AAAADEFF","step":"learn","who":"AAAADEFF"}"#,
     );

@@ -1,4 +1,4 @@
-// Which lines are read in one pass, without a tree. What they are read as a contract says, whichever way it is.
+//! Which lines are read in one pass, without a tree. What they are read as a contract says, whichever way it is.
 use inst_scan::scan;
 use std::alloc::Global;
 use std::process::Abort;

@@ -1,4 +1,4 @@
-// The lines of answers.
+//! The lines of answers.
 ghost use Rattle.std.specs.Prelude.{◌≡◌, ◌<◌, true};
 ghost use Rattle.inst_settings.specs.Settings.{participants};
 ghost use Rattle.inst_command.specs.declared.reply.Answer.{Answer};

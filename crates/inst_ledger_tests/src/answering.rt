@@ -4,14 +4,14 @@ ghost use Rattle.inst_settings.specs.Lawful.{IsSettings};
 ghost use Rattle.inst_command.specs.Ask.{command_fits};
 ghost use Rattle.inst_journal.specs.Opened.{openings};
 
-use crate::asked::{Asks, End, command, outcome};
+use crate::asked::{Asks, command, outcome};
 use crate::comparing::{same, same_at};
-use crate::told::{Told, are_lines, is_refused, is_reply};
+use crate::told::{Told, is_refused, is_reply};
 use inst_base::{Fault, Moment};
 use inst_command::{Ask, Outcome};
 use inst_journal::{Event, Handled, Journal, handle_command, reply_of};
 use inst_ledger::Ledger;
-use inst_rows::settings;
+use inst_rows::{End, are_lines, settings};
 use inst_statement::statement;
 use std::alloc::Global;
 use std::process::Abort;

@@ -1,6 +1,7 @@
 //! What is asked, by short texts and plain numbers.
 use inst_base::{Cents, Fault, Ident, Moment, Reason};
 use inst_command::{Command, Outcome, Submission};
+use inst_rows::End;
 
 /// A command.
 #[derive(Clone, Copy)]
@@ -16,14 +17,6 @@ pub(crate) enum Asks {
     Position,
     /// The lines that are skipped, and how many are asked for.
     Statement(u64, u32),
-}
-
-/// What became of a transfer.
-#[derive(Clone, Copy)]
-pub(crate) enum End {
-    Accepted,
-    Rejected(&'static str),
-    TimedOut,
 }
 
 fn submit(id: &str, to: u8, cents: u64, stamp: u64) -> Result<Command, Fault> {

@@ -4,13 +4,14 @@ ghost use Rattle.inst_settings.specs.Settings.{participants};
 ghost use Rattle.inst_settings.specs.Lawful.{IsSettings};
 
 use crate::answering::{Row, answers, keeps, opened};
-use crate::asked::{Asks, End};
+use crate::asked::Asks;
 use crate::comparing::same;
 use crate::told::Told;
 use inst_base::{Cents, Fault, Ident, Moment};
 use inst_command::LineKind;
 use inst_journal::Event;
 use inst_ledger::Ledger;
+use inst_rows::End;
 use std::process::Abort;
 use std::test::Fail;
 

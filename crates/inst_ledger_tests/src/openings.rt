@@ -2,13 +2,14 @@
 ghost use Rattle.std.specs.Prelude.{◌≡◌, []};
 
 use crate::answering::{Row, answered, answers, keeps, opened, opened_again};
-use crate::asked::{Asks, End};
+use crate::asked::Asks;
 use crate::beneficiary::forwarded;
 use crate::comparing::same;
 use crate::told::Told;
 use inst_command::LineKind;
 use inst_journal::{Event, Journal};
 use inst_ledger::Ledger;
+use inst_rows::End;
 use std::process::Abort;
 use std::test::Fail;
 

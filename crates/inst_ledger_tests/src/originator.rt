@@ -1,12 +1,13 @@
 //! What a participant is answered that funds, submits and learns outcomes.
 use crate::answering::{Row, answered, keeps};
-use crate::asked::{Asks, End};
+use crate::asked::Asks;
 use crate::comparing::{same, same_at};
 use crate::told::Told;
 use inst_base::{Fault, Ident};
 use inst_command::{LineKind, Outcome};
 use inst_journal::Journal;
 use inst_ledger::Ledger;
+use inst_rows::End;
 use std::process::Abort;
 use std::test::Fail;
 

@@ -1,8 +1,9 @@
 //! Commands that are refused.
 use crate::answering::{Row, answered, keeps};
-use crate::asked::{Asks, End};
+use crate::asked::Asks;
 use crate::told::Told;
 use inst_base::Fault;
+use inst_rows::End;
 use std::test::Fail;
 
 const REFUSED: &[Row] = &[

@@ -1,8 +1,8 @@
 //! Statements that are kept line by line, by themselves.
 use crate::comparing::same_at;
-use crate::told::{Shown, are_lines};
 use inst_base::{Cents, Ident};
 use inst_command::LineKind;
+use inst_rows::{Shown, are_lines};
 use inst_statement::{KeptStatement, Movement};
 use std::process::Abort;
 use std::test::Fail;

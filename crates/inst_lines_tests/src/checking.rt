@@ -1,4 +1,4 @@
-// What is told of lines by themselves, and a hub that has answered lines.
+//! What is told of lines by themselves, and a hub that has answered lines.
 use inst_agenda::Runner;
 use inst_base::Moment;
 use inst_command::{Answer, Ask, Command, Reply, Step};

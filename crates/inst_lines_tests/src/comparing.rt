@@ -1,4 +1,4 @@
-// What tests compare.
+//! What tests compare.
 use std::fmt::Debug;
 use std::process::Abort;
 

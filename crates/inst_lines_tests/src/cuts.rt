@@ -1,4 +1,4 @@
-// Input that is cut after each byte.
+//! Input that is cut after each byte.
 use crate::comparing::same;
 use crate::serving::{Row, are_replies, lines_of, written};
 use inst_lines::Mode;

@@ -1,11 +1,10 @@
-// A reader that fails behind each byte, and a writer that fails behind each byte and in each flush.
+//! A reader that fails behind each byte, and a writer that fails behind each byte and in each flush.
 use crate::comparing::{same, same_at};
 use crate::failing_writers::{FullOnce, Manner, UnflushedOnce};
-use crate::pieces::Pieces;
 use crate::serving::{Row, are_replies, lines_of, serve, written};
 use inst_base::Fault;
 use inst_lines::Mode;
-use inst_rows::settings;
+use inst_rows::{Pieces, settings};
 use inst_settings::Settings;
 use std::process::Abort;
 use std::test::Fail;

@@ -1,5 +1,5 @@
-// Writers that fail once, so that a run which tries again, or goes on, is seen. Their error is the one after which std's
-// own loops try again.
+//! Writers that fail once, so that a run which tries again, or goes on, is seen. Their error is the one after which
+//! std's own loops try again.
 use std::io::{self, ErrorKind, Write};
 
 /// What a full writer does.

@@ -18,6 +18,4 @@ mod malformed;
 #[cfg(test)]
 mod newlines;
 #[cfg(test)]
-mod pieces;
-#[cfg(test)]
 mod serving;

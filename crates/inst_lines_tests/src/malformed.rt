@@ -1,4 +1,4 @@
-// Lines that are refused in reading, and the lines behind them.
+//! Lines that are refused in reading, and the lines behind them.
 use crate::comparing::same;
 use crate::serving::{BAD_FIELD, NOT_JSON, Row, are_replies, lines_of, serve};
 use inst_lines::{Counts, Mode};

@@ -1,4 +1,4 @@
-// As many lines as a run answers, and a byte more.
+//! As many lines as a run answers, and a byte more.
 use crate::comparing::same;
 use crate::serving::NOT_JSON;
 use inst_base::Fault;

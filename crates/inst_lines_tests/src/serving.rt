@@ -1,4 +1,4 @@
-// Runs and plays of lines, and what they write.
+//! Runs and plays of lines, and what they write.
 use crate::comparing::same_at;
 use inst_base::Fault;
 use inst_lines::{Counts, Mode, play_lines, run_lines};

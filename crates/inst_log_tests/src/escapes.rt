@@ -1,4 +1,4 @@
-// How lines stand in the file, and that they come back.
+//! How lines stand in the file, and that they come back.
 use crate::batches::add;
 use inst_log::{first_line, line_of};
 use std::test::Fail;

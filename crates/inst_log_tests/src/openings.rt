@@ -1,4 +1,4 @@
-// Which files open with some settings, and what is left of those that don't.
+//! Which files open with some settings, and what is left of those that don't.
 use crate::batches::{one, put};
 use inst_log::{Log, LogError};
 use sqlite_disk::Memory;

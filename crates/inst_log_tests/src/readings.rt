@@ -1,4 +1,4 @@
-// What is read of files of which nothing is repaired.
+//! What is read of files of which nothing is repaired.
 use crate::batches::put;
 use inst_log::{LogError, Reading, read};
 use sqlite_disk::Memory;

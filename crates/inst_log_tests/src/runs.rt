@@ -1,4 +1,4 @@
-// Two runs of one log, of which the first is cut off after each call of its disk: each line is answered once.
+//! Two runs of one log, of which the first is cut off after each call of its disk: each line is answered once.
 ghost use Rattle.std.specs.Prelude.{◌≡◌, []};
 ghost use Rattle.std.proofs.Common.{ap};
 ghost use Rattle.inst_log.specs.Layout.{blocks};

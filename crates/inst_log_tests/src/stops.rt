@@ -1,4 +1,4 @@
-// A machine that stops at each call of its disk in turn. What the last call wrote is torn at each byte.
+//! A machine that stops at each call of its disk in turn. What the last call wrote is torn at each byte.
 ghost use Rattle.std.specs.Prelude.{IsTrue};
 ghost use Rattle.sqlite_disk.specs.Disk.{Only};
 ghost use Rattle.inst_log.specs.Layout.{IsBatch};

@@ -1,4 +1,4 @@
-// Books that were changed in the file of a log.
+//! Books that were changed in the file of a log.
 use crate::keeping::{put, text_of};
 use inst_lines::Mode;
 use inst_log::LogError;

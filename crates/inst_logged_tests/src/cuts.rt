@@ -1,4 +1,4 @@
-// Lines that are cut into two runs of one log.
+//! Lines that are cut into two runs of one log.
 use crate::keeping::{LINES, front_len, go_on, plainly, text_of};
 use inst_lines::Mode;
 use inst_rows::settings;

@@ -1,9 +1,8 @@
-// A reader that fails behind each byte, and another run that goes on behind the lines that it gave.
+//! A reader that fails behind each byte, and another run that goes on behind the lines that it gave.
 use crate::keeping::{LINES, front_len, go_on, newlines, plainly, serve, text_of};
-use crate::pieces::Pieces;
 use inst_lines::Mode;
 use inst_logged::LoggedError;
-use inst_rows::settings;
+use inst_rows::{Pieces, settings};
 use inst_settings::Settings;
 use std::process::Abort;
 use std::test::Fail;

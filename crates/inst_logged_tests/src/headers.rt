@@ -1,4 +1,4 @@
-// With which bytes a log begins.
+//! With which bytes a log begins.
 use inst_lines::Mode;
 use inst_logged::first_batch;
 use inst_rows::{settings, settings_with};

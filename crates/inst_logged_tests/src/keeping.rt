@@ -1,4 +1,4 @@
-// Hubs with logs on disks in memory, and what they write.
+//! Hubs with logs on disks in memory, and what they write.
 ghost use Rattle.std.specs.Prelude.{◌≡◌, ◌≤◌, length, OnOk, IfSome, IsTrue};
 ghost use Rattle.sqlite_disk.specs.Disk.{Only};
 

@@ -1,8 +1,7 @@
-// Lines of each length, read in pieces of each size, and answered again.
+//! Lines of each length, read in pieces of each size, and answered again.
 use crate::keeping::{go_on, plainly, serve};
-use crate::pieces::Pieces;
 use inst_lines::Mode;
-use inst_rows::settings;
+use inst_rows::{Pieces, settings};
 use inst_settings::Settings;
 use std::alloc::Global;
 use std::process::Abort;

@@ -18,8 +18,6 @@ mod lengths;
 #[cfg(test)]
 mod openings;
 #[cfg(test)]
-mod pieces;
-#[cfg(test)]
 mod refusals;
 #[cfg(test)]
 mod stops;

@@ -1,4 +1,4 @@
-// Logs that begin with the books of others.
+//! Logs that begin with the books of others.
 use crate::keeping::{put, text_of};
 use inst_lines::Mode;
 use inst_logged::LoggedHub;

@@ -1,4 +1,4 @@
-// Logs that aren't taken: they are left as they are, and nothing is written.
+//! Logs that aren't taken: they are left as they are, and nothing is written.
 use crate::keeping::{LINES, go_on, serve, text_of};
 use inst_base::Code;
 use inst_lines::Mode;

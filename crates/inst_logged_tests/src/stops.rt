@@ -1,9 +1,8 @@
-// A machine that stops at each call of its disk in turn, and another run that goes on from what is left.
+//! A machine that stops at each call of its disk in turn, and another run that goes on from what is left.
 use crate::keeping::{LINES, front_len, go_on, newlines, plainly, put, serve_on, text_of};
-use crate::pieces::Pieces;
 use inst_lines::Mode;
 use inst_log::{LogError, read};
-use inst_rows::settings;
+use inst_rows::{Pieces, settings};
 use inst_settings::Settings;
 use sqlite_disk::{Fuse, Memory};
 use std::alloc::Global;

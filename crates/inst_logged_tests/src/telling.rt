@@ -1,4 +1,4 @@
-// Replies that are handed out again, to a reader that has some of them.
+//! Replies that are handed out again, to a reader that has some of them.
 use crate::keeping::{LINES, front_len, go_on, plainly, serve, text_of};
 use inst_lines::Mode;
 use inst_log::LogError;

@@ -1,4 +1,4 @@
-// What a participant does at its slot.
+//! What a participant does at its slot.
 ghost use Rattle.std.specs.Prelude.{◌≡◌, true};
 ghost use Rattle.inst_command.specs.Ask.{ask_fits};
 ghost use Rattle.inst_board.specs.Plain.{Contents, plain_knows};

@@ -1,4 +1,4 @@
-// How a hub in one thread is closed, so that another opens from its journals.
+//! How a hub in one thread is closed, so that another opens from its journals.
 ghost use Rattle.std.specs.Prelude.{IfOk};
 ghost use Rattle.inst_model.specs.Interleaving.{IsInterleaving};
 ghost use Rattle.inst_world.specs.NextOpening.{CanOpenFrom};

@@ -1,4 +1,4 @@
-// The participants of the worked rows, and their settings.
+//! The participants of the worked rows, and their settings.
 ghost use Rattle.std.specs.Prelude.{◌≡◌, IfOk};
 ghost use Rattle.inst_settings.specs.Lawful.{IsSettings, settings_with as their_settings};
 ghost use Rattle.inst_model.specs.Rows as rows;

@@ -1,4 +1,4 @@
-// The slots of the worked rows' participants over one board.
+//! The slots of the worked rows' participants over one board.
 ghost use Rattle.std.specs.Prelude.{◌≡◌, ◌<◌, true};
 ghost use Rattle.inst_journal.specs.Opened.{openings};
 ghost use Rattle.inst_journal.specs.Sound.{IsSound};

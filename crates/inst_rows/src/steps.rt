@@ -1,4 +1,4 @@
-// The steps of scripts, as the worked rows of the model write them.
+//! The steps of scripts, as the worked rows of the model write them.
 ghost use Rattle.std.specs.Prelude.{◌≡◌, IfOk};
 ghost use Rattle.inst_model.specs.Rows as rows;
 

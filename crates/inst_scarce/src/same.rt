@@ -1,4 +1,5 @@
 //! Whether two answers say the same.
+use inst_base::mention;
 use inst_command::{Answer, Entry, Line, Outcome, Reply};
 
 /// Whether the answers say the same.
@@ -11,8 +12,7 @@ pub(crate) fn is_same(one: &Answer, other: &Answer) -> bool {
 }
 
 fn is_same_reply(one: &Reply, other: &Reply) -> bool {
-    // The check is told of a type of another crate inside a reply only where a function names it.
-    let _: Option<(Entry, Line, Outcome)> = None;
+    mention::<(Entry, Line, Outcome)>();
     match (one, other) {
         (Reply::Done { reference }, Reply::Done { reference: other }) => reference == other,
         (

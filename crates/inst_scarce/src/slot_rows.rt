@@ -4,7 +4,7 @@ use crate::flaw::Flaw;
 use crate::rows::{self, Line};
 use crate::same::is_same;
 use crate::tries::{MOST_TRIES, Need, QUANTUM, Tries};
-use inst_base::{Fault, Moment};
+use inst_base::{Fault, Moment, mention};
 use inst_board::Place;
 use inst_command::{Answer, Ask, Command, Outcome, Reply, Step, Submission};
 use inst_hoard::Hoard;
@@ -59,8 +59,7 @@ fn take_line(
     hoard: &mut Hoard,
     line: &Line,
 ) -> Result<u32, Flaw> {
-    // The check is told of a type of another crate inside a step only where a function names it.
-    let _: Option<(Ask, Command, Submission, Outcome)> = None;
+    mention::<(Ask, Command, Submission, Outcome)>();
     let step = inst_json::read_step(alloc, world.settings(), line.step.as_bytes())?;
     let (answer, refused) = act_in_want(world, slots, hoard, &step)?;
     let wanted = world.step(&step)?;
@@ -78,8 +77,7 @@ fn act_in_want(
     hoard: &mut Hoard,
     step: &Step,
 ) -> Result<(Answer, u32), Flaw> {
-    // The check is told of a type of another crate inside an act only where a function names it.
-    let _: Option<(Command, Submission)> = None;
+    mention::<(Command, Submission)>();
     let (who, act, at) = act_of(step)?;
     let mut refused = 0u32;
     for quanta in 0..MOST_TRIES {
@@ -102,8 +100,7 @@ fn act_in_want(
 
 /// Who acts in the step, how, and at which reading, where that matters.
 fn act_of(step: &Step) -> Result<(u8, Act, Moment), Flaw> {
-    // The check is told of a type of another crate inside a step only where a function names it.
-    let _: Option<(Submission, Outcome)> = None;
+    mention::<(Submission, Outcome)>();
     let never = Moment::new(0, 0)?;
     Ok(match *step {
         Step::Ask(ask) => (ask.who, Act::Ask(ask.command), ask.at),

@@ -6,6 +6,7 @@ ghost use Rattle.inst_world.specs.HasRun.{IsOfModel};
 use crate::flaw::Flaw;
 use crate::rows::{self, Line};
 use crate::tries::{MOST_TRIES, Need, QUANTUM, Tries};
+use inst_base::mention;
 use inst_command::{Answer, Ask, Command, Outcome, Step, Submission};
 use inst_hoard::Hoard;
 use inst_journal::Event;
@@ -73,8 +74,7 @@ fn take_line(
     hoard: &mut Hoard,
     line: &Line,
 ) -> Result<u32, Flaw> {
-    // The check is told of a type of another crate inside a step only where a function names it.
-    let _: Option<(Ask, Command, Submission, Outcome)> = None;
+    mention::<(Ask, Command, Submission, Outcome)>();
     let step = inst_json::read_step(alloc, world.settings(), line.step.as_bytes())?;
     let histories = histories(alloc, world)?;
     let (answer, refused) = step_in_want(world, hoard, &step, &histories)?;

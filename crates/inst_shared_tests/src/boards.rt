@@ -1,5 +1,5 @@
-// What no contract says: that a peek loads, that two boards of one table see the same words, and that a
-// hub opens with so many tellers.
+//! What no contract says: that a peek loads, that two boards of one table see the same words, and that a
+//! hub opens with so many tellers.
 ghost use Rattle.std.specs.Prelude.{◌≡◌, ◌≤◌, true, IfOk};
 ghost use Rattle.inst_board.specs.declared.about.About.TheVariants.{Opened};
 ghost use Rattle.inst_board.specs.declared.about.Fact.{Fact};
@@ -11,7 +11,7 @@ ghost use Rattle.inst_cell.specs.Seen.{board_of};
 
 use inst_base::{Cents, Code, Fault, Ident, Moment, Reason};
 use inst_board::{Board, Glance, Look, Place, Wish};
-use inst_cell::{MOST_TELLERS, SharedBoard, Teller};
+use inst_cell::{MOST_TELLERS, SharedBoard, Sight};
 use inst_command::{Outcome, State};
 use inst_settings::{Numbers, Settings};
 use inst_terms::Terms;
@@ -33,7 +33,7 @@ fn open_two(
     alloc: Global,
     margin: u32,
     place: Place,
-) -> Result<(SharedBoard, SharedBoard, Teller), Fault>
+) -> Result<(SharedBoard, SharedBoard, Sight), Fault>
     requires { place.owner ≡ 0 }
     ensures place { IfOk result (λ r. IsPlace (settings_of r.0) place × (is_participant (settings_of r.0) 1 ≡ true)) }
     ensures roles { IfOk result (λ r. has_role r.0 0 × has_role r.1 1) }

@@ -1,5 +1,5 @@
-// What no clause says: that a take comes back, at once or when the lock is given back, with the value that was left
-// there, and that nothing is lost where two threads take one lock in turn.
+//! What no clause says: that a take comes back, at once or when the lock is given back, with the value that was left
+//! there, and that nothing is lost where two threads take one lock in turn.
 ghost use Rattle.std.specs.Prelude.{◌≡◌, ℕ, ◌<◌, IfOk, List};
 ghost use mathlib.Core.List.{IsPrefix};
 ghost use Rattle.inst_row.specs.Seated.{IsOn, IsFree, Has, HasAll, view_of};

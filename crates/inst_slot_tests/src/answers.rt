@@ -1,14 +1,7 @@
 //! What is answered, by short texts and plain numbers.
 use inst_base::Fault;
-use inst_command::{Answer, Entry, Line, LineKind, Outcome, Reply, State};
-
-/// What became of a transfer.
-#[derive(Clone, Copy)]
-pub(crate) enum End {
-    Accepted,
-    Rejected(&'static str),
-    TimedOut,
-}
+use inst_command::{Answer, Entry, Line, LineKind, Reply, State};
+use inst_rows::{End, is_end};
 
 /// What is told: of entries the identifiers, and of statement lines their numbers, what they show and the
 /// positions after them.
@@ -23,15 +16,6 @@ pub(crate) enum Told {
     Lines(&'static [(u32, LineKind, u64)]),
     New(bool),
     Refused(Fault),
-}
-
-pub(crate) fn is_end(outcome: &Outcome, end: &End) -> bool {
-    match (outcome, end) {
-        (Outcome::Accepted, End::Accepted) => true,
-        (Outcome::TimedOut, End::TimedOut) => true,
-        (Outcome::Rejected(reason), End::Rejected(wanted)) => reason.text() == *wanted,
-        _ => false,
-    }
 }
 
 fn is_state(state: &State, told: &Told) -> bool {

@@ -1,7 +1,7 @@
 //! What is done, one act after another, what is answered, and what is kept.
 use crate::answers::{Told, tells};
 use crate::histories::{Kept, copied, keeps};
-use inst_base::{Cents, Fault, Ident, Moment, Reason};
+use inst_base::{Cents, Fault, Ident, Moment, Reason, mention};
 use inst_board::Place;
 use inst_command::{Answer, Command, Submission};
 use inst_rows::{Act, Slots};
@@ -202,8 +202,7 @@ fn opened_again(alloc: Global, books: &Slots, is_first_new: bool) -> Result<Slot
 
 /// What the case tells comes so after T1 was submitted.
 pub(crate) fn comes(rt: &(impl Abort + AllocGlobal), case: &Case) -> Result<Slots, Fail> {
-    // The check is told of an enum inside a struct only where a function names it.
-    let _: Option<Kept> = None;
+    mention::<Kept>();
     let mut slots = opened(rt.alloc(), case.margin)?;
     answers(rt, &mut slots, SUBMITTED)?;
     follows(rt, &mut slots, case)?;

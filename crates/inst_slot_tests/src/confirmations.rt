@@ -1,8 +1,9 @@
 //! How a transfer is confirmed or rejected, and both sides book it.
-use crate::answers::{End, Told};
+use crate::answers::Told;
 use crate::cases::{Case, Does, comes};
 use crate::histories::Kept;
 use inst_base::Fault;
+use inst_rows::End;
 use std::test::Fail;
 
 const CONFIRMED_BEFORE_EXPIRE: Case = Case {

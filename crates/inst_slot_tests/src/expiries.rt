@@ -1,8 +1,9 @@
 //! How a transfer times out.
-use crate::answers::{End, Told};
+use crate::answers::Told;
 use crate::cases::{Case, Does, comes};
 use crate::histories::Kept;
 use inst_base::Fault;
+use inst_rows::End;
 use std::test::Fail;
 
 const EXPIRE_BEFORE_CONFIRM: Case = Case {

@@ -1,9 +1,10 @@
 //! Slots that open again from the books of a hub.
-use crate::answers::{End, Told};
+use crate::answers::Told;
 use crate::cases::{Case, Does, comes, comes_again};
 use crate::histories::Kept;
 use inst_base::Fault;
 use inst_command::LineKind;
+use inst_rows::End;
 use std::test::Fail;
 
 /// T1 is settled, and T2 is pending.

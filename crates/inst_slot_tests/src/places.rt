@@ -1,8 +1,9 @@
 //! Where transfers lie, and which are delivered from there.
-use crate::answers::{End, Told};
+use crate::answers::Told;
 use crate::cases::{Case, Does, comes};
 use crate::histories::Kept;
 use inst_base::Fault;
+use inst_rows::End;
 use std::test::Fail;
 
 const WRONG_DELIVERIES: Case = Case {

@@ -1,4 +1,4 @@
-// Boards, slots over them, and values behind locks.
+//! Boards, slots over them, and values behind locks.
 ghost use Rattle.std.specs.Prelude.{◌≡◌, ◌<◌, true};
 ghost use Rattle.inst_command.specs.Ask.{ask_fits};
 ghost use Rattle.inst_board.specs.declared.about.About.TheVariants.{Opened};
@@ -14,7 +14,7 @@ ghost use Rattle.inst_row.specs.Seated.{IsOn, IsFree};
 
 use inst_base::{Fault, Moment};
 use inst_board::{Board, Look, Place, Wish};
-use inst_cell::{SharedBoard, Teller};
+use inst_cell::{SharedBoard, Sight};
 use inst_command::{Ask, Outcome, Reply, State};
 use inst_row::{Lawful, LockRow, RowSeat};
 use inst_slot::Slot;
@@ -49,13 +49,13 @@ pub fn slot<B: Board>(
     Ok((reply, slot.position()))
 }
 
-/// What a teller sees of a place that it was told of.
-pub fn shared_board(board: &mut SharedBoard, teller: &mut Teller, place: Place) -> State
-    requires one { AtOneTable board.old (board_of teller.old) }
+/// What is seen of a place that was told of.
+pub fn shared_board(board: &mut SharedBoard, sight: &mut Sight, place: Place) -> State
+    requires one { AtOneTable board.old (board_of sight.old) }
     requires opened { knows board.old (about place Opened) }
 {
-    let ticket = board.tell(teller, place); // the teller knows what the board knows
-    teller.peek(&ticket) // `Pending` or `Decided`, never `Unused`
+    let ticket = board.tell(sight, place); // the sight knows what the board knows
+    sight.peek(&ticket) // `Pending` or `Decided`, never `Unused`
 }
 
 /// Takes the first lock of a row, and gives it back.

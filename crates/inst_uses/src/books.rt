@@ -1,4 +1,4 @@
-// One participant's books, and the books of all.
+//! One participant's books, and the books of all.
 ghost use Rattle.std.specs.Prelude.{◌≡◌, true};
 ghost use Rattle.inst_command.specs.Ask.{command_fits};
 ghost use Rattle.inst_settings.specs.Settings.{is_participant};

@@ -1,4 +1,4 @@
-// Laws of the model and of the books of all participants: a call of a law is a proof of what it says.
+//! Laws of the model and of the books of all participants: a call of a law is a proof of what it says.
 ghost use Rattle.inst_model.specs.OneOutcome.{OutcomeStays};
 ghost use Rattle.inst_together.specs.Together.{TogetherTheyFit};
 

@@ -1,4 +1,4 @@
-// The hub in one thread: step by step, and line by line.
+//! The hub in one thread: step by step, and line by line.
 ghost use Rattle.std.specs.Prelude.{◌≡◌, true, IfOk};
 ghost use Rattle.inst_command.specs.Ask.{ask_fits};
 ghost use Rattle.inst_world.specs.HasRun.{IsOfModel};

@@ -1,4 +1,4 @@
-// Logs of lines over any disk.
+//! Logs of lines over any disk.
 ghost use Rattle.std.specs.Prelude.{IsTrue};
 ghost use Rattle.sqlite_disk.specs.Disk.{Only};
 ghost use Rattle.inst_log.specs.Layout.{IsBatch, NoNewline};

@@ -1,4 +1,4 @@
-// The hub that many threads use, and what stands round it.
+//! The hub that many threads use, and what stands round it.
 ghost use Rattle.std.specs.Prelude.{◌≡◌, ◌<◌, true, length};
 ghost use Rattle.inst_command.specs.Ask.{ask_fits};
 ghost use Rattle.inst_model.specs.Opening.{Opening};
@@ -12,6 +12,7 @@ ghost use Rattle.inst_close.specs.Closing.{IsOpenedSo};
 ghost use Rattle.inst_desk.specs.Desk.{IsHandOf, AreHandsOf};
 
 use inst_base::Fault;
+use inst_cell::Sight;
 use inst_close::{Books, CloseFault, close};
 use inst_command::{Ask, Reply, State};
 use inst_crew::{Crew, run_crew};
@@ -46,15 +47,15 @@ pub fn hub<R: Wait>(
 /// What is done behind one lock.
 pub fn participant(
     participant: &mut Participant,
-    teller: &mut inst_cell::Teller,
+    sight: &mut Sight,
     ask: &Ask,
 ) -> Result<(Reply, u32), AllocError>
     requires ready { IsReady participant.old }
     requires own { ask.now.who ≡ participant.old.slot.who }
     requires fits { ask_fits participant.old.slot.settings ask.now ≡ true }
-    requires one { AtOneTable participant.old.board (board_of teller.old) }
+    requires one { AtOneTable participant.old.board (board_of sight.old) }
 {
-    let (reply, _ticket) = participant.serve(teller, ask)?; // its slot's answer
+    let (reply, _ticket) = participant.serve(sight, ask)?; // its slot's answer
     let news = participant.sweep(ask.at)?; // how many events the history then has more
     Ok((reply, news))
 }

@@ -1,4 +1,4 @@
-// Values, settings, asks, faults and codes.
+//! Values, settings, asks, faults and codes.
 ghost use Rattle.std.specs.Prelude.{◌≡◌, true, IfOk};
 ghost use Rattle.inst_settings.specs.Settings.{participants};
 ghost use Rattle.inst_command.specs.Ask.{ask_fits};

@@ -1,4 +1,4 @@
-// Words of places, deadlines in order, and the fields of a line.
+//! Words of places, deadlines in order, and the fields of a line.
 
 use inst_base::{Cents, Fault, Ident, Moment};
 use inst_command::Outcome;

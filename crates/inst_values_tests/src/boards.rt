@@ -1,4 +1,4 @@
-// The plain board: each wish about a deadline, and what a look shows then.
+//! The plain board: each wish about a deadline, and what a look shows then.
 ghost use Rattle.std.specs.Prelude.{◌≡◌, IfOk};
 ghost use Rattle.inst_settings.specs.Settings.{participants};
 ghost use Rattle.inst_board.specs.declared.place.Place.{Place};
@@ -8,7 +8,7 @@ ghost use Rattle.inst_board.specs.Standing.{IsPlace, about};
 ghost use Rattle.inst_board.specs.Plain.{kept_at, plain_knows};
 
 use crate::comparing::{same, same_at};
-use inst_base::{Cents, Code, Fault, Ident, Moment, Reason};
+use inst_base::{Cents, Code, Fault, Ident, Moment, Reason, mention};
 use inst_board::laws::decide_plain_twice;
 use inst_board::{Board, Look, Place, PlainBoard, Wish};
 use inst_command::Outcome;
@@ -133,8 +133,7 @@ fn a_second_wish_changes_nothing(rt: HostRuntime) -> Result<(), Fault> {
 
 #[test]
 fn what_was_not_opened_is_unused(rt: HostRuntime) -> Result<(), Fault> {
-    // The check is told of a type of another crate inside another one only where a function names it.
-    let _: Option<Outcome> = None;
+    mention::<Outcome>();
     let settings = settings(rt.alloc())?;
     let mut board = PlainBoard::new(rt.alloc(), &settings)?;
     for (owner, index) in [(0, 0), (1, 2), (0, 3), (2, 0), (255, 65_535)] {

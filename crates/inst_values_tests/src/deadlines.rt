@@ -1,4 +1,4 @@
-// What waits for its deadline, in order.
+//! What waits for its deadline, in order.
 use crate::comparing::same;
 use inst_base::{Fault, Moment};
 use inst_due::Due;

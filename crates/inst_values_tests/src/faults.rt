@@ -1,4 +1,4 @@
-// Faults and the words that name them.
+//! Faults and the words that name them.
 use crate::comparing::same_at;
 use inst_base::Fault;
 use inst_faults::{AnyFault, LogFault, fault_of};

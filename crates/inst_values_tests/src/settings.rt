@@ -1,4 +1,4 @@
-// Settings to their bounds, and how participants are found by their codes.
+//! Settings to their bounds, and how participants are found by their codes.
 use crate::comparing::{same, same_at};
 use inst_base::{Code, Fault};
 use inst_settings::{Numbers, Settings};

@@ -1,4 +1,4 @@
-// Statement lines as texts.
+//! Statement lines as texts.
 ghost use Rattle.std.specs.Prelude.{◌≡◌, true, IfOk};
 ghost use Rattle.inst_settings.specs.Settings.{participants};
 ghost use Rattle.inst_command.specs.LineText.{line_fits};

@@ -1,4 +1,4 @@
-// Amounts, moments, codes, identifiers and faults, at their bounds.
+//! Amounts, moments, codes, identifiers and faults, at their bounds.
 use crate::comparing::{same, same_at};
 use inst_base::{Cents, Code, Fault, Ident, Moment, Reason};
 use std::test::Fail;

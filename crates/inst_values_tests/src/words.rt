@@ -1,6 +1,6 @@
-// The words of a place, both ways, against numbers from outside.
+//! The words of a place, both ways, against numbers from outside.
 use crate::comparing::{same, same_at};
-use inst_base::{Cents, Fault, Ident, Moment, Reason};
+use inst_base::{Cents, Fault, Ident, Moment, Reason, mention};
 use inst_command::Outcome;
 use inst_terms::{Terms, Word, pack, pack_outcome, read_outcome, unpack};
 use std::process::Abort;
@@ -103,8 +103,7 @@ const NINE_A: u64 = 4_720_623_483_429_609_665;
 
 #[test]
 fn words_that_no_outcome_has(rt: HostRuntime) {
-    // The check is told of a type of another crate inside another one only where a function names it.
-    let _: Option<Outcome> = None;
+    mention::<Outcome>();
     let at = 2000 << 23;
     for word in [
         // Pending with a reason, and with moment 0.

@@ -1,10 +1,10 @@
-// Hubs that open again from the journals of a closed hub.
+//! Hubs that open again from the journals of a closed hub.
 ghost use Rattle.std.specs.Prelude.{◌≡◌, IfOk};
 ghost use Rattle.inst_model.specs.Rows as rows;
 
 use crate::comparing::{same, same_at};
 use crate::told::{Told, is_told};
-use inst_base::{Fault, Ident, Moment};
+use inst_base::{Fault, Ident, Moment, mention};
 use inst_command::{Answer, Command, LineKind, Outcome, Step};
 use inst_journal::{Event, Journal};
 use inst_rows::{A, B, ask, books, confirm, fund, settings, submit};
@@ -103,7 +103,7 @@ fn all_but_last(events: &[Event]) -> Option<&[Event]> {
 fn go_on(rt: &impl Abort, slots: &[Slot], books: &[Journal]) {
     same(rt, slots.len(), books.len());
     for (slot, book) in slots.iter().zip(books) {
-        let _: Option<Outcome> = None;
+        mention::<Outcome>();
         same(rt, slot.unfound(), 0);
         same(
             rt,

@@ -1,4 +1,4 @@
-// Worked rows: lines in, lines out, over three participants with 2 places and 4 fundings each.
+//! Worked rows: lines in, lines out, over three participants with 2 places and 4 fundings each.
 use crate::comparing::same;
 use inst_lines::run_lines;
 use inst_rows::settings;

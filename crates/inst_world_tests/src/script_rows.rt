@@ -1,4 +1,4 @@
-// Worked rows of a script of steps, over three participants with 2 places and 4 fundings each.
+//! Worked rows of a script of steps, over three participants with 2 places and 4 fundings each.
 use crate::comparing::same;
 use inst_lines::play_lines;
 use inst_rows::settings;

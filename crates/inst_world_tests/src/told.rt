@@ -1,12 +1,7 @@
-// What is told, by short texts and plain numbers.
+//! What is told, by short texts and plain numbers.
 use inst_base::Fault;
-use inst_command::{Answer, Entry, Line, LineKind, Outcome, Reply, State};
-
-/// An entry of an inbox: the originator, the identifier, the cents and the deadline.
-pub(crate) type Came = (u8, &'static str, u64, u64);
-
-/// A line of a statement: the number, what it shows, the other side, the identifier, the cents and the position.
-pub(crate) type Shown = (u32, LineKind, Option<u8>, &'static str, u64, u64);
+use inst_command::{Answer, Outcome, Reply, State};
+use inst_rows::{Came, Shown, are_entries, are_lines};
 
 #[derive(Clone, Copy)]
 pub(crate) enum Told {
@@ -19,42 +14,6 @@ pub(crate) enum Told {
     Inbox(&'static [Came]),
     Lines(&'static [Shown]),
     Refused(Fault),
-}
-
-fn is_entry(entry: &Entry, came: &Came) -> bool {
-    let (from, id, cents, deadline) = *came;
-    entry.from == from
-        && entry.id.text() == id
-        && entry.cents.get() == cents
-        && entry.deadline.past_base() == deadline
-}
-
-fn are_entries(entries: &[Entry], wanted: &[Came]) -> bool {
-    for (entry, came) in entries.iter().zip(wanted) {
-        if !is_entry(entry, came) {
-            return false;
-        }
-    }
-    entries.len() == wanted.len()
-}
-
-fn is_line(line: &Line, shown: &Shown) -> bool {
-    let (number, kind, other, id, cents, position) = *shown;
-    line.number == number
-        && line.kind == kind
-        && line.other == other
-        && line.id.text() == id
-        && line.cents.get() == cents
-        && line.position == position
-}
-
-fn are_lines(lines: &[Line], wanted: &[Shown]) -> bool {
-    for (line, shown) in lines.iter().zip(wanted) {
-        if !is_line(line, shown) {
-            return false;
-        }
-    }
-    lines.len() == wanted.len()
 }
 
 fn is_reply(reply: &Reply, told: &Told) -> bool {

@@ -1,4 +1,4 @@
-// Two scripts in which B sees the same: alone, and among others' traffic.
+//! Two scripts in which B sees the same: alone, and among others' traffic.
 ghost use Rattle.std.specs.Prelude.{◌≡◌, IfOk};
 ghost use Rattle.inst_model.specs.Rows as rows;
 

@@ -1,7 +1,7 @@
-// Worlds, step by step and line by line, over three participants with 2 places and 4 fundings each.
+//! Worlds, step by step and line by line, over three participants with 2 places and 4 fundings each.
 use crate::comparing::{same, same_at};
 use inst_agenda::{Runner, follow_up};
-use inst_base::{Cents, Fault, Ident, Moment, Reason};
+use inst_base::{Cents, Fault, Ident, Moment, Reason, mention};
 use inst_board::Place;
 use inst_command::{Answer, Ask, Command, Outcome, Reply, Step, Submission};
 use inst_journal::Event;
@@ -12,8 +12,7 @@ use std::process::Abort;
 use std::test::Fail;
 
 fn forwarded(from: u8, id: &str, cents: u64, deadline: u64) -> Result<Event, Fault> {
-    // The check is told of a type of another crate inside an event only where a function names it.
-    let _: Option<Outcome> = None;
+    mention::<Outcome>();
     Ok(Event::Forwarded {
         from,
         id: Ident::new(id)?,
@@ -32,7 +31,7 @@ fn booked(from: u8, id: &str, outcome: Outcome) -> Result<Event, Fault> {
 
 /// Compares the history of a participant.
 fn journal_is(rt: &impl Abort, world: &World, who: u8, events: &[Event]) -> Result<(), Fail> {
-    let _: Option<Outcome> = None;
+    mention::<Outcome>();
     assert!(rt; world.settings().has_participant(who));
     same(rt, world.journal(who).events(), events);
     Ok(())
@@ -113,8 +112,7 @@ fn is_learnt(rt: &impl Abort, world: &mut World) -> Result<(), Fail> {
 
 /// The first is funded, and submits a transfer to the second.
 fn is_submitted(rt: &impl Abort, world: &mut World) -> Result<(), Fail> {
-    // The check is told of a type of another crate inside a step only where a function names it.
-    let _: Option<(Ask, Command, Submission)> = None;
+    mention::<(Ask, Command, Submission)>();
     let funding = fund(0, "F1", 500, 0)?;
     asks(rt, world, &funding)?;
     let submission = submit(0, "T1", 1, 200, 1000, 1000)?;

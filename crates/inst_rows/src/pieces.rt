@@ -1,13 +1,13 @@
-// A reader that gives its bytes piece by piece, and may fail behind the last one.
+//! A reader that gives its bytes piece by piece, and may fail behind the last one.
 use std::io::{self, ErrorKind, Read};
 
 /// Gives at most `most` bytes a read. If it `fails`, it does so once, behind the last byte: whoever tries again finds
 /// the end. Its error is the one after which std's own loops try again.
 #[derive(Drop)]
-pub(crate) struct Pieces<'a> {
-    pub(crate) bytes: &'a [u8],
-    pub(crate) most: usize,
-    pub(crate) fails: bool,
+pub struct Pieces<'a> {
+    pub bytes: &'a [u8],
+    pub most: usize,
+    pub fails: bool,
 }
 
 impl Read for Pieces<'_> {
