@@ -22,12 +22,12 @@ use Rattle.inst_model.proofs.Basics.{or_else_kept, or_else_cases, same_transfer-
 use Rattle.inst_model.proofs.Booking.{booked_party, booked_found}
 use Rattle.inst_model.proofs.Events.{booked_there}
 use Rattle.inst_model.proofs.FittingMirror.{forwarding_there}
-use Rattle.inst_ledger.specs.declared.terms.Forwarding.{Forwarding}
-use Rattle.inst_ledger.specs.declared.terms.Terms.{Terms}
-use Rattle.inst_ledger.specs.Kept.{terms_of, forwarding_of}
+use Rattle.inst_ledger.specs.declared.sending.Forwarding.{Forwarding}
+use Rattle.inst_ledger.specs.declared.sending.Sending.{Sending}
+use Rattle.inst_ledger.specs.Kept.{sending_of, forwarding_of}
 use Rattle.inst_ledger.specs.Transfers.{same_key}
 use Rattle.inst_ledger.proofs.Forwards.{forwarding_absent, forwarded_found}
-use Rattle.inst_ledger.proofs.Tables.{terms_absent}
+use Rattle.inst_ledger.proofs.Tables.{sending_absent}
 use Rattle.inst_world.proofs.Promising.{fitting}
 use Rattle.inst_audit.specs.Agreeing.{IsReleased, IsReceived, IsSent, Agrees}
 
@@ -53,41 +53,41 @@ module _ (s : HubSettings) (who : ℕ) {V : Type 0} (gives : Event → Option V)
         | inr now ↦ newest J last now (fresh J last fits)
       ])
 
-terms_fresh : (s : HubSettings) (who : ℕ) (id : List ℕ) (J : List Event) (event : Event) → Fits s who J event → (terms_of id event ≡ None) ⊎ (first_some (terms_of id) J ≡ None)
-terms_fresh s who id J (Taken other to cents stamp) fits = by (same_text other id) refl
+sending_fresh : (s : HubSettings) (who : ℕ) (id : List ℕ) (J : List Event) (event : Event) → Fits s who J event → (sending_of id event ≡ None) ⊎ (first_some (sending_of id) J ≡ None)
+sending_fresh s who id J (Taken other to cents stamp) fits = by (same_text other id) refl
   where
-    by : (b : Bool) → same_text other id ≡ b → (terms_of id (Taken other to cents stamp) ≡ None) ⊎ (first_some (terms_of id) J ≡ None)
-    by true same = inr (terms_absent other id J fits.new same)
-    by false same = inl (ap (λ b. cond {A = Option Terms} b (Some (record { to = to; cents = cents; stamp = stamp })) None) same)
-terms_fresh s who id J (Funded reference cents) fits = inl refl
-terms_fresh s who id J (Defunded reference cents) fits = inl refl
-terms_fresh s who id J (Forwarded from other cents deadline) fits = inl refl
-terms_fresh s who id J (Booked from other outcome) fits = inl refl
-terms_fresh s who id J (Fetched count) fits = inl refl
-terms_fresh s who id J Opened fits = inl refl
+    by : (b : Bool) → same_text other id ≡ b → (sending_of id (Taken other to cents stamp) ≡ None) ⊎ (first_some (sending_of id) J ≡ None)
+    by true same = inr (sending_absent other id J fits.new same)
+    by false same = inl (ap (λ b. cond {A = Option Sending} b (Some (record { to = to; cents = cents; stamp = stamp })) None) same)
+sending_fresh s who id J (Funded reference cents) fits = inl refl
+sending_fresh s who id J (Defunded reference cents) fits = inl refl
+sending_fresh s who id J (Forwarded from other cents deadline) fits = inl refl
+sending_fresh s who id J (Booked from other outcome) fits = inl refl
+sending_fresh s who id J (Fetched count) fits = inl refl
+sending_fresh s who id J Opened fits = inl refl
 
 -- a submission is found by its identifier
-terms_found : (s : HubSettings) (who : ℕ) (J : List Event) (id : List ℕ) (to cents stamp : ℕ) → IsSound s who J → Contains J (Taken id to cents stamp) → first_some (terms_of id) J ≡ Some (record { to = to; cents = cents; stamp = stamp })
-terms_found s who J id to cents stamp sound there =
-    first_found s who (terms_of id) (terms_fresh s who id) (Taken id to cents stamp) (record { to = to; cents = cents; stamp = stamp })
-    (ap (λ b. cond {A = Option Terms} b (Some (record { to = to; cents = cents; stamp = stamp })) None) (same_text_refl id)) J sound there
+sending_found : (s : HubSettings) (who : ℕ) (J : List Event) (id : List ℕ) (to cents stamp : ℕ) → IsSound s who J → Contains J (Taken id to cents stamp) → first_some (sending_of id) J ≡ Some (record { to = to; cents = cents; stamp = stamp })
+sending_found s who J id to cents stamp sound there =
+    first_found s who (sending_of id) (sending_fresh s who id) (Taken id to cents stamp) (record { to = to; cents = cents; stamp = stamp })
+    (ap (λ b. cond {A = Option Sending} b (Some (record { to = to; cents = cents; stamp = stamp })) None) (same_text_refl id)) J sound there
 
-terms_event : (id : List ℕ) (event : Event) (t : Terms) → terms_of id event ≡ Some t → event ≡ Taken id t.to t.cents t.stamp
-terms_event id (Taken other to cents stamp) t e =
+sending_event : (id : List ℕ) (event : Event) (t : Sending) → sending_of id event ≡ Some t → event ≡ Taken id t.to t.cents t.stamp
+sending_event id (Taken other to cents stamp) t e =
     let parts = cond_some (same_text other id) (record { to = to; cents = cents; stamp = stamp }) t e in
-    ap (λ (i : List ℕ). Taken i to cents stamp) (text_same other id (sym parts.0)) ∙ ap (λ (t : Terms). Taken id t.to t.cents t.stamp) parts.1
-terms_event id (Funded reference cents) t e = absurd cc
-terms_event id (Defunded reference cents) t e = absurd cc
-terms_event id (Forwarded from other cents deadline) t e = absurd cc
-terms_event id (Booked from other outcome) t e = absurd cc
-terms_event id (Fetched count) t e = absurd cc
-terms_event id Opened t e = absurd cc
+    ap (λ (i : List ℕ). Taken i to cents stamp) (text_same other id (sym parts.0)) ∙ ap (λ (t : Sending). Taken id t.to t.cents t.stamp) parts.1
+sending_event id (Funded reference cents) t e = absurd cc
+sending_event id (Defunded reference cents) t e = absurd cc
+sending_event id (Forwarded from other cents deadline) t e = absurd cc
+sending_event id (Booked from other outcome) t e = absurd cc
+sending_event id (Fetched count) t e = absurd cc
+sending_event id Opened t e = absurd cc
 
--- the terms that are found were submitted
-terms_there : (id : List ℕ) (J : List Event) (t : Terms) → first_some (terms_of id) J ≡ Some t → Contains J (Taken id t.to t.cents t.stamp)
-terms_there id J t e =
-    let found = first_there (terms_of id) J t e in
-    subst (λ (event : Event). Contains J event) (terms_event id found.0 t found.2) found.1
+-- what is found to be sent was submitted
+sending_there : (id : List ℕ) (J : List Event) (t : Sending) → first_some (sending_of id) J ≡ Some t → Contains J (Taken id t.to t.cents t.stamp)
+sending_there id J t e =
+    let found = first_there (sending_of id) J t e in
+    subst (λ (event : Event). Contains J event) (sending_event id found.0 t found.2) found.1
 
 came_fresh : (s : HubSettings) (who from : ℕ) (id : List ℕ) (J : List Event) (event : Event) → Fits s who J event → (forwarding_of (from, id) event ≡ None) ⊎ (first_some (forwarding_of (from, id)) J ≡ None)
 came_fresh s who from id J (Forwarded other_from other cents deadline) fits = by (same_key (other_from, other) (from, id)) refl
@@ -135,16 +135,16 @@ module _ (s : HubSettings) (J : ℕ → List Event) (sound : (p : ℕ) → IsSou
     agrees : (p : ℕ) (event : Event) → Contains (J p) event → Agrees s.limit J p event
     agrees p event there = All-contains (Agrees s.limit J p) (J p) event (all p) there
 
-    sent_as : (p from : ℕ) (id : List ℕ) (cents deadline : ℕ) (o : Option Terms) → first_some (terms_of id) (J from) ≡ o → IsSent s.limit p cents deadline o →
+    sent_as : (p from : ℕ) (id : List ℕ) (cents deadline : ℕ) (o : Option Sending) → first_some (sending_of id) (J from) ≡ o → IsSent s.limit p cents deadline o →
         (stamp : ℕ) × Contains (J from) (Taken id p cents stamp) × (deadline_of s.limit stamp ≡ deadline)
     sent_as p from id cents deadline None found is = absurd is
     sent_as p from id cents deadline (Some t) found is =
-        (t.stamp, subst (λ (c : ℕ). Contains (J from) (Taken id p c t.stamp)) is.1 (subst (λ (q : ℕ). Contains (J from) (Taken id q t.cents t.stamp)) is.0 (terms_there id (J from) t found)), is.2)
+        (t.stamp, subst (λ (c : ℕ). Contains (J from) (Taken id p c t.stamp)) is.1 (subst (λ (q : ℕ). Contains (J from) (Taken id q t.cents t.stamp)) is.0 (sending_there id (J from) t found)), is.2)
 
     sent : (p from : ℕ) (id : List ℕ) (cents deadline : ℕ) → Contains (J p) (Forwarded from id cents deadline) →
         (stamp : ℕ) × Contains (J from) (Taken id p cents stamp) × (deadline_of s.limit stamp ≡ deadline)
     sent p from id cents deadline there =
-        sent_as p from id cents deadline (first_some (terms_of id) (J from)) refl (agrees p (Forwarded from id cents deadline) there)
+        sent_as p from id cents deadline (first_some (sending_of id) (J from)) refl (agrees p (Forwarded from id cents deadline) there)
 
     -- where a transfer came both have booked the same
     both : (p from : ℕ) (id : List ℕ) (cents deadline : ℕ) → Contains (J p) (Forwarded from id cents deadline) → booked from id (J p) ≡ booked from id (J from)
@@ -208,18 +208,18 @@ module _ (s : HubSettings) (J : ℕ → List Event) (sound : (p : ℕ) → IsSou
       same_booked None (Some o) e f =
           sym e ∙ booked_found s to (J to) p id o (sound to) (closed.beneficiary_booked p id to amount deadline p o came (booked_there p id o (J p) f))
 
-      same_terms : (stamp_there : ℕ) → Contains (J p) (Taken id to amount stamp_there) → (amount ≡ cents) × (stamp_there ≡ stamp)
-      same_terms stamp_there there =
-          let one : Terms = record { to = to; cents = amount; stamp = stamp_there } in
-          let other : Terms = record { to = to; cents = cents; stamp = stamp } in
+      same_sending : (stamp_there : ℕ) → Contains (J p) (Taken id to amount stamp_there) → (amount ≡ cents) × (stamp_there ≡ stamp)
+      same_sending stamp_there there =
+          let one : Sending = record { to = to; cents = amount; stamp = stamp_there } in
+          let other : Sending = record { to = to; cents = cents; stamp = stamp } in
           let same : one ≡ other =
-          same_value one other (first_some (terms_of id) (J p)) (terms_found s p (J p) id to amount stamp_there (sound p) there) (terms_found s p (J p) id to cents stamp (sound p) taken) in
-          (ap (λ (t : Terms). t.cents) same, ap (λ (t : Terms). t.stamp) same)
+          same_value one other (first_some (sending_of id) (J p)) (sending_found s p (J p) id to amount stamp_there (sound p) there) (sending_found s p (J p) id to cents stamp (sound p) taken) in
+          (ap (λ (t : Sending). t.cents) same, ap (λ (t : Sending). t.stamp) same)
 
       agrees_there : (amount ≡ cents) × (deadline ≡ deadline_of s.limit stamp) × (booked p id (J to) ≡ booked p id (J p))
       agrees_there =
           let was = closed.fit.forwarded_is_taken to p id amount deadline came in
-          let same = same_terms was.0 was.1 in
+          let same = same_sending was.0 was.1 in
           (same.0, sym was.2 ∙ ap (deadline_of s.limit) same.1, same_booked (booked p id (J to)) (booked p id (J p)) refl refl)
 
     not_come : (p : ℕ) (id : List ℕ) (to cents stamp : ℕ) → Contains (J p) (Taken id to cents stamp) → first_some (forwarding_of (p, id)) (J to) ≡ None → (o : Option Outcome) → booked p id (J p) ≡ o → IsReleased o
@@ -246,7 +246,7 @@ module _ (s : HubSettings) (J : ℕ → List Event) (sound : (p : ℕ) → IsSou
     each p (Taken id to cents stamp) taken = received p id to cents stamp taken (first_some (forwarding_of (p, id)) (J to)) refl
     each p (Forwarded from id cents deadline) came =
         let was = closed.fit.forwarded_is_taken p from id cents deadline came in
-        subst (λ (o : Option Terms). IsSent s.limit p cents deadline o) (sym (terms_found s from (J from) id p cents was.0 (sound from) was.1)) (refl, refl, was.2)
+        subst (λ (o : Option Sending). IsSent s.limit p cents deadline o) (sym (sending_found s from (J from) id p cents was.0 (sound from) was.1)) (refl, refl, was.2)
     each p (Funded reference cents) there = tt
     each p (Defunded reference cents) there = tt
     each p (Booked from id outcome) there = tt

@@ -1,9 +1,8 @@
 -- What one more event does to the counts of what came.
-use Rattle.std.proofs.Common.{◌≡◌, ◌≢◌, ℕ, ◌+◌, ◌-◌, ◌<◌, ◌≤◌, Bool, true, false, ◌||◌, ◌&&◌, ◌==◌, cond, List, [], ◌∷◌, ◌++◌, length, Option, Some, None, is_none, get_or, set, sum_by, count_by, refl, sym, ap, ◌∙◌, arith, ◌⊎◌, inl, inr, subst, get_or-set_same, get_or-set_other}
-use Rattle.std.specs.List.{list_any}
+use Rattle.std.proofs.Common.{◌≡◌, ◌≢◌, ℕ, ◌+◌, ◌-◌, ◌<◌, ◌≤◌, Bool, true, false, ◌&&◌, ◌==◌, cond, List, [], ◌∷◌, ◌++◌, length, Option, Some, None, is_none, get_or, set, sum_by, count_by, refl, sym, ap, ◌∙◌, arith, ◌⊎◌, inl, inr, subst, get_or-set_same, get_or-set_other}
 use Rattle.std.specs.Cmp.Lexicographic.{same_text as text_same, nat_list_eq_equiv}
-use Rattle.std.proofs.lemmas.Bool.{eq-eqb, ne_eqb, cases_eq, false≢true}
-use Rattle.std.proofs.lemmas.List.Sums.{sum_by-cons, count_by-le-length}
+use Rattle.std.proofs.lemmas.Bool.{eq-eqb, ne_eqb, cases_eq}
+use Rattle.std.proofs.lemmas.List.Sums.{count_by-le-length}
 use Rattle.inst_settings.specs.Settings.{HubSettings, same_text}
 use Rattle.inst_command.specs.declared.outcome.Outcome.{Outcome}
 use Rattle.inst_journal.specs.declared.event.Event.{Event}
@@ -19,6 +18,7 @@ use Rattle.inst_journal.proofs.Pushing.{first_some_push, sum_by-both}
 use Rattle.inst_journal.proofs.Walking.{front_fits}
 use Rattle.inst_ledger.specs.Book.{Book, with_event}
 use Rattle.inst_ledger.proofs.Forwards.{unforwarded_unbooked}
+use Rattle.inst_ledger.proofs.Live.{one_counted}
 use Rattle.inst_ledger.proofs.Tables.{or_else_none}
 use Rattle.inst_audit.specs.declared.tally.Tally.{Tally}
 use Rattle.inst_audit.specs.Tally.{waiting_from, IsTally}
@@ -49,17 +49,6 @@ module _ (from : ℕ) (J : List Event) (new : Event) (quiet : (id : List ℕ) �
 -- an event that is no opening makes what it brings live
 live_push : (from : ℕ) (J : List Event) (event : Event) → is_opening event ≡ false → live_forwarded from (J ++ event ∷ []) ≡ live_forwarded from J + cond (forwards_live from (carried J) event) 1 0
 live_push from J event other = ap (λ C. count_by (forwards_live from C) (J ++ event ∷ [])) (carried_push J event other) ∙ count_push (forwards_live from (carried J)) J event
-
-one_counted : (p : Event → Bool) (J : List Event) → list_any p J ≡ true → 1 ≤ count_by p J
-one_counted p [] none = absurd (false≢true none)
-one_counted p (x ∷ J) any = by (p x) refl (λ rest. one_counted p J rest)
-  where
-    step : count_by p (x ∷ J) ≡ one_if (p x) + count_by p J
-    step = sum_by-cons (λ e. one_if (p e)) x J
-
-    by : (b : Bool) → p x ≡ b → (list_any p J ≡ true → 1 ≤ count_by p J) → 1 ≤ count_by p (x ∷ J)
-    by true here later = omega (arith, step, ap one_if here)
-    by false not_here later = omega (arith, step, later (sym (ap (λ b. b || list_any p J) not_here) ∙ any))
 
 -- the outcome of a transfer that came is booked
 module _ (s : HubSettings) (who from : ℕ) (J : List Event) (id : List ℕ) (outcome : Outcome) (sound : IsSound s who J) (came : is_forwarded from id J ≡ true) (fits : booked from id J ≡ None) where

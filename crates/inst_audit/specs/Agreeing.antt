@@ -8,9 +8,9 @@ use Rattle.inst_journal.specs.declared.event.Event.{Event}
 use Rattle.inst_journal.specs.declared.event.Event.TheVariants.{Funded, Defunded, Taken, Forwarded, Booked, Fetched, Opened}
 use Rattle.inst_journal.specs.Booked.{first_some, booked}
 use Rattle.inst_ledger.specs.Book.{BookAndRoom}
-use Rattle.inst_ledger.specs.Kept.{terms_of, forwarding_of}
-use Rattle.inst_ledger.specs.declared.terms.Forwarding.{Forwarding}
-use Rattle.inst_ledger.specs.declared.terms.Terms.{Terms}
+use Rattle.inst_ledger.specs.Kept.{sending_of, forwarding_of}
+use Rattle.inst_ledger.specs.declared.sending.Forwarding.{Forwarding}
+use Rattle.inst_ledger.specs.declared.sending.Sending.{Sending}
 
 -- the originator has booked an end that releases the amount
 abbrev pub IsReleased : Option Outcome → Type 0
@@ -25,16 +25,16 @@ abbrev pub IsReceived : ℕ → ℕ → Option Outcome → Option Outcome → Op
 IsReceived cents deadline here there None = IsReleased here
 IsReceived cents deadline here there (Some forwarding) = (forwarding.cents ≡ cents) × (forwarding.deadline ≡ deadline) × (there ≡ here)
 
--- the terms that the originator submitted on agree with what came to this beneficiary
-abbrev pub IsSent : ℕ → ℕ → ℕ → ℕ → Option Terms → Type 0
+-- what the originator sent agrees with what came to this beneficiary
+abbrev pub IsSent : ℕ → ℕ → ℕ → ℕ → Option Sending → Type 0
 IsSent limit to cents deadline None = ⊥
-IsSent limit to cents deadline (Some terms) = (terms.to ≡ to) × (terms.cents ≡ cents) × (deadline_of limit terms.stamp ≡ deadline)
+IsSent limit to cents deadline (Some sending) = (sending.to ≡ to) × (sending.cents ≡ cents) × (deadline_of limit sending.stamp ≡ deadline)
 
 -- what an event of the participant `who` says of a transfer agrees with what the other side's book says
 abbrev pub Agrees : ℕ → (ℕ → List Event) → ℕ → Event → Type 0
 Agrees limit J who (Taken id to cents stamp) =
     IsReceived cents (deadline_of limit stamp) (booked who id (J who)) (booked who id (J to)) (first_some (forwarding_of (who, id)) (J to))
-Agrees limit J who (Forwarded from id cents deadline) = IsSent limit who cents deadline (first_some (terms_of id) (J from))
+Agrees limit J who (Forwarded from id cents deadline) = IsSent limit who cents deadline (first_some (sending_of id) (J from))
 Agrees limit J who (Funded reference cents) = Unit {0}
 Agrees limit J who (Defunded reference cents) = Unit {0}
 Agrees limit J who (Booked from id outcome) = Unit {0}

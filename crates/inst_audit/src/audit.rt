@@ -6,6 +6,7 @@ ghost use Rattle.inst_audit.specs.Replaying.{CanBeBook, AreAllKept};
 
 use crate::replay::Replay;
 use crate::sides::books_agree;
+use inst_base::mention;
 use inst_command::Outcome;
 use inst_journal::Journal;
 use inst_ledger::Ledger;
@@ -22,8 +23,7 @@ fn replayed(
     ensures can { IfOk result (λ kept. IsSome kept ↔ CanBeBook settings.now who journal.now.events) }
     ensures same { IfOk result (λ kept. IfSome kept (λ l. l.book.events ≡ journal.now.events)) }
 {
-    // The check is told of a type of another crate inside an event only where a function names it.
-    let _: Option<Outcome> = None;
+    mention::<Outcome>();
     let mut replay = Replay::open(alloc, settings, who)?;
     for event in journal.events() {
         if !replay.may_keep(event) {

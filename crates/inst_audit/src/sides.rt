@@ -2,13 +2,13 @@
 ghost use Rattle.std.specs.Prelude.{◌≡◌, ◌↔◌, ◌≤◌, ℕ, IsTrue, length};
 ghost use Rattle.std.specs.List.{All};
 ghost use Rattle.inst_journal.specs.Booked.{first_some, booked};
-ghost use Rattle.inst_ledger.specs.Kept.{terms_of, forwarding_of};
+ghost use Rattle.inst_ledger.specs.Kept.{sending_of, forwarding_of};
 ghost use Rattle.inst_audit.specs.Agreeing.{IsReleased, IsReceived, IsSent, Agrees, histories_of};
 
-use inst_base::{Cents, Ident, Moment};
+use inst_base::{Cents, Ident, Moment, mention};
 use inst_command::Outcome;
 use inst_journal::Event;
-use inst_ledger::{Forwarding, Ledger, Terms};
+use inst_ledger::{Forwarding, Ledger, Sending};
 
 /// Whether an end is booked that releases the amount.
 fn is_released(outcome: &Option<Outcome>) -> bool
@@ -45,15 +45,15 @@ fn is_received(
     }
 }
 
-/// Whether the terms of a submission agree with what came to the beneficiary `to`.
-fn is_sent(sent: &Option<Terms>, limit: u32, to: u8, cents: Cents, deadline: Moment) -> bool
+/// Whether what was sent agrees with what came to the beneficiary `to`.
+fn is_sent(sent: &Option<Sending>, limit: u32, to: u8, cents: Cents, deadline: Moment) -> bool
     ensures { IsTrue result ↔ IsSent limit to cents deadline sent.now }
 {
     match sent {
-        Some(terms) => {
-            terms.to == to
-                && terms.cents == cents
-                && terms.stamp.past_base() + u64::from(limit) == deadline.past_base()
+        Some(sending) => {
+            sending.to == to
+                && sending.cents == cents
+                && sending.stamp.past_base() + u64::from(limit) == deadline.past_base()
         }
         None => false,
     }
@@ -66,11 +66,11 @@ fn forwarding(ledgers: &[Ledger], who: u8, from: u8, id: &Ident) -> Option<Forwa
     ledgers.get(usize::from(who))?.forwarding(from, id)
 }
 
-/// The terms that the participant `who` has submitted the transfer on.
-fn terms(ledgers: &[Ledger], who: u8, id: &Ident) -> Option<Terms>
-    ensures { result ≡ first_some (terms_of id.now) (histories_of ledgers.now who) }
+/// What the participant `who` has sent with the transfer.
+fn sending(ledgers: &[Ledger], who: u8, id: &Ident) -> Option<Sending>
+    ensures { result ≡ first_some (sending_of id.now) (histories_of ledgers.now who) }
 {
-    ledgers.get(usize::from(who))?.terms(id)
+    ledgers.get(usize::from(who))?.sending(id)
 }
 
 /// The outcome that the participant `who` has booked for the transfer.
@@ -103,7 +103,7 @@ fn agrees(ledgers: &[Ledger], limit: u32, who: u8, event: &Event) -> bool
             id,
             cents,
             deadline,
-        } => is_sent(&terms(ledgers, *from, id), limit, who, *cents, *deadline),
+        } => is_sent(&sending(ledgers, *from, id), limit, who, *cents, *deadline),
         Event::Funded { .. }
         | Event::Defunded { .. }
         | Event::Booked { .. }
@@ -116,8 +116,7 @@ fn agrees(ledgers: &[Ledger], limit: u32, who: u8, event: &Event) -> bool
 fn all_agree(ledgers: &[Ledger], limit: u32, who: u8, events: &[Event]) -> bool
     ensures { IsTrue result ↔ All (Agrees limit (histories_of ledgers.now) who) events.now }
 {
-    // The check is told of a type of another crate inside an event only where a function names it.
-    let _: Option<Outcome> = None;
+    mention::<Outcome>();
     events
         .iter()
         .all(|event| agrees(ledgers, limit, who, event))

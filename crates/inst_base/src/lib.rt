@@ -6,6 +6,7 @@ mod code;
 mod fault;
 mod ident;
 mod moment;
+mod naming;
 mod reason;
 mod short_text;
 
@@ -14,4 +15,5 @@ pub use code::Code;
 pub use fault::Fault;
 pub use ident::Ident;
 pub use moment::Moment;
+pub use naming::mention;
 pub use reason::Reason;

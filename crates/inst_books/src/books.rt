@@ -14,6 +14,7 @@ ghost use Rattle.inst_books.specs.Books.{AreWritable, Keeps};
 
 use crate::write::append_event_in;
 use crate::{BookFault, read_event};
+use inst_base::mention;
 use inst_command::Outcome;
 use inst_journal::{Event, Journal};
 use inst_json::code_text;
@@ -113,7 +114,7 @@ fn read_line(
         (all_events journals.old) (all_events journals.new) }
     ensures writable { OnOk result (AreWritable settings.now (all_events journals.new)) }
 {
-    let _: Option<Outcome> = None;
+    mention::<Outcome>();
     let (who, event) = read_event(alloc, settings, line)?;
     keep(journals, who, event)?;
     Ok(())
@@ -135,7 +136,7 @@ fn keep(journals: &mut [Journal], who: u8, event: Event) -> Result<(), AllocErro
     requires { who < length journals.old }
     ensures { OnOk result (all_events journals.new ≡ with_event who event (all_events journals.old)) }
 {
-    let _: Option<Outcome> = None;
+    mention::<Outcome>();
     match journals[usize::from(who)].push(event) {
         Ok(()) => Ok(()),
         Err(_) => Err(AllocError),

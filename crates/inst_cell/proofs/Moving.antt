@@ -27,7 +27,7 @@ use Rattle.inst_board.specs.Learning.{IsOfOpening, IsAnswer}
 use Rattle.inst_cell.specs.declared.view.Known.{Known}
 use Rattle.inst_cell.specs.declared.view.View.{View}
 use Rattle.inst_cell.specs.View.{known, all_of, count, note, first_view, learnt, with_note, HasNoted, KnowsOne, without_role, with_role, told, united, nobody}
-use Rattle.inst_cell.specs.Rule.{encode, IsShowable, total, AllLearnt, Keeps, Kept}
+use Rattle.inst_cell.specs.Rule.{encode, IsShowable, total, AllLearnt, Keeps, IsKept}
 use Rattle.inst_cell.specs.Steps.{Sat, Vouched, KnewOpening, KnewAnswer, KnewEnd, Shows, vouches, loads, opens, decides, loads_term, notes_term}
 use Rattle.inst_cell.proofs.Tally.{held-set, held-snoc, count-cut, count-from, count-append, note_cases, count_cases, count_left, count_right, set_here}
 use Rattle.inst_cell.proofs.Stepping.{writes, moved, no_fact, one_place, itself, united_cases}
@@ -117,7 +117,7 @@ module _ (s : HubSettings) where
   knows_one words views id v w at r = one_from r.world w (r.honest id w (set_here views id v w at))
 
   module _ (slots id : ℕ) (me : Sat) (k : ℕ) (within : k < total s) (places : me.0.places ≡ s.places) (margin : me.0.margin ≡ s.margin) where
-    stays : (st : St) (r : Kept s st) → get_elem? st.views id ≡ some me.0 → Rows id (learnt me.0 k (r.world k) false) st (k * 6 + 5) (get_or st.words (k * 6 + 5) 0)
+    stays : (st : St) (r : IsKept s st) → get_elem? st.views id ≡ some me.0 → Rows id (learnt me.0 k (r.world k) false) st (k * 6 + 5) (get_or st.words (k * 6 + 5) 0)
     stays st r at = subst (λ n. Rows id (learnt me.0 k (r.world k) false) st (k * 6 + 5) n) (sym (r.shown k within))
         (moved s st.words st.views r id me.0 at k within (r.world k) false (r.showable k) (λ a h. h)
         (λ i t small has. r.written k i t within small has)
@@ -126,7 +126,7 @@ module _ (s : HubSettings) where
         (inl (λ h. (h, λ t has. has)))
         (inl (λ m h. (h, λ t has. has))))
 
-    end_known : (st : St) (r : Kept s st) → get_elem? st.views id ≡ some me.0 → 0 < count (k / me.0.places) me.0.roles → (t : Terms) → Says (r.world k) (HasTerms t) → 0 < count t.to me.0.roles
+    end_known : (st : St) (r : IsKept s st) → get_elem? st.views id ≡ some me.0 → 0 < count (k / me.0.places) me.0.roles → (t : Terms) → Says (r.world k) (HasTerms t) → 0 < count t.to me.0.roles
         → (o : Outcome) → Says (r.world k) (Decided o) → Contains me.0.facts (known k (Decided o))
     end_known st r at own t has its Accepted says = (r.answered id me.0 at k t has its Accepted tt says).1
     end_known st r at own t has its (Rejected z) says = (r.answered id me.0 at k t has its (Rejected z) tt says).1
@@ -135,7 +135,7 @@ module _ (s : HubSettings) where
         (λ b. b id me.0 at its)
         (r.ended k t has says)
 
-    before : (st : St) (r : Kept s st) → get_elem? st.views id ≡ some me.0 → (false ≡ false) × KnewOpening k me.0 (r.world k) × KnewAnswer k me.0 (r.world k) × KnewEnd k me.0 (r.world k)
+    before : (st : St) (r : IsKept s st) → get_elem? st.views id ≡ some me.0 → (false ≡ false) × KnewOpening k me.0 (r.world k) × KnewAnswer k me.0 (r.world k) × KnewEnd k me.0 (r.world k)
     before st r at = (
       refl,
       λ role a of says. r.whole id me.0 at k (subst (λ n. 0 < count (k / n) me.0.roles) places role) a of says,
@@ -143,7 +143,7 @@ module _ (s : HubSettings) where
       λ own t has its o says. end_known st r at own t has its o says,
     )
 
-    shows : (own : Type 0) (st : St) (r : Kept s st) → get_elem? st.views id ≡ some me.0 → Shows own k me.0 (get_or st.words (k * 6 + 5) 0) (learnt me.0 k (r.world k) false)
+    shows : (own : Type 0) (st : St) (r : IsKept s st) → get_elem? st.views id ≡ some me.0 → Shows own k me.0 (get_or st.words (k * 6 + 5) 0) (learnt me.0 k (r.world k) false)
     shows own st r at = record {
       standing = r.world k;
       is = r.shown k within;
@@ -158,7 +158,7 @@ module _ (s : HubSettings) where
     same_place : (j : ℕ) → k * 6 + 5 ≡ j * 6 + 5 → k ≡ j
     same_place j e = omega arith
 
-    pub allows_loads : Allows (Kept s) slots id me (k * 6 + 5) (λ n. n) (loads (step slots (k * 6 + 5) 0 0 none) me)
+    pub allows_loads : Allows (IsKept s) slots id me (k * 6 + 5) (λ n. n) (loads (step slots (k * 6 + 5) 0 0 none) me)
     allows_loads st r _ at _ = (
       learnt me.0 k (r.world k) false,
       keeps,
@@ -167,7 +167,7 @@ module _ (s : HubSettings) where
       ((λ j e. subst (λ y. Shows ⊥ y me.0 (get_or st.words (k * 6 + 5) 0) (learnt me.0 k (r.world k) false)) (same_place j e) (shows ⊥ st r at)), refl),
     )
 
-    pub allows_loads_term : (i : ℕ) → i < 5 → Allows (Kept s) slots id me (k * 6 + i) (λ n. n) (loads_term (step slots (k * 6 + i) 0 0 none) me)
+    pub allows_loads_term : (i : ℕ) → i < 5 → Allows (IsKept s) slots id me (k * 6 + i) (λ n. n) (loads_term (step slots (k * 6 + i) 0 0 none) me)
     allows_loads_term i small st r _ at _ =
         let n : ℕ = get_or st.words (k * 6 + i) 0 in
         let sized = r.sized in (
@@ -185,7 +185,7 @@ module _ (s : HubSettings) where
           ),
         )
 
-    vouched : (st : St) (r : Kept s st) → get_elem? st.views id ≡ some me.0 → Vouched me.0
+    vouched : (st : St) (r : IsKept s st) → get_elem? st.views id ≡ some me.0 → Vouched me.0
     vouched st r at = record {
       world = r.world;
       showable = λ j. subst (λ m. IsShowable m (r.world j)) (sym margin) (r.showable j);
@@ -194,7 +194,7 @@ module _ (s : HubSettings) where
       answered = λ j t o role ans has h. r.answered id me.0 at j t (r.honest id me.0 at (known j (HasTerms t)) has) role o ans (r.honest id me.0 at (known j (Decided o)) h);
     }
 
-    pub allows_vouches : Allows (Kept s) slots id me (k * 6 + 5) (λ n. n) (vouches (step slots (k * 6 + 5) 0 0 none) me)
+    pub allows_vouches : Allows (IsKept s) slots id me (k * 6 + 5) (λ n. n) (vouches (step slots (k * 6 + 5) 0 0 none) me)
     allows_vouches st r _ at _ =
         let sized = r.sized in (
           me.0,
@@ -206,7 +206,7 @@ module _ (s : HubSettings) where
         )
 
     pub allows_notes : (i n : ℕ) → i < 5 → 0 < count (k / s.places) me.0.roles → ¬ Contains (all_of me.0) (known k Opened)
-        → Allows (Kept s) slots id me (k * 6 + i) (λ _. n) (λ _. notes_term (step slots (k * 6 + i) n 0 none) me n)
+        → Allows (IsKept s) slots id me (k * 6 + i) (λ _. n) (λ _. notes_term (step slots (k * 6 + i) n 0 none) me n)
     allows_notes i n small role new st r _ at _ = (
       with_note me.0 (k * 6 + i) n,
       keeps,
@@ -217,7 +217,7 @@ module _ (s : HubSettings) where
 
     -- the terms words that were noted are those of the opened place
     pub allows_opens : (t : Terms) (d word : ℕ) → word ≡ number d 0 0 → IsTerms t → IsWord (Pending d) → HasNoted me.0 k t → 0 < count (k / s.places) me.0.roles → ¬ Contains (all_of me.0) (known k Opened)
-        → Allows (Kept s) slots id me (k * 6 + 5) (λ _. word) (λ _. opens (step slots (k * 6 + 5) word 0 none) me word)
+        → Allows (IsKept s) slots id me (k * 6 + 5) (λ _. word) (λ _. opens (step slots (k * 6 + 5) word 0 none) me word)
     allows_opens t d word is lawful moment noted role new st r _ at _ =
         let closed : ¬ Says (r.world k) Opened = λ h. new (itself me.0 (known k Opened) (r.whole id me.0 at k role Opened tt h)) in
         let free : (a : About) → Says (r.world k) a → ⊥ = not_opened (r.world k) closed in
@@ -251,7 +251,7 @@ module _ (s : HubSettings) where
     pub allows_decides : (t : Terms) (d old new : ℕ) (o : Outcome) (m : ℕ) → old ≡ number d 0 0 → new ≡ outcome_number o m → IsWord (Final o m) → InTime s.margin o d m
         → Contains (all_of me.0) (known k (Due d)) → Contains (all_of me.0) (known k (HasTerms t)) → (IsAnswer o → 0 < count t.to me.0.roles)
         → (0 < count (k / s.places) me.0.roles) ⊎ (0 < count t.to me.0.roles)
-        → Allows (Kept s) slots id me (k * 6 + 5) (λ n. either (eqb n old) new n) (decides (step slots (k * 6 + 5) old new none) me)
+        → Allows (IsKept s) slots id me (k * 6 + 5) (λ n. either (eqb n old) new n) (decides (step slots (k * 6 + 5) old new none) me)
     allows_decides t d old new o m is will word in_time due has role party st r _ at _ = let x : ℕ = get_or st.words (k * 6 + 5) 0 in dite (ℕ_discrete x old)
         (λ hit.
         let due' : Says (r.world k) (Due d) = r.honest id me.0 at (known k (Due d)) due in
@@ -312,7 +312,7 @@ module _ (s : HubSettings) where
   nothing_noted x n e = cc
 
   -- the first role goes to a new seat
-  pub hands_over : (id : ℕ) (v : View) → Splits (Kept s) id v (without_role v) (with_role v)
+  pub hands_over : (id : ℕ) (v : View) → Splits (IsKept s) id v (without_role v) (with_role v)
   hands_over id v st r at =
       let left : View = without_role v in
       let right : View = with_role v in
@@ -355,7 +355,7 @@ module _ (s : HubSettings) where
       }
 
   -- a new seat is told what one knows, and has no role
-  pub tells : (id : ℕ) (v : View) → Splits (Kept s) id v v (told v)
+  pub tells : (id : ℕ) (v : View) → Splits (IsKept s) id v v (told v)
   tells id v st r at =
       let right : View = told v in
       let each : (P : View → Type 0) → P v → P right → ((i : ℕ) (w : View) → get_elem? st.views i ≡ some w → P w) → (i : ℕ) (w : View) → get_elem? (set st.views id v ++ right ∷ []) i ≡ some w → P w =
@@ -385,7 +385,7 @@ module _ (s : HubSettings) where
       }
 
   -- one seat has what two had
-  pub unites : (id : ℕ) (v : View) (other : ℕ) (w : View) → Joins (Kept s) id v other w (united v w) nobody
+  pub unites : (id : ℕ) (v : View) (other : ℕ) (w : View) → Joins (IsKept s) id v other w (united v w) nobody
   unites id v other w st r at ne at' =
       let both : View = united v w in
       let there : get_elem? st.views other ≡ some w = sym (set_else st.views id other both ne) ∙ at' in
@@ -448,7 +448,7 @@ only_one x y (suc i) e = absurd (some-ne-none y (sym e))
 none_noted : (x n : ℕ) → note [] x ≡ Some n → ⊥
 none_noted x n e = cc
 
-pub starts : (s : HubSettings) (words : List ℕ) → length words ≡ total s * 6 → ((x : ℕ) → get_or words x 0 ≡ 0) → Kept s (opening words [] (first_view s))
+pub starts : (s : HubSettings) (words : List ℕ) → length words ≡ total s * 6 → ((x : ℕ) → get_or words x 0 ≡ 0) → IsKept s (opening words [] (first_view s))
 starts s words sized zeros = record {
   world = λ k. unused;
   sized = sized;

@@ -11,7 +11,7 @@ use Rattle.inst_board.specs.Plain.{number_of}
 use Rattle.inst_cell.specs.declared.view.Known.{Known}
 use Rattle.inst_cell.specs.declared.view.View.{View}
 use Rattle.inst_cell.specs.declared.shared_board.SharedBoard.{SharedBoard}
-use Rattle.inst_cell.specs.declared.teller.Teller.{Teller}
+use Rattle.inst_cell.specs.declared.sight.Sight.{Sight}
 use Rattle.inst_cell.specs.View.{known, all_of, count, roles_from, first_view, with_role, without_role, told}
 use Rattle.inst_cell.specs.Rule.{total}
 use Rattle.inst_cell.specs.Held.{settings_of, table_of, view_of, roles_of, has_role, knows, AtOneTable}
@@ -145,16 +145,16 @@ pub all_dealt : (all0 : SharedBoard) (n : ℕ) (all : SharedBoard) (boards : Lis
 all_dealt all0 n all boards m d = record { enough = d.enough ∙ m; each = d.each }
 
 -- the tellers that were admitted by a board that knows nothing
-pub record Seated (all0 : SharedBoard) (next : ℕ) (all : SharedBoard) (tellers : List Teller) : Type 0 where
+pub record Seated (all0 : SharedBoard) (next : ℕ) (all : SharedBoard) (tellers : List Sight) : Type 0 where
   pub enough : length tellers ≡ next
   pub one : AtOneTable all0 all
   pub same : view_of all ≡ view_of all0
-  pub each : (i : ℕ) (t : Teller) → slice_get tellers i ≡ Some t → IsAdmitted (settings_of all0) (table_of all0) t
+  pub each : (i : ℕ) (t : Sight) → slice_get tellers i ≡ Some t → IsAdmitted (settings_of all0) (table_of all0) t
 
 pub seated_none : (all : SharedBoard) → Seated all 0 all []
 seated_none all = record { enough = refl; one = (refl, refl); same = refl; each = λ i t f. absurd (no_some t f) }
 
-pub seated_more : (all0 : SharedBoard) (i : ℕ) (all later : SharedBoard) (new : Teller) (tellers : List Teller) → ((f : Fact) → ¬ knows all0 f) → Seated all0 i all tellers
+pub seated_more : (all0 : SharedBoard) (i : ℕ) (all later : SharedBoard) (new : Sight) (tellers : List Sight) → ((f : Fact) → ¬ knows all0 f) → Seated all0 i all tellers
     → AtOneTable all (board_of new) → view_of (board_of new) ≡ told (view_of all)
     → AtOneTable all later → view_of later ≡ view_of all
     → Seated all0 (i + 1) later (tellers ++ new ∷ [])
@@ -173,7 +173,7 @@ seated_more all0 i all later new tellers nothing d t1 v1 t2 v2 =
       one = (t2.0 ∙ d.one.0, t2.1 ∙ d.one.1);
       same = v2 ∙ d.same;
       each = λ p t f. ⊎_elim (λ old. d.each p t old)
-          (λ last. subst (λ (x : Teller). IsAdmitted (settings_of all0) (table_of all0) x) last.1 admitted)
+          (λ last. subst (λ (x : Sight). IsAdmitted (settings_of all0) (table_of all0) x) last.1 admitted)
           (snoc_cases tellers new t p f);
     }
 
@@ -193,14 +193,14 @@ whole_after s a b one view w = record {
   nothing = λ f h. w.nothing f ((same_facts a b f one.1 (ap all_of view)).0 h);
 }
 
-pub admitted_after : (a b : SharedBoard) (n : ℕ) (tellers : List Teller) → AtOneTable a b → AreAdmitted a n tellers → AreAdmitted b n tellers
+pub admitted_after : (a b : SharedBoard) (n : ℕ) (tellers : List Sight) → AtOneTable a b → AreAdmitted a n tellers → AreAdmitted b n tellers
 admitted_after a b n tellers one are = record {
   enough = are.enough;
   each = λ i t at. let x = are.each i t at in record { settings = x.settings ∙ sym one.1; table = x.table ∙ sym one.0; roles = x.roles; nothing = x.nothing };
 }
 
 -- a whole board that knows nothing, dealt
-pub opened_dealt : (s : HubSettings) (n : ℕ) (all : SharedBoard) (boards : List SharedBoard) (tellers : List Teller) → IsWhole s all → AreAdmitted all n tellers → AreDealt all boards → AreOpened s n boards tellers
+pub opened_dealt : (s : HubSettings) (n : ℕ) (all : SharedBoard) (boards : List SharedBoard) (tellers : List Sight) → IsWhole s all → AreAdmitted all n tellers → AreDealt all boards → AreOpened s n boards tellers
 opened_dealt s n all boards tellers w are d = record {
   table = table_of all;
   participants = d.enough ∙ ap participants w.settings;

@@ -6,7 +6,7 @@ use Rattle.atomic_table.specs.Seated.{TableId}
 use Rattle.inst_settings.specs.Settings.{HubSettings, participants}
 use Rattle.inst_board.specs.declared.about.Fact.{Fact}
 use Rattle.inst_cell.specs.declared.shared_board.SharedBoard.{SharedBoard}
-use Rattle.inst_cell.specs.declared.teller.Teller.{Teller}
+use Rattle.inst_cell.specs.declared.sight.Sight.{Sight}
 use Rattle.inst_cell.specs.View.{roles_from}
 use Rattle.inst_cell.specs.Held.{settings_of, table_of, roles_of, has_role, knows}
 use Rattle.inst_cell.specs.Seen.{board_of, sees}
@@ -37,7 +37,7 @@ abbrev pub IsOpened : HubSettings → TableId → ℕ → SharedBoard → Type 0
 IsOpened s id p b = IsDealt s id (λ f. ⊥) p b
 
 -- a teller as the hub opens
-pub record IsAdmitted (s : HubSettings) (id : TableId) (t : Teller) : Type 0 where
+pub record IsAdmitted (s : HubSettings) (id : TableId) (t : Sight) : Type 0 where
   pub settings : settings_of (board_of t) ≡ s
   pub table : table_of (board_of t) ≡ id
   pub roles : roles_of (board_of t) ≡ []
@@ -50,14 +50,14 @@ pub record AreDealt (all : SharedBoard) (boards : List SharedBoard) : Type 0 whe
       IsDealt (settings_of all) (table_of all) (knows all) p b
 
 -- so many tellers, over the words of `all`
-pub record AreAdmitted (all : SharedBoard) (n : ℕ) (tellers : List Teller) : Type 0 where
+pub record AreAdmitted (all : SharedBoard) (n : ℕ) (tellers : List Sight) : Type 0 where
   pub enough : length tellers ≡ n
-  pub each : (i : ℕ) (t : Teller) → slice_get tellers i ≡ Some t → IsAdmitted (settings_of all) (table_of all) t
+  pub each : (i : ℕ) (t : Sight) → slice_get tellers i ≡ Some t → IsAdmitted (settings_of all) (table_of all) t
 
 -- over one table, a board for each participant, by number, and as many tellers as were wanted
-pub record AreOpened (s : HubSettings) (n : ℕ) (boards : List SharedBoard) (seats : List Teller) : Type 0 where
+pub record AreOpened (s : HubSettings) (n : ℕ) (boards : List SharedBoard) (seats : List Sight) : Type 0 where
   pub table : TableId
   pub participants : length boards ≡ participants s
   pub board : (p : ℕ) (b : SharedBoard) → slice_get boards p ≡ Some b → IsOpened s table p b
   pub tellers : length seats ≡ n
-  pub teller : (i : ℕ) (t : Teller) → slice_get seats i ≡ Some t → IsAdmitted s table t
+  pub teller : (i : ℕ) (t : Sight) → slice_get seats i ≡ Some t → IsAdmitted s table t

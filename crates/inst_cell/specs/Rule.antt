@@ -79,5 +79,5 @@ pub record Keeps (s : HubSettings) (words : List ℕ) (views : List View) : Type
       (0 < count (k / s.places) v.roles) × (¬ Says (world k) Opened → slice_index words (k * 6 + i) ≡ n)
   pub alone : (p : ℕ) → held p views ≤ 1
 
-abbrev pub Kept : HubSettings → State (Unit {0}) View → Type 0
-Kept s st = Keeps s st.words st.views
+abbrev pub IsKept : HubSettings → State (Unit {0}) View → Type 0
+IsKept s st = Keeps s st.words st.views

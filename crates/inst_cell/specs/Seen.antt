@@ -8,14 +8,14 @@ use Rattle.inst_board.specs.Standing.{Standing, unused, pending, final}
 use Rattle.inst_board.specs.Learning.{Learns}
 use Rattle.inst_board.specs.declared.about.Fact.{Fact}
 use Rattle.inst_cell.specs.declared.shared_board.SharedBoard.{SharedBoard}
-use Rattle.inst_cell.specs.declared.teller.Teller.{Teller}
+use Rattle.inst_cell.specs.declared.sight.Sight.{Sight}
 use Rattle.inst_cell.specs.Held.{knows, settings_of}
 
 -- the seat that it sees with
-abbrev pub board_of : Teller → SharedBoard
+abbrev pub board_of : Sight → SharedBoard
 board_of t = t.board
 
-abbrev pub sees : Teller → Fact → Type 0
+abbrev pub sees : Sight → Fact → Type 0
 sees t f = knows (board_of t) f
 
 abbrev pub state_of : Standing → State
@@ -24,5 +24,5 @@ state_of (pending terms deadline) = Pending
 state_of (final terms deadline outcome at) = Decided outcome
 
 -- what the teller learns of the place as it peeks, and what it answers of that
-abbrev pub Peeks : Teller → Place → State → Teller → Type 0
+abbrev pub Peeks : Sight → Place → State → Sight → Type 0
 Peeks t k found u = (p : Standing) × Learns (settings_of (board_of t)).margin sees t k p u × (found ≡ state_of p)

@@ -5,14 +5,14 @@
 pub mod laws;
 mod rule;
 mod shared_board;
+mod sight;
 mod steps;
-mod teller;
 mod ticket;
 mod view;
 mod words;
 
 pub use rule::Law;
 pub use shared_board::{MOST_TELLERS, SharedBoard};
-pub use teller::Teller;
+pub use sight::Sight;
 pub use ticket::Ticket;
 pub use view::{Known, View};

@@ -18,12 +18,12 @@ use std::sync::Arc;
 
 type Words = Table<(), View, Snapshot<Settings>, Law, Global>;
 
-/// One holder's board over the words that all boards and tellers of a hub share. Only `open` takes
+/// One holder's board over the words that all boards and sights of a hub share. Only `open` takes
 /// memory, and no call waits. A look costs one load, and five more where the place is opened; a glance one
 /// load; a decision one load and at most one exchange, which is never tried again.
 ///
 /// ```text
-/// let (boards, tellers) = SharedBoard::open(alloc, &settings, 2)?;
+/// let (boards, sights) = SharedBoard::open(alloc, &settings, 2)?;
 /// board.write_terms(place, &terms);    // the originator's board
 /// board.open(place, deadline);
 /// other.decide(place, Wish::Accept, at) // the beneficiary's, in any thread

@@ -39,9 +39,9 @@ impl Play<(), View> for Noting {
 }
 
 /// The store that opens a place.
-pub struct Opening;
+pub struct PlaceOpening;
 
-impl Play<(), View> for Opening {
+impl Play<(), View> for PlaceOpening {
     ghost use Rattle.inst_cell.specs.Steps.{opens};
 
     ghost then = { opens };

@@ -10,6 +10,7 @@ ghost use Rattle.inst_crew.specs.Seen.{AreSeen};
 ghost use Rattle.inst_crew.specs.Workers.{IsReady, Works};
 
 use crate::worker::Worker;
+use inst_base::mention;
 use inst_command::{Ask, Outcome, State};
 use inst_desk::{Desk, Hand};
 use inst_hub::{Gate, Hub, Teller, Ticket};
@@ -52,8 +53,7 @@ impl Shift {
         ensures answered { self.new.answered ≡ self.old.answered }
         ensures seen { OnOk result (AreSeen self.new.teller self.new.sights.items) }
     {
-        // The check is told of a type of another crate inside a state only where a function names it.
-        let _: Option<Outcome> = None;
+        mention::<Outcome>();
         let state = self.teller.peek(&ticket);
         Ok(self.sights.push((ticket, state))?)
     }

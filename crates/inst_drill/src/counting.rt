@@ -3,13 +3,14 @@ ghost use Rattle.std.specs.Prelude.{◌≡◌, true, false};
 ghost use Rattle.inst_together.specs.Together.{histories};
 ghost use Rattle.inst_drill.specs.Report.{Contradicts, NoneContradicts};
 
+use inst_base::mention;
 use inst_close::Books;
 use inst_command::{Outcome, State};
 use inst_hub::Ticket;
 
 /// How many of these transfers the books tell as decided.
 pub(crate) fn decided(books: &Books, sights: &[(Ticket, State)]) -> u64 {
-    let _: Option<Outcome> = None;
+    mention::<Outcome>();
     sights
         .iter()
         .filter(|(ticket, _)| matches!(books.told(ticket), State::Decided(_)))
@@ -21,7 +22,7 @@ fn contradicts(books: &Books, ticket: &Ticket, seen: State) -> bool
     ensures yes { result ≡ true → Contradicts (histories books.now.books) (ticket.now, seen) }
     ensures no { result ≡ false → ¬ Contradicts (histories books.now.books) (ticket.now, seen) }
 {
-    let _: Option<Outcome> = None;
+    mention::<Outcome>();
     match seen {
         State::Decided(outcome) => books.told(ticket) != State::Decided(outcome),
         _ => false,

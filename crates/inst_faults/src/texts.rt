@@ -1,4 +1,4 @@
-// What each refusal and each fault usually means, and what to do. docs/FORMATS.md has the same words.
+//! What each refusal and each fault usually means, and what to do. docs/FORMATS.md has the same words.
 use crate::any_fault::AnyFault;
 use crate::log_fault::LogFault;
 use inst_base::Fault;

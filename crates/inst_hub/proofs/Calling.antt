@@ -13,7 +13,7 @@ use Rattle.inst_board.specs.declared.about.Fact.{Fact}
 use Rattle.std.specs.Global.{Box}
 use Rattle.std.specs.declared.alloc.AllocError.{AllocError}
 use Rattle.inst_hub.specs.declared.outset.Outset.{Outset}
-use Rattle.inst_cell.specs.declared.teller.Teller.{Teller as Sight}
+use Rattle.inst_cell.specs.declared.sight.Sight.{Sight}
 use Rattle.inst_cell.specs.declared.shared_board.SharedBoard.{SharedBoard}
 use Rattle.inst_cell.specs.Seen.{sees}
 use Rattle.inst_journal.specs.declared.event.Event.{Event}

@@ -7,7 +7,7 @@ use Rattle.std.proofs.lemmas.Option.{slice_get_within}
 use Rattle.atomic_table.specs.Seated.{TableId}
 use Rattle.inst_hub.specs.declared.outset.Outset.{Outset}
 use Rattle.inst_cell.specs.declared.shared_board.SharedBoard.{SharedBoard}
-use Rattle.inst_cell.specs.declared.teller.Teller.{Teller as Sight}
+use Rattle.inst_cell.specs.declared.sight.Sight.{Sight}
 use Rattle.inst_journal.specs.declared.event.Event.{Event}
 use Rattle.inst_row.specs.declared.seat.RowSeat.{RowSeat}
 use Rattle.inst_row.specs.Seated.{IsOn, IsIdle, HasAll, HasSeen, SeesBoth, view_of}

@@ -23,7 +23,7 @@ use Rattle.inst_slot.proofs.Growing.{slice_get_at}
 use Rattle.inst_slot.proofs.Opening.{may_open_first, others_may_open, lawful_moved}
 use Rattle.inst_cell.specs.declared.shared_board.SharedBoard.{SharedBoard}
 use Rattle.inst_cell.specs.Held.{settings_of, table_of, knows, has_role, Stays, roles_same}
-use Rattle.inst_cell.specs.declared.teller.Teller.{Teller as Sight}
+use Rattle.inst_cell.specs.declared.sight.Sight.{Sight}
 use Rattle.inst_cell.specs.Opening.{MayOpen, IsWhole, IsDealt, AreDealt, IsAdmitted, AreAdmitted}
 use Rattle.inst_cell.proofs.Opening.{whole_role}
 use Rattle.inst_world.specs.HasRun.{Hub as World, IsHub, HasRun, IsBoardOf}

@@ -8,7 +8,7 @@ use Rattle.inst_settings.specs.Settings.{HubSettings, participants}
 use Rattle.inst_cell.specs.declared.shared_board.SharedBoard.{SharedBoard}
 use Rattle.inst_cell.specs.Held.{settings_of, knows, has_role, AtOneTable}
 use Rattle.inst_cell.specs.Opening.{IsOpened, AreOpened}
-use Rattle.inst_cell.specs.declared.teller.Teller.{Teller as Sight}
+use Rattle.inst_cell.specs.declared.sight.Sight.{Sight}
 use Rattle.inst_row.specs.Row.{row_id, key_of}
 use Rattle.inst_journal.specs.declared.event.Event.{Event}
 use Rattle.inst_row.specs.declared.view.Front.{Front}

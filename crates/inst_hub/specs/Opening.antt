@@ -7,7 +7,7 @@ use Rattle.inst_settings.specs.Settings.{HubSettings, participants}
 use Rattle.inst_cell.specs.declared.shared_board.SharedBoard.{SharedBoard}
 use Rattle.inst_hub.specs.declared.outset.Outset.{Outset}
 use Rattle.inst_board.specs.declared.about.Fact.{Fact}
-use Rattle.inst_cell.specs.declared.teller.Teller.{Teller as Sight}
+use Rattle.inst_cell.specs.declared.sight.Sight.{Sight}
 use Rattle.inst_cell.specs.Held.{AtOneTable}
 use Rattle.inst_cell.specs.Opening.{IsOpened}
 use Rattle.inst_cell.specs.Seen.{board_of, sees}

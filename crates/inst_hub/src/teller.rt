@@ -7,6 +7,6 @@ use inst_row::RowSeat;
 /// the histories behind the locks.
 #[derive(Drop)]
 pub struct Teller {
-    pub(crate) sight: inst_cell::Teller,
+    pub(crate) sight: inst_cell::Sight,
     pub(crate) seat: RowSeat<Box<Participant>, Event, Outset>,
 }

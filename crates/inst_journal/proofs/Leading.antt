@@ -106,7 +106,8 @@ pub record TheOne (p : Event → Bool) (v : Event → ℕ) (make : Event → Lin
   pub line_is : first_some f J ≡ Some (make event)
   pub amount_is : sum_by (λ e. cond (p e) (v e) 0) J ≡ v event
 
-zero_summed : (p : Event → Bool) (v : Event → ℕ) (J : List Event) → count_by p J ≡ 0 → sum_by (λ e. cond (p e) (v e) 0) J ≡ 0
+-- what passes no test sums to nothing
+pub zero_summed : (p : Event → Bool) (v : Event → ℕ) (J : List Event) → count_by p J ≡ 0 → sum_by (λ e. cond (p e) (v e) 0) J ≡ 0
 zero_summed p v [] none = refl
 zero_summed p v (event ∷ J) none =
     let first : count_by p (event ∷ J) ≡ cond (p event) 1 0 + count_by p J = sum_by-cons (λ e. cond (p e) 1 0) event J in

@@ -1,6 +1,7 @@
 ghost use Rattle.std.specs.Prelude.{◌≡◌, ◌<◌, [], ◌∷◌, ◌++◌, OnOk, OnErr, IfOk, IsOk};
 
 use crate::Event;
+use inst_base::mention;
 use inst_command::Outcome;
 use std::alloc::{AllocError, Global};
 use std::marker::Model;
@@ -43,8 +44,7 @@ impl Journal {
     pub fn copy(&self) -> Result<Journal, AllocError>
         ensures ok { IfOk result (λ journal. journal.events ≡ self.now.events) }
     {
-        // The check is told of a type of another crate inside an event only where a function names it.
-        let _: Option<Outcome> = None;
+        mention::<Outcome>();
         Ok(Journal {
             events: self.events.clone()?,
         })
@@ -73,8 +73,7 @@ impl Journal {
         ensures err { OnErr result (self.new.events ≡ self.old.events) }
         ensures room { 0 < self.old.room → IsOk result }
     {
-        // The check is told of a type of another crate inside an event only where a function names it.
-        let _: Option<Outcome> = None;
+        mention::<Outcome>();
         Ok(self.events.push(event)?)
     }
 }

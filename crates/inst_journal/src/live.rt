@@ -7,7 +7,7 @@ ghost use Rattle.inst_journal.specs.Opened.{live_taken, live_submissions};
 use crate::booked::{booked, is_forwarded, live_submissions, takes_live};
 use crate::opening::carried;
 use crate::{Event, Journal};
-use inst_base::Ident;
+use inst_base::{Ident, mention};
 use inst_command::Outcome;
 
 /// Whether the event takes a submission with this identifier.
@@ -21,8 +21,7 @@ fn takes(event: &Event, id: &Ident) -> bool
 fn live_taken_at(events: &[Event], who: u8, place: usize) -> Option<Event>
     ensures { result ≡ slice_get (live_taken who events.now) place }
 {
-    // The check is told of a type of another crate inside an event only where a function names it.
-    let _: Option<Outcome> = None;
+    mention::<Outcome>();
     let booking = carried(events);
     let mut left = place;
     for event in events {

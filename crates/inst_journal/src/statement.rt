@@ -12,7 +12,7 @@ use crate::booked::is_forwarded;
 use crate::handle::Handled;
 use crate::opening::carried_length;
 use crate::{Event, sums};
-use inst_base::{Cents, Fault, Ident};
+use inst_base::{Cents, Fault, Ident, mention};
 use inst_command::{Line, LineKind, Lines, Outcome, Reply};
 use inst_settings::Settings;
 use std::alloc::{AllocError, Global};
@@ -167,8 +167,7 @@ fn all_lines(
     requires sound { IsSound settings.now who events.now }
     ensures { IfOk result (λ lines. lines.items ≡ statement events.now) }
 {
-    // The check is told of a type of another crate inside a line only where a function names it.
-    let _: Option<LineKind> = None;
+    mention::<LineKind>();
     let mut lines = Vec::new(alloc);
     for index in carried_length(events)..events.len() {
         let event = &events[index];

@@ -25,21 +25,21 @@ unfoldable pub json_of : List ℕ → Result Data Fault
 json_of line = ok_or (if is_utf8 line then read line else None) NotJson
 
 -- what a line asks, or why it asks nothing
-unfoldable pub ask_of_line : HubSettings → List ℕ → Result Ask Refusal
-ask_of_line s line = do
+unfoldable pub blamed_command_of_line : HubSettings → List ℕ → Result Ask Refusal
+blamed_command_of_line s line = do
   value ← as_whole (json_of line)
   ask_of s (fields_of value)
 
 -- the same, with no more than what the reply tells
 unfoldable pub command_of_line : HubSettings → List ℕ → Result Ask Fault
-command_of_line s line = by_fault (ask_of_line s line)
+command_of_line s line = by_fault (blamed_command_of_line s line)
 
 -- which step a script line is, or why it is none
-unfoldable pub move_of_line : HubSettings → List ℕ → Result Step Refusal
-move_of_line s line = do
+unfoldable pub blamed_step_of_line : HubSettings → List ℕ → Result Step Refusal
+blamed_step_of_line s line = do
   value ← as_whole (json_of line)
   step_of s (fields_of value)
 
 -- the same, with no more than what the reply tells
 unfoldable pub step_of_line : HubSettings → List ℕ → Result Step Fault
-step_of_line s line = by_fault (move_of_line s line)
+step_of_line s line = by_fault (blamed_step_of_line s line)

@@ -4,7 +4,7 @@ ghost use Rattle.serde_json.specs.View.{view};
 ghost use Rattle.inst_command.specs.Ask.{ask_fits};
 ghost use Rattle.inst_command.specs.Step.{step_fits};
 ghost use Rattle.inst_json.specs.Refusals.{GivesUnlessMemory, IsUnlessMemory, IsReadUnlessMemory};
-ghost use Rattle.inst_json.specs.Lines.{document, json_of, ask_of_line, command_of_line, move_of_line, step_of_line};
+ghost use Rattle.inst_json.specs.Lines.{document, json_of, blamed_command_of_line, command_of_line, blamed_step_of_line, step_of_line};
 
 use crate::Refusal;
 use crate::command::ask_of;
@@ -54,7 +54,7 @@ impl LineReader {
         ensures value { IsUnlessMemory result (command_of_line settings.now line.now) }
         ensures fits { IfOk result (λ ask. ask_fits settings.now ask ≡ true) }
     {
-        match self.read_ask(settings, line) {
+        match self.read_blamed_command(settings, line) {
             Ok(ask) => Ok(ask),
             Err(refusal) => Err(refusal.fault),
         }
@@ -62,10 +62,10 @@ impl LineReader {
 
     /// The same, where a refusal tells by which field the line is refused: of fields that are refused alike, the one that
     /// is looked at first.
-    #[tactic(auto, unfolding(crate::specs::Lines::ask_of_line))]
+    #[tactic(auto, unfolding(crate::specs::Lines::blamed_command_of_line))]
     #[inline(always)]
-    pub fn read_ask(&mut self, settings: &Settings, line: &[u8]) -> Result<Ask, Refusal>
-        ensures value { IsReadUnlessMemory result (ask_of_line settings.now line.now) }
+    pub fn read_blamed_command(&mut self, settings: &Settings, line: &[u8]) -> Result<Ask, Refusal>
+        ensures value { IsReadUnlessMemory result (blamed_command_of_line settings.now line.now) }
         ensures fits { IfOk result (λ ask. ask_fits settings.now ask ≡ true) }
     {
         let scanned = scan_line(line);
@@ -87,17 +87,17 @@ impl LineReader {
         ensures value { IsUnlessMemory result (step_of_line settings.now line.now) }
         ensures fits { IfOk result (λ step. step_fits settings.now step ≡ true) }
     {
-        match self.read_move(settings, line) {
+        match self.read_blamed_step(settings, line) {
             Ok(step) => Ok(step),
             Err(refusal) => Err(refusal.fault),
         }
     }
 
     /// The same, where a refusal tells by which field the line is refused.
-    #[tactic(auto, unfolding(crate::specs::Lines::move_of_line))]
+    #[tactic(auto, unfolding(crate::specs::Lines::blamed_step_of_line))]
     #[inline(always)]
-    pub fn read_move(&mut self, settings: &Settings, line: &[u8]) -> Result<Step, Refusal>
-        ensures value { IsReadUnlessMemory result (move_of_line settings.now line.now) }
+    pub fn read_blamed_step(&mut self, settings: &Settings, line: &[u8]) -> Result<Step, Refusal>
+        ensures value { IsReadUnlessMemory result (blamed_step_of_line settings.now line.now) }
         ensures fits { IfOk result (λ step. step_fits settings.now step ≡ true) }
     {
         let scanned = scan_line(line);

@@ -20,9 +20,9 @@ use Rattle.inst_journal.proofs.Soundness.{sound_induction}
 use Rattle.inst_journal.proofs.OwnBookings.{own_unforwarded, own_booked-booked}
 use Rattle.inst_journal.proofs.Covering.{own_push}
 use Rattle.inst_journal.proofs.Places.{sum_same}
-use Rattle.inst_ledger.specs.declared.terms.Terms.{Terms}
-use Rattle.inst_ledger.specs.Kept.{terms_of, cents_of, are_terms}
-use Rattle.inst_ledger.proofs.Tables.{or_else_none, terms_absent}
+use Rattle.inst_ledger.specs.declared.sending.Sending.{Sending}
+use Rattle.inst_ledger.specs.Kept.{sending_of, cents_of, is_sending}
+use Rattle.inst_ledger.proofs.Tables.{or_else_none, sending_absent}
 
 -- an event that books nothing of the participant's own leaves what each taken transfer counts for
 module _ (s : HubSettings) (who : ℕ) (J : List Event) (new : Event) (sound : IsSound s who J) (fits : Fits s who J new) (quiet : (id : List ℕ) → books who id new ≡ None) where
@@ -110,21 +110,21 @@ untaken_unbooked s who id = sound_induction s who (λ J. is_taken id J ≡ false
 
 -- the amounts of all events that take an identifier are the amount of the first
 abbrev pub at : List ℕ → Event → ℕ
-at id event = cents_of (terms_of id event)
+at id event = cents_of (sending_of id event)
 
-cents_or : (o p : Option Terms) → (p ≡ None) ⊎ (o ≡ None) → cents_of (or_else o p) ≡ cents_of o + cents_of p
+cents_or : (o p : Option Sending) → (p ≡ None) ⊎ (o ≡ None) → cents_of (or_else o p) ≡ cents_of o + cents_of p
 cents_or o p either = elim either [
   | inl none ↦
       ap (λ p'. cents_of (or_else o p')) none ∙ ap cents_of (or_else_none o) ∙ sym (add-zero (cents_of o)) ∙ ap (λ p'. cents_of o + cents_of p') (sym none)
   | inr none ↦ ap (λ o'. cents_of (or_else o' p)) none ∙ omega (arith, ap cents_of none)
 ]
 
-once_new : (s : HubSettings) (who : ℕ) (id : List ℕ) (J : List Event) (event : Event) → Fits s who J event → (terms_of id event ≡ None) ⊎ (first_some (terms_of id) J ≡ None)
+once_new : (s : HubSettings) (who : ℕ) (id : List ℕ) (J : List Event) (event : Event) → Fits s who J event → (sending_of id event ≡ None) ⊎ (first_some (sending_of id) J ≡ None)
 once_new s who id J (Taken other to cents stamp) fits = by (same_text other id) refl
   where
-    by : (b : Bool) → same_text other id ≡ b → (terms_of id (Taken other to cents stamp) ≡ None) ⊎ (first_some (terms_of id) J ≡ None)
-    by true same = inr (terms_absent other id J fits.new same)
-    by false same = inl (ap (λ b. cond {A = Option Terms} b (Some (record { to = to; cents = cents; stamp = stamp })) None) same)
+    by : (b : Bool) → same_text other id ≡ b → (sending_of id (Taken other to cents stamp) ≡ None) ⊎ (first_some (sending_of id) J ≡ None)
+    by true same = inr (sending_absent other id J fits.new same)
+    by false same = inl (ap (λ b. cond {A = Option Sending} b (Some (record { to = to; cents = cents; stamp = stamp })) None) same)
 once_new s who id J (Funded reference cents) fits = inl refl
 once_new s who id J (Defunded reference cents) fits = inl refl
 once_new s who id J (Forwarded from other cents deadline) fits = inl refl
@@ -132,43 +132,43 @@ once_new s who id J (Booked from other outcome) fits = inl refl
 once_new s who id J (Fetched count) fits = inl refl
 once_new s who id J Opened fits = inl refl
 
-pub taken_once : (s : HubSettings) (who : ℕ) (id : List ℕ) (J : List Event) → IsSound s who J → sum_by (at id) J ≡ cents_of (first_some (terms_of id) J)
-taken_once s who id = sound_induction s who (λ J. sum_by (at id) J ≡ cents_of (first_some (terms_of id) J)) refl
+pub taken_once : (s : HubSettings) (who : ℕ) (id : List ℕ) (J : List Event) → IsSound s who J → sum_by (at id) J ≡ cents_of (first_some (sending_of id) J)
+taken_once s who id = sound_induction s who (λ J. sum_by (at id) J ≡ cents_of (first_some (sending_of id) J)) refl
     (λ J event sound fits before.
     sum_by_push (at id) J event ∙ ap (λ n. n + at id event) before
-    ∙ sym (ap cents_of (first_some_push (terms_of id) J event) ∙ cents_or (first_some (terms_of id) J) (terms_of id event) (once_new s who id J event fits)))
+    ∙ sym (ap cents_of (first_some_push (sending_of id) J event) ∙ cents_or (first_some (sending_of id) J) (sending_of id event) (once_new s who id J event fits)))
 
--- a submission is a repeat where its very terms are found
-repeat_or : (x : Submission) (o p : Option Terms) → (p ≡ None) ⊎ (o ≡ None) → (are_terms x o || are_terms x p) ≡ are_terms x (or_else o p)
+-- a submission is a repeat where the very same is found to be sent
+repeat_or : (x : Submission) (o p : Option Sending) → (p ≡ None) ⊎ (o ≡ None) → (is_sending x o || is_sending x p) ≡ is_sending x (or_else o p)
 repeat_or x o p either = elim either [
-  | inl none ↦ ap (λ p'. are_terms x o || are_terms x p') none ∙ off (are_terms x o) ∙ sym (ap (λ p'. are_terms x (or_else o p')) none ∙ ap (are_terms x) (or_else_none o))
-  | inr none ↦ ap (λ o'. are_terms x o' || are_terms x p) none ∙ sym (ap (λ o'. are_terms x (or_else o' p)) none)
+  | inl none ↦ ap (λ p'. is_sending x o || is_sending x p') none ∙ off (is_sending x o) ∙ sym (ap (λ p'. is_sending x (or_else o p')) none ∙ ap (is_sending x) (or_else_none o))
+  | inr none ↦ ap (λ o'. is_sending x o' || is_sending x p) none ∙ sym (ap (λ o'. is_sending x (or_else o' p)) none)
 ]
   where
     off : (b : Bool) → (b || false) ≡ b
     off true = refl
     off false = refl
 
-repeats_terms : (x : Submission) (event : Event) → is_this_submission x event ≡ are_terms x (terms_of x.id event)
-repeats_terms x (Taken other other_to other_cents other_stamp) = by (same_text other x.id)
+repeats_sending : (x : Submission) (event : Event) → is_this_submission x event ≡ is_sending x (sending_of x.id event)
+repeats_sending x (Taken other other_to other_cents other_stamp) = by (same_text other x.id)
   where
-    by : (b : Bool) → (b && (other_to == x.to) && (other_cents == x.cents) && (other_stamp == x.stamp)) ≡ are_terms x (cond b (Some (record { to = other_to; cents = other_cents; stamp = other_stamp })) None)
+    by : (b : Bool) → (b && (other_to == x.to) && (other_cents == x.cents) && (other_stamp == x.stamp)) ≡ is_sending x (cond b (Some (record { to = other_to; cents = other_cents; stamp = other_stamp })) None)
     by true = refl
     by false = refl
-repeats_terms x (Funded reference amount) = refl
-repeats_terms x (Defunded reference amount) = refl
-repeats_terms x (Forwarded from other amount deadline) = refl
-repeats_terms x (Booked from other outcome) = refl
-repeats_terms x (Fetched count) = refl
-repeats_terms x Opened = refl
+repeats_sending x (Funded reference amount) = refl
+repeats_sending x (Defunded reference amount) = refl
+repeats_sending x (Forwarded from other amount deadline) = refl
+repeats_sending x (Booked from other outcome) = refl
+repeats_sending x (Fetched count) = refl
+repeats_sending x Opened = refl
 
-pub repeat_found : (s : HubSettings) (who : ℕ) (x : Submission) (J : List Event) → IsSound s who J → is_submission_repeat x J ≡ are_terms x (first_some (terms_of x.id) J)
-repeat_found s who x = sound_induction s who (λ J. is_submission_repeat x J ≡ are_terms x (first_some (terms_of x.id) J)) refl
+pub repeat_found : (s : HubSettings) (who : ℕ) (x : Submission) (J : List Event) → IsSound s who J → is_submission_repeat x J ≡ is_sending x (first_some (sending_of x.id) J)
+repeat_found s who x = sound_induction s who (λ J. is_submission_repeat x J ≡ is_sending x (first_some (sending_of x.id) J)) refl
     (λ J event sound fits before.
     list_any_push (is_this_submission x) J event ∙ ap (λ b. b || is_this_submission x event) before
-    ∙ ap (λ b. are_terms x (first_some (terms_of x.id) J) || b) (repeats_terms x event)
-    ∙ repeat_or x (first_some (terms_of x.id) J) (terms_of x.id event) (once_new s who x.id J event fits)
-    ∙ ap (are_terms x) (sym (first_some_push (terms_of x.id) J event)))
+    ∙ ap (λ b. is_sending x (first_some (sending_of x.id) J) || b) (repeats_sending x event)
+    ∙ repeat_or x (first_some (sending_of x.id) J) (sending_of x.id event) (once_new s who x.id J event fits)
+    ∙ ap (is_sending x) (sym (first_some_push (sending_of x.id) J event)))
 
 pub accepted_none : (outcome : Outcome) → if_accepted (Some outcome) 0 ≡ 0
 accepted_none Accepted = refl
@@ -245,19 +245,19 @@ module _ (s : HubSettings) (who : ℕ) (J : List Event) (id : List ℕ) (outcome
   debited (Fetched count) = omega (arith, accepted_none outcome)
   debited Opened = omega (arith, accepted_none outcome)
 
-  pub own_reserved : reserved J ≡ reserved (J ++ new ∷ []) + cents_of (first_some (terms_of id) J)
+  pub own_reserved : reserved J ≡ reserved (J ++ new ∷ []) + cents_of (first_some (sending_of id) J)
   own_reserved =
       let pushed : reserved (J ++ new ∷ []) ≡ sum_by (reservation (J ++ new ∷ [])) J + 0 = sum_by_push (reservation (J ++ new ∷ [])) J new in
       let same : reserved J ≡ sum_by (λ e. reservation (J ++ new ∷ []) e + at id e) J = sum_same _ _ J released in
       let both : sum_by (λ e. reservation (J ++ new ∷ []) e + at id e) J ≡ sum_by (reservation (J ++ new ∷ [])) J + sum_by (at id) J = sum_by-both (reservation (J ++ new ∷ [])) (at id) J in
       omega (arith, pushed, same, both, taken_once s who id J sound)
 
-  pub own_debits : debits (J ++ new ∷ []) ≡ debits J + if_accepted (Some outcome) (cents_of (first_some (terms_of id) J))
+  pub own_debits : debits (J ++ new ∷ []) ≡ debits J + if_accepted (Some outcome) (cents_of (first_some (sending_of id) J))
   own_debits =
       let pushed : debits (J ++ new ∷ []) ≡ sum_by (debit (J ++ new ∷ [])) J + 0 = sum_by_push (debit (J ++ new ∷ [])) J new in
       let same : sum_by (debit (J ++ new ∷ [])) J ≡ sum_by (λ e. debit J e + if_accepted (Some outcome) (at id e)) J = sum_same _ _ J debited in
       let both : sum_by (λ e. debit J e + if_accepted (Some outcome) (at id e)) J ≡ debits J + sum_by (λ e. if_accepted (Some outcome) (at id e)) J = sum_by-both (debit J) (λ e. if_accepted (Some outcome) (at id e)) J in
-      let all : sum_by (λ e. if_accepted (Some outcome) (at id e)) J ≡ if_accepted (Some outcome) (cents_of (first_some (terms_of id) J)) = sum_accepted outcome (at id) J ∙ ap (if_accepted (Some outcome)) (taken_once s who id J sound) in
+      let all : sum_by (λ e. if_accepted (Some outcome) (at id e)) J ≡ if_accepted (Some outcome) (cents_of (first_some (sending_of id) J)) = sum_accepted outcome (at id) J ∙ ap (if_accepted (Some outcome)) (taken_once s who id J sound) in
       omega (arith, pushed, same, both, all)
 
   uncredited : (xs : List Event) → is_forwarded who id xs ≡ false → sum_by (credit (J ++ new ∷ [])) xs ≡ sum_by (credit J) xs

@@ -5,14 +5,14 @@ use Rattle.inst_settings.specs.Lawful.{IsSettings}
 use Rattle.inst_journal.specs.declared.event.Event.{Event}
 use Rattle.inst_transfers.specs.State.{State, nothing}
 use Rattle.inst_transfers.specs.Held.{Held, state_in}
-use Rattle.inst_ledger.specs.declared.references.Funding.{Funding}
+use Rattle.inst_ledger.specs.declared.references.KeptFunding.{KeptFunding}
 use Rattle.inst_ledger.specs.declared.totals.Totals.{Totals}
 use Rattle.inst_ledger.specs.Beside.{IsBeside}
 use Rattle.inst_ledger.specs.Inbox.{IsRead}
 use Rattle.inst_ledger.specs.Right.{IsRight}
 use Rattle.inst_ledger.proofs.Right.{right_begun}
 
-pub begun : (s : HubSettings) (who : ℕ) (J : List Event) (t : Totals) (table : Held) (R : List ℕ → Option Funding) (positions : List ℕ) → IsSettings s → J ≡ [] → t ≡ record { funded = 0; defunded = 0 } → table.who ≡ who → state_in table ≡ nothing
+pub begun : (s : HubSettings) (who : ℕ) (J : List Event) (t : Totals) (table : Held) (R : List ℕ → Option KeptFunding) (positions : List ℕ) → IsSettings s → J ≡ [] → t ≡ record { funded = 0; defunded = 0 } → table.who ≡ who → state_in table ≡ nothing
     → ((reference : List ℕ) → R reference ≡ None) → positions ≡ [] → IsBeside s who J t table R 0 positions 0
 begun s who J t table R positions lawful no_event no_money whose no_transfer no_reference no_entry =
     subst (λ (K : List Event). IsBeside s who K t table R 0 positions 0) (sym no_event)

@@ -1,4 +1,4 @@
--- The beneficiary of a participant's own transfer: what the terms of its submission tell of it, and what a sound history
+-- The beneficiary of a participant's own transfer: what was sent with its submission tells it, and what a sound history
 -- does.
 use Rattle.std.proofs.Common.{◌≡◌, ℕ, Bool, true, false, cond, List, [], ◌∷◌, ◌++◌, Option, Some, None, is_some, IfSome, option_map, inl, inr, refl, sym, ap, subst, ◌∙◌, Contains}
 use Rattle.std.proofs.lemmas.List.Elements.{Contains-push_cases}
@@ -11,8 +11,8 @@ use Rattle.inst_journal.specs.Sound.{Fits, IsSound}
 use Rattle.inst_journal.proofs.Finding.{nothing_there}
 use Rattle.inst_journal.proofs.Pushing.{first_some_push}
 use Rattle.inst_journal.proofs.Soundness.{sound_induction}
-use Rattle.inst_ledger.specs.declared.terms.Terms.{Terms}
-use Rattle.inst_ledger.specs.Kept.{terms_of}
+use Rattle.inst_ledger.specs.declared.sending.Sending.{Sending}
+use Rattle.inst_ledger.specs.Kept.{sending_of}
 use Rattle.inst_ledger.specs.Beneficiary.{takes_to, beneficiary_of}
 use Rattle.inst_ledger.proofs.Tables.{none_of, any_first, some_cond}
 
@@ -26,26 +26,26 @@ made_first make f g same [] = refl
 made_first make f g same (x ∷ xs) =
     made_or make (f x) (first_some f xs) ∙ ap (λ o. or_else o (option_map make (first_some f xs))) (same x) ∙ ap (or_else (g x)) (made_first make f g same xs)
 
-abbrev pub to_of : Terms → ℕ
-to_of terms = terms.to
+abbrev pub to_of : Sending → ℕ
+to_of sending = sending.to
 
 made_cond : {A B : Type 0} (make : A → B) (b : Bool) (x : A) → option_map make (cond b (Some x) None) ≡ cond b (Some (make x)) None
 made_cond make true x = refl
 made_cond make false x = refl
 
-terms_to : (id : List ℕ) (event : Event) → option_map to_of (terms_of id event) ≡ takes_to id event
-terms_to id (Taken other to cents stamp) = made_cond to_of (same_text other id) (record { to = to; cents = cents; stamp = stamp })
-terms_to id (Funded reference cents) = refl
-terms_to id (Defunded reference cents) = refl
-terms_to id (Forwarded from other cents deadline) = refl
-terms_to id (Booked from other outcome) = refl
-terms_to id (Fetched count) = refl
-terms_to id Opened = refl
+sending_to : (id : List ℕ) (event : Event) → option_map to_of (sending_of id event) ≡ takes_to id event
+sending_to id (Taken other to cents stamp) = made_cond to_of (same_text other id) (record { to = to; cents = cents; stamp = stamp })
+sending_to id (Funded reference cents) = refl
+sending_to id (Defunded reference cents) = refl
+sending_to id (Forwarded from other cents deadline) = refl
+sending_to id (Booked from other outcome) = refl
+sending_to id (Fetched count) = refl
+sending_to id Opened = refl
 
--- the terms that are found tell the beneficiary, and none are found where there is none
-pub beneficiary_found : (id : List ℕ) (J : List Event) (o : Option Terms) → first_some (terms_of id) J ≡ o → option_map to_of o ≡ beneficiary_of id J
+-- what is found to be sent tells the beneficiary, and none are found where there is none
+pub beneficiary_found : (id : List ℕ) (J : List Event) (o : Option Sending) → first_some (sending_of id) J ≡ o → option_map to_of o ≡ beneficiary_of id J
 beneficiary_found id J o found =
-    ap (option_map to_of) (sym found) ∙ made_first to_of (terms_of id) (takes_to id) (terms_to id) J
+    ap (option_map to_of) (sym found) ∙ made_first to_of (sending_of id) (takes_to id) (sending_to id) J
 
 takes_one : (id : List ℕ) (event : Event) → takes id event ≡ is_some (takes_to id event)
 takes_one id (Taken other to cents stamp) = some_cond (same_text other id) to

@@ -28,13 +28,13 @@ use Rattle.inst_transfers.specs.declared.transfer.Side.TheVariants.{Own, Other}
 use Rattle.inst_transfers.specs.declared.transfer.Transfer.{Transfer}
 use Rattle.inst_transfers.specs.State.{State, step, settled, booked_in, rows_of}
 use Rattle.inst_transfers.specs.Held.{Held, found_at, state_in, IsFound, Finds, Covers, CoversSide}
-use Rattle.inst_ledger.specs.declared.references.Funding.{Funding}
+use Rattle.inst_ledger.specs.declared.references.KeptFunding.{KeptFunding}
 use Rattle.inst_ledger.specs.declared.totals.Totals.{Totals}
 use Rattle.inst_ledger.specs.Beside.{funding_of, amount_of, most_of, IsBeside}
 use Rattle.inst_ledger.specs.Book.{BookAndRoom}
 use Rattle.inst_ledger.specs.Inbox.{IsRead}
-use Rattle.inst_ledger.specs.Kept.{terms_of, IsTable, cents_of}
-use Rattle.inst_ledger.specs.Right.{terms_in, forwarding_in, own_ids, id_of, IsRight}
+use Rattle.inst_ledger.specs.Kept.{sending_of, IsTable, cents_of}
+use Rattle.inst_ledger.specs.Right.{sending_in, forwarding_in, own_ids, id_of, IsRight}
 use Rattle.inst_ledger.proofs.Amounts.{own_reserved}
 use Rattle.inst_ledger.proofs.Forwards.{forwarded_found}
 use Rattle.inst_ledger.proofs.Funded.{funded_put, defunded_put}
@@ -81,7 +81,7 @@ pub pushed : {J K L : List Event} (event : Event) → K ≡ J → L ≡ K ++ eve
 pushed event same is = is ∙ ap (λ E. E ++ event ∷ []) same
 
 -- the same by other names: the table may have made room
-pub beside_same : {s : HubSettings} {who : ℕ} {J K : List Event} {t : Totals} {table other : Held} {R S : List ℕ → Option Funding} {since : ℕ} {positions others : List ℕ} {read : ℕ}
+pub beside_same : {s : HubSettings} {who : ℕ} {J K : List Event} {t : Totals} {table other : Held} {R S : List ℕ → Option KeptFunding} {since : ℕ} {positions others : List ℕ} {read : ℕ}
     → K ≡ J → (room : ℕ) → other ≡ record table { room = room } → ((reference : List ℕ) → S reference ≡ R reference) → others ≡ positions → IsBeside s who J t table R since positions read → IsBeside s who K t other S since others read
 beside_same {s} {who} {J} {K} {t} {table} {other} {R} {S} {since} {positions} {others} {read} events room same references inbox b =
     subst (λ (E : List Event). IsBeside s who E t other S since others read) (sym events)
@@ -101,16 +101,16 @@ beside_same {s} {who} {J} {K} {t} {table} {other} {R} {S} {since} {positions} {o
       amounts = b.amounts;
     })))
 
-pub beside_at : {s : HubSettings} {who : ℕ} {J K : List Event} {t : Totals} {table : Held} {R : List ℕ → Option Funding} {since : ℕ} {positions : List ℕ} {read : ℕ} → K ≡ J → IsBeside s who J t table R since positions read → IsBeside s who K t table R since positions read
+pub beside_at : {s : HubSettings} {who : ℕ} {J K : List Event} {t : Totals} {table : Held} {R : List ℕ → Option KeptFunding} {since : ℕ} {positions : List ℕ} {read : ℕ} → K ≡ J → IsBeside s who J t table R since positions read → IsBeside s who K t table R since positions read
 beside_at {s} {who} {J} {K} {t} {table} {R} {since} {positions} {read} events b = subst (λ (E : List Event). IsBeside s who E t table R since positions read) (sym events) b
 
-module _ (s : HubSettings) (who : ℕ) (J : List Event) (t : Totals) (table : Held) (R : List ℕ → Option Funding) (since : ℕ) (positions : List ℕ) (read : ℕ) (b : IsBeside s who J t table R since positions read) where
+module _ (s : HubSettings) (who : ℕ) (J : List Event) (t : Totals) (table : Held) (R : List ℕ → Option KeptFunding) (since : ℕ) (positions : List ℕ) (read : ℕ) (b : IsBeside s who J t table R since positions read) where
   -- what was paid out and what is reserved is covered
   pub within : t.defunded + table.debits + table.reserved ≤ t.funded + table.credits
   within = omega (arith, covered s who J b.sound, b.funded, b.defunded, b.right.credits, b.right.debits, b.right.reserved)
 
   -- one event more, with the table after it
-  pub pushes : (event : Event) (u : Totals) (after : Held) (S : List ℕ → Option Funding) (since' : ℕ) (positions' : List ℕ) (read' : ℕ) → Fits s who J event → after.who ≡ table.who → state_in after ≡ step table.who (state_in table) event
+  pub pushes : (event : Event) (u : Totals) (after : Held) (S : List ℕ → Option KeptFunding) (since' : ℕ) (positions' : List ℕ) (read' : ℕ) → Fits s who J event → after.who ≡ table.who → state_in after ≡ step table.who (state_in table) event
       → u.funded ≡ t.funded + funding event → u.defunded ≡ t.defunded + defunding event → u.funded + after.credits ≤ t.funded + table.credits + MOST_CENTS → IsTable funding_of (J ++ event ∷ []) S → since' ≡ fundings (J ++ event ∷ [])
       → IsRead who (J ++ event ∷ []) positions' read' → amount_of event ≤ cond (is_funding event) MOST_CENTS 0 + cond (is_forwarding event) MOST_CENTS 0 → IsBeside s who (J ++ event ∷ []) u after S since' positions' read'
   pushes event u after S since' positions' read' fits same is funds defunds few referred counted inboxed small = record {
@@ -161,7 +161,7 @@ module _ (s : HubSettings) (who : ℕ) (J : List Event) (t : Totals) (table : He
       pushes Opened t after R 0 positions read fits same is (omega arith) (omega arith) (omega (arith, ap (λ (st : State). st.credits) is)) (table_keep funding_of J Opened R b.referred (λ _. refl)) (sym (fundings_none J))
       (read_same who J Opened positions read refl refl b.inboxed) (omega arith)
 
-  pub funded_beside : (reference : List ℕ) (cents added : ℕ) (after : List ℕ → Option Funding) → added ≡ cents → Fits s who J (Funded reference cents) → cents ≤ MOST_CENTS
+  pub funded_beside : (reference : List ℕ) (cents added : ℕ) (after : List ℕ → Option KeptFunding) → added ≡ cents → Fits s who J (Funded reference cents) → cents ≤ MOST_CENTS
       → ((q : List ℕ) → after q ≡ cond (same_text reference q) (Some (record { is_defunding = false; cents = cents })) (R q))
       → IsBeside s who (J ++ Funded reference cents ∷ []) (record { funded = t.funded + added; defunded = t.defunded }) table after (since + 1) positions read
   funded_beside reference cents added after same fits most put =
@@ -169,7 +169,7 @@ module _ (s : HubSettings) (who : ℕ) (J : List Event) (t : Totals) (table : He
       pushes event _ table after (since + 1) positions read fits refl refl (omega (arith, same)) (omega arith) (omega (arith, same, most)) (funded_put J reference cents R after fits.new b.referred put)
       (omega (arith, b.fundings, fundings_more J event refl)) (read_same who J event positions read refl refl b.inboxed) (omega (arith, most))
 
-  pub defunded_beside : (reference : List ℕ) (cents added : ℕ) (after : List ℕ → Option Funding) → added ≡ cents → Fits s who J (Defunded reference cents)
+  pub defunded_beside : (reference : List ℕ) (cents added : ℕ) (after : List ℕ → Option KeptFunding) → added ≡ cents → Fits s who J (Defunded reference cents)
       → ((q : List ℕ) → after q ≡ cond (same_text reference q) (Some (record { is_defunding = true; cents = cents })) (R q))
       → IsBeside s who (J ++ Defunded reference cents ∷ []) (record { funded = t.funded; defunded = t.defunded + added }) table after (since + 1) positions read
   defunded_beside reference cents added after same fits put =
@@ -178,11 +178,11 @@ module _ (s : HubSettings) (who : ℕ) (J : List Event) (t : Totals) (table : He
       (omega (arith, b.fundings, fundings_more J event refl)) (read_same who J event positions read refl refl b.inboxed) (omega arith)
 
   -- a transfer that was neither taken nor forwarded isn't in the table
-  unknown : (o : Option Transfer) → terms_in o ≡ None → forwarding_in o ≡ None → o ≡ None
-  unknown None no_terms no_forwarding = refl
-  unknown (Some x) no_terms no_forwarding = absurd (by x.side no_terms no_forwarding)
+  unknown : (o : Option Transfer) → sending_in o ≡ None → forwarding_in o ≡ None → o ≡ None
+  unknown None no_sending no_forwarding = refl
+  unknown (Some x) no_sending no_forwarding = absurd (by x.side no_sending no_forwarding)
     where
-      by : (side : Side) → terms_in (Some (record { cents = x.cents; side = side; outcome = x.outcome })) ≡ None → forwarding_in (Some (record { cents = x.cents; side = side; outcome = x.outcome })) ≡ None → ⊥
+      by : (side : Side) → sending_in (Some (record { cents = x.cents; side = side; outcome = x.outcome })) ≡ None → forwarding_in (Some (record { cents = x.cents; side = side; outcome = x.outcome })) ≡ None → ⊥
       by (Own to stamp) h g = true≢false (ap is_some h)
       by (Other deadline) h g = true≢false (ap is_some g)
 
@@ -206,7 +206,7 @@ module _ (s : HubSettings) (who : ℕ) (J : List Event) (t : Totals) (table : He
   own_holds : (id : List ℕ) (outcome : Outcome) (cents to stamp : ℕ) (o : Option Outcome) → Fits s who J (Booked who id outcome) → is_taken id J ≡ true → found_at table.entries (who, id) ≡ Some (record { cents = cents; side = Own to stamp; outcome = o })
       → (cents ≤ table.reserved) × (1 ≤ table.waiting)
   own_holds id outcome cents to stamp o fits taken there =
-      let amount : cents ≡ cents_of (first_some (terms_of id) J) = ap cents_of (sym (ap terms_in there) ∙ b.right.taken id) in
+      let amount : cents ≡ cents_of (first_some (sending_of id) J) = ap cents_of (sym (ap sending_in there) ∙ b.right.taken id) in
       (omega (arith, amount, b.right.reserved, own_reserved s who J id outcome b.sound fits), omega (arith, b.right.waiting, one_less s who J id outcome b.sound taken fits.new))
 
   own_waits : (from : ℕ) (id : List ℕ) (outcome : Outcome) (cents to stamp : ℕ) (o : Option Outcome) → Fits s who J (Booked from id outcome) → found_at table.entries (from, id) ≡ Some (record { cents = cents; side = Own to stamp; outcome = o })

@@ -9,14 +9,14 @@ use Rattle.inst_journal.specs.Keys.{is_this_fund, is_this_defund, refers, is_fun
 use Rattle.inst_journal.specs.Sound.{Fits, IsSound}
 use Rattle.inst_journal.proofs.Pushing.{first_some_push, list_any_push}
 use Rattle.inst_journal.proofs.Soundness.{sound_induction}
-use Rattle.inst_ledger.specs.declared.references.Funding.{Funding}
+use Rattle.inst_ledger.specs.declared.references.KeptFunding.{KeptFunding}
 use Rattle.inst_ledger.specs.Kept.{IsTable}
 use Rattle.inst_ledger.specs.Beside.{funding_of, is_funding_of}
 use Rattle.inst_ledger.proofs.Tables.{or_else_none, table_put, none_of, any_first, some_cond}
 
 refers_funding : (reference : List ℕ) (event : Event) → refers reference event ≡ is_some (funding_of reference event)
-refers_funding reference (Funded other cents) = some_cond {A = Funding} (same_text other reference) (record { is_defunding = false; cents = cents })
-refers_funding reference (Defunded other cents) = some_cond {A = Funding} (same_text other reference) (record { is_defunding = true; cents = cents })
+refers_funding reference (Funded other cents) = some_cond {A = KeptFunding} (same_text other reference) (record { is_defunding = false; cents = cents })
+refers_funding reference (Defunded other cents) = some_cond {A = KeptFunding} (same_text other reference) (record { is_defunding = true; cents = cents })
 refers_funding reference (Taken id to cents stamp) = refl
 refers_funding reference (Forwarded from id cents deadline) = refl
 refers_funding reference (Booked from id outcome) = refl
@@ -30,12 +30,12 @@ reference_found reference J = any_first (refers reference) (funding_of reference
 pub funding_absent : (reference q : List ℕ) (J : List Event) → has_reference reference J ≡ false → same_text reference q ≡ true → first_some (funding_of q) J ≡ None
 funding_absent reference q J new same = none_of _ (sym (reference_found q J) ∙ sym (ap (λ (r : List ℕ). has_reference r J) (text_same reference q (sym same))) ∙ new)
 
-either_new : (reference other : List ℕ) (J : List Event) (f : Funding) → has_reference other J ≡ false → (cond (same_text other reference) (Some f) None ≡ None) ⊎ (first_some (funding_of reference) J ≡ None)
+either_new : (reference other : List ℕ) (J : List Event) (f : KeptFunding) → has_reference other J ≡ false → (cond (same_text other reference) (Some f) None ≡ None) ⊎ (first_some (funding_of reference) J ≡ None)
 either_new reference other J f new = by (same_text other reference) refl
   where
     by : (b : Bool) → same_text other reference ≡ b → (cond (same_text other reference) (Some f) None ≡ None) ⊎ (first_some (funding_of reference) J ≡ None)
     by true same = inr (funding_absent other reference J new same)
-    by false same = inl (ap (λ b. cond {A = Option Funding} b (Some f) None) same)
+    by false same = inl (ap (λ b. cond {A = Option KeptFunding} b (Some f) None) same)
 
 once_new : (s : HubSettings) (who : ℕ) (reference : List ℕ) (J : List Event) (event : Event) → Fits s who J event → (funding_of reference event ≡ None) ⊎ (first_some (funding_of reference) J ≡ None)
 once_new s who reference J (Funded other cents) fits = either_new reference other J (record { is_defunding = false; cents = cents }) fits.new
@@ -50,7 +50,7 @@ or_false : (b : Bool) → (b || false) ≡ b
 or_false true = refl
 or_false false = refl
 
-repeat_or : (is_defunding : Bool) (cents : ℕ) (o p : Option Funding) → (p ≡ None) ⊎ (o ≡ None) → (is_funding_of is_defunding cents o || is_funding_of is_defunding cents p) ≡ is_funding_of is_defunding cents (or_else o p)
+repeat_or : (is_defunding : Bool) (cents : ℕ) (o p : Option KeptFunding) → (p ≡ None) ⊎ (o ≡ None) → (is_funding_of is_defunding cents o || is_funding_of is_defunding cents p) ≡ is_funding_of is_defunding cents (or_else o p)
 repeat_or is_defunding cents o p either = elim either [
   | inl none ↦ ap (λ p'. is_funding_of is_defunding cents o || is_funding_of is_defunding cents p') none ∙ or_false (is_funding_of is_defunding cents o)
       ∙ sym (ap (λ p'. is_funding_of is_defunding cents (or_else o p')) none ∙ ap (is_funding_of is_defunding cents) (or_else_none o))
@@ -109,12 +109,12 @@ defund_found s who reference cents = sound_induction s who (λ J. is_defund_repe
     ∙ ap (is_funding_of true cents) (sym (first_some_push (funding_of reference) J event)))
 
 -- a funding of a new reference
-pub funded_put : (J : List Event) (reference : List ℕ) (cents : ℕ) (old new : List ℕ → Option Funding) → has_reference reference J ≡ false → IsTable funding_of J old
+pub funded_put : (J : List Event) (reference : List ℕ) (cents : ℕ) (old new : List ℕ → Option KeptFunding) → has_reference reference J ≡ false → IsTable funding_of J old
     → ((q : List ℕ) → new q ≡ cond (same_text reference q) (Some (record { is_defunding = false; cents = cents })) (old q)) → IsTable funding_of (J ++ Funded reference cents ∷ []) new
 funded_put J reference cents old new is_new before put = table_put same_text funding_of J (Funded reference cents) reference (record { is_defunding = false; cents = cents }) old new before put (λ _. refl)
     (λ q same. funding_absent reference q J is_new same)
 
-pub defunded_put : (J : List Event) (reference : List ℕ) (cents : ℕ) (old new : List ℕ → Option Funding) → has_reference reference J ≡ false → IsTable funding_of J old
+pub defunded_put : (J : List Event) (reference : List ℕ) (cents : ℕ) (old new : List ℕ → Option KeptFunding) → has_reference reference J ≡ false → IsTable funding_of J old
     → ((q : List ℕ) → new q ≡ cond (same_text reference q) (Some (record { is_defunding = true; cents = cents })) (old q)) → IsTable funding_of (J ++ Defunded reference cents ∷ []) new
 defunded_put J reference cents old new is_new before put = table_put same_text funding_of J (Defunded reference cents) reference (record { is_defunding = true; cents = cents }) old new before put (λ _. refl)
     (λ q same. funding_absent reference q J is_new same)

@@ -54,7 +54,8 @@ module _ (who : ℕ) (J : List Event) (new : Event) (quiet : (id : List ℕ) →
       ∙ ap (λ n. n + cond (takes_live who (J ++ new ∷ []) new) 1 0) (sum_same _ _ J same_waiting)
       ∙ ap (λ n. unbooked who J + n) (same_waiting new)
 
-one_counted : (p : Event → Bool) (J : List Event) → list_any p J ≡ true → 1 ≤ count_by p J
+-- what passes a test is counted
+pub one_counted : (p : Event → Bool) (J : List Event) → list_any p J ≡ true → 1 ≤ count_by p J
 one_counted p [] none = absurd (false≢true none)
 one_counted p (x ∷ J) any = by (p x) refl (λ rest. one_counted p J rest)
   where

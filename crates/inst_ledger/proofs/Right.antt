@@ -15,16 +15,16 @@ use Rattle.inst_journal.specs.Sums.{if_accepted, if_unbooked, credit, debit, res
 use Rattle.inst_journal.specs.Sound.{Fits, IsSound}
 use Rattle.inst_journal.proofs.OwnBookings.{own_unforwarded, own_booked-booked}
 use Rattle.inst_journal.proofs.Soundness.{sound_induction}
-use Rattle.inst_ledger.specs.Kept.{terms_of, cents_of, forwarding_of, credit_of, outcome_of}
+use Rattle.inst_ledger.specs.Kept.{sending_of, cents_of, forwarding_of, credit_of, outcome_of}
 use Rattle.inst_ledger.proofs.Amounts.{quiet_own, quiet_debits, quiet_reserved, quiet_booked, quiet_credits, untaken_unbooked, own_reserved, own_debits, own_credits}
 use Rattle.inst_ledger.proofs.Forwards.{key_is, forwarding_absent, unforwarded_unbooked, forwarded_found, booked_credits}
 use Rattle.inst_ledger.proofs.Live.{new_lives, quiet_waiting, one_less}
-use Rattle.inst_ledger.proofs.Tables.{table_put, table_keep, taken_found, terms_absent}
+use Rattle.inst_ledger.proofs.Tables.{table_put, table_keep, taken_found, sending_absent}
 use Rattle.inst_transfers.specs.declared.transfer.Side.{Side}
 use Rattle.inst_transfers.specs.declared.transfer.Side.TheVariants.{Own, Other}
 use Rattle.inst_transfers.specs.declared.transfer.Transfer.{Transfer}
 use Rattle.inst_transfers.specs.State.{Key, same_key, put, State, nothing, with_outcome, settled, booked_in, outcome_in, waits_in, step, state_of, row_of, rows_of}
-use Rattle.inst_ledger.specs.Right.{terms_in, forwarding_in, unbooked, IsRight}
+use Rattle.inst_ledger.specs.Right.{sending_in, forwarding_in, unbooked, IsRight}
 use Rattle.inst_ledger.proofs.OwnIds.{own_same, own_more, own_opened}
 
 -- what is kept for good, after one event more
@@ -55,10 +55,10 @@ booked_at J x y same = let key = key_is x y same in sym (ap (λ (from : ℕ). bo
 module _ (s : HubSettings) (who : ℕ) (J : List Event) (st : State) (sound : IsSound s who J) (is : IsRight who J st) where
   -- an event that takes, forwards and books nothing, and opens nothing
   quiet_right : (new : Event) → Fits s who J new → is_opening new ≡ false → takes_live who (carried J) new ≡ false → takes_live who J new ≡ false → ((from : ℕ) (id : List ℕ) → books from id new ≡ None)
-      → ((K : List Event) → credit K new ≡ 0) → ((K : List Event) → debit K new ≡ 0) → ((K : List Event) → reservation K new ≡ 0) → ((id : List ℕ) → terms_of id new ≡ None) → ((key : Key) → forwarding_of key new ≡ None) → row_of who new ≡ None
+      → ((K : List Event) → credit K new ≡ 0) → ((K : List Event) → debit K new ≡ 0) → ((K : List Event) → reservation K new ≡ 0) → ((id : List ℕ) → sending_of id new ≡ None) → ((key : Key) → forwarding_of key new ≡ None) → row_of who new ≡ None
       → IsRight who (J ++ new ∷ []) st
-  quiet_right new fits other lives waits quiet no_credit no_debit no_reservation no_terms no_forwarding no_row = record {
-    taken = table_keep terms_of J new (λ id. terms_in (st.found (who, id))) is.taken no_terms;
+  quiet_right new fits other lives waits quiet no_credit no_debit no_reservation no_sending no_forwarding no_row = record {
+    taken = table_keep sending_of J new (λ id. sending_in (st.found (who, id))) is.taken no_sending;
     others = is.others;
     forwarded = table_keep forwarding_of J new (λ key. forwarding_in (st.found key)) is.forwarded no_forwarding;
     booked = table_keep outcome_of J new (λ key. outcome_in (st.found key)) is.booked (λ key. quiet key.0 key.1);
@@ -78,10 +78,10 @@ module _ (s : HubSettings) (who : ℕ) (J : List Event) (st : State) (sound : Is
       let unbooked : booked who id J ≡ None = untaken_unbooked s who id J sound fits.new in
       let nothing_own : own_booked id (J ++ new ∷ []) ≡ None = quiet_own s who J new sound fits (λ _. refl) id ∙ own_booked-booked s who J id sound ∙ unbooked in
       record {
-        taken = table_put same_text terms_of J new id (record { to = to; cents = cents; stamp = stamp }) (λ q. terms_in (st.found (who, q))) (λ q. terms_in (put st.found (who, id) x (who, q))) is.taken
-            (λ q. put_in terms_in (same_key (who, id) (who, q)) x (st.found (who, q)) ∙ ap (λ e. cond e (terms_in (Some x)) (terms_in (st.found (who, q)))) (own_key who id q))
-            (λ _. refl) (λ q same. terms_absent id q J fits.new same);
-        others = λ q another. same_in terms_in (same_key (who, id) q) x (st.found q) (λ same. absurd (another (sym (key_is (who, id) q same).0))) ∙ is.others q another;
+        taken = table_put same_text sending_of J new id (record { to = to; cents = cents; stamp = stamp }) (λ q. sending_in (st.found (who, q))) (λ q. sending_in (put st.found (who, id) x (who, q))) is.taken
+            (λ q. put_in sending_in (same_key (who, id) (who, q)) x (st.found (who, q)) ∙ ap (λ e. cond e (sending_in (Some x)) (sending_in (st.found (who, q)))) (own_key who id q))
+            (λ _. refl) (λ q same. sending_absent id q J fits.new same);
+        others = λ q another. same_in sending_in (same_key (who, id) q) x (st.found q) (λ same. absurd (another (sym (key_is (who, id) q same).0))) ∙ is.others q another;
         forwarded = λ q. same_in forwarding_in (same_key (who, id) q) x (st.found q) (λ same. sym (is.forwarded q ∙ forwarding_absent (who, id) q J stranger same))
             ∙ table_keep forwarding_of J new (λ key. forwarding_in (st.found key)) is.forwarded (λ _. refl) q;
         booked = λ q. same_in outcome_in (same_key (who, id) q) x (st.found q) (λ same. sym (is.booked q ∙ booked_at J (who, id) q same ∙ unbooked))
@@ -101,9 +101,9 @@ module _ (s : HubSettings) (who : ℕ) (J : List Event) (st : State) (sound : Is
       let unbooked : booked from id J ≡ None = unforwarded_unbooked s who (from, id) fits.another J sound fits.new in
       let nothing_after : booked from id (J ++ new ∷ []) ≡ None = quiet_booked J new (λ _ _. refl) from id ∙ unbooked in
       record {
-        taken = λ q. same_in terms_in (same_key (from, id) (who, q)) x (st.found (who, q)) (λ same. absurd (fits.another (key_is (from, id) (who, q) same).0))
-            ∙ table_keep terms_of J new (λ id. terms_in (st.found (who, id))) is.taken (λ _. refl) q;
-        others = λ q another. same_in terms_in (same_key (from, id) q) x (st.found q) (λ same. sym (is.others q another)) ∙ is.others q another;
+        taken = λ q. same_in sending_in (same_key (from, id) (who, q)) x (st.found (who, q)) (λ same. absurd (fits.another (key_is (from, id) (who, q) same).0))
+            ∙ table_keep sending_of J new (λ id. sending_in (st.found (who, id))) is.taken (λ _. refl) q;
+        others = λ q another. same_in sending_in (same_key (from, id) q) x (st.found q) (λ same. sym (is.others q another)) ∙ is.others q another;
         forwarded = table_put same_key forwarding_of J new (from, id) (record { cents = cents; deadline = deadline }) (λ q. forwarding_in (st.found q)) (λ q. forwarding_in (put st.found (from, id) x q)) is.forwarded
             (λ q. put_in forwarding_in (same_key (from, id) q) x (st.found q)) (λ _. refl) (λ q same. forwarding_absent (from, id) q J fits.new same);
         booked = λ q. same_in outcome_in (same_key (from, id) q) x (st.found q) (λ same. sym (is.booked q ∙ booked_at J (from, id) q same ∙ unbooked))
@@ -139,11 +139,11 @@ module _ (s : HubSettings) (who : ℕ) (J : List Event) (st : State) (sound : Is
       let new : Event = Booked who id outcome in
       let t : Transfer = record { cents = cents; side = Own to stamp; outcome = o } in
       let x : Transfer = with_outcome t outcome in
-      let amount : cents ≡ cents_of (first_some (terms_of id) J) = ap cents_of (sym (ap terms_in there) ∙ is.taken id) in
+      let amount : cents ≡ cents_of (first_some (sending_of id) J) = ap cents_of (sym (ap sending_in there) ∙ is.taken id) in
       record {
-        taken = λ q. same_in terms_in (same_key (who, id) (who, q)) x (st.found (who, q)) (λ same. sym (ap terms_in (at_key st.found (who, id) (who, q) same ∙ there)))
-            ∙ table_keep terms_of J new (λ id. terms_in (st.found (who, id))) is.taken (λ _. refl) q;
-        others = λ q another. same_in terms_in (same_key (who, id) q) x (st.found q) (λ same. absurd (another (sym (key_is (who, id) q same).0))) ∙ is.others q another;
+        taken = λ q. same_in sending_in (same_key (who, id) (who, q)) x (st.found (who, q)) (λ same. sym (ap sending_in (at_key st.found (who, id) (who, q) same ∙ there)))
+            ∙ table_keep sending_of J new (λ id. sending_in (st.found (who, id))) is.taken (λ _. refl) q;
+        others = λ q another. same_in sending_in (same_key (who, id) q) x (st.found q) (λ same. absurd (another (sym (key_is (who, id) q same).0))) ∙ is.others q another;
         forwarded = λ q. same_in forwarding_in (same_key (who, id) q) x (st.found q) (λ same. sym (ap forwarding_in (at_key st.found (who, id) q same ∙ there)))
             ∙ table_keep forwarding_of J new (λ key. forwarding_in (st.found key)) is.forwarded (λ _. refl) q;
         booked = outcomes_put who id outcome t fits.new;
@@ -166,9 +166,9 @@ module _ (s : HubSettings) (who : ℕ) (J : List Event) (st : State) (sound : Is
       let quiet : (q : List ℕ) → books who q new ≡ None = λ q. ap (λ b. cond {A = Option Outcome} (b && same_text id q) (Some outcome) None) (ne_eqb from who another) in
       let amount : cents ≡ credit_of (first_some (forwarding_of (from, id)) J) = ap credit_of (sym (ap forwarding_in there) ∙ is.forwarded (from, id)) in
       record {
-        taken = λ q. same_in terms_in (same_key (from, id) (who, q)) x (st.found (who, q)) (λ same. absurd (another (key_is (from, id) (who, q) same).0))
-            ∙ table_keep terms_of J new (λ id. terms_in (st.found (who, id))) is.taken (λ _. refl) q;
-        others = λ q another. same_in terms_in (same_key (from, id) q) x (st.found q) (λ same. sym (is.others q another)) ∙ is.others q another;
+        taken = λ q. same_in sending_in (same_key (from, id) (who, q)) x (st.found (who, q)) (λ same. absurd (another (key_is (from, id) (who, q) same).0))
+            ∙ table_keep sending_of J new (λ id. sending_in (st.found (who, id))) is.taken (λ _. refl) q;
+        others = λ q another. same_in sending_in (same_key (from, id) q) x (st.found q) (λ same. sym (is.others q another)) ∙ is.others q another;
         forwarded = λ q. same_in forwarding_in (same_key (from, id) q) x (st.found q) (λ same. sym (ap forwarding_in (at_key st.found (from, id) q same ∙ there)))
             ∙ table_keep forwarding_of J new (λ key. forwarding_in (st.found key)) is.forwarded (λ _. refl) q;
         booked = outcomes_put from id outcome t fits.new;
@@ -183,13 +183,13 @@ module _ (s : HubSettings) (who : ℕ) (J : List Event) (st : State) (sound : Is
   -- a booking finds its transfer
   pub booked_there : (from : ℕ) (id : List ℕ) (outcome : Outcome) → Fits s who J (Booked from id outcome) → is_some (st.found (from, id)) ≡ true
   booked_there from id outcome fits = elim fits.party [
-    | inl own ↦ terms_there (st.found (from, id)) (ap (λ f. is_some (terms_in (st.found (f, id)))) own.0 ∙ ap is_some (is.taken id) ∙ sym (taken_found id J) ∙ own.1)
+    | inl own ↦ sending_there (st.found (from, id)) (ap (λ f. is_some (sending_in (st.found (f, id)))) own.0 ∙ ap is_some (is.taken id) ∙ sym (taken_found id J) ∙ own.1)
     | inr forwarded ↦ forwarding_there (st.found (from, id)) (ap is_some (is.forwarded (from, id)) ∙ sym (forwarded_found (from, id) J) ∙ forwarded)
   ]
     where
-      terms_there : (o : Option Transfer) → is_some (terms_in o) ≡ true → is_some o ≡ true
-      terms_there None h = h
-      terms_there (Some x) h = refl
+      sending_there : (o : Option Transfer) → is_some (sending_in o) ≡ true → is_some o ≡ true
+      sending_there None h = h
+      sending_there (Some x) h = refl
 
       forwarding_there : (o : Option Transfer) → is_some (forwarding_in o) ≡ true → is_some o ≡ true
       forwarding_there None h = h
@@ -217,7 +217,7 @@ module _ (s : HubSettings) (who : ℕ) (J : List Event) (st : State) (sound : Is
 
   opened_right : Fits s who J Opened → IsRight who (J ++ Opened ∷ []) (step who st Opened)
   opened_right fits = record {
-    taken = table_keep terms_of J Opened (λ id. terms_in (st.found (who, id))) is.taken (λ _. refl);
+    taken = table_keep sending_of J Opened (λ id. sending_in (st.found (who, id))) is.taken (λ _. refl);
     others = is.others;
     forwarded = table_keep forwarding_of J Opened (λ key. forwarding_in (st.found key)) is.forwarded (λ _. refl);
     booked = table_keep outcome_of J Opened (λ key. outcome_in (st.found key)) is.booked (λ _. refl);

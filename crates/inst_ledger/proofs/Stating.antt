@@ -11,18 +11,18 @@ use Rattle.inst_journal.specs.Lines.{raised, lowered}
 use Rattle.inst_journal.specs.Money.{position}
 use Rattle.inst_journal.specs.Sound.{Fits}
 use Rattle.inst_journal.proofs.OwnBookings.{own_unforwarded}
-use Rattle.inst_ledger.specs.declared.references.Funding.{Funding}
+use Rattle.inst_ledger.specs.declared.references.KeptFunding.{KeptFunding}
 use Rattle.inst_ledger.specs.declared.totals.Totals.{Totals}
 use Rattle.inst_transfers.specs.declared.transfer.Side.{Side}
 use Rattle.inst_transfers.specs.declared.transfer.Side.TheVariants.{Own, Other}
 use Rattle.inst_transfers.specs.declared.transfer.Transfer.{Transfer}
 use Rattle.inst_transfers.specs.Held.{Held, found_at, state_in}
-use Rattle.inst_ledger.specs.Right.{terms_in, forwarding_in}
+use Rattle.inst_ledger.specs.Right.{sending_in, forwarding_in}
 use Rattle.inst_ledger.proofs.Right.{own_party}
-use Rattle.inst_ledger.specs.declared.terms.Forwarding.{Forwarding}
-use Rattle.inst_ledger.specs.declared.terms.Terms.{Terms}
+use Rattle.inst_ledger.specs.declared.sending.Forwarding.{Forwarding}
+use Rattle.inst_ledger.specs.declared.sending.Sending.{Sending}
 use Rattle.inst_ledger.specs.Beside.{amount_of, IsBeside, IsLedger, movement_by, movement_booked, MayAddIf, AddsIf}
-use Rattle.inst_ledger.specs.Kept.{terms_of, forwarding_of}
+use Rattle.inst_ledger.specs.Kept.{sending_of, forwarding_of}
 use Rattle.inst_ledger.proofs.Beside.{beside_same, position_small, position_next}
 use Rattle.inst_statement.specs.declared.movement.Movement.{Movement}
 use Rattle.inst_statement.specs.KeptStatement.{Stated, MayAdd, IsStatementOf}
@@ -44,7 +44,7 @@ pub stated_at : {J K : List Event} {stated : Stated} → K ≡ J → IsStatement
 stated_at {J} {K} {stated} same of = subst (λ (E : List Event). IsStatementOf E stated) (sym same) of
 
 -- the same ledger by other names
-pub ledger_same : {s : HubSettings} {who : ℕ} {J K : List Event} {t : Totals} {table other : Held} {R S : List ℕ → Option Funding} {since : ℕ} {positions others : List ℕ} {read : ℕ} {before after : Stated}
+pub ledger_same : {s : HubSettings} {who : ℕ} {J K : List Event} {t : Totals} {table other : Held} {R S : List ℕ → Option KeptFunding} {since : ℕ} {positions others : List ℕ} {read : ℕ} {before after : Stated}
     → K ≡ J → (room : ℕ) → other ≡ record table { room = room } → ((reference : List ℕ) → S reference ≡ R reference) → others ≡ positions → after.lines ≡ before.lines → after.position ≡ before.position
     → IsLedger s who J t table R since positions read before → IsLedger s who K t other S since others read after
 ledger_same events room same references inbox lines at l = record {
@@ -62,14 +62,14 @@ raised_fits m before after leads small next = by m.kind leads
     by Received leads' = omega (arith, leads', next)
     by Paid leads' = omega (arith, leads', small)
 
-sent_terms : (id : List ℕ) (event : Event) → sent id event ≡ option_map (λ (t : Terms). (t.to, t.cents)) (terms_of id event)
-sent_terms id (Taken other to cents stamp) = map_cond (λ (t : Terms). (t.to, t.cents)) (same_text other id) (record { to = to; cents = cents; stamp = stamp })
-sent_terms id (Funded reference cents) = refl
-sent_terms id (Defunded reference cents) = refl
-sent_terms id (Forwarded from other cents deadline) = refl
-sent_terms id (Booked from other outcome) = refl
-sent_terms id (Fetched count) = refl
-sent_terms id Opened = refl
+sent_sending : (id : List ℕ) (event : Event) → sent id event ≡ option_map (λ (t : Sending). (t.to, t.cents)) (sending_of id event)
+sent_sending id (Taken other to cents stamp) = map_cond (λ (t : Sending). (t.to, t.cents)) (same_text other id) (record { to = to; cents = cents; stamp = stamp })
+sent_sending id (Funded reference cents) = refl
+sent_sending id (Defunded reference cents) = refl
+sent_sending id (Forwarded from other cents deadline) = refl
+sent_sending id (Booked from other outcome) = refl
+sent_sending id (Fetched count) = refl
+sent_sending id Opened = refl
 
 came_forwarding : (from : ℕ) (id : List ℕ) (event : Event) → came from id event ≡ option_map (λ (f : Forwarding). f.cents) (forwarding_of (from, id) event)
 came_forwarding from id (Forwarded other_from other cents deadline) =
@@ -81,16 +81,16 @@ came_forwarding from id (Booked other_from other outcome) = refl
 came_forwarding from id (Fetched count) = refl
 came_forwarding from id Opened = refl
 
-module _ (s : HubSettings) (who : ℕ) (J : List Event) (t : Totals) (table : Held) (R : List ℕ → Option Funding) (since : ℕ) (positions : List ℕ) (read : ℕ) (b : IsBeside s who J t table R since positions read) where
+module _ (s : HubSettings) (who : ℕ) (J : List Event) (t : Totals) (table : Held) (R : List ℕ → Option KeptFunding) (since : ℕ) (positions : List ℕ) (read : ℕ) (b : IsBeside s who J t table R since positions read) where
   accepted_by : (from : ℕ) (id : List ℕ) (cents : ℕ) (side : Side) (old : Option Outcome) → Fits s who J (Booked from id Accepted) → found_at table.entries (from, id) ≡ Some (record { cents = cents; side = side; outcome = old })
       → accepted_movement J from id ≡ Some (movement_by from id cents side)
   accepted_by from id cents (Own to stamp) old fits there =
       let own = own_party s who J (state_in table) b.sound b.right from id Accepted cents to stamp old fits there in
       let none : first_some (came from id) J ≡ None = not_come from id J (ap (λ f. is_forwarded f id J) own.0 ∙ own_unforwarded s who id J b.sound) in
       let at_who : found_at table.entries (who, id) ≡ Some (record { cents = cents; side = Own to stamp; outcome = old }) = ap (λ (f : ℕ). found_at table.entries (f, id)) (sym own.0) ∙ there in
-      let found : first_some (terms_of id) J ≡ Some (record { to = to; cents = cents; stamp = stamp }) = sym (b.right.taken id) ∙ ap terms_in at_who in
+      let found : first_some (sending_of id) J ≡ Some (record { to = to; cents = cents; stamp = stamp }) = sym (b.right.taken id) ∙ ap sending_in at_who in
       let gone : first_some (sent id) J ≡ Some (to, cents) =
-      first_mapped (sent id) (terms_of id) (λ (t : Terms). (t.to, t.cents)) (sent_terms id) J ∙ ap (option_map (λ (t : Terms). (t.to, t.cents))) found in
+      first_mapped (sent id) (sending_of id) (λ (t : Sending). (t.to, t.cents)) (sent_sending id) J ∙ ap (option_map (λ (t : Sending). (t.to, t.cents))) found in
       ap (λ o. accepted from id o (first_some (sent id) J)) none ∙ ap (accepted from id None) gone
   accepted_by from id cents (Other deadline) old fits there =
       let found : first_some (forwarding_of (from, id)) J ≡ Some (record { cents = cents; deadline = deadline }) = sym (b.right.forwarded (from, id)) ∙ ap forwarding_in there in

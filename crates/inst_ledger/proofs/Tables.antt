@@ -8,8 +8,8 @@ use Rattle.inst_journal.specs.declared.event.Event.{Event}
 use Rattle.inst_journal.specs.declared.event.Event.TheVariants.{Funded, Defunded, Taken, Forwarded, Booked, Fetched, Opened}
 use Rattle.inst_journal.specs.Booked.{or_else, first_some, takes, is_taken}
 use Rattle.inst_journal.proofs.Pushing.{first_some_push}
-use Rattle.inst_ledger.specs.declared.terms.Terms.{Terms}
-use Rattle.inst_ledger.specs.Kept.{terms_of, IsTable}
+use Rattle.inst_ledger.specs.declared.sending.Sending.{Sending}
+use Rattle.inst_ledger.specs.Kept.{sending_of, IsTable}
 
 pub or_else_none : {A : Type 0} (o : Option A) → or_else o None ≡ o
 or_else_none None = refl
@@ -50,18 +50,18 @@ pub some_cond : {A : Type 0} (b : Bool) (x : A) → b ≡ is_some (cond b (Some 
 some_cond true x = refl
 some_cond false x = refl
 
-takes_terms : (id : List ℕ) (event : Event) → takes id event ≡ is_some (terms_of id event)
-takes_terms id (Taken other to cents stamp) = some_cond {A = Terms} (same_text other id) (record { to = to; cents = cents; stamp = stamp })
-takes_terms id (Funded reference cents) = refl
-takes_terms id (Defunded reference cents) = refl
-takes_terms id (Forwarded from other cents deadline) = refl
-takes_terms id (Booked from other outcome) = refl
-takes_terms id (Fetched count) = refl
-takes_terms id Opened = refl
+takes_sending : (id : List ℕ) (event : Event) → takes id event ≡ is_some (sending_of id event)
+takes_sending id (Taken other to cents stamp) = some_cond {A = Sending} (same_text other id) (record { to = to; cents = cents; stamp = stamp })
+takes_sending id (Funded reference cents) = refl
+takes_sending id (Defunded reference cents) = refl
+takes_sending id (Forwarded from other cents deadline) = refl
+takes_sending id (Booked from other outcome) = refl
+takes_sending id (Fetched count) = refl
+takes_sending id Opened = refl
 
--- a submission is taken where terms are found
-pub taken_found : (id : List ℕ) (J : List Event) → is_taken id J ≡ is_some (first_some (terms_of id) J)
-taken_found id J = any_first (takes id) (terms_of id) (takes_terms id) J
+-- a submission is taken where something is found to be sent
+pub taken_found : (id : List ℕ) (J : List Event) → is_taken id J ≡ is_some (first_some (sending_of id) J)
+taken_found id J = any_first (takes id) (sending_of id) (takes_sending id) J
 
-pub terms_absent : (id q : List ℕ) (J : List Event) → is_taken id J ≡ false → same_text id q ≡ true → first_some (terms_of q) J ≡ None
-terms_absent id q J new same = none_of _ (sym (taken_found q J) ∙ ap (λ i. is_taken i J) (sym (text_same id q (sym same))) ∙ new)
+pub sending_absent : (id q : List ℕ) (J : List Event) → is_taken id J ≡ false → same_text id q ≡ true → first_some (sending_of q) J ≡ None
+sending_absent id q J new same = none_of _ (sym (taken_found q J) ∙ ap (λ i. is_taken i J) (sym (text_same id q (sym same))) ∙ new)

@@ -8,7 +8,7 @@ use Rattle.inst_journal.specs.declared.event.Event.TheVariants.{Funded, Defunded
 use Rattle.inst_journal.specs.Keys.{is_funding, fundings}
 use Rattle.inst_journal.specs.Booked.{is_forwarding}
 use Rattle.inst_base.specs.declared.cents.TheConstants.{MOST_CENTS}
-use Rattle.inst_ledger.specs.declared.references.Funding.{Funding}
+use Rattle.inst_ledger.specs.declared.references.KeptFunding.{KeptFunding}
 use Rattle.inst_ledger.specs.declared.totals.Totals.{Totals}
 use Rattle.inst_ledger.specs.Inbox.{IsRead}
 use Rattle.inst_ledger.specs.Kept.{IsTable}
@@ -31,7 +31,7 @@ same_kind true other = other
 same_kind false other = not other
 
 -- the funding that the event keeps under this reference
-abbrev pub funding_of : List ℕ → Event → Option Funding
+abbrev pub funding_of : List ℕ → Event → Option KeptFunding
 funding_of reference (Funded other cents) =
     if same_text other reference then Some (record { is_defunding = false; cents = cents }) else None
 funding_of reference (Defunded other cents) =
@@ -39,7 +39,7 @@ funding_of reference (Defunded other cents) =
 funding_of reference _ = None
 
 -- whether this funding is found
-abbrev pub is_funding_of : Bool → ℕ → Option Funding → Bool
+abbrev pub is_funding_of : Bool → ℕ → Option KeptFunding → Bool
 is_funding_of is_defunding cents (Some funding) =
     same_kind funding.is_defunding is_defunding && (funding.cents == cents)
 is_funding_of is_defunding cents None = false
@@ -57,7 +57,7 @@ most_of J = sum_by (λ event. if is_funding event then MOST_CENTS else 0) J
 
 -- all that a ledger keeps beside its history is right of it
 -- within: what came is within what the length of the history allows
-pub record IsBeside (s : HubSettings) (who : ℕ) (J : List Event) (t : Totals) (table : Held) (references : List ℕ → Option Funding)
+pub record IsBeside (s : HubSettings) (who : ℕ) (J : List Event) (t : Totals) (table : Held) (references : List ℕ → Option KeptFunding)
     (since : ℕ) (positions : List ℕ) (read : ℕ) : Type 0 where
   pub lawful : IsSettings s
   pub sound : IsSound s who J
@@ -92,7 +92,7 @@ AddsIf before None after = (after.lines ≡ before.lines) × (after.position ≡
 AddsIf before (Some movement) after = Adds before movement after
 
 -- the statement that is kept beside them is the history's too
-pub record IsLedger (s : HubSettings) (who : ℕ) (J : List Event) (t : Totals) (table : Held) (references : List ℕ → Option Funding)
+pub record IsLedger (s : HubSettings) (who : ℕ) (J : List Event) (t : Totals) (table : Held) (references : List ℕ → Option KeptFunding)
     (since : ℕ) (positions : List ℕ) (read : ℕ) (stated : Stated) : Type 0 where
   pub beside : IsBeside s who J t table references since positions read
   pub lines : IsStatementOf J stated

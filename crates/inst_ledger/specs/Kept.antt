@@ -7,23 +7,23 @@ use Rattle.inst_command.specs.declared.submission.Submission.{Submission}
 use Rattle.inst_journal.specs.declared.event.Event.{Event}
 use Rattle.inst_journal.specs.declared.event.Event.TheVariants.{Taken, Forwarded}
 use Rattle.inst_journal.specs.Booked.{first_some, same_transfer, books}
-use Rattle.inst_ledger.specs.declared.terms.Forwarding.{Forwarding}
-use Rattle.inst_ledger.specs.declared.terms.Terms.{Terms}
+use Rattle.inst_ledger.specs.declared.sending.Forwarding.{Forwarding}
+use Rattle.inst_ledger.specs.declared.sending.Sending.{Sending}
 
--- the terms that the event takes a submission with this identifier on
-abbrev pub terms_of : List ℕ → Event → Option Terms
-terms_of id (Taken other to cents stamp) =
+-- what was sent with the submission of this identifier that the event takes
+abbrev pub sending_of : List ℕ → Event → Option Sending
+sending_of id (Taken other to cents stamp) =
     if same_text other id then Some (record { to = to; cents = cents; stamp = stamp }) else None
-terms_of id _ = None
+sending_of id _ = None
 
--- whether these terms are found
-abbrev pub are_terms : Submission → Option Terms → Bool
-are_terms x (Some terms) = (terms.to == x.to) && (terms.cents == x.cents) && (terms.stamp == x.stamp)
-are_terms x None = false
+-- whether just this is found to be sent
+abbrev pub is_sending : Submission → Option Sending → Bool
+is_sending x (Some sending) = (sending.to == x.to) && (sending.cents == x.cents) && (sending.stamp == x.stamp)
+is_sending x None = false
 
--- the amount of the terms, where there are any
-abbrev pub cents_of : Option Terms → ℕ
-cents_of (Some terms) = terms.cents
+-- the amount of what was sent, where there is any
+abbrev pub cents_of : Option Sending → ℕ
+cents_of (Some sending) = sending.cents
 cents_of None = 0
 
 -- what the event forwards of the transfer of this key

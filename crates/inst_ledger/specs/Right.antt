@@ -8,22 +8,22 @@ use Rattle.inst_journal.specs.Sound.{IsSound}
 use Rattle.inst_settings.specs.Settings.{HubSettings}
 use Rattle.inst_journal.specs.Money.{reserved}
 use Rattle.inst_journal.specs.Sums.{credits, debits}
-use Rattle.inst_ledger.specs.declared.terms.Forwarding.{Forwarding}
-use Rattle.inst_ledger.specs.declared.terms.Terms.{Terms}
-use Rattle.inst_ledger.specs.Kept.{terms_of, forwarding_of}
+use Rattle.inst_ledger.specs.declared.sending.Forwarding.{Forwarding}
+use Rattle.inst_ledger.specs.declared.sending.Sending.{Sending}
+use Rattle.inst_ledger.specs.Kept.{sending_of, forwarding_of}
 use Rattle.inst_transfers.specs.declared.transfer.Side.{Side}
 use Rattle.inst_transfers.specs.declared.transfer.Side.TheVariants.{Own, Other}
 use Rattle.inst_transfers.specs.declared.transfer.Transfer.{Transfer}
 use Rattle.inst_transfers.specs.State.{Key, State, outcome_in, state_of, rows_of}
 
--- the terms, where the transfer is the participant's own
-abbrev pub terms_by : ℕ → Side → Option Terms
-terms_by cents (Own to stamp) = Some (record { to = to; cents = cents; stamp = stamp })
-terms_by cents (Other deadline) = None
+-- what was sent, where the transfer is the participant's own
+abbrev pub sending_by : ℕ → Side → Option Sending
+sending_by cents (Own to stamp) = Some (record { to = to; cents = cents; stamp = stamp })
+sending_by cents (Other deadline) = None
 
-abbrev pub terms_in : Option Transfer → Option Terms
-terms_in None = None
-terms_in (Some t) = terms_by t.cents t.side
+abbrev pub sending_in : Option Transfer → Option Sending
+sending_in None = None
+sending_in (Some t) = sending_by t.cents t.side
 
 -- what came, where it was forwarded
 abbrev pub forwarding_by : ℕ → Side → Option Forwarding
@@ -48,8 +48,8 @@ abbrev pub unbooked : ℕ → List Event → ℕ
 unbooked who J = count_by (takes_live who J) J
 
 pub record IsRight (who : ℕ) (J : List Event) (st : State) : Type 0 where
-  pub taken : (id : List ℕ) → terms_in (st.found (who, id)) ≡ first_some (terms_of id) J
-  pub others : (key : Key) → key.0 ≢ who → terms_in (st.found key) ≡ None
+  pub taken : (id : List ℕ) → sending_in (st.found (who, id)) ≡ first_some (sending_of id) J
+  pub others : (key : Key) → key.0 ≢ who → sending_in (st.found key) ≡ None
   pub forwarded : (key : Key) → forwarding_in (st.found key) ≡ first_some (forwarding_of key) J
   pub booked : (key : Key) → outcome_in (st.found key) ≡ booked key.0 key.1 J
   pub rows : st.rows ≡ rows_of who J

@@ -9,6 +9,7 @@ mod reading;
 
 use crate::references::References;
 use crate::totals::Totals;
+use inst_base::mention;
 use inst_command::Outcome;
 use inst_journal::{Event, Journal};
 use inst_settings::Settings;
@@ -107,8 +108,7 @@ impl Ledger {
         requires sound { IsSound self.old.book.settings self.old.book.who journal.now.events }
         ensures ok { OnOk result (self.new.book ≡ record self.old.book { events = journal.now.events }) }
     {
-        // The check is told of a type of another crate inside an event only where a function names it.
-        let _: Option<Outcome> = None;
+        mention::<Outcome>();
         for event in journal.events() {
             self.keep(*event)?;
         }

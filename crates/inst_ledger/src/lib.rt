@@ -4,8 +4,8 @@
 pub mod laws;
 mod ledger;
 mod references;
-mod terms;
+mod sending;
 mod totals;
 
 pub use ledger::Ledger;
-pub use terms::{Forwarding, Terms};
+pub use sending::{Forwarding, Sending};

@@ -8,7 +8,7 @@ use std::alloc::{AllocError, Global};
 
 /// A kept fund or defund command.
 #[derive(Clone, Copy, Debug, PartialEq, Eq)]
-pub(crate) struct Funding {
+pub(crate) struct KeptFunding {
     pub(crate) is_defunding: bool,
     pub(crate) cents: Cents,
 }
@@ -16,7 +16,7 @@ pub(crate) struct Funding {
 /// The fundings of a history.
 #[derive(Debug, Drop)]
 pub(crate) struct References {
-    table: IndexMap<Ident, Funding>,
+    table: IndexMap<Ident, KeptFunding>,
 }
 
 impl References {
@@ -30,14 +30,14 @@ impl References {
     }
 
     /// The funding with this reference.
-    pub(crate) fn get(&self, reference: &Ident) -> Option<Funding>
+    pub(crate) fn get(&self, reference: &Ident) -> Option<KeptFunding>
         ensures { result ≡ funding_at self.now reference.now }
     {
         self.table.get(reference).copied()
     }
 
     /// Puts the funding at this reference. Where memory is refused all is as it was.
-    pub(crate) fn put(&mut self, reference: Ident, funding: Funding) -> Result<(), AllocError>
+    pub(crate) fn put(&mut self, reference: Ident, funding: KeptFunding) -> Result<(), AllocError>
         ensures ok { OnOk result (PutsFunding self.old reference funding self.new) }
         ensures err { OnErr result ((key : List ℕ) → funding_at self.new key ≡ funding_at self.old key) }
     {

@@ -5,7 +5,7 @@ use Rattle.std.specs.Io.KnownBytes.{Appends}
 use Rattle.inst_base.specs.Fault.{number_of, name_of}
 use Rattle.inst_base.specs.declared.fault.Fault.TheVariants.{LineTooLong}
 use Rattle.inst_settings.specs.Settings.{HubSettings}
-use Rattle.inst_json.specs.Lines.{ask_of_line}
+use Rattle.inst_json.specs.Lines.{blamed_command_of_line}
 use Rattle.inst_json.specs.Name.{text_of}
 use Rattle.inst_json.specs.declared.name.Name.{Name}
 use Rattle.inst_json.specs.declared.refusal.Refusal.{Refusal}
@@ -21,7 +21,7 @@ refusal_in (Err refusal) = Some refusal
 -- why a command line is refused by itself, if it is
 abbrev pub refusal_of : HubSettings → List ℕ → Option Refusal
 refusal_of s line =
-    if is_too_long line then Some (record { fault = LineTooLong; field = None }) else refusal_in (ask_of_line s line)
+    if is_too_long line then Some (record { fault = LineTooLong; field = None }) else refusal_in (blamed_command_of_line s line)
 
 -- where it is wrong
 abbrev pub field_text : Option Name → List ℕ

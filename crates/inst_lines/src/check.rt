@@ -104,7 +104,7 @@ fn refusal_of(
     if line.len() > MOST_LINE_BYTES {
         return Ok(Some(Refusal::from(Fault::LineTooLong)));
     }
-    match reader.read_ask(settings, line) {
+    match reader.read_blamed_command(settings, line) {
         Ok(_) => Ok(None),
         Err(refusal) if refusal.fault == Fault::Memory => Err(AllocError),
         Err(refusal) => Ok(Some(refusal)),

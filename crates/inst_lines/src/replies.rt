@@ -1,4 +1,4 @@
-// Replies on their way to a writer.
+//! Replies on their way to a writer.
 ghost use Rattle.std.specs.Prelude.{◌≡◌, ◌<◌, ◌||◌, [], true, false, nat_lt, length, OnOk, OnErr, IsErrOf};
 ghost use Rattle.std.specs.Io.KnownBytes.{Appends};
 ghost use Rattle.inst_lines.specs.Limits.{buffer_bytes};

@@ -1,4 +1,4 @@
-// Runs: each line that a reader gives is answered by one line to a writer.
+//! Runs: each line that a reader gives is answered by one line to a writer.
 ghost use Rattle.std.specs.Prelude.{◌≡◌, OnOk, IfOk, IfErr, IfSome, length};
 ghost use Rattle.std.specs.Io.KnownBytes.{Appends, IsAtEnd};
 ghost use Rattle.inst_lines.specs.Lines.{lines_of, IsWithinLimits};

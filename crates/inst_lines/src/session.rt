@@ -1,4 +1,4 @@
-// What a run holds between its reads, and one turn of it: a read, and the answers to what it gave.
+//! What a run holds between its reads, and one turn of it: a read, and the answers to what it gave.
 ghost use Rattle.inst_lines.specs.Limits.{most_lines};
 ghost use Rattle.std.specs.Prelude.{◌≡◌, ◌≤◌, ◌<◌, ◌⊎◌, [], OnOk, IfOk, OnErr, IfErr, IsErrOf, MatchBool, false, length};
 

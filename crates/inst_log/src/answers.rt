@@ -1,4 +1,4 @@
-// What a log asks of whatever answers its lines.
+//! What a log asks of whatever answers its lines.
 ghost use Rattle.std.specs.Prelude.{◌≡◌, ◌++◌, [], OnOk};
 ghost use Rattle.inst_log.specs.Layout.{recovered};
 ghost use Rattle.inst_log.specs.Serving.{Replies, SaysOn};

@@ -1,4 +1,4 @@
-// Bytes are handed to a writer, and what was handed to it before a failure is known.
+//! Bytes are handed to a writer, and what was handed to it before a failure is known.
 ghost use Rattle.std.specs.Prelude.{OnOk, OnErr, IsOkUnless};
 ghost use Rattle.std.specs.Io.KnownBytes.{Appends};
 ghost use Rattle.inst_log.specs.Serving.{WritesPart};

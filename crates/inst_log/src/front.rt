@@ -1,4 +1,4 @@
-// The lines with which bytes begin, and where they end.
+//! The lines with which bytes begin, and where they end.
 ghost use Rattle.std.specs.Prelude.{◌≡◌, ◌≢◌, ◌⊎◌, ◌<◌, ◌≤◌, [], length, slice_index, MatchBool, MatchOption};
 ghost use Rattle.inst_log.specs.Layout.{recovered, blocks, IsFirstLine, NoNewline, BreaksAt};
 

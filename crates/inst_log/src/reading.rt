@@ -1,4 +1,4 @@
-// What a log has is read, and nothing of it is changed.
+//! What a log has is read, and nothing of it is changed.
 ghost use Rattle.std.specs.Prelude.{◌≡◌, List, ℕ, length, IsTrue, IfOk, IfErr};
 ghost use Rattle.sqlite_disk.specs.Disk.{MoreFaults};
 ghost use Rattle.inst_log.specs.Layout.{recovered};

@@ -1,4 +1,4 @@
-// Lines are answered into memory, kept on the disk, and only then is a byte of a reply handed out.
+//! Lines are answered into memory, kept on the disk, and only then is a byte of a reply handed out.
 ghost use Rattle.std.specs.Prelude.{◌≡◌, ◌≤◌, ◌+◌, ◌^◌, ◌++◌, [], List, ℕ, length, IsTrue, IfErr, OnOk, ⊤};
 ghost use Rattle.sqlite_disk.specs.Disk.{Only, MoreFaults};
 ghost use Rattle.inst_log.specs.Layout.{recovered, blocks, IsBatch, IsWhole};

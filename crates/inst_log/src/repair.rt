@@ -1,4 +1,4 @@
-// The end of a file is repaired: closed, and nothing behind it. What the file stands for stays the same.
+//! The end of a file is repaired: closed, and nothing behind it. What the file stands for stays the same.
 ghost use Rattle.std.specs.Prelude.{◌≡◌, ◌<◌, ◌≤◌, ◌+◌, ◌^◌, List, ℕ, length, IsTrue, IfOk, OnOk};
 ghost use Rattle.sqlite_disk.specs.Disk.{Only, CountsFault};
 ghost use Rattle.inst_log.specs.Layout.{recovered, blocks, IsClosed, IsUnclosed};

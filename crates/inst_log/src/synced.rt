@@ -1,4 +1,4 @@
-// A write that is on the disk before anything else is done.
+//! A write that is on the disk before anything else is done.
 ghost use Rattle.std.specs.Prelude.{◌≡◌, ◌<◌, length, IsTrue, OnOk};
 ghost use Rattle.sqlite_disk.specs.Disk.{Holds, Torn, Follows, Only, CountsFault};
 

@@ -1,4 +1,4 @@
-// What the reader has of both runs are the replies of one run.
+//! What the reader has of both runs are the replies of one run.
 ghost use Rattle.std.specs.Prelude.{IsTrue, IfOk};
 ghost use Rattle.sqlite_disk.specs.Disk.{Only};
 ghost use Rattle.sqlite_disk.specs.Fuse.{inner_of};

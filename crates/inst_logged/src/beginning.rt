@@ -1,4 +1,4 @@
-// What the first line of a log says, read again.
+//! What the first line of a log says, read again.
 use crate::header::header_line;
 use inst_base::{Code, Fault};
 use inst_lines::Mode;

@@ -1,4 +1,4 @@
-// The line with which a log begins.
+//! The line with which a log begins.
 ghost use Rattle.std.specs.Prelude.{◌≡◌, ◌++◌, ◌∷◌, [], None, true, false, nat_lt, IfOk, OnOk, string_bytes};
 ghost use Rattle.inst_settings.specs.Settings.{is_participant};
 ghost use Rattle.inst_command.specs.LineText.{code_numbered};

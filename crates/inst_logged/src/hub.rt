@@ -1,4 +1,4 @@
-// A hub with a log: its opening, and whole runs of lines.
+//! A hub with a log: its opening, and whole runs of lines.
 ghost use Rattle.std.specs.Prelude.{◌≡◌, ◌≤◌, ◌<◌, ◌++◌, [], List, ℕ, length, take, drop, IsTrue, IfOk, IfErr, OnOk, MatchBool, MatchOption};
 ghost use Rattle.std.specs.Io.KnownBytes.{IsAtEnd};
 ghost use Rattle.sqlite_disk.specs.Disk.{Only};

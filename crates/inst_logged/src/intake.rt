@@ -1,4 +1,4 @@
-// Bytes that were read, on their way into a log.
+//! Bytes that were read, on their way into a log.
 ghost use Rattle.std.specs.Prelude.{◌≡◌, ◌+◌, ◌≤◌, ◌++◌, [], map, take, vec_len, List, ℕ, IfOk, IfErr, OnOk, OnErr, IsOkUnless, MatchBool};
 ghost use Rattle.std.specs.Io.{ReadsAtMost};
 ghost use Rattle.std.specs.Io.KnownBytes.{Consumes, ReadConsumes};

@@ -1,4 +1,4 @@
-// A hub in one thread answers the lines of a log.
+//! A hub in one thread answers the lines of a log.
 ghost use Rattle.std.specs.Prelude.{◌≡◌, ◌<◌, [], length, IfOk, OnOk, MatchOption};
 ghost use Rattle.inst_log.specs.Layout.{recovered};
 ghost use Rattle.inst_logged.specs.Answering.{SaysLines, AnswersLines, AnswersNext, AnswersFirst, told_of};

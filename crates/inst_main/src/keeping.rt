@@ -1,4 +1,4 @@
-// Runs with a log.
+//! Runs with a log.
 ghost use Rattle.std.specs.Prelude.{◌≡◌, List, ℕ, IsTrue, OnOk, IfErr};
 ghost use Rattle.sqlite_disk.specs.Disk.{Only};
 ghost use Rattle.inst_world.specs.NextOpening.{CanOpenFrom};

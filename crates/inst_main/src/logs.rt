@@ -1,4 +1,4 @@
-// Where the logs of runs are.
+//! Where the logs of runs are.
 ghost use Rattle.std.specs.Prelude.{IsTrue, IfOk};
 ghost use Rattle.sqlite_disk.specs.Disk.{Only};
 

@@ -1,4 +1,4 @@
-// What is told at the end of a run.
+//! What is told at the end of a run.
 ghost use Rattle.std.specs.Prelude.{◌≡◌, true};
 ghost use Rattle.inst_settings.specs.Settings.{is_participant};
 

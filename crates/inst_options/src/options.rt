@@ -1,4 +1,4 @@
-// What the options of a subcommand ask for.
+//! What the options of a subcommand ask for.
 ghost use Rattle.std.specs.Prelude.{◌≡◌, ◌^◌, ◌⊎◌, IfOk, IfErr, OnErr, IsOkUnless, Some, None};
 ghost use Rattle.std.specs.Prelude.{codes};
 ghost use Rattle.clap.specs.Words.{first_of, found_of, rows_of};

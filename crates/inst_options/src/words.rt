@@ -1,4 +1,4 @@
-// The words of a command line, read by `clap`.
+//! The words of a command line, read by `clap`.
 ghost use Rattle.std.specs.Prelude.{map, string_bytes, IfOk, IfErr};
 ghost use Rattle.clap.specs.Words.{found_of, kind_of, rows_of};
 ghost use Rattle.inst_options.specs.Asking.{IsWished, IsNoWish, IsOfKind, IsRefusedBy};

@@ -18,7 +18,7 @@ use Rattle.inst_journal.specs.declared.event.Event.TheVariants.{Forwarded}
 use Rattle.inst_journal.specs.Sound.{IsSound}
 use Rattle.inst_journal.specs.Reply.{handle, told as told_of, kept_events}
 use Rattle.inst_model.specs.Trace.{as_reply}
-use Rattle.inst_cell.specs.declared.teller.Teller.{Teller as Sight}
+use Rattle.inst_cell.specs.declared.sight.Sight.{Sight}
 use Rattle.inst_cell.specs.Held.{settings_of, knows, has_role}
 use Rattle.inst_cell.specs.Seen.{sees}
 use Rattle.inst_slot.specs.Book.{Book, place_of}

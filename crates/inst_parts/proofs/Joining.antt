@@ -10,7 +10,7 @@ use Rattle.inst_board.specs.declared.about.Fact.{Fact}
 use Rattle.inst_board.specs.Standing.{about}
 use Rattle.inst_board.specs.Learning.{KnowsTruly}
 use Rattle.inst_cell.specs.declared.shared_board.SharedBoard.{SharedBoard}
-use Rattle.inst_cell.specs.declared.teller.Teller.{Teller}
+use Rattle.inst_cell.specs.declared.sight.Sight.{Sight}
 use Rattle.inst_cell.specs.Held.{settings_of, knows, has_role, Stays, AtOneTable, roles_same}
 use Rattle.inst_cell.specs.Meeting.{KnowsBoth, KnowsTruth, Vouches}
 use Rattle.inst_cell.specs.Seen.{board_of, sees}
@@ -164,21 +164,21 @@ all_known s slots all done rest a none so p b f at kn =
     so.knows_all p b f (ap (λ (l : List SharedBoard). slice_get l p) (sym whole) ∙ at) kn
 
 -- what tellers told so far
-pub record ToldSoFar (first : SharedBoard) (all done rest : List Teller) (whole : SharedBoard) : Type 0 where
+pub record ToldSoFar (first : SharedBoard) (all done rest : List Sight) (whole : SharedBoard) : Type 0 where
   pub split : done ++ rest ≡ all
   pub more : IsToldMore first whole
-  pub seen : (i : ℕ) (t : Teller) (f : Fact) → slice_get done i ≡ Some t → sees t f → knows whole f
+  pub seen : (i : ℕ) (t : Sight) (f : Fact) → slice_get done i ≡ Some t → sees t f → knows whole f
 
-pub nothing_told : (first : SharedBoard) (all : List Teller) → ToldSoFar first all [] all first
+pub nothing_told : (first : SharedBoard) (all : List Sight) → ToldSoFar first all [] all first
 nothing_told first all = record {
   split = refl;
   more = record { stays = record { settings = refl; table = refl; roles = refl }; kept = λ f h. h; lawful = λ x was. was };
   seen = λ i t f at kn. let no : ⊥ = cc in absurd no;
 }
 
-pub more_told : (first : SharedBoard) (all done rest left : List Teller) (a new : SharedBoard) (t : Teller) → rest ≡ t ∷ left → ToldSoFar first all done rest a → KnowsBoth a (board_of t) new → KnowsTruth new → Vouches a (board_of t) → Stays a new → ToldSoFar first all (done ++ t ∷ []) left new
+pub more_told : (first : SharedBoard) (all done rest left : List Sight) (a new : SharedBoard) (t : Sight) → rest ≡ t ∷ left → ToldSoFar first all done rest a → KnowsBoth a (board_of t) new → KnowsTruth new → Vouches a (board_of t) → Stays a new → ToldSoFar first all (done ++ t ∷ []) left new
 more_told first all done rest left a new t e so both truth vouches stays = record {
-  split = append_assoc done (t ∷ []) left ∙ (ap (λ (l : List Teller). done ++ l) (sym e) ∙ so.split);
+  split = append_assoc done (t ∷ []) left ∙ (ap (λ (l : List Sight). done ++ l) (sym e) ∙ so.split);
   more = record {
     stays = record { settings = stays.settings ∙ so.more.stays.settings; table = stays.table ∙ so.more.stays.table; roles = stays.roles ∙ so.more.stays.roles };
     kept = λ f h. (both f).1 (inl (so.more.kept f h));
@@ -186,19 +186,19 @@ more_told first all done rest left a new t e so both truth vouches stays = recor
   };
   seen = λ i u f at kn. ⊎_elim
       (λ old. (both f).1 (inl (so.seen i u f old kn)))
-      (λ last. (both f).1 (inr (subst (λ (v : Teller). sees v f) (sym last.1) kn)))
+      (λ last. (both f).1 (inr (subst (λ (v : Sight). sees v f) (sym last.1) kn)))
       (got_snoc done t u i at);
 }
 
-pub teller_table : (first : SharedBoard) (all done rest left : List Teller) (a : SharedBoard) (t : Teller) → rest ≡ t ∷ left → AreSights first all → ToldSoFar first all done rest a → AtOneTable a (board_of t)
+pub teller_table : (first : SharedBoard) (all done rest left : List Sight) (a : SharedBoard) (t : Sight) → rest ≡ t ∷ left → AreSights first all → ToldSoFar first all done rest a → AtOneTable a (board_of t)
 teller_table first all done rest left a t e sights so =
-    let at = sights (length done) t (got_last done left t all (ap (λ (l : List Teller). done ++ l) (sym e) ∙ so.split)) in
+    let at = sights (length done) t (got_last done left t all (ap (λ (l : List Sight). done ++ l) (sym e) ∙ so.split)) in
     (at.0 ∙ sym so.more.stays.table, at.1 ∙ sym so.more.stays.settings)
 
-pub all_told : (first : SharedBoard) (all done rest : List Teller) (a : SharedBoard) → rest ≡ [] → ToldSoFar first all done rest a → (i : ℕ) (t : Teller) (f : Fact) → slice_get all i ≡ Some t → sees t f → knows a f
+pub all_told : (first : SharedBoard) (all done rest : List Sight) (a : SharedBoard) → rest ≡ [] → ToldSoFar first all done rest a → (i : ℕ) (t : Sight) (f : Fact) → slice_get all i ≡ Some t → sees t f → knows a f
 all_told first all done rest a none so i t f at kn =
-    let whole : all ≡ done = sym so.split ∙ (ap (λ (l : List Teller). done ++ l) none ∙ append-nil done) in
-    so.seen i t f (ap (λ (l : List Teller). slice_get l i) (sym whole) ∙ at) kn
+    let whole : all ≡ done = sym so.split ∙ (ap (λ (l : List Sight). done ++ l) none ∙ append-nil done) in
+    so.seen i t f (ap (λ (l : List Sight). slice_get l i) (sym whole) ∙ at) kn
 
 -- what was joined and told makes the parts of a hub
 pub parts_made : (words : SharedBoard) (O : Opening) (s : HubSettings) (slots : List Book) (all : List SharedBoard) (a b : SharedBoard) → AreSeparate words O s slots all → AreJoined words O s slots all a → IsToldMore a b

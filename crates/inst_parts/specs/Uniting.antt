@@ -4,7 +4,7 @@ use Rattle.std.specs.Prelude.{◌≡◌, ℕ, ◌<◌, List, length, slice_get, 
 use Rattle.inst_settings.specs.Settings.{HubSettings, participants}
 use Rattle.inst_board.specs.declared.about.Fact.{Fact}
 use Rattle.inst_cell.specs.declared.shared_board.SharedBoard.{SharedBoard}
-use Rattle.inst_cell.specs.declared.teller.Teller.{Teller}
+use Rattle.inst_cell.specs.declared.sight.Sight.{Sight}
 use Rattle.inst_cell.specs.Held.{settings_of, knows, has_role, Stays, AtOneTable}
 use Rattle.inst_cell.specs.Seen.{board_of}
 use Rattle.inst_model.specs.Opening.{Opening, IsOpening}
@@ -33,8 +33,8 @@ pub record AreAtOne (words : SharedBoard) (s : HubSettings) (slots : List Book) 
   pub each : (p : ℕ) (b : SharedBoard) → slice_get boards p ≡ Some b → AtOneTable words b
 
 -- tellers that see these words
-abbrev pub AreSights : SharedBoard → List Teller → Type 0
-AreSights words sights = (i : ℕ) (t : Teller) → slice_get sights i ≡ Some t → AtOneTable words (board_of t)
+abbrev pub AreSights : SharedBoard → List Sight → Type 0
+AreSights words sights = (i : ℕ) (t : Sight) → slice_get sights i ≡ Some t → AtOneTable words (board_of t)
 
 -- the board has the roles of the participants whose boards these were, and is lawful for their books
 pub record AreJoined (words : SharedBoard) (O : Opening) (s : HubSettings) (slots : List Book) (done : List SharedBoard) (whole : SharedBoard) : Type 0 where

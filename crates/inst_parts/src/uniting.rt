@@ -2,7 +2,7 @@
 ghost use Rattle.std.specs.Prelude.{◌≡◌, ℕ, List, slice_get, Some};
 ghost use Rattle.inst_board.specs.declared.about.Fact.{Fact};
 ghost use Rattle.inst_cell.specs.declared.shared_board.SharedBoard.{SharedBoard};
-ghost use Rattle.inst_cell.specs.declared.teller.Teller.{Teller};
+ghost use Rattle.inst_cell.specs.declared.sight.Sight.{Sight};
 ghost use Rattle.inst_cell.specs.Held.{knows, AtOneTable};
 ghost use Rattle.inst_cell.specs.Seen.{sees};
 ghost use Rattle.inst_model.specs.Opening.{Opening};
@@ -10,7 +10,7 @@ ghost use Rattle.inst_parts.specs.Apart.{IsPartsOf};
 ghost use Rattle.inst_parts.specs.Uniting.{AreSeparate, AreAtOne, AreSights, AreJoined, IsToldMore};
 
 use crate::Parts;
-use inst_cell::{SharedBoard, Teller};
+use inst_cell::{SharedBoard, Sight};
 use inst_settings::Settings;
 use inst_slot::Slot;
 
@@ -21,14 +21,14 @@ impl Parts {
         settings: Settings,
         slots: Vec<Slot>,
         boards: Vec<SharedBoard>,
-        sights: Vec<Teller>,
+        sights: Vec<Sight>,
     ) -> Parts
         requires one { (words : SharedBoard) × AreAtOne words settings slots.items boards.items × AreSights words sights.items }
         ensures settings { result.settings ≡ settings }
         ensures slots { result.slots.items ≡ slots.items }
         ensures parts { (words : SharedBoard) (O : Opening) → AreSeparate words O settings slots.items boards.items → IsPartsOf O result }
         ensures boards { (p : ℕ) (b : SharedBoard) (f : Fact) → slice_get boards.items p ≡ Some b → knows b f → knows result.board f }
-        ensures sights { (i : ℕ) (t : Teller) (f : Fact) → slice_get sights.items i ≡ Some t → sees t f → knows result.board f }
+        ensures sights { (i : ℕ) (t : Sight) (f : Fact) → slice_get sights.items i ≡ Some t → sees t f → knows result.board f }
     {
         let board = tell_all(join_all(&settings, &slots, boards), sights);
         Parts {
@@ -59,14 +59,14 @@ fn join_all(settings: &Settings, slots: &[Slot], boards: Vec<SharedBoard>) -> Sh
 }
 
 /// The same board, which then knows what these tellers know too.
-fn tell_all(whole: SharedBoard, sights: Vec<Teller>) -> SharedBoard
+fn tell_all(whole: SharedBoard, sights: Vec<Sight>) -> SharedBoard
     requires sights { AreSights whole sights.items }
     ensures told { IsToldMore whole result }
-    ensures sights { (i : ℕ) (t : Teller) (f : Fact) → slice_get sights.items i ≡ Some t → sees t f → knows result f }
+    ensures sights { (i : ℕ) (t : Sight) (f : Fact) → slice_get sights.items i ≡ Some t → sees t f → knows result f }
 {
     let mut whole = whole;
     for sight in sights {
-        whole.join_teller(sight);
+        whole.join_sight(sight);
     }
     whole
 }

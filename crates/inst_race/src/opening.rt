@@ -1,7 +1,7 @@
 //! A hub that opens: a participant for each board, by number.
 ghost use Rattle.std.specs.Prelude.{List, IfOk};
 ghost use Rattle.inst_settings.specs.Lawful.{IsSettings};
-ghost use Rattle.inst_cell.specs.declared.teller.Teller.{Teller};
+ghost use Rattle.inst_cell.specs.declared.sight.Sight.{Sight};
 ghost use Rattle.inst_cell.specs.Opening.{AreOpened};
 
 use crate::participant::Participant;
@@ -38,7 +38,7 @@ fn seated(
     boards: Vec<SharedBoard>,
 ) -> Result<Vec<Participant>, Fault>
     requires lawful { IsSettings settings.now }
-    requires opened { (tellers : List Teller) × AreOpened settings.now 1 boards.items tellers }
+    requires opened { (tellers : List Sight) × AreOpened settings.now 1 boards.items tellers }
 {
     let mut participants = Vec::new(alloc);
     for (who, board) in boards.into_iter().enumerate() {

@@ -2,7 +2,7 @@ ghost use Rattle.std.specs.Prelude.{◌≡◌};
 ghost use Rattle.atomic_table.specs.Seated.{TableId};
 ghost use Rattle.inst_cell.specs.Opening.{IsOpened};
 
-use inst_base::{Fault, Moment};
+use inst_base::{Fault, Moment, mention};
 use inst_board::Place;
 use inst_cell::SharedBoard;
 use inst_command::{Ask, Command, Outcome, Reply};
@@ -47,8 +47,7 @@ impl Participant {
     ) -> Result<Participant, Fault>
         requires { (table : TableId) × IsOpened settings.now table who board }
     {
-        // The check is told of a type of another crate inside an event only where a function names it.
-        let _: Option<Outcome> = None;
+        mention::<Outcome>();
         Ok(Participant {
             who,
             settings: settings.copy()?,

@@ -16,9 +16,9 @@ impl<T, E, K, L: Lawful<T, E, K>> Play<Option<T>, View<E, K>> for Taking<L> {
 }
 
 /// The exchange that says that a seat waits for it.
-pub struct Waiting;
+pub struct Awaiting;
 
-impl<T, E, K> Play<Option<T>, View<E, K>> for Waiting {
+impl<T, E, K> Play<Option<T>, View<E, K>> for Awaiting {
     ghost use Rattle.inst_row.specs.Steps.{tells_nothing};
 
     ghost then = { tells_nothing };

@@ -6,7 +6,7 @@ use crate::asking::{call, money_of};
 use crate::chooser::Act;
 use crate::flaw::Flaw;
 use crate::sights::{Sight, Sights};
-use inst_base::{Fault, Moment};
+use inst_base::{Fault, Moment, mention};
 use inst_board::Place;
 use inst_command::{Ask, Outcome, Reply};
 use inst_hub::{Hub, Teller, Ticket};
@@ -108,8 +108,7 @@ fn told(
 ) -> Result<(), Flaw>
     ensures { (hub : Hub) → IsOf hub teller.old → IsOf hub teller.new }
 {
-    // The check is told of a type of another crate inside a state only where a function names it.
-    let _: Option<Outcome> = None;
+    mention::<Outcome>();
     let sight = Sight::of(&ask.command, reply, ticket).ok_or(Flaw::OtherTransfer)?;
     note_reply(sights, &sight, reply)?;
     let state = teller.peek(&ticket);

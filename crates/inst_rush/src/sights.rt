@@ -4,7 +4,7 @@ ghost use Rattle.inst_rush.specs.declared.sights.TheConstants.{ALL_PLACES};
 
 use crate::flaw::Flaw;
 use crate::transfer::PARTICIPANTS;
-use inst_base::{Fault, Ident};
+use inst_base::{Fault, Ident, mention};
 use inst_board::Place;
 use inst_command::{Command, Entry, Outcome, Reply, State};
 use inst_hub::Ticket;
@@ -114,8 +114,7 @@ pub(crate) fn place_of(number: u16) -> Place
 impl Sights {
     /// Nothing seen yet. There is room for the entries of all places, so that nothing that is noted is refused memory.
     pub(crate) fn new(alloc: Global) -> Result<Sights, Flaw> {
-        // The check is told of a type of another crate inside a state only where a function names it.
-        let _: Option<(State, Outcome)> = None;
+        mention::<(State, Outcome)>();
         let mut places = Vec::new(alloc);
         for _place in 0..ALL_PLACES {
             places.push(None)?;
@@ -143,8 +142,7 @@ impl Sights {
 
     /// Notes what was told or seen after all that is noted, or says what is wrong with it.
     pub(crate) fn note(&mut self, sight: Sight, flaw: Flaw) -> Result<(), Flaw> {
-        // The check is told of a type of another crate inside a state only where a function names it.
-        let _: Option<Outcome> = None;
+        mention::<Outcome>();
         let noted = match self.at(sight.ticket.place()) {
             Some(before) => before.then(sight, flaw)?,
             None => sight,
@@ -195,8 +193,7 @@ impl Sights {
     }
 
     fn add_one(&mut self, sight: Sight) -> Result<(), Flaw> {
-        // The check is told of a type of another crate inside a state only where a function names it.
-        let _: Option<Outcome> = None;
+        mention::<Outcome>();
         let noted = match self.at(sight.ticket.place()) {
             Some(before) => before.beside(sight)?,
             None => sight,

@@ -1,4 +1,4 @@
-// Places where a line is no JSON, whatever follows. They are looked at only once a line is not plain.
+//! Places where a line is no JSON, whatever follows. They are looked at only once a line is not plain.
 ghost use Rattle.std.specs.Prelude.{◌≡◌, ◌-◌, ◌≤◌, ℕ, true, length, drop, slice_index, None};
 ghost use Rattle.json.specs.Text.{content, plain};
 ghost use Rattle.json.specs.Json.{read_key, value};

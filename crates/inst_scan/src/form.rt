@@ -1,4 +1,4 @@
-// How a line is to be read.
+//! How a line is to be read.
 
 /// What one pass over a line says of its form.
 #[derive(Clone, Copy, Drop)]

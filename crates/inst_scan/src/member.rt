@@ -1,4 +1,4 @@
-// A member of an object: its key, and its value.
+//! A member of an object: its key, and its value.
 ghost use Rattle.std.specs.Prelude.{◌≡◌, ◌<◌, ◌≤◌, ◌∷◌, length, drop, Some, IfSome};
 ghost use Rattle.std.specs.Str.{IsAscii};
 ghost use Rattle.json.specs.Token.{Token, string};

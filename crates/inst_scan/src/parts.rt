@@ -1,4 +1,4 @@
-// The parts of a line: spaces, a plain text, a whole number.
+//! The parts of a line: spaces, a plain text, a whole number.
 ghost use Rattle.std.specs.Prelude.{◌≡◌, ◌+◌, ◌<◌, ◌≤◌, ◌^◌, ◌++◌, ◌∷◌, [], true, false, not, map, length, drop, slice_index, Some, IfSome, decimal};
 ghost use Rattle.std.specs.List.{prefix_len};
 ghost use Rattle.std.specs.Str.{IsAscii};

@@ -10,7 +10,7 @@ use Rattle.inst_journal.specs.declared.event.Event.TheVariants.{Booked}
 use Rattle.inst_journal.specs.Booked.{is_taken, booked}
 use Rattle.inst_journal.specs.Opened.{carried}
 use Rattle.inst_ledger.specs.Book.{BookAndRoom}
-use Rattle.inst_ledger.specs.Right.{IsRight, terms_in}
+use Rattle.inst_ledger.specs.Right.{IsRight, sending_in}
 use Rattle.inst_ledger.proofs.OwnIds.{own_taken_only}
 use Rattle.inst_ledger.proofs.Tables.{taken_found}
 use Rattle.inst_transfers.specs.declared.transfer.Transfer.{Transfer}
@@ -31,7 +31,7 @@ no_lesson l S k t o right are own none =
     (λ yes.
     let mine : k.owner ≡ l.book.who = eqb-true k.owner l.book.who yes in
     let there : (state_in l.table).found (l.book.who, t.id) ≡ None = ap (λ (n : ℕ). found_at l.table.entries (n, t.id)) (sym mine) ∙ none in
-    let unknown : is_taken t.id J ≡ false = taken_found t.id J ∙ ap is_some (sym (right.taken t.id)) ∙ ap (λ (x : Option Transfer). is_some (terms_in x)) there in
+    let unknown : is_taken t.id J ≡ false = taken_found t.id J ∙ ap is_some (sym (right.taken t.id)) ∙ ap (λ (x : Option Transfer). is_some (sending_in x)) there in
     absurd (true≢false (sym (own_taken_only l.book.who (carried J) t.id J k.index (own mine).at) ∙ unknown)))
     (λ no. no)
     (cases_Bool (k.owner == l.book.who)) in

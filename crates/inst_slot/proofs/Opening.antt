@@ -1,10 +1,10 @@
 -- A slot that opens again from its books: its live transfers get the first places, and the books are lawful for the board.
-use Rattle.std.proofs.Common.{◌≡◌, ◌≢◌, ℕ, zero, suc, ◌+◌, ◌<◌, ◌≤◌, arith, Bool, true, false, not, ◌&&◌, cond, List, [], ◌∷◌, ◌++◌, length, length-append, take, drop, take-append-drop, drop-cons, add-one, append-nil, get_or, inl, inr, ◌⊎◌, ⊎_elim, refl, sym, ap, ◌∙◌, subst, Option, Some, None, is_some, is_none}
+use Rattle.std.proofs.Common.{◌≡◌, ◌≢◌, ℕ, zero, suc, ◌+◌, ◌<◌, ◌≤◌, arith, Bool, true, false, not, ◌&&◌, cond, List, [], ◌∷◌, ◌++◌, length, length-append, take, drop, take-append-drop, append-nil, inl, inr, ◌⊎◌, ⊎_elim, refl, sym, ap, ◌∙◌, subst, Option, Some, None, is_some, is_none}
 use Rattle.std.specs.Prelude.{◌↔◌, nat_lt, slice_get, map, Contains}
 use Rattle.std.specs.List.{filter, cons_option}
 use Rattle.std.proofs.lemmas.Bool.{false≢true}
 use Rattle.std.proofs.lemmas.Bool.Decides.{nat_tests}
-use Rattle.std.proofs.lemmas.List.{take_more, map-append}
+use Rattle.std.proofs.lemmas.List.{map-append}
 use Rattle.std.proofs.lemmas.List.Elements.{filter-append, filter_map-append}
 use Rattle.std.proofs.lemmas.List.Sums.{length-filter}
 use Rattle.std.proofs.lemmas.Option.{slice_get_within}
@@ -27,34 +27,17 @@ use Rattle.inst_journal.specs.declared.event.Event.TheVariants.{Funded, Defunded
 use Rattle.inst_journal.specs.Booked.{booked}
 use Rattle.inst_journal.specs.Opened.{openings, carried, is_live, takes_live, live_taken, live_submissions}
 use Rattle.inst_journal.specs.Reply.{inbox, entry_of}
-use Rattle.inst_journal.specs.Sound.{Fits, FitAfter, IsSound}
+use Rattle.inst_journal.specs.Sound.{IsSound}
 use Rattle.inst_journal.proofs.Carrying.{carried_opened}
 use Rattle.inst_journal.proofs.Counting.{submissions_within}
 use Rattle.inst_journal.proofs.Soundness.{sound_push}
-use Rattle.inst_journal.proofs.Walking.{rest_fits}
+use Rattle.inst_ledger.proofs.Opening.{fits_at_place}
 use Rattle.inst_slot.specs.declared.arrival.Arrival.{Arrival}
 use Rattle.inst_slot.specs.Book.{Book, place_at, terms_to, live_inbox}
 use Rattle.inst_slot.specs.LawfulBoard.{KnowsEnd, IsLawfulBoard, KeepsOthers}
 use Rattle.inst_slot.specs.Opening.{unplaced, opened_again, MayOpenAgain, IsOfOpening, OpensPlaces}
 use Rattle.inst_slot.proofs.Growing.{snoc_cases, slice_get_left, filtered}
 use Rattle.inst_slot.proofs.Others.{others_opening}
-
--- an event of a sound history fits those before it
-pub fits_at_place : (s : HubSettings) (who : ℕ) (J items : List Event) (i : ℕ) (x : Event) → items ≡ J → IsSound s who J → i < length items → x ≡ get_or items i x → Fits s who (take i J) x
-fits_at_place s who J items i x same sound below here =
-    let inside : i < length J = omega (arith, below, ap length same) in
-    let there : x ≡ get_or J i x = here ∙ ap (λ l. get_or l i x) same in
-    let rest : drop i J ≡ x ∷ drop (i + 1) J = rw add-one (drop-cons J i x inside) ∙ ap (λ y. y ∷ drop (i + 1) J) (sym there) in
-    let split : IsSound s who (take i J ++ drop i J) = subst (IsSound s who) (sym (take-append-drop i J)) sound in
-    let after : FitAfter s who (take i J) (x ∷ drop (i + 1) J) = subst (FitAfter s who (take i J)) rest (rest_fits s who [] (take i J) (drop i J) split) in
-    after.0
-
--- one event more of it
-pub one_more : (J items : List Event) (i : ℕ) (x : Event) → items ≡ J → i < length items → x ≡ get_or items i x → take (i + 1) J ≡ take i J ++ x ∷ []
-one_more J items i x same below here =
-    let inside : i < length J = omega (arith, below, ap length same) in
-    let there : x ≡ get_or J i x = here ∙ ap (λ l. get_or l i x) same in
-    take_more J i x inside ∙ ap (λ y. take i J ++ y ∷ []) (sym there)
 
 -- the history with the opening is sound
 pub opened_sound : (s : HubSettings) (who : ℕ) (J : List Event) → IsSound s who J → openings J < 500 → IsSound s who (J ++ Opened ∷ [])

@@ -8,7 +8,7 @@ use Rattle.inst_board.specs.declared.wish.Wish.TheVariants.{Expire}
 use Rattle.inst_journal.specs.declared.event.Event.{Event}
 use Rattle.inst_journal.specs.Booked.{takes, is_taken, booked}
 use Rattle.inst_journal.specs.Opened.{carried, live_taken}
-use Rattle.inst_ledger.specs.Right.{IsRight, own_ids, terms_in}
+use Rattle.inst_ledger.specs.Right.{IsRight, own_ids, sending_in}
 use Rattle.inst_ledger.proofs.Tables.{taken_found}
 use Rattle.inst_ledger.proofs.OwnIds.{own_taken_only}
 use Rattle.inst_transfers.specs.declared.transfer.Transfer.{Transfer}
@@ -36,7 +36,7 @@ own_position_is who J id r at only = sym (own_place id (own_ids who J) r at only
 pub unknown_question : (who : ℕ) (J : List Event) (st : State) (id : List ℕ) → IsRight who J st → st.found (who, id) ≡ None
     → wish_for Expire who (booked who id J) (position (takes id) (live_taken who J)) ≡ None
 unknown_question who J st id right none =
-    let known : is_taken id J ≡ false = taken_found id J ∙ ap is_some (sym (right.taken id)) ∙ ap (λ (o : Option Transfer). is_some (terms_in o)) none in
+    let known : is_taken id J ≡ false = taken_found id J ∙ ap is_some (sym (right.taken id)) ∙ ap (λ (o : Option Transfer). is_some (sending_in o)) none in
     wish_none Expire who (booked who id J) (position (takes id) (live_taken who J)) (own_position_is who J id None
     (λ k there. absurd (true≢false (sym (own_taken_only who (carried J) id J k there) ∙ known)))
     (λ k e. let no : ⊥ = cc in absurd no))

@@ -15,7 +15,7 @@ use crate::arrivals::{Spot, arrived_at};
 use crate::booking::book;
 use crate::finding::find;
 use crate::waiting::Waiting;
-use inst_base::{Fault, Ident};
+use inst_base::{Fault, Ident, mention};
 use inst_board::{Board, Place, Wish};
 use inst_command::{Ask, Command, Outcome, Reply, State};
 use inst_ledger::Ledger;
@@ -60,8 +60,7 @@ fn answer_to(
     requires answers { is_expiry wish ≡ false }
     ensures { Gives ledger.now (wish_for wish from (booked from id.now ledger.now.book.events) (arrived_at from id.now (arrivals_of (rows_of ledger.now.book.who ledger.now.book.events) arrivals.now))) id.now result }
 {
-    // The check is told of an enum inside a struct only where a function names it.
-    let _: Option<(Side, Transfer, Outcome)> = None;
+    mention::<(Side, Transfer, Outcome)>();
     let found = ledger.find(from, id)?;
     if found.transfer.outcome.is_some() {
         return None;
@@ -76,7 +75,7 @@ fn question_about(ledger: &Ledger, id: &Ident) -> Option<Request>
     ensures { Gives ledger.now (wish_for Wish.Expire ledger.now.book.who (booked ledger.now.book.who id.now ledger.now.book.events)
         (position (takes id.now) (live_taken ledger.now.book.who ledger.now.book.events))) id.now result }
 {
-    let _: Option<(Side, Transfer, Outcome)> = None;
+    mention::<(Side, Transfer, Outcome)>();
     let owner = ledger.who();
     let found = ledger.find(owner, id)?;
     if found.transfer.outcome.is_some() {
@@ -122,7 +121,7 @@ pub(crate) fn settle<B: Board>(
     ensures spots { AreSpots (rows_of ledger.new.book.who ledger.new.book.events) arrivals.now }
     ensures stays { B.stays board.old board.new }
 {
-    let _: Option<(Side, Transfer, Outcome)> = None;
+    mention::<(Side, Transfer, Outcome)>();
     let margin = ledger.settings().margin();
     let Found { from, id, .. } = asked.found;
     let decided = find(ledger, board, margin, asked.place, asked.wish, ask.at)?;

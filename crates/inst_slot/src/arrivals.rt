@@ -9,7 +9,7 @@ ghost use Rattle.inst_slot.specs.Spots.{rows_of, arrivals_of, positions_of, book
 
 use crate::Arrival;
 use crate::arrival::awaits;
-use inst_base::Moment;
+use inst_base::{Moment, mention};
 use inst_board::Place;
 use inst_command::Outcome;
 use inst_journal::Event;
@@ -64,8 +64,7 @@ pub(crate) fn find_at(
         ≡ map (found_at place terms.now deadline) (arrivals_of (rows_of ledger.now.book.who ledger.now.book.events) spots.old.items) }
     ensures spots { AreSpots (rows_of ledger.now.book.who ledger.now.book.events) spots.new.items }
 {
-    // The check is told of an enum inside a struct only where a function names it.
-    let _: Option<(Side, Transfer, Outcome)> = None;
+    mention::<(Side, Transfer, Outcome)>();
     let _ = ledger.transfers();
     let Some(found) = ledger.find(place.owner, &terms.id) else {
         return false;
@@ -88,8 +87,7 @@ fn booked_at(ledger: &Ledger, position: usize) -> Option<Outcome>
     requires { position < length (rows_of ledger.now.book.who ledger.now.book.events) }
     ensures { result ≡ booked_at ledger.now.book.who ledger.now.book.events position }
 {
-    // The check is told of an enum inside a struct only where a function names it.
-    let _: Option<(Side, Transfer, Outcome)> = None;
+    mention::<(Side, Transfer, Outcome)>();
     ledger.at(position).unwrap().transfer.outcome
 }
 
@@ -99,8 +97,7 @@ pub(crate) fn carried_arrivals(alloc: Global, ledger: &Ledger) -> Result<Vec<Spo
     ensures ok { IfOk result (λ spots. arrivals_of (rows_of ledger.now.book.who ledger.now.book.events) spots.items ≡ map unplaced (live_inbox ledger.now.book.events)) }
     ensures spots { IfOk result (λ spots. AreSpots (rows_of ledger.now.book.who ledger.now.book.events) spots.items) }
 {
-    // The check is told of a type of another crate inside an event only where a function names it.
-    let _: Option<Outcome> = None;
+    mention::<Outcome>();
     let mut spots = Vec::new(alloc);
     let mut position = 0;
     for event in ledger.journal().events() {

@@ -10,6 +10,7 @@ ghost use Rattle.inst_slot.specs.Indexed.{own_ids};
 ghost use Rattle.inst_slot.specs.Waiting.{IsRight};
 
 use crate::waiting::Waiting;
+use inst_base::mention;
 use inst_command::Outcome;
 use inst_ledger::Ledger;
 use inst_transfers::{Found, Side, Transfer};
@@ -33,8 +34,7 @@ pub(crate) fn book(
     ensures right { IsRight ledger.new.book.settings ledger.new.book.who ledger.new.book.events (own_ids ledger.new.book.who ledger.new.book.events) waiting.new }
     ensures room { 0 < ledger.old.room → IsOk result }
 {
-    // The check is told of an enum inside a struct only where a function names it.
-    let _: Option<(Side, Transfer, Outcome)> = None;
+    mention::<(Side, Transfer, Outcome)>();
     ledger.keep_found(found, outcome)?;
     if found.from == ledger.who() {
         waiting.take_out(index);

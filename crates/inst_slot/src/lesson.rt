@@ -8,6 +8,7 @@ ghost use Rattle.inst_slot.specs.Telling.{is_party, lesson};
 
 use crate::arrival::is_at;
 use crate::arrivals::{Spot, arrived_at};
+use inst_base::mention;
 use inst_board::{Look, Place};
 use inst_command::Outcome;
 use inst_ledger::Ledger;
@@ -41,8 +42,7 @@ pub(crate) fn lesson_of(
     requires spots { AreSpots (rows_of ledger.now.book.who ledger.now.book.events) spots.now }
     ensures { GivesLesson ledger.now place (lesson (over ledger.now.book spots.now) place look.now) result }
 {
-    // The check is told of an enum inside a struct only where a function names it.
-    let _: Option<(Side, Transfer, Outcome)> = None;
+    mention::<(Side, Transfer, Outcome)>();
     let Look::Decided(terms, outcome) = look else {
         return None;
     };

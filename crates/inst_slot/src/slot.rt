@@ -17,7 +17,7 @@ mod telling;
 
 use crate::arrivals::{Spot, arrived_at};
 use crate::waiting::Waiting;
-use inst_base::Ident;
+use inst_base::{Ident, mention};
 use inst_board::Place;
 use inst_command::Outcome;
 use inst_journal::Journal;
@@ -121,8 +121,7 @@ impl Slot {
     fn arrived_at(&self, from: u8, id: &Ident) -> Option<u16>
         ensures { result ≡ arrived_at from id.now self.now.arrivals }
     {
-        // The check is told of an enum inside a struct only where a function names it.
-        let _: Option<(Side, Transfer, Outcome)> = None;
+        mention::<(Side, Transfer, Outcome)>();
         let _ = &self.alloc;
         let found = self.ledger.find(from, id)?;
         arrived_at(&self.ledger, self.arrivals.as_slice(), &found)

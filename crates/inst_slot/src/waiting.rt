@@ -5,7 +5,7 @@ ghost use Rattle.inst_journal.specs.Opened.{carried};
 ghost use Rattle.inst_slot.specs.Indexed.{own_ids};
 ghost use Rattle.inst_slot.specs.Waiting.{books_own, IsWaiting};
 
-use inst_base::Moment;
+use inst_base::{Moment, mention};
 use inst_command::Outcome;
 use inst_due::Due;
 use inst_journal::Event;
@@ -71,8 +71,7 @@ impl Waiting {
         ensures deadlines { self.new.deadlines ≡ self.old.deadlines }
         ensures pairs { (d k : ℕ) → has self.new.pairs d k ≡ (has self.old.pairs d k && not (books_own who event.now (slice_get (own_ids ledger.now.book.who ledger.now.book.events) k))) }
     {
-        // The check is told of a type of another crate inside an event only where a function names it.
-        let _: Option<Outcome> = None;
+        mention::<Outcome>();
         if let Event::Booked { from, id, .. } = event {
             if *from == who {
                 if let Some(index) = ledger.own_index(id) {
@@ -105,7 +104,7 @@ pub(crate) fn carried_waiting(alloc: Global, ledger: &Ledger) -> Result<Waiting,
     requires { carried ledger.now.book.events ≡ ledger.now.book.events }
     ensures ok { IfOk result (λ w. IsWaiting ledger.now.book.settings ledger.now.book.who ledger.now.book.events w) }
 {
-    let _: Option<Outcome> = None;
+    mention::<Outcome>();
     let mut waiting = Waiting::new(alloc);
     for event in ledger.journal().events() {
         if let Event::Taken { id, stamp, .. } = event {

@@ -16,6 +16,7 @@ use Rattle.inst_journal.specs.Sound.{Fits, IsSound}
 use Rattle.inst_journal.specs.Statement.{received, paid, line_of, accepted as accepted_line}
 use Rattle.inst_journal.proofs.FirstSome.{first_some-append}
 use Rattle.inst_journal.proofs.KeyOnce.{forwarded_once, taken_once}
+use Rattle.inst_journal.proofs.Leading.{zero_summed}
 use Rattle.inst_journal.proofs.Moving.{coming, credited_by, debited_by, position_funded, position_credited, position_debited, position_released}
 use Rattle.inst_journal.proofs.OwnBookings.{own_unforwarded}
 use Rattle.inst_statement.specs.declared.movement.Movement.{Movement}
@@ -113,17 +114,6 @@ movement_line s who J whole front Opened rest all sound fits number after = refl
 abbrev weight : {V : Type 0} → (V → ℕ) → Option V → ℕ
 weight w None = 0
 weight w (Some x) = w x
-
-zero_summed : (p : Event → Bool) (v : Event → ℕ) (J : List Event) → count_by p J ≡ 0 → sum_by (λ e. cond (p e) (v e) 0) J ≡ 0
-zero_summed p v [] none = refl
-zero_summed p v (event ∷ J) none =
-    let first : count_by p (event ∷ J) ≡ cond (p event) 1 0 + count_by p J = sum_by-cons (λ e. cond (p e) 1 0) event J in
-    let sum : sum_by (λ e. cond (p e) (v e) 0) (event ∷ J) ≡ cond (p event) (v event) 0 + sum_by (λ e. cond (p e) (v e) 0) J = sum_by-cons (λ e. cond (p e) (v e) 0) event J in
-    omega (arith, sum, zero_summed p v J (omega arith), nothing (p event) (v event) (omega arith))
-  where
-    nothing : (b : Bool) (n : ℕ) → ◌≡◌ {A = ℕ} (cond b 1 0) 0 → cond b n 0 ≡ 0
-    nothing true n e = absurd (omega arith)
-    nothing false n e = refl
 
 -- the sum over what passes a test once is the weight of the first
 once_summed : {V : Type 0} (p : Event → Bool) (v : Event → ℕ) (g : Event → Option V) (w : V → ℕ) → ((e : Event) → cond (p e) (v e) 0 ≡ weight w (g e)) → ((e : Event) → p e ≡ is_some (g e)) → (J : List Event) → count_by p J ≤ 1

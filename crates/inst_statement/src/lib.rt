@@ -3,7 +3,7 @@
 
 mod kept_statement;
 mod movement;
-mod transfers;
+mod passed;
 mod walk;
 
 pub use kept_statement::KeptStatement;

@@ -3,7 +3,7 @@ ghost use Rattle.inst_journal.specs.Statement.{statement_part};
 ghost use Rattle.inst_statement.specs.Someones.{IsSomeones};
 
 use crate::kept_statement::KeptStatement;
-use crate::transfers::Transfers;
+use crate::passed::PassedTransfers;
 use inst_command::Line;
 use inst_journal::{Event, Journal};
 use std::alloc::{AllocError, Global};
@@ -20,7 +20,7 @@ pub fn statement(
     requires sound { IsSomeones journal.now.events }
     ensures ok { IfOk result (λ lines. lines.items ≡ statement_part journal.now.events skip count) }
 {
-    let mut transfers = Transfers::new(alloc);
+    let mut transfers = PassedTransfers::new(alloc);
     let mut statement = KeptStatement::new(alloc);
     for event in journal.events() {
         if let Some(movement) = transfers.movement(event) {

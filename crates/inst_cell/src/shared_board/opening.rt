@@ -1,4 +1,4 @@
-//! How the words of a hub are made, with a seat for each of its slots and tellers.
+//! How the words of a hub are made, with a seat for each of its slots, and one for the sight of each teller.
 ghost use Rattle.std.specs.Prelude.{◌≡◌, ◌⊎◌, ◌↔◌, Err, length, IfOk, IfErr};
 ghost use Rattle.inst_cell.specs.View.{first_view, with_role, without_role, told};
 ghost use Rattle.inst_board.specs.declared.about.Fact.{Fact};
@@ -6,7 +6,7 @@ ghost use Rattle.inst_cell.specs.Held.{settings_of, view_of, knows, AtOneTable};
 ghost use Rattle.inst_cell.specs.Opening.{HasAllRoles, IsWhole, AreDealt, AreAdmitted, AreOpened, MayOpen};
 
 use super::SharedBoard;
-use crate::Teller;
+use crate::Sight;
 use crate::steps::{HandOver, Tell};
 use atomic_table::Table;
 use inst_base::Fault;
@@ -73,8 +73,8 @@ impl SharedBoard {
 }
 
 impl SharedBoard {
-    /// Tellers that know as much as this one, which is nothing.
-    fn admit(&mut self, alloc: Global, tellers: u8) -> Result<Vec<Teller>, AllocError>
+    /// As many sights, which know as much as this board, which is nothing.
+    fn admit(&mut self, alloc: Global, tellers: u8) -> Result<Vec<Sight>, AllocError>
         requires { (f : Fact) → ¬ knows self.old f }
         ensures tellers { IfOk result (λ all. AreAdmitted self.old tellers all.items) }
         ensures same { IfOk result (λ _. AtOneTable self.old self.new × (view_of self.new ≡ view_of self.old)) }
@@ -82,19 +82,19 @@ impl SharedBoard {
         let mut all = Vec::new(alloc);
         for _next in 0..tellers {
             let board = self.copy()?;
-            all.push(Teller::of(board))?;
+            all.push(Sight::of(board))?;
         }
         Ok(all)
     }
 
     /// A hub that begins to open: one board with the roles of all participants, which knows nothing, and
-    /// as many tellers as are wanted, which know nothing. `BadSettings` where these are not 1 to 16,
+    /// a sight for each teller, which knows nothing. `BadSettings` where tellers are not 1 to 16,
     /// `Memory` where there is no room.
     pub fn open_whole(
         alloc: Global,
         settings: &Settings,
         tellers: u8,
-    ) -> Result<(SharedBoard, Vec<Teller>), Fault>
+    ) -> Result<(SharedBoard, Vec<Sight>), Fault>
         ensures whole { IfOk result (λ r. IsWhole settings.now r.0) }
         ensures tellers { IfOk result (λ r. AreAdmitted r.0 tellers r.1.items) }
         ensures bad { (result ≡ Err Fault.BadSettings) ↔ ¬ MayOpen tellers }
@@ -104,8 +104,8 @@ impl SharedBoard {
             return Err(Fault::BadSettings);
         }
         let mut all = SharedBoard::whole(alloc, settings)?;
-        let tellers = all.admit(alloc, tellers)?;
-        Ok((all, tellers))
+        let sights = all.admit(alloc, tellers)?;
+        Ok((all, sights))
     }
 
     /// The boards of the participants, by number, each with its role alone: they know what this one, which
@@ -124,18 +124,18 @@ impl SharedBoard {
     }
 
     /// A hub that opens: a board for each participant, by number, with its role and a seat of its own,
-    /// and as many tellers as are wanted, which know nothing. `BadSettings` where these are not 1 to 16,
+    /// and a sight for each teller, which knows nothing. `BadSettings` where tellers are not 1 to 16,
     /// `Memory` where there is no room.
     pub fn open(
         alloc: Global,
         settings: &Settings,
         tellers: u8,
-    ) -> Result<(Vec<SharedBoard>, Vec<Teller>), Fault>
+    ) -> Result<(Vec<SharedBoard>, Vec<Sight>), Fault>
         ensures ok { IfOk result (λ r. AreOpened settings.now tellers r.0.items r.1.items) }
         ensures bad { (result ≡ Err Fault.BadSettings) ↔ ¬ MayOpen tellers }
         ensures only { IfErr result (λ e. (e ≡ Fault.Memory) ⊎ (e ≡ Fault.BadSettings)) }
     {
-        let (all, tellers) = SharedBoard::open_whole(alloc, settings, tellers)?;
-        Ok((all.deal(alloc)?, tellers))
+        let (all, sights) = SharedBoard::open_whole(alloc, settings, tellers)?;
+        Ok((all.deal(alloc)?, sights))
     }
 }

@@ -15,7 +15,7 @@ ghost use Rattle.inst_cell.specs.Steps.{Shows};
 ghost use Rattle.inst_cell.specs.Held.{settings_of, view_of, knows, has_role, wrote, Stays};
 
 use super::SharedBoard;
-use crate::steps::{Deciding, Loading, LoadingTerm, Noting, Opening};
+use crate::steps::{Deciding, Loading, LoadingTerm, Noting, PlaceOpening};
 use crate::words::{final_word, pending_word};
 use inst_base::Moment;
 use inst_board::Place;
@@ -96,7 +96,7 @@ impl SharedBoard {
         let pending = pending_word(deadline);
         self.table
             .shared
-            .store::<Opening>(&mut self.seat, word, pending);
+            .store::<PlaceOpening>(&mut self.seat, word, pending);
     }
 
     /// Decides a place that is known pending until the deadline, unless it was decided before. The

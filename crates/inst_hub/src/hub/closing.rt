@@ -19,6 +19,7 @@ use super::Hub;
 use crate::behind::Behind;
 use crate::outset::Outset;
 use crate::teller::Teller;
+use inst_base::mention;
 use inst_cell::SharedBoard;
 use inst_command::Outcome;
 use inst_journal::Event;
@@ -51,7 +52,7 @@ impl fmt::Debug for TakeFault {
 
 /// One seat with the parts of all tellers' seats, which has seen what each of them had; what the tellers see with goes
 /// into a list with room for it.
-fn gather(row: &Row, tellers: Vec<Teller>, sights: &mut Vec<inst_cell::Teller>) -> Seat
+fn gather(row: &Row, tellers: Vec<Teller>, sights: &mut Vec<inst_cell::Sight>) -> Seat
     requires some { 0 < size row.now }
     requires seated { AreSeated (row_id row.now) (key_of row.now) tellers.items }
     requires parts { parts_of tellers.items ≡ 16 }
@@ -84,8 +85,7 @@ fn empty(row: Row, seat: Seat, slots: &mut Vec<Slot>, boards: &mut Vec<SharedBoa
     requires room { (size row ≤ vec_capacity slots.old) × (size row ≤ vec_capacity boards.old) }
     ensures taken { AreTakenOut (key_of row) (size row) seat slots.new.items boards.new.items }
 {
-    // The check is told of a type of another crate inside an event only where a function names it.
-    let _: Option<Outcome> = None;
+    mention::<Outcome>();
     let mut closed = row.take_apart(seat);
     for lock in 0..closed.slot_count() {
         let Some(found) = closed.take(lock) else {
@@ -132,7 +132,7 @@ fn rooms(
     alloc: Global,
     locks: usize,
     tellers: usize,
-) -> Result<(Vec<Slot>, Vec<SharedBoard>, Vec<inst_cell::Teller>), AllocError>
+) -> Result<(Vec<Slot>, Vec<SharedBoard>, Vec<inst_cell::Sight>), AllocError>
     ensures none { IfOk result (λ r. (r.0.items ≡ []) × (r.1.items ≡ []) × (r.2.items ≡ [])) }
     ensures room { IfOk result (λ r. (locks ≤ vec_capacity r.0) × (locks ≤ vec_capacity r.1) × (tellers ≤ vec_capacity r.2)) }
 {

@@ -17,7 +17,7 @@ use super::Hub;
 use super::opening::admit;
 use crate::outset::Outset;
 use crate::teller::Teller;
-use inst_base::Fault;
+use inst_base::{Fault, mention};
 use inst_cell::SharedBoard;
 use inst_command::Outcome;
 use inst_journal::Journal;
@@ -51,8 +51,7 @@ fn seat(
     requires { length boards.items ≡ length slots.items }
     ensures ok { IfOk result (λ all. unboxed all.items ≡ pairs seated slots.items boards.items) }
 {
-    // The check is told of a type of another crate inside an event only where a function names it.
-    let _: Option<Outcome> = None;
+    mention::<Outcome>();
     let mut all = Vec::new(alloc);
     let mut boards = boards.into_iter();
     for slot in slots {

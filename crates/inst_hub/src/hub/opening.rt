@@ -16,7 +16,7 @@ use super::Hub;
 use crate::behind::Behind;
 use crate::outset::Outset;
 use crate::teller::Teller;
-use inst_base::Fault;
+use inst_base::{Fault, mention};
 use inst_cell::SharedBoard;
 use inst_command::Outcome;
 use inst_journal::Event;
@@ -38,8 +38,7 @@ fn participant(
     ensures ok { IfOk result (λ x. IsBehind board who x.value) }
     ensures new { IfOk result (λ x. x.value.slot.events ≡ []) }
 {
-    // The check is told of a type of another crate inside an event only where a function names it.
-    let _: Option<Outcome> = None;
+    mention::<Outcome>();
     let slot = Slot::open(alloc, settings, who)?;
     Ok(Box::new(alloc, Participant { slot, board })?)
 }
@@ -71,7 +70,7 @@ pub(super) fn admit(
     alloc: Global,
     row: &Row,
     seat: Seat,
-    sights: Vec<inst_cell::Teller>,
+    sights: Vec<inst_cell::Sight>,
 ) -> Result<Vec<Teller>, AllocError>
     requires some { 0 < size row.now }
     requires on { IsOn (row_id row.now) (key_of row.now) seat }

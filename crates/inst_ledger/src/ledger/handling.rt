@@ -13,7 +13,7 @@ ghost use Rattle.inst_transfers.specs.Held.{AreWithin};
 ghost use Rattle.inst_journal.specs.Money.{reserved, position, available};
 
 use super::Ledger;
-use inst_base::{Cents, Fault, Ident, Moment};
+use inst_base::{Cents, Fault, Ident, Moment, mention};
 use inst_command::{Command, Entries, Entry, Lines, Outcome, Reply, Submission};
 use inst_journal::{Event, Handled, standing, still_pending};
 use inst_transfers::{Side, Transfer};
@@ -194,8 +194,7 @@ impl Ledger {
         ensures ok { IfOk result (λ entries. entries.items ≡
             entries_at (rows_of self.now.book.who self.now.book.events) positions.now) }
     {
-        // The check is told of an enum inside a struct only where a function names it.
-        let _: Option<(Side, Transfer, Outcome)> = None;
+        mention::<(Side, Transfer, Outcome)>();
         let mut entries = Vec::new(alloc);
         for position in positions {
             entries.push(self.at(*position).unwrap().entry())?;

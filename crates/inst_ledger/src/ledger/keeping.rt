@@ -6,9 +6,9 @@ ghost use Rattle.inst_ledger.specs.Book.{with_event, brings_key};
 ghost use Rattle.inst_transfers.specs.Held.{IsFound};
 
 use super::Ledger;
-use crate::references::Funding;
-use crate::terms::Terms;
-use inst_base::{Cents, Ident};
+use crate::references::KeptFunding;
+use crate::sending::Sending;
+use inst_base::{Cents, Ident, mention};
 use inst_command::{Entry, LineKind, Outcome};
 use inst_journal::Event;
 use inst_statement::{KeptStatement, Movement};
@@ -22,7 +22,7 @@ impl Ledger {
         ensures ok { OnOk result (self.new.book ≡ with_event self.old.book (Event.Funded reference cents)) }
         ensures err { OnErr result (self.new.book ≡ self.old.book) }
     {
-        let funding = Funding {
+        let funding = KeptFunding {
             is_defunding: false,
             cents,
         };
@@ -49,7 +49,7 @@ impl Ledger {
         ensures ok { OnOk result (self.new.book ≡ with_event self.old.book (Event.Defunded reference cents)) }
         ensures err { OnErr result (self.new.book ≡ self.old.book) }
     {
-        let funding = Funding {
+        let funding = KeptFunding {
             is_defunding: true,
             cents,
         };
@@ -71,14 +71,14 @@ impl Ledger {
     }
 
     /// Keeps a submission, and reserves its amount.
-    fn keep_taken(&mut self, id: Ident, terms: Terms) -> Result<(), AllocError>
+    fn keep_taken(&mut self, id: Ident, sending: Sending) -> Result<(), AllocError>
         requires { Fits self.old.book.settings self.old.book.who self.old.book.events
-            (Event.Taken id terms.to terms.cents terms.stamp) }
+            (Event.Taken id sending.to sending.cents sending.stamp) }
         ensures ok { OnOk result (self.new.book ≡
-            with_event self.old.book (Event.Taken id terms.to terms.cents terms.stamp)) }
+            with_event self.old.book (Event.Taken id sending.to sending.cents sending.stamp)) }
         ensures err { OnErr result (self.new.book ≡ self.old.book) }
     {
-        let Terms { to, cents, stamp } = terms;
+        let Sending { to, cents, stamp } = sending;
         let taken = Event::Taken {
             id,
             to,
@@ -135,8 +135,7 @@ impl Ledger {
         ensures err { OnErr result (self.new.book ≡ self.old.book) }
         ensures room { 0 < self.old.room → IsOk result }
     {
-        // The check is told of an enum inside a struct only where a function names it.
-        let _: Option<(Side, Transfer, Outcome)> = None;
+        mention::<(Side, Transfer, Outcome)>();
         let found = self.find(from, &id).unwrap();
         self.keep_found(&found, outcome)
     }
@@ -218,7 +217,7 @@ impl Ledger {
                 to,
                 cents,
                 stamp,
-            } => self.keep_taken(id, Terms { to, cents, stamp }),
+            } => self.keep_taken(id, Sending { to, cents, stamp }),
             Event::Forwarded {
                 from,
                 id,

@@ -8,16 +8,16 @@ ghost use Rattle.inst_journal.specs.Opened.{live_submissions};
 ghost use Rattle.inst_journal.specs.Sound.{IsSound};
 ghost use Rattle.inst_ledger.specs.Beneficiary.{beneficiary_of};
 ghost use Rattle.inst_ledger.specs.Beside.{funding_of, is_funding_of};
-ghost use Rattle.inst_ledger.specs.Right.{terms_in, forwarding_in, own_ids, IsRight};
+ghost use Rattle.inst_ledger.specs.Right.{sending_in, forwarding_in, own_ids, IsRight};
 ghost use Rattle.inst_transfers.specs.Held.{Finds, FindsAt, IsFound, AreApart, found_at, rows_in, state_in};
 ghost use Rattle.inst_transfers.specs.State.{outcome_in};
-ghost use Rattle.inst_ledger.specs.Kept.{terms_of, are_terms, forwarding_of};
+ghost use Rattle.inst_ledger.specs.Kept.{sending_of, is_sending, forwarding_of};
 
 use super::Ledger;
-use crate::references::Funding;
-use crate::terms::{Forwarding, Terms};
+use crate::references::KeptFunding;
+use crate::sending::{Forwarding, Sending};
 use crate::totals::Totals;
-use inst_base::{Cents, Ident};
+use inst_base::{Cents, Ident, mention};
 use inst_command::{Outcome, Submission};
 use inst_settings::Settings;
 use inst_transfers::{Found, Side, Transfer};
@@ -90,8 +90,7 @@ impl Ledger {
         ensures at { (k : ℕ) → slice_get (own_ids self.now.book.who self.now.book.events) k ≡ Some id.now → result ≡ Some k }
         ensures only { (k : ℕ) → result ≡ Some k → slice_get (own_ids self.now.book.who self.now.book.events) k ≡ Some id.now }
     {
-        // The check is told of an enum inside a struct only where a function names it.
-        let _: Option<(Side, Transfer, Outcome)> = None;
+        mention::<(Side, Transfer, Outcome)>();
         let found = self.table.find(self.who, id)?;
         let index = self.table.own_index(&found)?;
         Some(index as u16)
@@ -115,7 +114,7 @@ impl Ledger {
         ensures { result ≡ is_submission_repeat submission.now self.now.book.events }
     {
         let _ = &self.settings;
-        are_terms(terms_in(known), submission)
+        is_sending(sending_in(known), submission)
     }
 
     /// Whether a submission with this identifier is taken, by what is known of it.
@@ -124,7 +123,7 @@ impl Ledger {
         ensures { result ≡ is_taken id.now self.now.book.events }
     {
         let _ = &self.settings;
-        terms_in(known).is_some()
+        sending_in(known).is_some()
     }
 
     /// Whether this transfer was forwarded to the participant, by what is known of it.
@@ -150,11 +149,11 @@ impl Ledger {
         outcome_in(known)
     }
 
-    /// The terms of the taken submission with this identifier.
-    pub fn terms(&self, id: &Ident) -> Option<Terms>
-        ensures { result ≡ first_some (terms_of id.now) self.now.book.events }
+    /// What was sent with the taken submission of this identifier.
+    pub fn sending(&self, id: &Ident) -> Option<Sending>
+        ensures { result ≡ first_some (sending_of id.now) self.now.book.events }
     {
-        terms_in(&self.transfer(self.who, id))
+        sending_in(&self.transfer(self.who, id))
     }
 
     /// What came with this transfer, where it was forwarded.
@@ -165,7 +164,7 @@ impl Ledger {
     }
 
     /// The funding with this reference.
-    fn funding(&self, reference: &Ident) -> Option<Funding>
+    fn funding(&self, reference: &Ident) -> Option<KeptFunding>
         ensures { result ≡ first_some (funding_of reference.now) self.now.book.events }
     {
         self.references.get(reference)
@@ -175,15 +174,15 @@ impl Ledger {
     pub fn is_taken(&self, id: &Ident) -> bool
         ensures { result ≡ is_taken id.now self.now.book.events }
     {
-        self.terms(id).is_some()
+        self.sending(id).is_some()
     }
 
     /// The beneficiary of the taken submission with this identifier.
     pub fn beneficiary_of(&self, id: &Ident) -> Option<u8>
         ensures { result ≡ beneficiary_of id.now self.now.book.events }
     {
-        let terms = self.terms(id)?;
-        Some(terms.to)
+        let sending = self.sending(id)?;
+        Some(sending.to)
     }
 
     /// Whether this very submission is taken.
@@ -191,7 +190,7 @@ impl Ledger {
         ensures { result ≡ is_submission_repeat submission.now self.now.book.events }
     {
         let _ = &self.settings;
-        are_terms(self.terms(&submission.id), submission)
+        is_sending(self.sending(&submission.id), submission)
     }
 
     /// Whether this transfer was forwarded to the participant.
@@ -272,9 +271,9 @@ impl Ledger {
     }
 }
 
-/// The terms, where the transfer is the participant's own.
-fn terms_in(found: &Option<Transfer>) -> Option<Terms>
-    ensures { result ≡ terms_in found.now }
+/// What was sent, where the transfer is the participant's own.
+fn sending_in(found: &Option<Transfer>) -> Option<Sending>
+    ensures { result ≡ sending_in found.now }
 {
     match found {
         Some(
@@ -283,7 +282,7 @@ fn terms_in(found: &Option<Transfer>) -> Option<Terms>
                 side: Side::Own { to, stamp },
                 ..
             },
-        ) => Some(Terms {
+        ) => Some(Sending {
             to: *to,
             cents: *cents,
             stamp: *stamp,
@@ -321,22 +320,22 @@ fn outcome_in(found: &Option<Transfer>) -> Option<Outcome>
     }
 }
 
-/// Whether these are the terms of the submission.
-fn are_terms(found: Option<Terms>, submission: &Submission) -> bool
-    ensures { result ≡ are_terms submission.now found }
+/// Whether this was sent with the submission.
+fn is_sending(found: Option<Sending>, submission: &Submission) -> bool
+    ensures { result ≡ is_sending submission.now found }
 {
     match found {
-        Some(terms) => {
-            terms.to == submission.to
-                && terms.cents == submission.cents
-                && terms.stamp == submission.stamp
+        Some(sending) => {
+            sending.to == submission.to
+                && sending.cents == submission.cents
+                && sending.stamp == submission.stamp
         }
         None => false,
     }
 }
 
 /// Whether this funding is found.
-fn is_funding_of(is_defunding: bool, cents: Cents, found: Option<Funding>) -> bool
+fn is_funding_of(is_defunding: bool, cents: Cents, found: Option<KeptFunding>) -> bool
     ensures { result ≡ is_funding_of is_defunding cents found }
 {
     match found {

@@ -1,4 +1,4 @@
-// A hub with a log is closed, for the next opening.
+//! A hub with a log is closed, for the next opening.
 ghost use Rattle.std.specs.Prelude.{◌≡◌, ◌++◌, List, ℕ, IsTrue, IfSome, IfOk, OnOk};
 ghost use Rattle.sqlite_disk.specs.Disk.{Only};
 ghost use Rattle.inst_log.specs.Layout.{recovered};

@@ -1,4 +1,4 @@
-// Which hub a log is of.
+//! Which hub a log is of.
 ghost use Rattle.std.specs.Prelude.{◌≡◌, IsTrue, IfOk};
 ghost use Rattle.sqlite_disk.specs.Disk.{Only};
 ghost use Rattle.inst_world.specs.NextOpening.{CanOpenFrom};

@@ -11,8 +11,8 @@ ghost use Rattle.inst_participant.specs.Answers.{Answered, IsTicket};
 ghost use Rattle.inst_participant.specs.Serving.{Serves};
 
 use super::Participant;
-use inst_base::{Fault, Ident};
-use inst_cell::{Teller, Ticket};
+use inst_base::{Fault, Ident, mention};
+use inst_cell::{Sight, Ticket};
 use inst_command::{Ask, Outcome, Reply};
 use std::alloc::AllocError;
 
@@ -21,7 +21,7 @@ impl Participant {
     /// Where memory is refused its history is as it was.
     pub fn serve(
         &mut self,
-        teller: &mut Teller,
+        teller: &mut Sight,
         ask: &Ask,
     ) -> Result<(Reply, Option<Ticket>), AllocError>
         requires ready { IsReady self.old }
@@ -73,7 +73,7 @@ impl Participant {
     }
 
     /// Tells the teller of the transfer that the reply tells of.
-    fn ticket(&mut self, teller: &mut Teller, who: u8, reply: &Reply) -> Option<Ticket>
+    fn ticket(&mut self, teller: &mut Sight, who: u8, reply: &Reply) -> Option<Ticket>
         requires ready { IsReady self.old }
         requires one { AtOneTable self.old.board (board_of teller.old) }
         ensures ready { IsReady self.new }
@@ -92,7 +92,7 @@ impl Participant {
 
     /// Tells the teller all that the participant's board knows, where this transfer is live; the ticket names its
     /// place.
-    fn tell(&mut self, teller: &mut Teller, from: u8, id: &Ident) -> Option<Ticket>
+    fn tell(&mut self, teller: &mut Sight, from: u8, id: &Ident) -> Option<Ticket>
         requires ready { IsReady self.old }
         requires one { AtOneTable self.old.board (board_of teller.old) }
         ensures ready { IsReady self.new }
@@ -102,8 +102,7 @@ impl Participant {
         ensures sees { SeesMore teller.old teller.new }
         ensures told { IsToldOf self.old from id.now teller.new result }
     {
-        // The check is told of a type of another crate inside a fact only where a function names it.
-        let _: Option<Outcome> = None;
+        mention::<Outcome>();
         let place = self.slot.place_of(from, id)?;
         Some(self.board.tell(teller, place))
     }

@@ -7,7 +7,7 @@ ghost use Rattle.inst_row.specs.Row.{row_id, key_of, size};
 use super::LockRow;
 use crate::lawful::Lawful;
 use crate::seat::RowSeat;
-use crate::steps::{Giving, Taking, Waiting};
+use crate::steps::{Awaiting, Giving, Taking};
 use std::sync::Wait;
 use std::thread::yield_now;
 
@@ -73,7 +73,7 @@ impl<T, E, K, L: Lawful<T, E, K>> LockRow<T, E, K, L> {
         ensures same { seat.new.seat.me ≡ seat.old.seat.me }
     {
         let shared = &self.table.shared;
-        shared.compare_exchange::<Waiting>(&mut seat.seat, lock, TAKEN, AWAITED);
+        shared.compare_exchange::<Awaiting>(&mut seat.seat, lock, TAKEN, AWAITED);
         shared.park(rt, lock, AWAITED as u32);
     }
 

@@ -5,6 +5,7 @@ ghost use Rattle.inst_slot.specs.Spots.{rows_of, arrival_of};
 
 use super::Slot;
 use crate::arrivals::Spot;
+use inst_base::mention;
 use inst_board::Place;
 use inst_command::Outcome;
 use inst_transfers::{Side, Transfer};
@@ -16,8 +17,7 @@ impl Slot {
         requires { spot.now.position < length (rows_of self.now.who self.now.events) }
         ensures { result ≡ unbooked_place self.now (arrival_of (rows_of self.now.who self.now.events) spot.now) }
     {
-        // The check is told of an enum inside a struct only where a function names it.
-        let _: Option<(Side, Transfer, Outcome)> = None;
+        mention::<(Side, Transfer, Outcome)>();
         let found = self.ledger.at(spot.position)?;
         if found.transfer.outcome.is_some() {
             return None;

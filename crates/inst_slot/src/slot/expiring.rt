@@ -13,7 +13,7 @@ use crate::arrivals::Spot;
 use crate::booking::book;
 use crate::finding::find;
 use crate::waiting::Waiting;
-use inst_base::Moment;
+use inst_base::{Moment, mention};
 use inst_board::{Board, Place, Wish};
 use inst_command::Outcome;
 use inst_ledger::Ledger;
@@ -66,8 +66,7 @@ impl Slot {
 pub(super) fn unbooked_at(ledger: &Ledger, index: u16) -> Option<Found>
     ensures { FindsUnbooked ledger.now index result }
 {
-    // The check is told of an enum inside a struct only where a function names it.
-    let _: Option<(Side, Transfer, Outcome)> = None;
+    mention::<(Side, Transfer, Outcome)>();
     let found = ledger.own_found(index)?;
     if found.transfer.outcome.is_some() {
         return None;
@@ -96,7 +95,7 @@ fn let_expire<B: Board>(
     ensures spots { AreSpots (rows_of ledger.new.book.who ledger.new.book.events) arrivals.now }
     ensures stays { B.stays board.old board.new }
 {
-    let _: Option<(Side, Transfer, Outcome)> = None;
+    mention::<(Side, Transfer, Outcome)>();
     let place = Place {
         owner: ledger.who(),
         index,

@@ -17,6 +17,7 @@ use crate::arrivals::Spot;
 use crate::booking::book;
 use crate::lesson::{Lesson, lesson_of};
 use crate::waiting::Waiting;
+use inst_base::mention;
 use inst_board::{Board, Glance, Place};
 use inst_command::Outcome;
 use inst_ledger::Ledger;
@@ -81,8 +82,7 @@ fn own_unbooked(ledger: &Ledger, place: Place) -> Option<Found>
     ensures owner { IfSome result (λ found. place.owner ≡ ledger.now.book.who) }
     ensures unbooked { IfSome result (λ found. IsUnbooked ledger.now place.index found) }
 {
-    // The check is told of an enum inside a struct only where a function names it.
-    let _: Option<(Side, Transfer, Outcome)> = None;
+    mention::<(Side, Transfer, Outcome)>();
     if place.owner != ledger.who() {
         return None;
     }
@@ -110,7 +110,7 @@ fn learn_own<B: Board>(
     ensures spots { AreSpots (rows_of ledger.new.book.who ledger.new.book.events) arrivals.now }
     ensures stays { B.stays board.old board.new }
 {
-    let _: Option<(Side, Transfer, Outcome)> = None;
+    mention::<(Side, Transfer, Outcome)>();
     match board.glance(place) {
         Glance::Decided(outcome) => {
             book(ledger, waiting, found, place.index, &outcome)?;

@@ -4,6 +4,7 @@ ghost use Rattle.inst_journal.specs.Money.{position};
 ghost use Rattle.inst_slot.specs.OwnState.{own_state};
 
 use super::Slot;
+use inst_base::mention;
 use inst_command::{Outcome, State};
 use inst_transfers::{Side, Transfer};
 
@@ -13,8 +14,7 @@ impl Slot {
     pub fn own_state(&self, index: u16) -> State
         ensures { result ≡ own_state self.now.who self.now.events index }
     {
-        // The check is told of an enum inside a struct only where a function names it.
-        let _: Option<(Side, Transfer, Outcome)> = None;
+        mention::<(Side, Transfer, Outcome)>();
         let Some(found) = self.ledger.own_found(index) else {
             return State::Unused;
         };

@@ -9,6 +9,7 @@ ghost use Rattle.inst_slot.specs.Waiting.{moves_none};
 
 use super::Slot;
 use crate::arrivals::Spot;
+use inst_base::mention;
 use inst_board::{Board, Look, Place};
 use inst_command::{Entry, Outcome};
 use inst_journal::Event;
@@ -44,8 +45,7 @@ impl Slot {
         ensures ok { OnOk result (self.new ≡ with_delivery self.old place (Some entry)) }
         ensures err { OnErr result (self.new ≡ self.old) }
     {
-        // The check is told of a type of another crate inside an event only where a function names it.
-        let _: Option<Outcome> = None;
+        mention::<Outcome>();
         let Entry {
             from,
             id,

@@ -10,6 +10,7 @@ ghost use Rattle.inst_world.specs.HasRun.{HasRun};
 ghost use Rattle.inst_world.specs.NextOpening.{books_of, AreJournalsOf, CanOpenFrom, AreCarried, HasClosed};
 
 use super::World;
+use inst_base::mention;
 use inst_command::{Outcome, Step};
 use inst_journal::{Event, Journal};
 use std::alloc::{AllocError, Global};
@@ -21,7 +22,7 @@ pub const MOST_OPENINGS: usize = 500;
 pub fn openings(journal: &Journal) -> usize
     ensures { result ≡ openings journal.now.events }
 {
-    let _: Option<Outcome> = None;
+    mention::<Outcome>();
     journal
         .events()
         .iter()

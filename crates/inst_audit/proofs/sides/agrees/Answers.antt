@@ -7,4 +7,4 @@ pub returns-in-Forwarded : goal.returns-in-Forwarded
 returns-in-Forwarded c =
     let i = c.in-Forwarded in
     subst (λ (e : Event). IsTrue c.is_sent.result ↔ Agrees c.args.limit (histories_of c.args.ledgers.now) c.args.who e) (sym i.is)
-    (subst (λ o. IsTrue c.is_sent.result ↔ IsSent c.args.limit c.args.who i.cents i.deadline o) c.terms.ensures c.is_sent.ensures)
+    (subst (λ o. IsTrue c.is_sent.result ↔ IsSent c.args.limit c.args.who i.cents i.deadline o) c.sending.ensures c.is_sent.ensures)

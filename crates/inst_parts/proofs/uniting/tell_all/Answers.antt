@@ -4,20 +4,20 @@ use Rattle.std.proofs.lemmas.List.{nil_from_length}
 use Rattle.inst_parts.proofs.Joining.{more_told, teller_table, all_told}
 use Rattle.inst_parts.proofs.uniting.tell_all.Goals as goal
 
-pub join_teller-requires : goal.join_teller-requires
-join_teller-requires c =
+pub join_sight-requires : goal.join_sight-requires
+join_sight-requires c =
     let i = c.loop-sight.invariant.2 in
     record { one = teller_table c.args.whole c.args.sights.items i.0 (into_iter_items c.loop-sight.sight-iterator) (into_iter_items c.next.new.self) c.loop-sight.whole c.in-Some.sight c.in-Some.ensures.steps.0 c.requires.sights i.1 }
 
 pub loop-sight-preserved : goal.loop-sight-preserved
 loop-sight-preserved c =
     let i = c.loop-sight.invariant.2 in
-    let j = c.join_teller.ensures in (
+    let j = c.join_sight.ensures in (
       tt,
       tt,
       (
         i.0 ++ c.in-Some.sight ∷ [],
-        more_told c.args.whole c.args.sights.items i.0 (into_iter_items c.loop-sight.sight-iterator) (into_iter_items c.next.new.self) c.loop-sight.whole c.join_teller.new.self c.in-Some.sight
+        more_told c.args.whole c.args.sights.items i.0 (into_iter_items c.loop-sight.sight-iterator) (into_iter_items c.next.new.self) c.loop-sight.whole c.join_sight.new.self c.in-Some.sight
             c.in-Some.ensures.steps.0 i.1 j.both j.truly j.vouches j.stays,
       ),
     )

@@ -1,5 +1,5 @@
 use Rattle.std.proofs.Common.{◌≡◌, ◌+◌, List, ap, sym, subst, ◌∙◌}
-use Rattle.inst_cell.specs.declared.teller.Teller.{Teller}
+use Rattle.inst_cell.specs.declared.sight.Sight.{Sight}
 use Rattle.inst_cell.specs.declared.shared_board.SharedBoard.{SharedBoard}
 use Rattle.inst_cell.specs.View.{told}
 use Rattle.inst_cell.specs.Held.{view_of, AtOneTable}
@@ -14,4 +14,4 @@ loop-next-preserved c =
     let t1 : AtOneTable all c.of.result.board = subst (λ (b : SharedBoard). AtOneTable all b) (sym c.of.ensures) n.0 in
     let v1 : view_of c.of.result.board ≡ told (view_of all) = ap view_of c.of.ensures ∙ n.1 in
     let more = seated_more c.args.self.now c.loop-next._next all c.copy.new.self c.of.result c.loop-next.all.items c.requires c.loop-next.invariant t1 v1 o.0 o.1 in
-    subst (λ (l : List Teller). Seated c.args.self.now (c.loop-next._next + 1) c.copy.new.self l) (sym c.in_ok-push.ensures.items) more
+    subst (λ (l : List Sight). Seated c.args.self.now (c.loop-next._next + 1) c.copy.new.self l) (sym c.in_ok-push.ensures.items) more

@@ -1,7 +1,7 @@
 use Rattle.std.proofs.Common.{sym, ap, ◌∙◌}
 use Rattle.inst_journal.specs.Booked.{first_some}
 use Rattle.inst_journal.specs.Keys.{is_submission_repeat}
-use Rattle.inst_ledger.specs.Kept.{are_terms, terms_of}
+use Rattle.inst_ledger.specs.Kept.{is_sending, sending_of}
 use Rattle.inst_ledger.specs.Book.{BookAndRoom}
 use Rattle.inst_ledger.proofs.Amounts.{repeat_found}
 use Rattle.inst_ledger.proofs.ledger.Ledger.is_submission_repeat.Goals as goal
@@ -10,7 +10,7 @@ pub returns : goal.returns
 returns c =
     let i = c.self.inside in
     let x = c.args.submission.now in
-    c.are_terms.ensures ∙ ap (are_terms x) c.terms.ensures
-    ∙ sym (ap (λ (b : BookAndRoom). are_terms x (first_some (terms_of x.id) b.book.events)) c.self.view_is)
+    c.is_sending.ensures ∙ ap (is_sending x) c.sending.ensures
+    ∙ sym (ap (λ (b : BookAndRoom). is_sending x (first_some (sending_of x.id) b.book.events)) c.self.view_is)
     ∙ sym (repeat_found i.settings.value i.who x i.journal.events c.self.invariant.beside.sound)
     ∙ ap (λ (b : BookAndRoom). is_submission_repeat x b.book.events) c.self.view_is

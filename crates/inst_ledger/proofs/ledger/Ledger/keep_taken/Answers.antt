@@ -12,7 +12,7 @@ invariant_of-self-in_err-reserve-2 c = ledger_same c.reserve.ensures.events _ c.
 pub take-requires-clause-new : goal.take-requires-clause-new
 take-requires-clause-new c =
     let i = c.self.inside in
-    let t = c.args.terms in
+    let t = c.args.sending in
     let fits = fits_at c.self.view_is (Event.Taken c.args.id t.to t.cents t.stamp) c.requires in
     ap (λ (h : Held). found_at h.entries (h.who, c.args.id)) c.reserve-2.ensures.same ∙ taken_absent i.settings.value i.who i.journal.events i.totals i.table _ i.fundings i.inbox.items i.read c.self.invariant.beside c.args.id fits.new
 
@@ -24,7 +24,7 @@ take-requires-clause-fits c =
 pub invariant_of-self-2 : goal.invariant_of-self-2
 invariant_of-self-2 c =
     let i = c.self.inside in
-    let t = c.args.terms in
+    let t = c.args.sending in
     let event = Event.Taken c.args.id t.to t.cents t.stamp in
     let fits = fits_at c.self.view_is event c.requires in
     let events = pushed event c.reserve.ensures.events c.in_ok-push.ensures.ok in

@@ -4,7 +4,7 @@ use Rattle.std.proofs.lemmas.Bool.{true≢false}
 use Rattle.inst_journal.specs.Opened.{carried}
 use Rattle.inst_transfers.specs.declared.transfer.Transfer.{Transfer}
 use Rattle.inst_ledger.specs.Book.{BookAndRoom}
-use Rattle.inst_ledger.specs.Right.{own_ids, terms_in}
+use Rattle.inst_ledger.specs.Right.{own_ids, sending_in}
 use Rattle.inst_ledger.proofs.Beside.{few_live}
 use Rattle.inst_ledger.proofs.OwnIds.{own_taken_only}
 use Rattle.inst_ledger.proofs.Tables.{taken_found}
@@ -16,7 +16,7 @@ returns-in_err-found-clause-at c = λ k there.
     let id = c.args.id.now in
     let here = ap (λ (b : BookAndRoom). slice_get (own_ids b.book.who b.book.events) k) c.self.view_is ∙ there in
     let taken = own_taken_only i.who (carried i.journal.events) id i.journal.events k here in
-    absurd (true≢false (sym taken ∙ taken_found id i.journal.events ∙ ap is_some (sym (c.self.invariant.beside.right.taken id)) ∙ ap (λ (o : Option Transfer). is_some (terms_in o)) c.in_err-found.ensures))
+    absurd (true≢false (sym taken ∙ taken_found id i.journal.events ∙ ap is_some (sym (c.self.invariant.beside.right.taken id)) ∙ ap (λ (o : Option Transfer). is_some (sending_in o)) c.in_err-found.ensures))
 
 pub returns-in_err-index-clause-at : goal.returns-in_err-index-clause-at
 returns-in_err-index-clause-at c = λ k there.

@@ -14,17 +14,17 @@ use std::alloc::{AllocError, Global};
 
 /// The transfers that were taken and forwarded so far, by their keys.
 #[derive(Drop)]
-pub(crate) struct Transfers {
+pub(crate) struct PassedTransfers {
     taken: IndexMap<Ident, (u8, Cents)>,
     forwarded: IndexMap<(u8, Ident), Cents>,
 }
 
-impl Transfers {
+impl PassedTransfers {
     /// No transfers.
     pub(crate) fn new(alloc: Global) -> Self
         ensures { AreKept [] result.taken result.forwarded }
     {
-        Transfers {
+        PassedTransfers {
             taken: IndexMap::new(alloc),
             forwarded: IndexMap::new(alloc),
         }

@@ -4,7 +4,7 @@ use Rattle.inst_journal.specs.declared.event.Event.{Event}
 use Rattle.inst_statement.specs.Movement.{sent, came}
 use Rattle.inst_statement.specs.Kept.{AreKept, IsNew}
 use Rattle.inst_statement.proofs.Tables.{kept_taken, kept_forwarded, kept_other}
-use Rattle.inst_statement.proofs.transfers.Transfers.keep.Goals as goal
+use Rattle.inst_statement.proofs.passed.PassedTransfers.keep.Goals as goal
 
 none_sent : (event : Event) → ((id : List ℕ) (to cents stamp : ℕ) → event ≡ Taken id to cents stamp → ⊥) → (id : List ℕ) → sent id event ≡ None
 none_sent (Taken other to cents stamp) other_kind id = absurd (other_kind other to cents stamp refl)

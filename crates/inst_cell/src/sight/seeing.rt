@@ -8,13 +8,13 @@ ghost use Rattle.inst_cell.specs.Held.{Stays, AtOneTable};
 ghost use Rattle.inst_cell.specs.Meeting.{KnowsBoth};
 ghost use Rattle.inst_cell.specs.Seen.{board_of, sees, Peeks};
 
-use super::Teller;
+use super::Sight;
 use crate::Ticket;
 use inst_board::{Board, Look};
 use inst_command::State;
 
-impl Teller {
-    /// What the words show of the ticket's place now, which is at least what the teller knows.
+impl Sight {
+    /// What the words show of the ticket's place now, which is at least what the sight knows.
     pub fn peek(&mut self, ticket: &Ticket) -> State
         ensures peek { Peeks self.old ticket.now result self.new }
         ensures opened { sees self.old (about ticket.now Opened) → result ≢ Unused }
@@ -30,7 +30,7 @@ impl Teller {
     }
 
     /// Each then knows what either knew.
-    pub fn meet(&mut self, other: &mut Teller)
+    pub fn meet(&mut self, other: &mut Sight)
         requires one { AtOneTable (board_of self.old) (board_of other.old) }
         ensures mine { KnowsBoth (board_of self.old) (board_of other.old) (board_of self.new) }
         ensures yours { KnowsBoth (board_of self.old) (board_of other.old) (board_of other.new) }
@@ -39,8 +39,8 @@ impl Teller {
         self.board.meet(&mut other.board);
     }
 
-    /// One teller that knows what both knew.
-    pub fn join(&mut self, other: Teller)
+    /// One sight that knows what both knew.
+    pub fn join(&mut self, other: Sight)
         requires one { AtOneTable (board_of self.old) (board_of other) }
         ensures both { KnowsBoth (board_of self.old) (board_of other) (board_of self.new) }
         ensures stays { Stays (board_of self.old) (board_of self.new) }

@@ -1,9 +1,9 @@
-//! On what terms a transfer was taken, and what came with one that was forwarded.
+//! What was sent with a transfer that was taken, and what came with one that was forwarded.
 use inst_base::{Cents, Moment};
 
-/// The terms of a taken submission.
+/// What was sent with a taken submission.
 #[derive(Clone, Copy, Debug, PartialEq, Eq)]
-pub struct Terms {
+pub struct Sending {
     pub to: u8,
     pub cents: Cents,
     pub stamp: Moment,

@@ -1,7 +1,7 @@
 use Rattle.std.proofs.Common.{◌≡◌, ◌∙◌, sym, ap, Option, List, ℕ, Some, None}
 use Rattle.inst_journal.specs.Booked.{first_some}
 use Rattle.inst_statement.specs.Movement.{came, sent, accepted}
-use Rattle.inst_statement.proofs.transfers.Transfers.accepted.Goals as goal
+use Rattle.inst_statement.proofs.passed.PassedTransfers.accepted.Goals as goal
 
 -- the movement by what was found
 by_found : (from : ℕ) (id : List ℕ) (came_is found : Option ℕ) (sent_is terms : Option (ℕ × ℕ)) → found ≡ came_is → terms ≡ sent_is → accepted from id found terms ≡ accepted from id came_is sent_is

@@ -5,7 +5,7 @@ use Rattle.inst_board.specs.Learning.{Looks}
 use Rattle.inst_cell.specs.Held.{settings_of, knows, has_role, stood}
 use Rattle.inst_cell.specs.Seen.{board_of}
 use Rattle.inst_cell.proofs.Seeing.{unused_says, pending_says, decided_says, pending_state, decided_state, decided_shown}
-use Rattle.inst_cell.proofs.teller.Teller.peek.Goals as goal
+use Rattle.inst_cell.proofs.sight.Sight.peek.Goals as goal
 
 pub returns-in-Unused-clause-opened : goal.returns-in-Unused-clause-opened
 returns-in-Unused-clause-opened c = λ h e.
