@@ -9,23 +9,8 @@ use Rattle.inst_lines.specs.Answers.{AnswersLine}
 use Rattle.inst_lines.specs.Answering.{answering, Keeps}
 use Rattle.inst_c.specs.declared.hub.Hub.{Hub}
 use Rattle.inst_c.specs.declared.calls.Told.{Told}
+use Rattle.inst_c.specs.declared.status.TheConstants.{DONE, CLOSED, STILL_OPEN, SHORT}
 use Rattle.inst_c.specs.Hub.{HasOpened}
-
--- all went well
-abbrev pub done : ℕ
-done = 0
-
--- the handle has no open hub
-abbrev pub closed : ℕ
-closed = 100
-
--- it has one already
-abbrev pub still_open : ℕ
-still_open = 101
-
--- the buffer has no room for the whole reply
-abbrev pub short : ℕ
-short = 102
 
 -- a hub of these settings has opened
 pub record HasOpenedOf (s : HubSettings) (mode : Mode) (new : Option Hub) : Type 0 where
@@ -36,9 +21,9 @@ pub record HasOpenedOf (s : HubSettings) (mode : Mode) (new : Option Hub) : Type
 
 -- a hub opens where none is open, if it can have the settings and there is memory for it
 abbrev pub Opens : HubSettings → Mode → Option Hub → Option Hub → ℕ → Type 0
-Opens s mode (Some hub) new status = (status ≡ still_open) × (new ≡ Some hub)
+Opens s mode (Some hub) new status = (status ≡ STILL_OPEN) × (new ≡ Some hub)
 Opens s mode None new status =
-    ((status ≡ done) × HasOpenedOf s mode new)
+    ((status ≡ DONE) × HasOpenedOf s mode new)
     ⊎ (((status ≡ number_of Memory) × (new ≡ None))
     ⊎ ((status ≡ number_of BadSettings) × ((new ≡ None) × ¬ (AreOfAHub s))))
 
@@ -52,18 +37,18 @@ pub record HasAnswered (line : List ℕ) (old : Hub) (new : Option Hub) (told : 
 
 -- a line is answered where a hub is open; where there is no memory for that, the hub is closed
 abbrev pub Answers : List ℕ → Option Hub → Option Hub → Told → Told → ℕ → Type 0
-Answers line None new was told status = (status ≡ closed) × ((new ≡ None) × (told ≡ was))
+Answers line None new was told status = (status ≡ CLOSED) × ((new ≡ None) × (told ≡ was))
 Answers line (Some hub) new was told status =
-    ((status ≡ done) × HasAnswered line hub new told)
+    ((status ≡ DONE) × HasAnswered line hub new told)
     ⊎ ((status ≡ number_of Memory) × ((new ≡ None) × (told ≡ was)))
 
 -- bytes are copied to the front of a buffer, or nothing where it has no room for all of them
 abbrev pub CopiesBytes : List ℕ → List ℕ → List ℕ → ℕ → Type 0
 CopiesBytes bytes old new status =
-    ((status ≡ done) × ((length bytes ≤ length old) × (new ≡ bytes ++ drop (length bytes) old)))
-    ⊎ ((status ≡ short) × ((length old < length bytes) × (new ≡ old)))
+    ((status ≡ DONE) × ((length bytes ≤ length old) × (new ≡ bytes ++ drop (length bytes) old)))
+    ⊎ ((status ≡ SHORT) × ((length old < length bytes) × (new ≡ old)))
 
 -- so is the last reply of the hub that is open
 abbrev pub Copies : Option Hub → List ℕ → List ℕ → ℕ → Type 0
-Copies None old new status = (status ≡ closed) × (new ≡ old)
+Copies None old new status = (status ≡ CLOSED) × (new ≡ old)
 Copies (Some hub) old new status = CopiesBytes hub.reply.items old new status
