@@ -21,8 +21,8 @@ use sqlite_disk::Disk;
 use std::alloc::{AllocError, Global};
 use std::io::{Read, Write};
 
-/// Answers the lines of `reader`, each once it is in the log, and sums up where `sums` says so. Where the log begins with other settings, `errors` gets
-/// those and the ones that are given.
+/// Answers the lines of `reader`, each once it is in the log, and sums up where `sums` says so. Where the log begins with
+/// other settings, `errors` gets those and the ones that are given.
 pub(crate) fn keep<L: Logs, R: Read, W: Write, E: Write>(
     logs: &L,
     alloc: Global,

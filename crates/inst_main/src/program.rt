@@ -52,7 +52,8 @@ pub(crate) fn program<H: Threads + Wait + Sync, L: Logs, R: Read, W: Write, E: W
 ) -> u8
     ensures status { (result ≡ 0) ⊎ ((result ≡ 2) ⊎ (result ≡ 3)) }
 
-    // All the input is answered, or what no hub takes of it is told, or none is read: the words ask for a help text, or for a drill, and it is done.
+    // All the input is answered, or what no hub takes of it is told, or none is read: the words ask for a help text, or for
+    // a drill, and it is done.
     ensures served { result ≡ 0 → Serves (map string_bytes words.items)
         (R.remaining reader.old) (R.remaining reader.new) (W.contents writer.old) (W.contents writer.new)
         ⊎ (HasKept (map string_bytes words.items) (R.remaining reader.new)

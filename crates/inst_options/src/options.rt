@@ -38,8 +38,8 @@ pub(crate) fn wish<'a>(
 }
 
 /// What the subcommand of this name, if it is one with a hub, and its options ask for. The one that is none of `play`,
-/// `drill` and `check` is `run`. `BadSettings` as from `settings`, and then where a number of a drill is too large for any hub,
-/// or as from `log_options`.
+/// `drill` and `check` is `run`. `BadSettings` as from `settings`, and then where a number of a drill is too large for any
+/// hub, or as from `log_options`.
 fn hub_wish<'a>(alloc: Global, name: &str, options: &ArgMatches<'a>) -> Result<Wish<'a>, Fault>
     ensures wish { IfOk result (IsWish name.now (rows_of (found_of options.now))) }
     ensures fault { IfErr result (IsRefusal (AskForNone name.now (rows_of (found_of options.now))
