@@ -53,25 +53,22 @@ fn follow_up_transfer(world: &mut World, place: Place, to: u8, at: Moment) -> Re
         HasRun O (reverse (of_transfer at place.owner place.index to) ++ L) world.new) }
     ensures settings { world.new.board.settings ≡ world.old.board.settings }
 {
-    let Place {
-        owner: from,
-        index: place,
-    } = place;
-    let deliver = Step::Deliver { from, place, to };
+    let Place { owner: from, index } = place;
+    let deliver = Step::Deliver { from, index, to };
     let learn = Step::Learn {
         who: from,
         from,
-        place,
+        index,
     };
     let expire = Step::Expire {
         who: from,
-        place,
+        index,
         at,
     };
     let tell = Step::Learn {
         who: to,
         from,
-        place,
+        index,
     };
     world.step(&deliver)?;
     world.step(&learn)?;

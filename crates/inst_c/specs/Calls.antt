@@ -7,20 +7,20 @@ use Rattle.inst_settings.specs.Lawful.{AreOfAHub}
 use Rattle.inst_lines.specs.declared.mode.Mode.{Mode}
 use Rattle.inst_lines.specs.Answers.{AnswersLine}
 use Rattle.inst_lines.specs.Answering.{answering, Keeps}
-use Rattle.inst_c.specs.declared.hub.Hub.{Hub}
+use Rattle.inst_c.specs.declared.line_hub.LineHub.{LineHub}
 use Rattle.inst_c.specs.declared.calls.Told.{Told}
 use Rattle.inst_c.specs.declared.status.TheConstants.{DONE, CLOSED, STILL_OPEN, SHORT}
-use Rattle.inst_c.specs.Hub.{HasOpened}
+use Rattle.inst_c.specs.LineHub.{HasOpened}
 
 -- a hub of these settings has opened
-pub record HasOpenedOf (s : HubSettings) (mode : Mode) (new : Option Hub) : Type 0 where
-  pub hub : Hub
+pub record HasOpenedOf (s : HubSettings) (mode : Mode) (new : Option LineHub) : Type 0 where
+  pub hub : LineHub
   pub is : new ≡ Some hub
   pub opened : HasOpened mode s hub
   pub good : AreOfAHub s
 
 -- a hub opens where none is open, if it can have the settings and there is memory for it
-abbrev pub Opens : HubSettings → Mode → Option Hub → Option Hub → ℕ → Type 0
+abbrev pub Opens : HubSettings → Mode → Option LineHub → Option LineHub → ℕ → Type 0
 Opens s mode (Some hub) new status = (status ≡ STILL_OPEN) × (new ≡ Some hub)
 Opens s mode None new status =
     ((status ≡ DONE) × HasOpenedOf s mode new)
@@ -28,15 +28,15 @@ Opens s mode None new status =
     ⊎ ((status ≡ number_of BadSettings) × ((new ≡ None) × ¬ (AreOfAHub s))))
 
 -- the hub has answered the line: as the model does, whatever it had gone through
-pub record HasAnswered (line : List ℕ) (old : Hub) (new : Option Hub) (told : Told) : Type 0 where
-  pub hub : Hub
+pub record HasAnswered (line : List ℕ) (old : LineHub) (new : Option LineHub) (told : Told) : Type 0 where
+  pub hub : LineHub
   pub is : new ≡ Some hub
   pub mode_is : hub.mode ≡ old.mode
   pub answers : AnswersLine (answering old.mode) (Keeps old.mode) false line old.runner hub.runner [] hub.reply.items told.is_refused
   pub length_is : told.length ≡ length hub.reply.items
 
 -- a line is answered where a hub is open; where there is no memory for that, the hub is closed
-abbrev pub Answers : List ℕ → Option Hub → Option Hub → Told → Told → ℕ → Type 0
+abbrev pub Answers : List ℕ → Option LineHub → Option LineHub → Told → Told → ℕ → Type 0
 Answers line None new was told status = (status ≡ CLOSED) × ((new ≡ None) × (told ≡ was))
 Answers line (Some hub) new was told status =
     ((status ≡ DONE) × HasAnswered line hub new told)
@@ -49,6 +49,6 @@ CopiesBytes bytes old new status =
     ⊎ ((status ≡ SHORT) × ((length old < length bytes) × (new ≡ old)))
 
 -- so is the last reply of the hub that is open
-abbrev pub Copies : Option Hub → List ℕ → List ℕ → ℕ → Type 0
+abbrev pub Copies : Option LineHub → List ℕ → List ℕ → ℕ → Type 0
 Copies None old new status = (status ≡ CLOSED) × (new ≡ old)
 Copies (Some hub) old new status = CopiesBytes hub.reply.items old new status

@@ -1,4 +1,4 @@
-pub mod Hub
-pub mod Held
+pub mod LineHub
+pub mod HeldHub
 pub mod Chosen
 pub mod Calls

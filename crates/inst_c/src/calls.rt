@@ -1,13 +1,13 @@
 //! What C calls. The header `inst.h` says what each call is given, and what it answers.
 ghost use Rattle.std.specs.Prelude.{◌≡◌, IfOk, IfErr, None, is_some, if◌then◌else◌};
 ghost use Rattle.inst_settings.specs.Lawful.{AreOfAHub};
-ghost use Rattle.inst_c.specs.Hub.{HasOpened};
+ghost use Rattle.inst_c.specs.LineHub.{HasOpened};
 ghost use Rattle.inst_c.specs.Chosen.{chosen, mode_of, IsRefusal};
 ghost use Rattle.inst_c.specs.Calls.{Opens, Answers, Copies, CopiesBytes};
 
 use crate::chosen::{Chosen, mode};
 use crate::handle::Handle;
-use crate::hub::Hub;
+use crate::line_hub::LineHub;
 use crate::status::{CLOSED, DONE, SHORT, STILL_OPEN};
 use inst_base::Fault;
 use std::alloc::Global;
@@ -51,13 +51,13 @@ fn opened(
     participants: &[u8],
     settings: &Chosen,
     is_play: bool,
-) -> Result<Box<Hub>, Fault>
+) -> Result<Box<LineHub>, Fault>
     ensures opened { IfOk result (λ hub. HasOpened (mode_of is_play) (chosen participants.now settings.now) hub.value) }
     ensures good { IfOk result (λ _. AreOfAHub (chosen participants.now settings.now)) }
     ensures fault { IfErr result (IsRefusal (chosen participants.now settings.now)) }
 {
     let settings = settings.settings(alloc, participants)?;
-    let hub = Hub::open(alloc, mode(is_play), &settings)?;
+    let hub = LineHub::open(alloc, mode(is_play), &settings)?;
     Ok(Box::new(alloc, hub)?)
 }
 

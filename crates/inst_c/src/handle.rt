@@ -1,9 +1,9 @@
 //! The handle that C has of a hub.
 ghost use Rattle.std.specs.Prelude.{◌≡◌, Some, None, is_some};
-ghost use Rattle.inst_c.specs.Held.{Takes};
+ghost use Rattle.inst_c.specs.HeldHub.{Takes};
 
-use crate::held::Held;
-use crate::hub::Hub;
+use crate::held_hub::HeldHub;
+use crate::line_hub::LineHub;
 use std::alloc::Global;
 use std::mem;
 
@@ -11,7 +11,7 @@ use std::mem;
 #[repr(C)]
 #[derive(Drop)]
 pub struct Handle {
-    pub held: Held,
+    pub held: HeldHub,
     /// Whether a hub is open.
     pub is_open: bool,
     ghost same: { is_open ≡ is_some held.hub },
@@ -19,12 +19,12 @@ pub struct Handle {
 
 impl Handle {
     /// Takes the hub, if one is open. The handle has none then.
-    pub fn take(&mut self, alloc: Global) -> Option<Box<Hub>>
+    pub fn take(&mut self, alloc: Global) -> Option<Box<LineHub>>
         ensures taken { Takes self.old.held.hub result }
         ensures none { self.new.held.hub ≡ None }
     {
         let none = Handle {
-            held: Held::none(alloc),
+            held: HeldHub::none(alloc),
             is_open: false,
         };
         let Handle { held, is_open } = mem::replace(self, none);
@@ -32,12 +32,12 @@ impl Handle {
     }
 
     /// Has this hub from now on.
-    pub fn put(&mut self, hub: Box<Hub>)
+    pub fn put(&mut self, hub: Box<LineHub>)
         requires { self.old.held.hub ≡ None }
         ensures { self.new.held.hub ≡ Some hub.value }
     {
         *self = Handle {
-            held: Held::of(hub),
+            held: HeldHub::of(hub),
             is_open: true,
         };
     }

@@ -4,6 +4,6 @@
 mod calls;
 mod chosen;
 mod handle;
-mod held;
-mod hub;
+mod held_hub;
+mod line_hub;
 mod status;

@@ -5,17 +5,17 @@ use crate::Ask;
 use inst_base::Moment;
 use inst_settings::Settings;
 
-/// One event of the hub. Places count an originator's taken submissions, from 0.
+/// One event of the hub. An index counts an originator's taken submissions, from 0: that of a place.
 #[derive(Clone, Copy, Debug, PartialEq, Eq)]
 pub enum Step {
     /// A participant asks.
     Ask(Ask),
-    /// The transfer at `place` of the originator `from` comes to `to`.
-    Deliver { from: u8, place: u16, to: u8 },
+    /// The transfer at this index of the originator `from` comes to `to`.
+    Deliver { from: u8, index: u16, to: u8 },
     /// `who` books the decided outcome of that transfer.
-    Learn { who: u8, from: u8, place: u16 },
+    Learn { who: u8, from: u8, index: u16 },
     /// The originator `who` books the decided outcome of its transfer, or times it out when due.
-    Expire { who: u8, place: u16, at: Moment },
+    Expire { who: u8, index: u16, at: Moment },
 }
 
 impl Step {

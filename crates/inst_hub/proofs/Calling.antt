@@ -146,7 +146,7 @@ pub follows_nothing : (h : Hub) (t : Teller) → Follows h None t t
 follows_nothing h t = record { sights = []; followed = refl; seen = sym (append-nil (sights_of t)) }
 
 pub follows_one : (h : Hub) (f : FollowUp) (t : Teller) (mid last : Seat) (x y : Participant) (result : Result Bool AllocError) → IsBehind (key_of h.row).words.value f.who x
-    → GoesOn f.who x.slot.events t.seat → Sees f.who x.slot.events t.seat mid → Sees f.who y.slot.events mid last → Does f.act x f.place result y
+    → GoesOn f.who x.slot.events t.seat → Sees f.who x.slot.events t.seat mid → Sees f.who y.slot.events mid last → Does f.errand x f.place result y
     → Follows h (Some f) t record { sight = t.sight; seat = last }
 follows_one h f t mid last x y result behind goes_on first second does = record {
   sights = front f.who x.slot.events ∷ front f.who y.slot.events ∷ [];

@@ -62,7 +62,7 @@ pub record IsDone (h : Hub) (f : FollowUp) (t : Teller) (sights : List (Front Ev
   pub left : Participant
   pub behind : IsBehind (key_of h.row).words.value f.who found
   pub goes_on : GoesOn f.who found.slot.events t.seat
-  pub does : (result : Result Bool AllocError) × Does f.act found f.place result left
+  pub does : (result : Result Bool AllocError) × Does f.errand found f.place result left
   pub seen : sights ≡ front f.who found.slot.events ∷ front f.who left.slot.events ∷ []
 
 -- what is seen of what follows: nothing where nothing follows

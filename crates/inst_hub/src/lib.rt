@@ -12,6 +12,6 @@ pub use behind::Behind;
 pub use gate::{Gate, Ungated};
 pub use hub::{Hub, TakeFault};
 pub use inst_cell::Ticket;
-pub use inst_participant::{Act, FollowUp, Participant};
+pub use inst_participant::{Errand, FollowUp, Participant};
 pub use outset::Outset;
 pub use teller::Teller;

@@ -18,18 +18,18 @@ fn one_settled() -> Result<[Step; 7], Fault>
 {
     let first = Step::Deliver {
         from: A,
-        place: 0,
+        index: 0,
         to: B,
     };
     let second = Step::Deliver {
         from: A,
-        place: 1,
+        index: 1,
         to: B,
     };
     let learn = Step::Learn {
         who: A,
         from: A,
-        place: 0,
+        index: 0,
     };
     Ok([
         inst_rows::fund(A, "F1", 50_000, 0)?,

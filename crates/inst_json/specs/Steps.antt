@@ -20,30 +20,30 @@ unfoldable pub passing_of : HubSettings → LineFields → Result Passing Refusa
 passing_of s line = do
   who ← in_field name.Who (code_in line.who)
   from ← in_field name.From (code_in line.from)
-  place ← in_field name.Place (place_in line.place)
+  index ← in_field name.Place (place_in line.place)
   who ← in_field name.Who (participant_of s who)
   from ← in_field name.From (participant_of s from)
-  Ok (record { who = who; from = from; place = place })
+  Ok (record { who = who; from = from; index = index })
 
 -- the transfer at a place of `from` comes to the asker
 unfoldable pub deliver_of : HubSettings → LineFields → Result Step Refusal
 deliver_of s line = do
   passing ← passing_of s line
-  Ok (step.Deliver passing.from passing.place passing.who)
+  Ok (step.Deliver passing.from passing.index passing.who)
 
 -- the asker books the decided outcome of the transfer at a place of `from`
 unfoldable pub learn_of : HubSettings → LineFields → Result Step Refusal
 learn_of s line = do
   passing ← passing_of s line
-  Ok (step.Learn passing.who passing.from passing.place)
+  Ok (step.Learn passing.who passing.from passing.index)
 
 -- the asker books the outcome of its own transfer at a place, or times it out when due
 unfoldable pub expire_of : HubSettings → LineFields → Result Step Refusal
 expire_of s line = do
   asker ← asker_of line
-  place ← in_field name.Place (place_in line.place)
+  index ← in_field name.Place (place_in line.place)
   asker ← known_of s asker
-  Ok (step.Expire asker.who place asker.at)
+  Ok (step.Expire asker.who index asker.at)
 
 -- the step that a name stands for
 abbrev pub step_named : HubSettings → LineFields → List ℕ → Result Step Refusal

@@ -51,7 +51,7 @@ fn move_of(settings: &Settings, line: &Fields<'_>) -> Result<Step, Refusal>
 struct Passing {
     who: u8,
     from: u8,
-    place: u16,
+    index: u16,
 }
 
 /// What a delivery or a booking is of, or the first refusal of its line.
@@ -63,10 +63,10 @@ fn passing_of(settings: &Settings, line: &Fields<'_>) -> Result<Passing, Refusal
 {
     let who = in_field(Name::Who, code(line.who))?;
     let from = in_field(Name::From, code(line.from))?;
-    let place = in_field(Name::Place, place(line.place))?;
+    let index = in_field(Name::Place, place(line.place))?;
     let who = in_field(Name::Who, participant(settings, &who))?;
     let from = in_field(Name::From, participant(settings, &from))?;
-    Ok(Passing { who, from, place })
+    Ok(Passing { who, from, index })
 }
 
 /// A delivery, or the first refusal of its line.
@@ -75,10 +75,10 @@ fn deliver(settings: &Settings, line: &Fields<'_>) -> Result<Step, Refusal>
     ensures value { result ≡ deliver_of settings.now (fields_told line.now) }
     ensures fits { IfOk result (λ step. step_fits settings.now step ≡ true) }
 {
-    let Passing { who, from, place } = passing_of(settings, line)?;
+    let Passing { who, from, index } = passing_of(settings, line)?;
     Ok(Step::Deliver {
         from,
-        place,
+        index,
         to: who,
     })
 }
@@ -89,8 +89,8 @@ fn learn(settings: &Settings, line: &Fields<'_>) -> Result<Step, Refusal>
     ensures value { result ≡ learn_of settings.now (fields_told line.now) }
     ensures fits { IfOk result (λ step. step_fits settings.now step ≡ true) }
 {
-    let Passing { who, from, place } = passing_of(settings, line)?;
-    Ok(Step::Learn { who, from, place })
+    let Passing { who, from, index } = passing_of(settings, line)?;
+    Ok(Step::Learn { who, from, index })
 }
 
 /// An expiry, or the first refusal of its line.
@@ -100,7 +100,7 @@ fn expire(settings: &Settings, line: &Fields<'_>) -> Result<Step, Refusal>
     ensures fits { IfOk result (λ step. step_fits settings.now step ≡ true) }
 {
     let asker = asker_of(line)?;
-    let place = in_field(Name::Place, place(line.place))?;
+    let index = in_field(Name::Place, place(line.place))?;
     let KnownAsker { who, at } = asker.known(settings)?;
-    Ok(Step::Expire { who, place, at })
+    Ok(Step::Expire { who, index, at })
 }

@@ -115,17 +115,17 @@ fn steps() -> Result<[Step; 4], Fault> {
     Ok([
         Step::Deliver {
             from: 0,
-            place: 0,
+            index: 0,
             to: 1,
         },
         Step::Learn {
             who: 0,
             from: 0,
-            place: 1023,
+            index: 1023,
         },
         Step::Expire {
             who: 0,
-            place: 0,
+            index: 0,
             at,
         },
         Step::Ask(Ask {

@@ -29,8 +29,8 @@ use Rattle.inst_participant.specs.declared.participant.Participant.{Participant}
 use Rattle.inst_participant.specs.Behind.{IsReady}
 use Rattle.inst_participant.specs.Answers.{Answered, IsTicket}
 use Rattle.inst_participant.specs.Telling.{IsToldBy}
-use Rattle.inst_participant.specs.declared.follow_up.Act.{Act}
-use Rattle.inst_participant.specs.declared.follow_up.Act.TheVariants.{Deliver, Learn}
+use Rattle.inst_participant.specs.declared.follow_up.Errand.{Errand}
+use Rattle.inst_participant.specs.declared.follow_up.Errand.TheVariants.{Deliver, Learn}
 use Rattle.inst_participant.specs.Following.{Does}
 use Rattle.inst_participant.specs.Told.{IsTold, IsToldMore}
 use Rattle.inst_participant.proofs.Ticketing.{IsReplied, ticket_taken, ticket_state}
@@ -86,7 +86,7 @@ its_ticket x y u ask reply ticket ready same_who same_settings own sound answere
     go (Refused fault) t rep = t
 
 -- a delivery or a lesson tells one event more, if any
-pub told_one : (act : Act) (x : Participant) (k : Place) (result : Result Bool AllocError) (y : Participant) → Does act x k result y → IsToldMore x.slot.events y.slot.events
+pub told_one : (errand : Errand) (x : Participant) (k : Place) (result : Result Bool AllocError) (y : Participant) → Does errand x k result y → IsToldMore x.slot.events y.slot.events
 told_one Deliver x k result y (look, shows, keeps) = ⊎_elim
     (λ kept. delivered (delivery x.slot k look) (ap (λ (b : Book). b.events) kept.1))
     (λ refused. inl (ap (λ (b : Book). b.events) refused.1)) keeps

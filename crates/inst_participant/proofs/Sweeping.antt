@@ -13,7 +13,7 @@ use Rattle.inst_slot.specs.Arrived.{IsNextUnbooked}
 use Rattle.inst_slot.specs.Book.{Book}
 use Rattle.inst_slot.specs.Telling.{lesson, with_event}
 use Rattle.inst_participant.specs.declared.participant.Participant.{Participant}
-use Rattle.inst_participant.specs.declared.follow_up.Act.TheVariants.{Learn}
+use Rattle.inst_participant.specs.declared.follow_up.Errand.TheVariants.{Learn}
 use Rattle.inst_participant.specs.Behind.{IsReady, IsLater}
 use Rattle.inst_participant.specs.Told.{IsTold, IsToldMore}
 use Rattle.inst_participant.specs.Following.{Does}

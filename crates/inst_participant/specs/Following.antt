@@ -16,20 +16,20 @@ use Rattle.inst_journal.specs.declared.event.Event.{Event}
 use Rattle.inst_ledger.specs.Beneficiary.{beneficiary_of}
 use Rattle.inst_slot.specs.Telling.{delivery, with_delivery, lesson, with_event, Keeps}
 use Rattle.inst_participant.specs.declared.participant.Participant.{Participant}
-use Rattle.inst_participant.specs.declared.follow_up.Act.{Act}
+use Rattle.inst_participant.specs.declared.follow_up.Errand.{Errand}
 use Rattle.inst_participant.specs.declared.follow_up.FollowUp.{FollowUp}
-use Rattle.inst_participant.specs.declared.follow_up.Act.TheVariants.{Deliver, Learn}
+use Rattle.inst_participant.specs.declared.follow_up.Errand.TheVariants.{Deliver, Learn}
 
 -- this participant, if any, learns how the transfer of the place ended
 abbrev pub learns : Option ℕ → Place → Option FollowUp
-learns (Some who) k = Some (record { who = who; act = Learn; place = k })
+learns (Some who) k = Some (record { who = who; errand = Learn; place = k })
 learns None k = None
 
 -- What follows from a command with this reply and ticket, where the asker's history is then K: the beneficiary gets what
 -- was taken; the originator learns what is answered to a confirmation or rejection; and the beneficiary learns the outcome
 -- that an investigation is answered. Nothing follows where there is no ticket.
 abbrev pub follow_up_of : List Event → Command → Reply → Option Place → Option FollowUp
-follow_up_of K (Submit s) reply (Some k) = Some (record { who = s.to; act = Deliver; place = k })
+follow_up_of K (Submit s) reply (Some k) = Some (record { who = s.to; errand = Deliver; place = k })
 follow_up_of K (Confirm from id) reply (Some k) = learns (Some from) k
 follow_up_of K (Reject from id reason) reply (Some k) = learns (Some from) k
 follow_up_of K (Investigate id) (State from asked (IsDecided outcome)) (Some k) = learns (beneficiary_of id K) k
@@ -45,7 +45,7 @@ abbrev pub Shows : SharedBoard → Place → Look → SharedBoard → Type 0
 Shows b k look c = Looks (settings_of b).margin knows has_role stood b k look c
 
 -- the participant gets the transfer of the place, or learns how it ended
-abbrev pub Does : Act → Participant → Place → Result Bool AllocError → Participant → Type 0
+abbrev pub Does : Errand → Participant → Place → Result Bool AllocError → Participant → Type 0
 Does Deliver x k result y = (look : Look) × Shows x.board k look y.board
     × Keeps (is_some (delivery x.slot k look)) x.slot (with_delivery x.slot k (delivery x.slot k look)) result y.slot
 Does Learn x k result y = (look : Look) × Shows x.board k look y.board

@@ -15,7 +15,7 @@ use Rattle.inst_slot.specs.Book.{place_at}
 use Rattle.inst_slot.specs.Telling.{Expires}
 use Rattle.inst_slot.specs.Waiting.{GivesNextDue, IsNextDue, waits}
 use Rattle.inst_participant.specs.declared.participant.Participant.{Participant}
-use Rattle.inst_participant.specs.declared.follow_up.Act.TheVariants.{Deliver, Learn}
+use Rattle.inst_participant.specs.declared.follow_up.Errand.TheVariants.{Deliver, Learn}
 use Rattle.inst_participant.specs.Following.{Does, Shows}
 
 -- the own transfer at this index may expire at the reading

@@ -2,7 +2,7 @@ use inst_board::Place;
 
 /// What a side does once the other side's command was answered.
 #[derive(Clone, Copy, Debug, PartialEq, Eq)]
-pub enum Act {
+pub enum Errand {
     /// The beneficiary gets the transfer that was taken.
     Deliver,
     /// The other side learns the outcome.
@@ -13,6 +13,6 @@ pub enum Act {
 #[derive(Clone, Copy, Debug, PartialEq, Eq)]
 pub struct FollowUp {
     pub who: u8,
-    pub act: Act,
+    pub errand: Errand,
     pub place: Place,
 }

@@ -5,5 +5,5 @@
 mod follow_up;
 mod participant;
 
-pub use follow_up::{Act, FollowUp};
+pub use follow_up::{Errand, FollowUp};
 pub use participant::Participant;

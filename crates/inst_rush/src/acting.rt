@@ -3,7 +3,7 @@ ghost use Rattle.inst_hub.specs.declared.hub.Hub.{Hub};
 ghost use Rattle.inst_hub.specs.Calls.{IsOf};
 
 use crate::asking::{call, money_of};
-use crate::chooser::Act;
+use crate::chooser::Choice;
 use crate::flaw::Flaw;
 use crate::sights::{Sight, Sights};
 use inst_base::{Fault, Moment, mention};
@@ -18,15 +18,15 @@ pub(crate) fn act_so<R: Wait>(
     hub: &Hub,
     teller: &mut Teller,
     sights: &mut Sights,
-    act: &Act,
+    choice: &Choice,
 ) -> Result<(), Flaw>
     requires { IsOf hub.now teller.old }
     ensures { IsOf hub.now teller.new }
 {
-    match act {
-        Act::Ask(ask) => ask_so(rt, hub, teller, sights, ask),
-        Act::Peek(place) => peek_at(teller, sights, *place),
-        Act::Sweep { who, at } => {
+    match choice {
+        Choice::Ask(ask) => ask_so(rt, hub, teller, sights, ask),
+        Choice::Peek(place) => peek_at(teller, sights, *place),
+        Choice::Sweep { who, at } => {
             sights.calls = sights.calls.saturating_add(1);
             sweep(rt, hub, teller, *who, *at)?;
             Ok(())

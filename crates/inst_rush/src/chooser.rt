@@ -33,7 +33,7 @@ const BEHIND: u32 = 2;
 
 /// What a thread does in one step.
 #[derive(Clone, Copy, Debug)]
-pub(crate) enum Act {
+pub(crate) enum Choice {
     /// It asks, and peeks where it gets a ticket.
     Ask(Ask),
     /// It peeks at this place, where it has a ticket for it.
@@ -42,7 +42,7 @@ pub(crate) enum Act {
     Sweep { who: u8, at: Moment },
 }
 
-/// Chooses what a thread does. The same round and thread always give the same acts.
+/// Chooses what a thread does. The same round and thread always give the same choices.
 #[derive(Debug, Drop)]
 pub(crate) struct Chooser {
     generator: Generator,
@@ -62,7 +62,7 @@ impl Chooser {
     }
 
     /// What the thread does next.
-    pub(crate) fn choose(&mut self, alloc: Global) -> Result<Act, Fault> {
+    pub(crate) fn choose(&mut self, alloc: Global) -> Result<Choice, Fault> {
         self.step = self.step.saturating_add(1);
         match self.step % PACE {
             0 => submit(&self.contested(alloc)?),
@@ -101,7 +101,7 @@ impl Chooser {
     }
 
     /// The one half of the threads confirm or reject the contested transfer in time, the others let it expire.
-    fn decide_contested(&self, transfer: &Transfer) -> Result<Act, Fault> {
+    fn decide_contested(&self, transfer: &Transfer) -> Result<Choice, Fault> {
         let Transfer { from, to, id, .. } = *transfer;
         let deadline = transfer.deadline();
         let in_time = deadline.saturating_sub(u64::from(self.round.margin) + 1);
@@ -115,12 +115,12 @@ impl Chooser {
         }
     }
 
-    /// Any act, by chance.
-    fn any(&mut self, alloc: Global) -> Result<Act, Fault> {
+    /// Any choice, by chance.
+    fn any(&mut self, alloc: Global) -> Result<Choice, Fault> {
         let from = self.participant();
         let number = self.number();
         if self.generator.below(8) == 0 {
-            return Ok(Act::Peek(Place {
+            return Ok(Choice::Peek(Place {
                 owner: from,
                 index: (number % u32::from(PLACES)) as u16,
             }));
@@ -155,7 +155,7 @@ impl Chooser {
     }
 
     /// A submission, mostly in time; now and then with other contents, which is no repeat.
-    fn submission(&mut self, transfer: &Transfer) -> Result<Act, Fault> {
+    fn submission(&mut self, transfer: &Transfer) -> Result<Choice, Fault> {
         let is_other = self.generator.below(32) == 0;
         let to = if is_other {
             self.participant()
@@ -172,7 +172,7 @@ impl Chooser {
     }
 
     /// What the parties ask of a transfer, or of themselves.
-    fn question(&mut self, transfer: &Transfer) -> Result<Act, Fault> {
+    fn question(&mut self, transfer: &Transfer) -> Result<Choice, Fault> {
         let Transfer { from, to, id, .. } = *transfer;
         let at = self.reading(transfer.deadline());
         match self.generator.below(17) {
@@ -184,7 +184,7 @@ impl Chooser {
             9..=12 => command_at(from, Command::Investigate { id }, at),
             13 => command_at(to, Command::Fetch { max: 3 }, at),
             14 => command_at(self.participant(), Command::Confirm { from, id }, at),
-            15 if self.round.sweeps => Ok(Act::Sweep {
+            15 if self.round.sweeps => Ok(Choice::Sweep {
                 who: self.participant(),
                 at: Moment::new(0, at)?,
             }),
@@ -218,11 +218,11 @@ impl Chooser {
 }
 
 /// A submission of the transfer, in time.
-fn submit(transfer: &Transfer) -> Result<Act, Fault> {
+fn submit(transfer: &Transfer) -> Result<Choice, Fault> {
     submit_so(transfer, transfer.to, transfer.stamp)
 }
 
-fn submit_so(transfer: &Transfer, to: u8, at: u64) -> Result<Act, Fault> {
+fn submit_so(transfer: &Transfer, to: u8, at: u64) -> Result<Choice, Fault> {
     let submission = Submission {
         id: transfer.id,
         to,
@@ -232,8 +232,8 @@ fn submit_so(transfer: &Transfer, to: u8, at: u64) -> Result<Act, Fault> {
     command_at(transfer.from, Command::Submit(submission), at)
 }
 
-fn command_at(who: u8, command: Command, at: u64) -> Result<Act, Fault> {
-    Ok(Act::Ask(Ask {
+fn command_at(who: u8, command: Command, at: u64) -> Result<Choice, Fault> {
+    Ok(Choice::Ask(Ask {
         who,
         command,
         at: Moment::new(0, at)?,

@@ -46,16 +46,16 @@ fn take_step<R: Wait>(
     requires { IsOf hub.now teller.old }
     ensures { IsOf hub.now teller.new }
 {
-    let act = chooser.choose(alloc)?;
+    let choice = chooser.choose(alloc)?;
     match (chooser.bytes_left(), hoard) {
         (Some(bytes), Some(hoard)) => {
             // Where the other threads hold what is to be left, less is.
             let _ = hoard.leave(bytes);
-            let ended = act_so(rt, hub, teller, sights, &act);
+            let ended = act_so(rt, hub, teller, sights, &choice);
             hoard.give_back();
             ended
         }
-        _ => act_so(rt, hub, teller, sights, &act),
+        _ => act_so(rt, hub, teller, sights, &choice),
     }
 }
 

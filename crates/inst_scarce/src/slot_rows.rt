@@ -104,9 +104,9 @@ fn act_of(step: &Step) -> Result<(u8, Act, Moment), Flaw> {
     let never = Moment::new(0, 0)?;
     Ok(match *step {
         Step::Ask(ask) => (ask.who, Act::Ask(ask.command), ask.at),
-        Step::Deliver { from, place, to } => (to, Act::Deliver(place_of(from, place)), never),
-        Step::Learn { who, from, place } => (who, Act::Learn(place_of(from, place)), never),
-        Step::Expire { who, place, at } => (who, Act::Expire(place), at),
+        Step::Deliver { from, index, to } => (to, Act::Deliver(place_of(from, index)), never),
+        Step::Learn { who, from, index } => (who, Act::Learn(place_of(from, index)), never),
+        Step::Expire { who, index, at } => (who, Act::Expire(index), at),
     })
 }
 

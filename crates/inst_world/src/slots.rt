@@ -43,22 +43,22 @@ pub(crate) fn step(
 {
     match step {
         Step::Ask(asked) => Ok(Answer::Reply(ask(slots, board, asked)?)),
-        Step::Deliver { from, place, to } => {
+        Step::Deliver { from, index, to } => {
             let place = Place {
                 owner: *from,
-                index: *place,
+                index: *index,
             };
             Ok(Answer::New(deliver(slots, board, place, *to)?))
         }
-        Step::Learn { who, from, place } => {
+        Step::Learn { who, from, index } => {
             let place = Place {
                 owner: *from,
-                index: *place,
+                index: *index,
             };
             Ok(Answer::New(learn(slots, board, *who, place)?))
         }
-        Step::Expire { who, place, at } => {
-            Ok(Answer::New(expire(slots, board, *who, *place, *at)?))
+        Step::Expire { who, index, at } => {
+            Ok(Answer::New(expire(slots, board, *who, *index, *at)?))
         }
     }
 }

@@ -19,7 +19,7 @@ fn delivered() -> Result<[Step; 3], Fault>
 {
     let deliver = Step::Deliver {
         from: A,
-        place: 0,
+        index: 0,
         to: B,
     };
     Ok([
@@ -35,7 +35,7 @@ fn carried_over_an_opening_steps() -> Result<[Step; 7], Fault>
     let learn = Step::Learn {
         who: A,
         from: A,
-        place: 0,
+        index: 0,
     };
     Ok([
         ask(A, Command::Position, 1002)?,
@@ -137,18 +137,18 @@ fn one_settled() -> Result<[Step; 7], Fault>
 {
     let first = Step::Deliver {
         from: A,
-        place: 0,
+        index: 0,
         to: B,
     };
     let second = Step::Deliver {
         from: A,
-        place: 1,
+        index: 1,
         to: B,
     };
     let learn = Step::Learn {
         who: A,
         from: A,
-        place: 0,
+        index: 0,
     };
     Ok([
         fund(A, "F1", 50_000, 0)?,
@@ -167,7 +167,7 @@ fn places_given_back_steps() -> Result<[Step; 6], Fault>
     let at = Moment::new(0, 11_000)?;
     let expire = Step::Expire {
         who: A,
-        place: 0,
+        index: 0,
         at,
     };
     let first = Command::Investigate {

@@ -18,7 +18,7 @@ fn alone() -> Result<[Step; 7], Fault>
 {
     let deliver = Step::Deliver {
         from: A,
-        place: 0,
+        index: 0,
         to: B,
     };
     Ok([
@@ -37,18 +37,18 @@ fn among_others() -> Result<[Step; 13], Fault>
 {
     let to_b = Step::Deliver {
         from: A,
-        place: 1,
+        index: 1,
         to: B,
     };
     let to_a = Step::Deliver {
         from: C,
-        place: 0,
+        index: 0,
         to: A,
     };
     let learn = Step::Learn {
         who: C,
         from: C,
-        place: 0,
+        index: 0,
     };
     Ok([
         fund(C, "F9", 700, 5)?,

@@ -83,7 +83,7 @@ fn lies_at_the_first_place(rt: &impl Abort, world: &mut World, id: &Ident) -> Re
 fn is_confirmed(rt: &impl Abort, world: &mut World) -> Result<(), Fail> {
     let deliver = Step::Deliver {
         from: 0,
-        place: 0,
+        index: 0,
         to: 1,
     };
     steps_to(rt, world, &deliver, true)?;
@@ -97,13 +97,13 @@ fn is_learnt(rt: &impl Abort, world: &mut World) -> Result<(), Fail> {
     let learn = Step::Learn {
         who: 0,
         from: 0,
-        place: 0,
+        index: 0,
     };
     steps_to(rt, world, &learn, true)?;
     steps_to(rt, world, &learn, false)?;
     let expire = Step::Expire {
         who: 0,
-        place: 0,
+        index: 0,
         at: Moment::new(0, 20_000)?,
     };
     steps_to(rt, world, &expire, false)?;

@@ -87,12 +87,12 @@ impl Hub {
         ensures knows { KnowsMore teller.old teller.new }
         ensures follows { Follows self.now follow_up teller.old teller.new }
     {
-        let Some(FollowUp { who, act, place }) = follow_up else {
+        let Some(FollowUp { who, errand, place }) = follow_up else {
             return
         };
         let lock = usize::from(who);
         let mut participant = self.row.take(rt, &mut teller.seat, lock);
-        let _ = participant.follow(act, place);
+        let _ = participant.follow(errand, place);
         self.row.give(&mut teller.seat, lock, participant);
     }
 }

@@ -7,7 +7,7 @@ ghost use Rattle.inst_participant.specs.Following.{follow_up_after, Does, Shows}
 ghost use Rattle.inst_participant.specs.Told.{IsToldMore};
 
 use super::Participant;
-use crate::follow_up::{Act, FollowUp};
+use crate::follow_up::{Errand, FollowUp};
 use inst_board::{Board, Look, Place};
 use inst_cell::Ticket;
 use inst_command::{Command, Reply, State};
@@ -29,11 +29,11 @@ impl Participant {
             return None
         };
         let place = ticket.place();
-        let (who, act) = match (command, reply) {
-            (Command::Submit(submission), _) => (submission.to, Act::Deliver),
+        let (who, errand) = match (command, reply) {
+            (Command::Submit(submission), _) => (submission.to, Errand::Deliver),
             (Command::Confirm { from, .. } | Command::Reject { from, .. }, _) => (
                 *from,
-                Act::Learn,
+                Errand::Learn,
             ),
             (
                 Command::Investigate { id },
@@ -41,10 +41,10 @@ impl Participant {
                     state: State::Decided(_),
                     ..
                 },
-            ) => (self.slot.beneficiary_of(id)?, Act::Learn),
+            ) => (self.slot.beneficiary_of(id)?, Errand::Learn),
             _ => return None,
         };
-        Some(FollowUp { who, act, place })
+        Some(FollowUp { who, errand, place })
     }
 
     /// What the place shows.
@@ -60,16 +60,16 @@ impl Participant {
 
     /// Does this with the place: `true` where it brought something new. Where memory is refused the history is as it
     /// was.
-    pub fn follow(&mut self, act: Act, place: Place) -> Result<bool, AllocError>
+    pub fn follow(&mut self, errand: Errand, place: Place) -> Result<bool, AllocError>
         requires ready { IsReady self.old }
         ensures ready { IsReady self.new }
         ensures later { IsLater self.old self.new }
-        ensures does { Does act self.old place result self.new }
+        ensures does { Does errand self.old place result self.new }
         ensures told { IsToldMore self.old.slot.events self.new.slot.events }
     {
-        match act {
-            Act::Deliver => self.slot.deliver(&mut self.board, place),
-            Act::Learn => self.slot.learn(&mut self.board, place),
+        match errand {
+            Errand::Deliver => self.slot.deliver(&mut self.board, place),
+            Errand::Learn => self.slot.learn(&mut self.board, place),
         }
     }
 }

@@ -7,7 +7,7 @@ ghost use Rattle.inst_participant.specs.Sweeping.{MayExpire, LetsExpire, LearnsA
 ghost use Rattle.inst_participant.specs.Told.{IsToldAll};
 
 use super::Participant;
-use crate::follow_up::Act;
+use crate::follow_up::Errand;
 use inst_base::Moment;
 use inst_board::{Look, Place};
 use std::alloc::AllocError;
@@ -73,7 +73,7 @@ impl Participant {
     {
         let mut from = 0;
         while let Some((position, place)) = self.slot.unbooked_from(from) {
-            self.follow(Act::Learn, place)?;
+            self.follow(Errand::Learn, place)?;
             from = position + 1;
         }
         Ok(())
@@ -124,7 +124,7 @@ impl Participant {
             Look::Unused => Ok(false),
             Look::Decided(..) => Ok(true),
             Look::Pending(..) => {
-                self.follow(Act::Deliver, place)?;
+                self.follow(Errand::Deliver, place)?;
                 Ok(true)
             }
         }

@@ -51,10 +51,10 @@ impl World {
         ensures ran { OnOk result ((O : Opening) (L : List Step) → HasRun O L self.old → HasRun O (of_places who from places ++ L) self.new) }
         ensures settings { self.new.board.settings ≡ self.old.board.settings }
     {
-        for place in 0..places {
-            self.step(&Step::Learn { who, from, place })?;
+        for index in 0..places {
+            self.step(&Step::Learn { who, from, index })?;
             let to = who;
-            self.step(&Step::Deliver { from, place, to })?;
+            self.step(&Step::Deliver { from, index, to })?;
         }
         Ok(())
     }

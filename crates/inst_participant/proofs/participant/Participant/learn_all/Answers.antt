@@ -2,7 +2,7 @@ use Rattle.std.proofs.lemmas.Result.{err_from_is_err_and}
 use Rattle.std.proofs.Common.{true, false, is_ok, Bool, sym, subst}
 use Rattle.std.specs.Prelude.{Result}
 use Rattle.std.specs.declared.alloc.AllocError.{AllocError}
-use Rattle.inst_participant.specs.declared.follow_up.Act.TheVariants.{Learn}
+use Rattle.inst_participant.specs.declared.follow_up.Errand.TheVariants.{Learn}
 use Rattle.inst_participant.specs.Following.{Does}
 use Rattle.inst_participant.specs.Sweeping.{LearnsAll}
 use Rattle.inst_participant.specs.Sweeping.LearnsAll.{none_left, refused}

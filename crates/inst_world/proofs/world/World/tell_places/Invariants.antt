@@ -5,8 +5,8 @@ use Rattle.inst_model.specs.Opening.{Opening}
 use Rattle.inst_world.specs.HasRun.{HasRun}
 use Rattle.inst_world.proofs.world.World.tell_places.Given as goal
 
-abbrev pub invariant-loop-place : goal.invariant-loop-place
-invariant-loop-place l = record {
+abbrev pub invariant-loop-index : goal.invariant-loop-index
+invariant-loop-index l = record {
   settings : l.self.board.settings ≡ l.fn.self.board.settings;
-  ran : (O : Opening) (L : List Step) → HasRun O L l.fn.self → HasRun O (of_places l.who l.from l.place ++ L) l.self;
+  ran : (O : Opening) (L : List Step) → HasRun O L l.fn.self → HasRun O (of_places l.who l.from l.index ++ L) l.self;
 }

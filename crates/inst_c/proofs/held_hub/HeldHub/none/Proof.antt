@@ -27,17 +27,17 @@ use denote.Struct.Owning.{shape, fields, to}
 use Rattle.std.proofs.alloc.Calls.{α, handle_tells}
 use Rattle.std.proofs.ResultValues.{and_tt}
 use Rattle.std.specs.contracts.alloc.Global as Heap
-use Rattle.inst_c.specs.contracts.held.Held as held
+use Rattle.inst_c.specs.contracts.held_hub.HeldHub as held
 use denote.Steps.{nothing}
 use denote.Triple.Spec.{triple_of}
 use denote.Triple.Table.{entered}
 use denote.Triple.Walked.{says, Stays, stay_dropped, walk_of, ends_at, Goes-dropped, walk_Meets}
 use Rattle.std.specs.Prelude.{None}
 use Rattle.inst_c.proofs.AsBox.{E}
-use Rattle.inst_c.specs.contracts.held.Held.none as F
-use Rattle.inst_c.specs.contracts.held.Held.none.Key.{name as #self}
-use Rattle.inst_c.proofs.held.Held.none.Statement as stated
-use Rattle.inst_c.proofs.held.Held.none.Code as code
+use Rattle.inst_c.specs.contracts.held_hub.HeldHub.none as F
+use Rattle.inst_c.specs.contracts.held_hub.HeldHub.none.Key.{name as #self}
+use Rattle.inst_c.proofs.held_hub.HeldHub.none.Statement as stated
+use Rattle.inst_c.proofs.held_hub.HeldHub.none.Code as code
 
 abbrev From : Slot 0
 From = plain (λ _. Heap.the_row)

@@ -11,7 +11,7 @@ use std::alloc::{AllocError, Global};
 
 /// A hub between two lines.
 #[derive(Drop)]
-pub struct Hub {
+pub struct LineHub {
     reader: LineReader,
     /// What a line stands for.
     pub mode: Mode,
@@ -21,15 +21,15 @@ pub struct Hub {
     pub reply: Vec<u8>,
 }
 
-impl Hub {
-    ghost use Rattle.inst_c.specs.Hub.{HasOpened};
+impl LineHub {
+    ghost use Rattle.inst_c.specs.LineHub.{HasOpened};
 
     /// A hub that opens for the first time.
-    pub fn open(alloc: Global, mode: Mode, settings: &Settings) -> Result<Hub, AllocError>
+    pub fn open(alloc: Global, mode: Mode, settings: &Settings) -> Result<LineHub, AllocError>
         ensures opened { IfOk result (HasOpened mode settings.now) }
     {
         let runner = Runner::open(alloc, settings)?;
-        Ok(Hub {
+        Ok(LineHub {
             reader: LineReader::new(alloc),
             mode,
             runner,

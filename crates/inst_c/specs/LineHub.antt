@@ -3,10 +3,10 @@ use Rattle.std.specs.Prelude.{◌≡◌, []}
 use Rattle.inst_settings.specs.Settings.{HubSettings}
 use Rattle.inst_lines.specs.declared.mode.Mode.{Mode}
 use Rattle.inst_lines.specs.Answering.{Keeps, opened}
-use Rattle.inst_c.specs.declared.hub.Hub.{Hub}
+use Rattle.inst_c.specs.declared.line_hub.LineHub.{LineHub}
 
 -- a hub has opened for the first time, its lines stand for this, and it has answered none
-pub record HasOpened (mode : Mode) (s : HubSettings) (hub : Hub) : Type 0 where
+pub record HasOpened (mode : Mode) (s : HubSettings) (hub : LineHub) : Type 0 where
   pub mode_is : hub.mode ≡ mode
   pub keeps : Keeps mode (opened s) hub.runner
   pub no_reply : hub.reply.items ≡ []

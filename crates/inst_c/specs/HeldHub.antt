@@ -5,15 +5,15 @@ use denote.RawPtr.{Ptr}
 use Rattle.std.specs.Box.Ownership.{box_owns}
 use Rattle.std.specs.Global.{Global, Box}
 use Rattle.std.specs.contracts.prelude.GlobalAllocator.TheImpl.{ghosts}
-use Rattle.inst_c.specs.declared.hub.Hub.{Hub}
-use Rattle.inst_c.specs.contracts.hub.Hub.{the_row}
+use Rattle.inst_c.specs.declared.line_hub.LineHub.{LineHub}
+use Rattle.inst_c.specs.contracts.line_hub.LineHub.{the_row}
 
 -- the hub at the pointer and the right to free its block, or nothing
-abbrev pub held_owns : Global → Ptr → Option Hub → Fml
+abbrev pub held_owns : Global → Ptr → Option LineHub → Fml
 held_owns alloc p None = ftrue
 held_owns alloc p (Some hub) = box_owns (ghosts.dealloc_token alloc) the_row p hub
 
 -- the hub is taken, if there is one
-abbrev pub Takes : Option Hub → Option (Box Hub) → Type 0
+abbrev pub Takes : Option LineHub → Option (Box LineHub) → Type 0
 Takes held None = held ≡ None
 Takes held (Some taken) = held ≡ Some taken.value

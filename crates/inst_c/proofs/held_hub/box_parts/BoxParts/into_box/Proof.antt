@@ -35,14 +35,14 @@ use Rattle.std.proofs.alloc.Calls.{token, Goes-blank}
 use Rattle.std.specs.Box.Ownership.{box_owns}
 use Rattle.std.proofs.BoxSteps.Form.{Bx, D, R, P, B, args, box_ty, word, box_typed}
 use Rattle.std.proofs.BoxSteps.Steps.{box_out, box_in}
-use Rattle.inst_c.specs.contracts.held.parts.Parts as parts
+use Rattle.inst_c.specs.contracts.held_hub.box_parts.BoxParts as parts
 use Rattle.std.specs.contracts.boxed.Box.from_raw as Fr
 use Rattle.std.proofs.boxed.Box.from_raw.Symbol as raw_sym
 use Rattle.std.proofs.boxed.Box.from_raw.Met as raw_met
-use Rattle.inst_c.specs.contracts.held.parts.Parts.into_box as F
-use Rattle.inst_c.specs.contracts.held.parts.Parts.into_box.Key.{name as #self}
-use Rattle.inst_c.proofs.held.parts.Parts.into_box.Statement as stated
-use Rattle.inst_c.proofs.held.parts.Parts.into_box.Code as code
+use Rattle.inst_c.specs.contracts.held_hub.box_parts.BoxParts.into_box as F
+use Rattle.inst_c.specs.contracts.held_hub.box_parts.BoxParts.into_box.Key.{name as #self}
+use Rattle.inst_c.proofs.held_hub.box_parts.BoxParts.into_box.Statement as stated
+use Rattle.inst_c.proofs.held_hub.box_parts.BoxParts.into_box.Code as code
 
 abbrev rest : Body
 rest = seq (assign (place 0 []) (rv_opd (copy (place 4 [])))) return

@@ -1,12 +1,12 @@
 //! A hub behind a pointer that C holds, or none.
 ghost use Rattle.std.specs.Prelude.{◌≡◌, true, Option, Some, None, is_some};
-ghost use Rattle.inst_c.specs.Held.{held_owns};
-ghost use Rattle.inst_c.specs.declared.hub.Hub.{Hub as TheHub};
+ghost use Rattle.inst_c.specs.HeldHub.{held_owns};
+ghost use Rattle.inst_c.specs.declared.line_hub.LineHub.{LineHub as TheHub};
 
-mod parts;
+mod box_parts;
 
-use crate::hub::Hub;
-use parts::Parts;
+use crate::line_hub::LineHub;
+use box_parts::BoxParts;
 use std::alloc::Global;
 use std::marker::Model;
 use std::ptr;
@@ -14,59 +14,59 @@ use std::ptr;
 /// A hub, or none. C sees the pointer alone. To drop it is to leak the hub, if there is one.
 #[repr(C)]
 #[derive(Drop)]
-pub struct Held {
+pub struct HeldHub {
     at: *mut (),
     alloc: Global,
     pub ghost hub: { Option TheHub },
 }
 
-impl Model for Held {
+impl Model for HeldHub {
     ghost also_owns = { λ held. held_owns held.alloc held.at held.hub };
 }
 
-impl Held {
+impl HeldHub {
     /// No hub.
-    pub fn none(alloc: Global) -> Held
+    pub fn none(alloc: Global) -> HeldHub
         ensures { result.hub ≡ None }
     {
-        Held {
+        HeldHub {
             at: ptr::null_mut(),
             alloc,
         }
     }
 
     /// This hub.
-    pub fn of(hub: Box<Hub>) -> Held
+    pub fn of(hub: Box<LineHub>) -> HeldHub
         ensures { result.hub ≡ Some hub.value }
     {
-        Held::of_parts(Parts::of(hub))
+        HeldHub::of_parts(BoxParts::of(hub))
     }
 
     /// The hub again.
-    pub fn into_box(self) -> Box<Hub>
+    pub fn into_box(self) -> Box<LineHub>
         requires { is_some self.hub ≡ true }
         ensures { self.hub ≡ Some result.value }
     {
         self.into_parts().into_box()
     }
 
-    fn of_parts(parts: Parts<Hub, Global>) -> Held
+    fn of_parts(parts: BoxParts<LineHub, Global>) -> HeldHub
         ensures { result.hub ≡ Some parts.value }
     {
-        let Parts { ptr, alloc } = parts;
-        Held {
+        let BoxParts { ptr, alloc } = parts;
+        HeldHub {
             at: ptr as *mut (),
             alloc,
         }
     }
 
-    fn into_parts(self) -> Parts<Hub, Global>
+    fn into_parts(self) -> BoxParts<LineHub, Global>
         requires { is_some self.hub ≡ true }
         ensures { self.hub ≡ Some result.value }
     {
-        let Held { at, alloc } = self;
-        Parts {
-            ptr: at as *mut Hub,
+        let HeldHub { at, alloc } = self;
+        BoxParts {
+            ptr: at as *mut LineHub,
             alloc,
         }
     }
