@@ -12,10 +12,12 @@ use Rattle.inst_model.specs.Opening.{Opening}
 use Rattle.inst_model.specs.Hub.{history}
 use Rattle.inst_model.specs.Trace.{answer}
 use Rattle.inst_model.specs.Transfer.{Transfer, at_place}
-use Rattle.inst_agenda.specs.Agenda.{Agenda, is_entry, waits, is_next, Notes}
+use Rattle.inst_agenda.specs.Agenda.{Agenda, is_entry, waits, is_next}
+use Rattle.inst_agenda.specs.inner.Agenda.{Notes}
 use Rattle.inst_world.specs.HasRun.{Hub, settings_of, HasRun, Runs}
-use Rattle.inst_agenda.specs.Naming.{named_by}
-use Rattle.inst_agenda.specs.Watching.{IsLeft, IsAgendaOf, Watches, NotesSome, NotesNamed}
+use Rattle.inst_agenda.specs.inner.Naming.{named_by}
+use Rattle.inst_agenda.specs.Watching.{IsLeft, IsAgendaOf, Watches}
+use Rattle.inst_agenda.specs.inner.Watching.{NotesSome, NotesNamed}
 use Rattle.inst_board.specs.declared.place.Place.{Place}
 use Rattle.inst_slot.specs.Book.{place_at}
 use Rattle.inst_agenda.proofs.Noting.{notes_more, notes_none, noted_here}

@@ -9,7 +9,8 @@ use Rattle.std.proofs.lemmas.Bool.{false≢true, cases_Bool}
 use Rattle.std.proofs.lemmas.Bool.Decides.{nat_tests}
 use Rattle.inst_base.specs.TimeLimit.{is_due}
 use Rattle.inst_board.specs.declared.place.Place.{Place}
-use Rattle.inst_agenda.specs.Agenda.{Agenda, is_place, is_entry, waits, is_next, comes_before, Notes, Waits, NothingIsDue, TakesDue, Moves, TakesNext}
+use Rattle.inst_agenda.specs.Agenda.{Agenda, is_place, is_entry, waits, is_next}
+use Rattle.inst_agenda.specs.inner.Agenda.{comes_before, Notes, Waits, NothingIsDue, TakesDue, Moves, TakesNext}
 
 -- how the sets compare two places, and two entries
 abbrev pub place_cmp : ℕ × ℕ → ℕ × ℕ → Ordering

@@ -9,10 +9,11 @@ use Rattle.inst_board.specs.declared.place.Place.{Place}
 use Rattle.inst_model.specs.Opening.{Opening}
 use Rattle.inst_model.specs.Transfer.{Transfer, at_place, deadline}
 use Rattle.inst_model.specs.Hub.{outcome, history}
-use Rattle.inst_agenda.specs.Agenda.{Agenda, waits, is_entry, Waits}
+use Rattle.inst_agenda.specs.Agenda.{Agenda, waits, is_entry}
+use Rattle.inst_agenda.specs.inner.Agenda.{Waits}
 use Rattle.inst_agenda.specs.FollowUps.{of_transfer}
 use Rattle.inst_world.specs.HasRun.{Hub, settings_of, HasRun}
-use Rattle.inst_agenda.specs.Watching.{GoesOver}
+use Rattle.inst_agenda.specs.inner.Watching.{GoesOver}
 use Rattle.inst_agenda.proofs.Settled.{live_same_after_follow_up}
 
 addressed : (X : Option Transfer) (x : Transfer) (to : ℕ) → Some to ≡ option_map (λ (y : Transfer). y.to) X → X ≡ Some x → to ≡ x.to

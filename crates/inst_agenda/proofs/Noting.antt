@@ -13,9 +13,11 @@ use Rattle.inst_model.specs.Hub.{history}
 use Rattle.inst_model.specs.Transfer.{Transfer, live_transfers, at_place}
 use Rattle.inst_model.proofs.Standing.{the_live_have_their_places}
 use Rattle.inst_slot.specs.Book.{place_at}
-use Rattle.inst_agenda.specs.Agenda.{Agenda, is_place, is_entry, is_next, Notes}
+use Rattle.inst_agenda.specs.Agenda.{Agenda, is_place, is_entry, is_next}
+use Rattle.inst_agenda.specs.inner.Agenda.{Notes}
 use Rattle.inst_world.specs.HasRun.{Hub, settings_of, HasRun}
-use Rattle.inst_agenda.specs.Watching.{NotesSome, Watches}
+use Rattle.inst_agenda.specs.Watching.{Watches}
+use Rattle.inst_agenda.specs.inner.Watching.{NotesSome}
 
 -- one place more was noted
 pub notes_more : (a b c : Agenda) (place : Place) (from : ℕ) → place.owner ≡ from → NotesSome a b from → Notes b c place → NotesSome a c from

@@ -38,7 +38,7 @@ use Rattle.inst_model.proofs.Telling.{same_outcome}
 use Rattle.inst_model.proofs.Together.{together}
 use Rattle.inst_model.proofs.Transfers.{place_found, transfer_kept}
 use Rattle.inst_agenda.specs.FollowUps.{of_transfer}
-use Rattle.inst_agenda.specs.Naming.{named_by}
+use Rattle.inst_agenda.specs.inner.Naming.{named_by}
 use Rattle.inst_world.specs.HasRun.{Hub, settings_of, HasRun}
 use Rattle.inst_agenda.specs.Resting.{RestsWith, Rests}
 use Rattle.inst_world.proofs.Asking.{unwanted}

@@ -12,11 +12,13 @@ use Rattle.inst_model.specs.Opening.{Opening, IsOpening}
 use Rattle.inst_model.specs.Interleaving.{IsInterleaving}
 use Rattle.inst_model.specs.Transfer.{Transfer, live_transfers, at_place, deadline}
 use Rattle.inst_model.specs.Hub.{outcome, history}
-use Rattle.inst_agenda.specs.Agenda.{Agenda, waits, is_next, is_place, is_entry, comes_before, NothingIsDue, Moves, TakesNext}
+use Rattle.inst_agenda.specs.Agenda.{Agenda, waits, is_next, is_place, is_entry}
+use Rattle.inst_agenda.specs.inner.Agenda.{comes_before, NothingIsDue, Moves, TakesNext}
 use Rattle.inst_agenda.specs.FollowUps.{of_transfer, followed_up}
 use Rattle.inst_world.specs.HasRun.{Hub, settings_of, HasRun}
 use Rattle.inst_agenda.specs.Resting.{Rests}
-use Rattle.inst_agenda.specs.Watching.{IsLeft, IsAgendaOf, Watches, GoesOver}
+use Rattle.inst_agenda.specs.Watching.{IsLeft, IsAgendaOf, Watches}
+use Rattle.inst_agenda.specs.inner.Watching.{GoesOver}
 use Rattle.inst_agenda.proofs.Following.{gone_over, gone_on, gone_past, gone_nowhere, gone_over_places, gone_over_originators, originator_more}
 use Rattle.inst_agenda.proofs.Settled.{rests_runs, live_same_after_follow_up, follow_up_of_another_rests, own_follow_up_rests, follow_up_rests}
 

@@ -1,5 +1,7 @@
+-- Public contracts cite these.
 pub mod FollowUps
 pub mod Resting
 pub mod Agenda
-pub mod Naming
 pub mod Watching
+-- Only inner functions and proofs cite these.
+pub mod inner

@@ -1,14 +1,12 @@
 -- What a run knows of its hub between two lines: whatever something is left to do of stands on its agenda. So it goes over
 -- these transfers alone, and has gone over all. This hub's own choice.
-use Rattle.std.specs.Prelude.{◌≡◌, ◌⊎◌, ℕ, ◌<◌, true, false, List, ◌++◌, reverse, Option, Some, None}
+use Rattle.std.specs.Prelude.{◌≡◌, ℕ, ◌<◌, true, false, List, Some}
 use Rattle.inst_settings.specs.Settings.{HubSettings, is_participant}
 use Rattle.inst_command.specs.declared.step.Step.{Step}
-use Rattle.inst_board.specs.declared.place.Place.{Place}
 use Rattle.inst_model.specs.Opening.{Opening}
-use Rattle.inst_model.specs.Transfer.{Transfer, at_place, deadline}
-use Rattle.inst_model.specs.Hub.{history, outcome}
+use Rattle.inst_model.specs.Transfer.{Transfer, at_place}
+use Rattle.inst_model.specs.Hub.{history}
 use Rattle.inst_agenda.specs.Agenda.{Agenda, waits, is_next}
-use Rattle.inst_agenda.specs.FollowUps.{of_transfer}
 use Rattle.inst_world.specs.HasRun.{Hub, settings_of, HasRun}
 use Rattle.inst_agenda.specs.Resting.{Rests}
 
@@ -29,33 +27,3 @@ pub record IsAgendaOf (s : HubSettings) (O : Opening) (L : List Step) (agenda : 
 pub record Watches (O : Opening) (L : List Step) (hub : Hub) (agenda : Agenda) : Type 0 where
   pub ran : HasRun O L hub
   pub is_agenda : IsAgendaOf (settings_of hub) O L agenda
-
--- places of this originator are gone over next, and nothing else changed
-pub record NotesSome (old new : Agenda) (from : ℕ) : Type 0 where
-  pub waiting_is : new.waiting ≡ old.waiting
-  pub next_still : (p place : ℕ) → is_next old p place ≡ true → is_next new p place ≡ true
-  pub next_from : (p place : ℕ) → is_next new p place ≡ true → (is_next old p place ≡ true) ⊎ (p ≡ from)
-
--- the live transfer that is named, if any, is gone over next, and nothing else changed but for places of participants
-pub record NotesNamed (hub : Hub) (named : Option (ℕ × List ℕ)) (old new : Agenda) : Type 0 where
-  pub waiting_is : new.waiting ≡ old.waiting
-  pub next_still : (p place : ℕ) → is_next old p place ≡ true → is_next new p place ≡ true
-  pub next_from : (p place : ℕ) → is_next new p place ≡ true →
-      (is_next old p place ≡ true) ⊎ (is_participant (settings_of hub) p ≡ true)
-  pub noted : (O : Opening) (L : List Step) → HasRun O L hub → (p place : ℕ) (x : Transfer) →
-      at_place p (history (settings_of hub) O L p) place ≡ Some x → named ≡ Some (p, x.id) → is_next new p place ≡ true
-
--- The transfer at the place, if there is one, was gone over at this reading
--- none, some: so the hub has run its steps
--- waits_for: where it is pending then, it waits for its deadline
--- waits_still, waits_from: nothing else waits
-pub record GoesOver (O : Opening) (L : List Step) (at : ℕ) (place : Place) (hub new_hub : Hub) (old new : Agenda) : Type 0 where
-  pub none : at_place place.owner (history (settings_of hub) O L place.owner) place.index ≡ None → HasRun O L new_hub
-  pub some : (x : Transfer) → at_place place.owner (history (settings_of hub) O L place.owner) place.index ≡ Some x →
-      HasRun O (reverse (of_transfer at place.owner place.index x.to) ++ L) new_hub
-  pub waits_for : (x : Transfer) → at_place place.owner (history (settings_of hub) O L place.owner) place.index ≡ Some x →
-      outcome (settings_of hub) O (reverse (of_transfer at place.owner place.index x.to) ++ L) place.owner x.id ≡ None →
-      waits new (deadline (settings_of hub) x) place.owner place.index ≡ true
-  pub waits_still : (m p k : ℕ) → waits old m p k ≡ true → waits new m p k ≡ true
-  pub waits_from : (m p k : ℕ) → waits new m p k ≡ true →
-      (waits old m p k ≡ true) ⊎ ((p ≡ place.owner) × (k ≡ place.index))

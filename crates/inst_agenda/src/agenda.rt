@@ -1,6 +1,6 @@
 //! What a run still has to do between its lines.
 ghost use Rattle.std.specs.Prelude.{◌≡◌, [], OnOk};
-ghost use Rattle.inst_agenda.specs.Agenda.{Notes, Waits, TakesAnyDue, MovesDue, TakesAnyNext};
+ghost use Rattle.inst_agenda.specs.inner.Agenda.{Notes, Waits, TakesAnyDue, MovesDue, TakesAnyNext};
 
 use inst_base::Moment;
 use inst_board::Place;

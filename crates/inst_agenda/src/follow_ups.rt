@@ -5,7 +5,8 @@ ghost use Rattle.inst_command.specs.declared.step.Step.{Step};
 ghost use Rattle.inst_model.specs.Opening.{Opening};
 ghost use Rattle.inst_world.specs.HasRun.{HasRun};
 ghost use Rattle.inst_agenda.specs.FollowUps.{of_transfer, followed_up};
-ghost use Rattle.inst_agenda.specs.Watching.{Watches, GoesOver};
+ghost use Rattle.inst_agenda.specs.Watching.{Watches};
+ghost use Rattle.inst_agenda.specs.inner.Watching.{GoesOver};
 
 use crate::runner::Runner;
 use inst_base::Moment;

@@ -10,9 +10,10 @@ ghost use Rattle.inst_model.specs.Trace.{answer};
 ghost use Rattle.inst_model.specs.Transfer.{Transfer, at_place};
 ghost use Rattle.inst_slot.specs.Book.{place_at};
 ghost use Rattle.inst_world.specs.HasRun.{HasRun, Runs, IsOfModel};
-ghost use Rattle.inst_agenda.specs.Naming.{named_by};
+ghost use Rattle.inst_agenda.specs.inner.Naming.{named_by};
 ghost use Rattle.inst_agenda.specs.Agenda.{is_next};
-ghost use Rattle.inst_agenda.specs.Watching.{Watches, NotesSome, NotesNamed};
+ghost use Rattle.inst_agenda.specs.Watching.{Watches};
+ghost use Rattle.inst_agenda.specs.inner.Watching.{NotesSome, NotesNamed};
 
 use crate::agenda::Agenda;
 use inst_board::Place;

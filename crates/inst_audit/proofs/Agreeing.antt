@@ -25,11 +25,11 @@ use Rattle.inst_model.proofs.FittingMirror.{forwarding_there}
 use Rattle.inst_ledger.specs.declared.sending.Forwarding.{Forwarding}
 use Rattle.inst_ledger.specs.declared.sending.Sending.{Sending}
 use Rattle.inst_ledger.specs.Kept.{sending_of, forwarding_of}
-use Rattle.inst_ledger.specs.Transfers.{same_key}
+use Rattle.inst_ledger.specs.inner.Transfers.{same_key}
 use Rattle.inst_ledger.proofs.Forwards.{forwarding_absent, forwarded_found}
 use Rattle.inst_ledger.proofs.Tables.{sending_absent}
 use Rattle.inst_world.proofs.Promising.{fitting}
-use Rattle.inst_audit.specs.Agreeing.{IsReleased, IsReceived, IsSent, Agrees}
+use Rattle.inst_audit.specs.inner.Agreeing.{IsReleased, IsReceived, IsSent, Agrees}
 
 -- what is found first is what one of the elements gives
 first_there : {A B : Type 0} (f : A → Option B) (xs : List A) (y : B) → first_some f xs ≡ Some y → (x : A) × Contains xs x × (f x ≡ Some y)

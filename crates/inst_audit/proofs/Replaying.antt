@@ -13,8 +13,8 @@ use Rattle.inst_ledger.specs.Book.{Book, BookAndRoom, with_event}
 use Rattle.inst_ledger.proofs.Opening.{fits_at_place, one_more}
 use Rattle.inst_world.specs.NextOpening.{kept_by, books_of, CanOpenFrom}
 use Rattle.inst_world.proofs.Reopening.{book_at}
-use Rattle.inst_audit.specs.Agreeing.{Agrees, kept_in, histories_of}
-use Rattle.inst_audit.specs.Replaying.{CanBeBook, AreKept, AreAllKept}
+use Rattle.inst_audit.specs.inner.Agreeing.{Agrees, kept_in, histories_of}
+use Rattle.inst_audit.specs.inner.Replaying.{CanBeBook, AreKept, AreAllKept}
 use Rattle.inst_audit.proofs.Agreeing.{agreement_closes, closed_agree}
 
 abbrev pub book_with : HubSettings → ℕ → List Event → Book

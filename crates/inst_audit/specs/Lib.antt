@@ -1,3 +1,4 @@
+-- Public contracts cite these.
 pub mod Tally
-pub mod Agreeing
-pub mod Replaying
+-- Only inner functions and proofs cite these.
+pub mod inner

@@ -2,7 +2,7 @@
 ghost use Rattle.std.specs.Prelude.{◌≡◌, ◌↔◌, ℕ, ◌<◌, ◌≤◌, length, Some, IfOk, IfSome, IsSome, IsTrue, MatchOption};
 ghost use Rattle.inst_settings.specs.Settings.{participants};
 ghost use Rattle.inst_world.specs.NextOpening.{books_of, CanOpenFrom};
-ghost use Rattle.inst_audit.specs.Replaying.{CanBeBook, AreAllKept};
+ghost use Rattle.inst_audit.specs.inner.Replaying.{CanBeBook, AreAllKept};
 
 use crate::replay::Replay;
 use crate::sides::books_agree;

@@ -3,7 +3,7 @@ ghost use Rattle.std.specs.Prelude.{◌≡◌, ◌↔◌, ◌≤◌, ℕ, IsTrue
 ghost use Rattle.std.specs.List.{All};
 ghost use Rattle.inst_journal.specs.Booked.{first_some, booked};
 ghost use Rattle.inst_ledger.specs.Kept.{sending_of, forwarding_of};
-ghost use Rattle.inst_audit.specs.Agreeing.{IsReleased, IsReceived, IsSent, Agrees, histories_of};
+ghost use Rattle.inst_audit.specs.inner.Agreeing.{IsReleased, IsReceived, IsSent, Agrees, histories_of};
 
 use inst_base::{Cents, Ident, Moment, mention};
 use inst_command::Outcome;

@@ -3,7 +3,7 @@ use Rattle.std.proofs.Common.{ℕ, ◌≤◌, ◌++◌, List, length, drop, repl
 use Rattle.std.proofs.Math.Seq.{take-append_seam, drop-append_seam}
 use Rattle.std.proofs.lemmas.List.{drop-replicate, length-replicate}
 use Rattle.std.specs.Str.{IsAscii}
-use Rattle.inst_base.specs.ShortText.{IsKept}
+use Rattle.inst_base.specs.inner.ShortText.{IsKept}
 
 pub IsKept-front : (room : ℕ) (text : List ℕ) → length text ≤ room → IsAscii text → IsKept room (text ++ drop (length text) (replicate room 0)) (length text)
 IsKept-front room text fits ascii = record {

@@ -1,6 +1,8 @@
+-- Public contracts cite these.
 pub mod Fault
 pub mod Cents
 pub mod Moment
 pub mod TimeLimit
 pub mod Text
-pub mod ShortText
+-- Only inner functions and proofs cite these.
+pub mod inner

@@ -14,7 +14,8 @@ use Rattle.inst_board.specs.declared.place.Place.{Place}
 use Rattle.inst_board.specs.declared.plain.Kept.{Kept}
 use Rattle.inst_board.specs.declared.plain.Kept.TheVariants.{Unused, Written, Pending, Final}
 use Rattle.inst_board.specs.Standing.{is_place, IsPlace, IsLawful, word_of}
-use Rattle.inst_board.specs.Plain.{Contents, number_of, rank_of, kept_at, standing_of, standing_at, terms_of, HaveTerms, IsContents, Puts, PutsTerms, Becomes}
+use Rattle.inst_board.specs.Plain.{Contents, number_of, rank_of, kept_at, standing_of, standing_at, terms_of, HaveTerms, IsContents, Becomes}
+use Rattle.inst_board.specs.inner.Plain.{Puts, PutsTerms}
 
 pub record IsInside (s : HubSettings) (k : Place) : Type 0 where
   pub owner : k.owner < participants s

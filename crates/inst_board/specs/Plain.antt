@@ -1,6 +1,6 @@
 -- What a plain board keeps: one value for each place, up to the last one that was written. All of it is known to its one
 -- holder. How places lie in a list is this hub's own choice.
-use Rattle.std.specs.Prelude.{◌≡◌, ◌≢◌, ◌<◌, ◌≤◌, ℕ, ◌+◌, ◌*◌, List, Option, Some, None, true, false, IsTrue, refl, if◌then◌else◌, length, get_or, slice_get}
+use Rattle.std.specs.Prelude.{◌≡◌, ◌≢◌, ◌≤◌, ℕ, ◌+◌, ◌*◌, List, Option, Some, None, true, false, IsTrue, refl, if◌then◌else◌, length, get_or, slice_get}
 use Rattle.inst_command.specs.declared.outcome.Outcome.{Outcome}
 use Rattle.inst_settings.specs.Settings.{HubSettings, participants}
 use Rattle.inst_terms.specs.declared.terms.Terms.{Terms}
@@ -96,17 +96,6 @@ terms_of (Final terms deadline outcome at) = Some terms
 -- the terms that are kept of each place lie at its rank
 abbrev pub HaveTerms : List Kept → List Terms → Type 0
 HaveTerms kept all = (k : ℕ) (terms : Terms) → terms_of (get_or kept k Unused) ≡ Some terms → slice_get all k ≡ Some terms
-
--- in the second list the terms stand at their rank, and all others stay
-pub record PutsTerms (old : List Terms) (rank : ℕ) (terms : Terms) (new : List Terms) : Type 0 where
-  pub here : slice_get new rank ≡ Some terms
-  pub elsewhere : (j : ℕ) (other : Terms) → j ≢ rank → slice_get old j ≡ Some other → slice_get new j ≡ Some other
-
--- in the second list the value stands at its rank, and all others stay
-pub record Puts (old : List Kept) (rank : ℕ) (value : Kept) (new : List Kept) : Type 0 where
-  pub here : get_or new rank Unused ≡ value
-  pub elsewhere : (j : ℕ) → j ≢ rank → get_or new j Unused ≡ get_or old j Unused
-  pub within : (most : ℕ) → length old ≤ most → rank < most → length new ≤ most
 
 -- from the first to the second, the place k comes to be kept so, and all others stay
 pub record Becomes (old : Contents) (k : Place) (kept : Kept) (new : Contents) : Type 0 where

@@ -1,7 +1,7 @@
 //! The board of a hub on one thread.
 ghost use Rattle.std.specs.Prelude.{◌≡◌, ◌+◌, ◌*◌, ◌<◌, ◌≤◌, ℕ, Some, IfOk, IsTrue, length, get_or, vec_capacity};
 ghost use Rattle.inst_board.specs.declared.plain.Kept.TheVariants.{Unused as KeptUnused};
-ghost use Rattle.inst_board.specs.Plain.{Puts, PutsTerms};
+ghost use Rattle.inst_board.specs.inner.Plain.{Puts, PutsTerms};
 
 use crate::kept_word::KeptWord;
 use crate::{Board, Glance, Look, Place, Wish};

@@ -6,8 +6,9 @@ use Rattle.serde_json.specs.Data.{Data, object, string}
 use Rattle.serde_json.specs.Written.{compact_text, members_text}
 use Rattle.inst_json.specs.Replies.{members, whole}
 use Rattle.inst_json.proofs.Plain.{escape-among}
-use Rattle.inst_books.specs.Members.{begin_text, text_member, whole_member}
-use Rattle.inst_books.specs.Events.{in_book, is_name}
+use Rattle.inst_books.specs.inner.Members.{begin_text, text_member, whole_member}
+use Rattle.inst_books.specs.Events.{in_book}
+use Rattle.inst_books.specs.inner.Events.{is_name}
 
 pub escape-name : (name : List ℕ) → is_name name ≡ true → escape name ≡ name
 unfolding escape_byte

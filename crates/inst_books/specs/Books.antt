@@ -1,6 +1,6 @@
 -- The books of all participants as text: the lines of one book behind those of another, in the order of the
 -- participants' numbers, each with its newline. This hub's own choice.
-use Rattle.std.specs.Prelude.{◌≡◌, ◌⊎◌, ℕ, zero, suc, ◌+◌, ◌==◌, true, if◌then◌else◌, Result, Ok, Err}
+use Rattle.std.specs.Prelude.{◌≡◌, ℕ, zero, suc, ◌+◌, ◌==◌, true, if◌then◌else◌, Result, Ok, Err}
 use Rattle.std.specs.Prelude.{List, [], ◌∷◌, ◌++◌, length, map, replicate}
 use Rattle.std.specs.List.{list_all}
 use Rattle.inst_settings.specs.Settings.{HubSettings, participants}
@@ -8,7 +8,7 @@ use Rattle.inst_journal.specs.declared.event.Event.{Event}
 use Rattle.inst_journal.specs.History.{History}
 use Rattle.inst_log.specs.Layout.{recovered, blocks}
 use Rattle.inst_books.specs.declared.fault.BookFault.{BookFault}
-use Rattle.inst_books.specs.declared.fault.BookFault.TheVariants.{BadLine, Memory}
+use Rattle.inst_books.specs.declared.fault.BookFault.TheVariants.{BadLine}
 use Rattle.inst_books.specs.Events.{event_line, event_can_be_written}
 use Rattle.inst_books.specs.Reading.{Entry, event_of_line}
 
@@ -42,15 +42,6 @@ abbrev pub with_event : ℕ → Event → List (List Event) → List (List Event
 with_event who event [] = []
 with_event zero event (book ∷ books) = (book ++ event ∷ []) ∷ books
 with_event (suc who) event (book ∷ books) = book ∷ with_event who event books
-
--- The event that a line says was put into its book, or it is told why not: memory was refused, or the line is a bad
--- one.
-abbrev pub Keeps : Result Entry BookFault → Result (Unit {0}) BookFault → List (List Event) → List (List Event) →
-    Type 0
-Keeps (Ok entry) (Ok done) before after = after ≡ with_event entry.0 entry.1 before
-Keeps (Ok entry) (Err fault) before after = fault ≡ Memory
-Keeps (Err bad) (Ok done) before after = ⊥
-Keeps (Err bad) (Err fault) before after = (fault ≡ Memory) ⊎ (fault ≡ bad)
 
 -- an event that was read goes into its book, and then the others into theirs; the first bad line stands
 abbrev pub go_on : (List (List Event) → Result (List (List Event)) BookFault) → List (List Event) →

@@ -1,10 +1,9 @@
 -- The events of participants' books as JSON objects, one a line. Each is a table of its members, with the keys in
 -- byte order. Moments are absolute milliseconds, amounts cents, and participants codes. This hub's own choice.
 use Rattle.std.specs.Prelude.{ℕ, ◌+◌, Bool, true, List, [], ◌∷◌, codes}
-use Rattle.std.specs.List.{list_any}
 use Rattle.serde_json.specs.Data.{Data, object, string}
 use Rattle.serde_json.specs.Written.{compact_text}
-use Rattle.inst_settings.specs.Settings.{HubSettings, same_text, is_participant}
+use Rattle.inst_settings.specs.Settings.{HubSettings, is_participant}
 use Rattle.inst_command.specs.Ask.{is_count}
 use Rattle.inst_command.specs.LineText.{code_numbered}
 use Rattle.inst_command.specs.declared.outcome.Outcome.{Outcome}
@@ -17,11 +16,6 @@ use Rattle.inst_json.specs.Replies.{members, whole}
 -- an event, by its name
 abbrev pub named : List ℕ → List ℕ × Data
 named name = (codes "event", string name)
-
--- the names of fundings, and of outcomes without a reason
-abbrev pub is_name : List ℕ → Bool
-is_name name =
-    list_any (same_text name) (codes "funded" ∷ codes "defunded" ∷ codes "accepted" ∷ codes "timed_out" ∷ [])
 
 -- the participant in whose book it stands
 abbrev pub in_book : List ℕ → List ℕ × Data

@@ -10,7 +10,8 @@ ghost use Rattle.inst_books.specs.Events.{event_line, event_can_be_written};
 ghost use Rattle.inst_books.specs.Laws.{event_has_form, AreBooksOf};
 ghost use Rattle.inst_books.specs.Reading.{GivesUnlessMemory, event_of_line};
 ghost use Rattle.inst_books.specs.Books.{all_events, books_text, books_of_text, no_books, with_event};
-ghost use Rattle.inst_books.specs.Books.{AreWritable, Keeps};
+ghost use Rattle.inst_books.specs.Books.{AreWritable};
+ghost use Rattle.inst_books.specs.inner.Books.{Keeps};
 
 use crate::write::append_event_in;
 use crate::{BookFault, read_event};

@@ -1,6 +1,6 @@
 //! The members of an object, each put at the end of those before.
 ghost use Rattle.std.specs.Prelude.{◌≡◌, ◌++◌, [], ◌∷◌, OnOk};
-ghost use Rattle.inst_books.specs.Members.{begin_text, text_member, whole_member};
+ghost use Rattle.inst_books.specs.inner.Members.{begin_text, text_member, whole_member};
 
 use inst_json::piece::{push_number, push_text};
 use std::alloc::AllocError;

@@ -4,7 +4,7 @@ ghost use Rattle.serde_json.specs.View.{view};
 ghost use Rattle.inst_base.specs.Fault.{IsUnlessMemory as IsUnlessNoMemory};
 ghost use Rattle.inst_settings.specs.Settings.{HubSettings, is_participant};
 ghost use Rattle.inst_json.specs.Lines.{json_of};
-ghost use Rattle.inst_json.specs.Refusals.{GivesUnlessMemory};
+ghost use Rattle.inst_json.specs.inner.Refusals.{GivesUnlessMemory};
 ghost use Rattle.inst_books.specs.Events.{event_can_be_written};
 ghost use Rattle.inst_books.specs.Reading.{event_of_line, entry_of_line, entry_in, event_named, IsUnlessMemory};
 ghost use Rattle.inst_books.specs.Reading.{funded_in, defunded_in, taken_in, forwarded_in, booked_in, fetched_in};

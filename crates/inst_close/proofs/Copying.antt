@@ -16,7 +16,7 @@ use Rattle.inst_together.specs.Together.{events_of, histories}
 use Rattle.inst_close.specs.ClosedHub.{IsClosed}
 use Rattle.inst_together.specs.Wider.{widened}
 use Rattle.inst_together.proofs.Wider.{closed_wider}
-use Rattle.inst_close.specs.NextOpening.{AreCopies, AreCopiesAnd}
+use Rattle.inst_close.specs.inner.NextOpening.{AreCopies, AreCopiesAnd}
 
 -- the first n are copied
 pub record CopiedBelow (books : List Book) (journals : List History) (n : ℕ) : Type 0 where

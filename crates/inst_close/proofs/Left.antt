@@ -23,7 +23,8 @@ use Rattle.inst_close.specs.declared.closing.CloseFault.{CloseFault}
 use Rattle.inst_close.specs.ClosedHub.{ClosedHub}
 use Rattle.inst_close.proofs.Since.{have_opened}
 use Rattle.inst_model.specs.Opening.{Opening}
-use Rattle.inst_close.specs.Closing.{IsOpenedSo, HaveOpened, GoOnFrom, TellAll, AreOfHub, IsLeftOf, IsPartly, IsClosedFrom, rest_of}
+use Rattle.inst_close.specs.Closing.{IsOpenedSo, HaveOpened, GoOnFrom, TellAll, AreOfHub, IsLeftOf, IsClosedFrom, rest_of}
+use Rattle.inst_close.specs.inner.Closing.{IsPartly}
 
 pub further : (H J K : List Event) → IsPrefix H J → OnlyTold J K → IsPrefix H K
 further H J K front told = (front.0 ++ told.events, sym (append_assoc H front.0 told.events) ∙ (ap (λ l. l ++ told.events) front.1 ∙ sym told.appended))

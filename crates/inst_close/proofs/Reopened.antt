@@ -18,7 +18,7 @@ use Rattle.inst_hub.specs.declared.hub.Hub.{Hub}
 use Rattle.inst_hub.specs.Founding.{HasOpened}
 use Rattle.inst_close.specs.ClosedHub.{ClosedHub, IsClosed}
 use Rattle.inst_close.specs.Closing.{IsNextOf}
-use Rattle.inst_close.specs.NextOpening.{AreCopiesAnd}
+use Rattle.inst_close.specs.inner.NextOpening.{AreCopiesAnd}
 use Rattle.inst_close.proofs.Copying.{can_open_wider}
 
 pub if_both : {A E : Type 0} (r : Result A E) (P Q R : A → Type 0) → ((v : A) → P v → Q v → R v) → IfOk r P → IfOk r Q → IfOk r R

@@ -19,7 +19,7 @@ use Rattle.inst_together.specs.Together.{histories}
 use Rattle.inst_row.specs.Seated.{HasSeen}
 use Rattle.inst_together.specs.Told.{told, IsTakenWith}
 use Rattle.inst_parts.specs.declared.parts.Parts.{Parts}
-use Rattle.inst_parts.specs.Apart.{IsPartsOf, AreLater, histories_of, board_of, hub_of}
+use Rattle.inst_parts.specs.Apart.{IsPartsOf, histories_of, board_of, hub_of}
 use Rattle.inst_hub.specs.declared.hub.Hub.{Hub}
 use Rattle.inst_hub.specs.declared.teller.Teller.{Teller}
 use Rattle.inst_hub.specs.Calls.{knows_of, AreOf}
@@ -70,11 +70,6 @@ IsLeftOf h tellers (Apart parts) = AreOfHub h tellers parts
 abbrev pub MayClose : Rest → Type 0
 MayClose (Whole hub handed) = AreOf hub handed.items × (parts_of handed.items ≡ 16) × ((O : Opening) × IsOpenedSo O hub)
 MayClose (Apart parts) = (O : Opening) × IsPartsOf O parts
-
--- what is left is the same parts later
-abbrev pub IsPartly : Parts → Rest → Type 0
-IsPartly p (Whole hub handed) = ⊥
-IsPartly p (Apart parts) = AreLater p parts
 
 abbrev pub rest_of : CloseFault → Rest
 rest_of (Memory rest) = rest

@@ -8,7 +8,8 @@ ghost use Rattle.inst_together.specs.Wider.{widened};
 ghost use Rattle.inst_hub.specs.Calls.{AreOf};
 ghost use Rattle.inst_hub.specs.Opening.{parts_of};
 ghost use Rattle.inst_close.specs.ClosedHub.{ClosedHub};
-ghost use Rattle.inst_close.specs.NextOpening.{AreCopies, AreCopiesAnd, MayOpenWider};
+ghost use Rattle.inst_close.specs.NextOpening.{MayOpenWider};
+ghost use Rattle.inst_close.specs.inner.NextOpening.{AreCopies, AreCopiesAnd};
 ghost use Rattle.inst_close.specs.Closing.{IsNextOf};
 
 use crate::Books;

@@ -10,7 +10,7 @@ use Rattle.inst_desk.specs.declared.hand.Hand.{Hand}
 use Rattle.inst_hub.specs.declared.teller.Teller.{Teller}
 use Rattle.inst_crew.specs.declared.crew.Crew.{Crew}
 use Rattle.inst_crew.specs.declared.shift.Shift.{Shift}
-use Rattle.inst_crew.specs.Workers.{IsGathered, sights_of}
+use Rattle.inst_crew.specs.inner.Workers.{IsGathered, sights_of}
 
 map_more : {X Y : Type 0} (f : X → Y) (xs : List X) (x : X) → map f (xs ++ x ∷ []) ≡ map f xs ++ f x ∷ []
 map_more f [] x = refl

@@ -17,7 +17,7 @@ use Rattle.inst_crew.specs.declared.worker.Worker.{Worker}
 use Rattle.inst_crew.specs.Crew.{fitting, answered_between}
 use Rattle.inst_crew.specs.Later.{Pairs, IsLaterHand, IsLaterTeller}
 use Rattle.inst_crew.specs.Seen.{IsSeen, AreSeenByOne}
-use Rattle.inst_crew.specs.Workers.{hands_of, tellers_of, sights_of, IsReady, AreReady, Works, AllWork}
+use Rattle.inst_crew.specs.inner.Workers.{hands_of, tellers_of, sights_of, IsReady, AreReady, Works, AllWork}
 use Rattle.inst_crew.proofs.Working.{fitting_both, fitting_prefix}
 
 pub first_is : {X : Type 0} (xs : List X) (x y : X) → slice_get (x ∷ xs) 0 ≡ Some y → x ≡ y

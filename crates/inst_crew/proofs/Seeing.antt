@@ -17,7 +17,8 @@ use Rattle.inst_hub.specs.declared.hub.Hub.{Hub}
 use Rattle.inst_hub.specs.declared.teller.Teller.{Teller}
 use Rattle.inst_participant.specs.Answers.{IsTicket, IsSubmitted}
 use Rattle.inst_hub.specs.Calls.{KnowsMore, Calls, knows_of}
-use Rattle.inst_crew.specs.Seen.{IsSeen, AreSeen}
+use Rattle.inst_crew.specs.Seen.{IsSeen}
+use Rattle.inst_crew.specs.inner.Seen.{AreSeen}
 
 no_ticket : (k : Place) → Some k ≡ None → ⊥
 no_ticket k e = cc

@@ -14,7 +14,7 @@ use Rattle.inst_crew.specs.declared.worker.Worker.{Worker}
 use Rattle.inst_crew.specs.Crew.{answered_between}
 use Rattle.inst_crew.specs.Later.{Pairs, IsLaterHand, IsLaterTeller}
 use Rattle.inst_crew.specs.Seen.{AreSeenByOne}
-use Rattle.inst_crew.specs.Workers.{hands_of, tellers_of, sights_of, Works, AllWork, IsGathered}
+use Rattle.inst_crew.specs.inner.Workers.{hands_of, tellers_of, sights_of, Works, AllWork, IsGathered}
 use Rattle.inst_crew.proofs.Pairing.{pairs_both, pairs_from, pairs_hands, pairs_tellers, all_answered, all_seen, seen_with}
 
 -- what a crew promises

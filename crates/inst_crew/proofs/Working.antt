@@ -18,8 +18,8 @@ use Rattle.inst_crew.specs.declared.shift.Shift.{Shift}
 use Rattle.inst_crew.specs.declared.worker.Worker.{Worker}
 use Rattle.inst_crew.specs.Crew.{fitting}
 use Rattle.inst_crew.specs.Later.{IsLaterHand, IsLaterTeller}
-use Rattle.inst_crew.specs.Seen.{AreSeen}
-use Rattle.inst_crew.specs.Workers.{IsReady, Works}
+use Rattle.inst_crew.specs.inner.Seen.{AreSeen}
+use Rattle.inst_crew.specs.inner.Workers.{IsReady, Works}
 
 pub knows_same : (t : Teller) → KnowsMore t t
 knows_same t = record { facts = λ f k. k; fronts = λ p J k. k; parts = refl }

@@ -1,4 +1,6 @@
+-- Public contracts cite these.
 pub mod Later
 pub mod Seen
 pub mod Crew
-pub mod Workers
+-- Only inner functions and proofs cite these.
+pub mod inner

@@ -15,10 +15,7 @@ pub record IsSeen (t : Teller) (sight : Place × State) : Type 0 where
   pub used : sight.1 ≢ Unused
   pub outcome : (o : Outcome) → sight.1 ≡ IsDecided o → knows_of t (about sight.0 (Decided o))
 
-abbrev pub AreSeen : Teller → List (Place × State) → Type 0
-AreSeen t sights = (i : ℕ) (sight : Place × State) → slice_get sights i ≡ Some sight → IsSeen t sight
-
--- each by one of these tellers
+-- each is seen by one of these tellers
 abbrev pub AreSeenByOne : List Teller → List (Place × State) → Type 0
 AreSeenByOne tellers sights = (i : ℕ) (sight : Place × State) → slice_get sights i ≡ Some sight →
     (j : ℕ) × (t : Teller) × (slice_get tellers j ≡ Some t) × IsSeen t sight

@@ -1,7 +1,7 @@
 //! What all workers of a crew did.
 ghost use Rattle.std.specs.Prelude.{◌≡◌, IfOk, List, map, Ok};
 ghost use Rattle.inst_crew.specs.declared.shift.Shift.{Shift};
-ghost use Rattle.inst_crew.specs.Workers.{IsGathered};
+ghost use Rattle.inst_crew.specs.inner.Workers.{IsGathered};
 
 use crate::crew::Crew;
 use crate::shift::Shift;

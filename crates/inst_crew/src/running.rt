@@ -6,7 +6,7 @@ ghost use Rattle.inst_hub.specs.Opening.{parts_of as parts_of_tellers};
 ghost use Rattle.inst_crew.specs.Later.{Pairs, IsLaterHand, IsLaterTeller};
 ghost use Rattle.inst_crew.specs.Crew.{MaySweep, sweeper_of, answered_between};
 ghost use Rattle.inst_crew.specs.Seen.{AreSeenByOne};
-ghost use Rattle.inst_crew.specs.Workers.{IsReady, AreReady, Works, AllWork};
+ghost use Rattle.inst_crew.specs.inner.Workers.{IsReady, AreReady, Works, AllWork};
 
 use crate::crew::Crew;
 use crate::gathering::gather;

@@ -6,8 +6,8 @@ ghost use Rattle.inst_board.specs.Standing.{about};
 ghost use Rattle.inst_desk.specs.Desk.{IsHandOf};
 ghost use Rattle.inst_hub.specs.Calls.{IsOf, KnowsMore, knows_of};
 ghost use Rattle.inst_crew.specs.declared.worker.Worker.{Worker};
-ghost use Rattle.inst_crew.specs.Seen.{AreSeen};
-ghost use Rattle.inst_crew.specs.Workers.{IsReady, Works};
+ghost use Rattle.inst_crew.specs.inner.Seen.{AreSeen};
+ghost use Rattle.inst_crew.specs.inner.Workers.{IsReady, Works};
 
 use crate::worker::Worker;
 use inst_base::mention;

@@ -9,7 +9,8 @@ use Rattle.inst_desk.specs.declared.account.Account.{Account}
 use Rattle.inst_desk.specs.declared.desk.Desk.{Desk}
 use Rattle.inst_desk.specs.declared.hand.Hand.{Hand}
 use Rattle.inst_desk.specs.declared.job.Job.{Job}
-use Rattle.inst_desk.specs.Account.{account, first_account, one_part, less_one_part, together}
+use Rattle.inst_desk.specs.Account.{account, first_account}
+use Rattle.inst_desk.specs.inner.Account.{one_part, less_one_part, together}
 use Rattle.inst_desk.specs.Desk.{IsHandOf, AreHandsOf, AreAllHandsOf, IsNewHand, account_of, parts_of, put_of, taken_of, put_together, taken_together}
 
 hand_at : (hands : List Hand) (h g : Hand) (i : ℕ) (P : Hand → Type 0) → P h → ((j : ℕ) (x : Hand) → slice_get hands j ≡ Some x → P x) → slice_get (hands ++ h ∷ []) i ≡ Some g → P g

@@ -7,7 +7,8 @@ use lib.ListN.{get_elem?}
 use Rattle.crossbeam_queue.specs.Fifo.{Pushes, Pops, Forks, Merges, Learns}
 use Rattle.inst_desk.specs.declared.account.Account.{Account}
 use Rattle.inst_desk.specs.declared.job.Job.{Job}
-use Rattle.inst_desk.specs.Account.{all_of, with_put, with_taken, first_account, one_part, less_one_part, together, no_account, MayLie, LiesFirst}
+use Rattle.inst_desk.specs.Account.{all_of, first_account, MayLie, LiesFirst}
+use Rattle.inst_desk.specs.inner.Account.{with_put, with_taken, one_part, less_one_part, together, no_account}
 use Rattle.inst_desk.specs.Rule.{IsTallied}
 use Rattle.atomic_table.proofs.Lists.{set_else}
 use Rattle.inst_desk.proofs.Lists.{sum_set, sum_snoc, weigh_set, weigh_snoc, each_set, each_snoc, nothing_done}

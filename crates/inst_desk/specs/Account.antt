@@ -1,6 +1,6 @@
 -- What a hand did at its desk, and what that says of the jobs that lie there. Jobs, hands and their parts of a desk are this
 -- hub's own choice.
-use Rattle.std.specs.Prelude.{◌≡◌, ℕ, ◌+◌, ◌-◌, ◌^◌, min, List, [], ◌∷◌, ◌++◌, length, sum_by}
+use Rattle.std.specs.Prelude.{◌≡◌, ℕ, ◌-◌, ◌^◌, min, List, [], ◌∷◌, ◌++◌, length, sum_by}
 use Rattle.inst_desk.specs.declared.account.Account.{Account}
 use Rattle.inst_desk.specs.declared.job.Job.{Job}
 
@@ -21,31 +21,9 @@ counted jobs = min (length jobs) (2 ^ 64 - 1)
 abbrev pub account : ℕ → List Job → List Job → Account
 account parts put taken = record { parts = parts; put = put; taken = taken }
 
-abbrev pub with_put : Account → Job → Account
-with_put v job = account v.parts (v.put ++ job ∷ []) v.taken
-
-abbrev pub with_taken : Account → Job → Account
-with_taken v job = account v.parts v.put (v.taken ++ job ∷ [])
-
 -- the first hand has all parts
 abbrev pub first_account : Account
 first_account = account 16 [] []
-
--- a new hand beside this one
-abbrev pub one_part : Account → Account
-one_part v = account 1 [] []
-
--- this one, once there is a new hand beside it
-abbrev pub less_one_part : Account → Account
-less_one_part v = account (v.parts - 1) v.put v.taken
-
--- what two hands did
-abbrev pub together : Account → Account → Account
-together v w = account (v.parts + w.parts) (v.put ++ w.put) (v.taken ++ w.taken)
-
--- a hand that was joined away
-abbrev pub no_account : Account
-no_account = account 0 [] []
 
 -- These jobs may lie on the desk at a moment, by what this hand did until then
 -- others: what all other hands did until then

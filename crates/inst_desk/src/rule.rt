@@ -28,7 +28,7 @@ pub(crate) struct Putting;
 
 impl Outcome<Job, Account> for Putting {
     ghost use Rattle.std.specs.Prelude.{◌≡◌};
-    ghost use Rattle.inst_desk.specs.Account.{with_put};
+    ghost use Rattle.inst_desk.specs.inner.Account.{with_put};
 
     ghost then = { λ v job w. w ≡ with_put v job };
 }
@@ -44,7 +44,8 @@ pub(crate) struct Taking;
 
 impl Outcome<Job, Account> for Taking {
     ghost use Rattle.std.specs.Prelude.{◌≡◌};
-    ghost use Rattle.inst_desk.specs.Account.{with_taken, LiesFirst};
+    ghost use Rattle.inst_desk.specs.Account.{LiesFirst};
+    ghost use Rattle.inst_desk.specs.inner.Account.{with_taken};
 
     ghost then = { λ v job w. (w ≡ with_taken v job) × LiesFirst v job };
 }
@@ -59,7 +60,7 @@ impl Lesson<Job, Account> for Taking {
 pub(crate) struct Dealing;
 
 impl Split<Account> for Dealing {
-    ghost use Rattle.inst_desk.specs.Account.{less_one_part, one_part};
+    ghost use Rattle.inst_desk.specs.inner.Account.{less_one_part, one_part};
 
     ghost left = { less_one_part };
 
@@ -70,7 +71,7 @@ impl Split<Account> for Dealing {
 pub(crate) struct Gathering;
 
 impl Join<Account> for Gathering {
-    ghost use Rattle.inst_desk.specs.Account.{together, no_account};
+    ghost use Rattle.inst_desk.specs.inner.Account.{together, no_account};
 
     ghost both = { together };
 

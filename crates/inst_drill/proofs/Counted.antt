@@ -17,7 +17,7 @@ use Rattle.inst_settings.specs.Lawful.{IsSettings}
 use Rattle.inst_hub.specs.declared.hub.Hub.{Hub}
 use Rattle.inst_close.specs.NextOpening.{MayOpenWider}
 use Rattle.inst_close.specs.Closing.{IsOpenedSo, HaveOpened, IsNextOf}
-use Rattle.inst_drill.specs.Chain.{IsOpenedAt, IsAfter}
+use Rattle.inst_drill.specs.inner.Chain.{IsOpenedAt, IsAfter}
 
 either_false : (a b : Bool) → (a || b) ≡ false → (a ≡ false) × (b ≡ false)
 either_false true b e = absurd (let no : ⊥ = cc in no)

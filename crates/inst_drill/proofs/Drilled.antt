@@ -7,7 +7,7 @@ use Rattle.std.proofs.lemmas.Option.{none-some}
 use Rattle.inst_settings.specs.Settings.{HubSettings}
 use Rattle.inst_close.specs.ClosedHub.{ClosedHub}
 use Rattle.inst_drill.specs.declared.report.Report.{Report}
-use Rattle.inst_drill.specs.Chain.{IsAfter, AreAfter}
+use Rattle.inst_drill.specs.inner.Chain.{IsAfter, AreAfter}
 use Rattle.inst_drill.specs.Report.{IsUnited, report_text, reports_text}
 
 pub record Drilled (s : HubSettings) (held held' : Option (List ℕ)) (n : ℕ) (books : Option ClosedHub) : Type 0 where

@@ -12,7 +12,7 @@ use Rattle.inst_crew.specs.Seen.{AreSeenByOne}
 use Rattle.inst_crew.proofs.Seeing.{seen_more}
 use Rattle.inst_crew.proofs.Pairing.{nothing_at, first_is}
 use Rattle.inst_close.specs.Closing.{TellAll}
-use Rattle.inst_drill.specs.Report.{NoneContradicts}
+use Rattle.inst_drill.specs.inner.Report.{NoneContradicts}
 
 -- the teller at this place later
 later_at : (hub : Hub) (ts us : List Teller) (j : ℕ) (t : Teller) → Pairs (IsLaterTeller hub) ts us → slice_get ts j ≡ Some t

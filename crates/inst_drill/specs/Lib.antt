@@ -1,4 +1,5 @@
+-- Public contracts cite these.
 pub mod Plan
-pub mod Staff
 pub mod Report
-pub mod Chain
+-- Only inner functions and proofs cite these.
+pub mod inner

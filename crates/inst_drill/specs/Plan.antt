@@ -1,7 +1,6 @@
 -- Which hubs can be drilled. Drills are this hub's own choice.
 use Rattle.std.specs.Prelude.{ℕ, ◌*◌, ◌<◌, ◌≤◌}
 use Rattle.inst_settings.specs.Settings.{HubSettings, participants}
-use Rattle.inst_drill.specs.declared.plan.Plan.{Plan}
 
 -- A hub of these settings can do so many transfers in each of so many openings
 -- two: there are an originator and a beneficiary
@@ -13,11 +12,3 @@ pub record MayDrill (s : HubSettings) (transfers openings : ℕ) : Type 0 where
   pub funding : 100 * transfers ≤ s.ceiling
   pub some_opening : 0 < openings
   pub most_openings : openings ≤ 10
-
--- the plan is one for a hub of these settings
-pub record IsPlan (s : HubSettings) (plan : Plan) : Type 0 where
-  pub two : 2 ≤ participants s
-  pub some_transfer : 0 < plan.transfers
-  pub most_transfers : plan.transfers ≤ 1024
-  pub some_cents : 1 ≤ plan.funding
-  pub within : plan.funding ≤ s.ceiling

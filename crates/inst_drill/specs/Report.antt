@@ -1,20 +1,7 @@
 -- What a drill tells of an opening. That it tells this is this hub's own choice.
-use Rattle.std.specs.Prelude.{◌≡◌, ◌≢◌, ℕ, List, [], ◌∷◌, ◌++◌, Some, slice_get, codes}
+use Rattle.std.specs.Prelude.{◌≡◌, ℕ, List, [], ◌∷◌, ◌++◌, codes}
 use Rattle.std.specs.Fmt.{decimal}
-use Rattle.inst_command.specs.declared.outcome.Outcome.{Outcome}
-use Rattle.inst_command.specs.declared.outcome.State.{State}
-use Rattle.inst_command.specs.declared.outcome.State.TheVariants.{Decided}
-use Rattle.inst_board.specs.declared.place.Place.{Place}
-use Rattle.inst_journal.specs.declared.event.Event.{Event}
-use Rattle.inst_together.specs.Told.{told}
 use Rattle.inst_drill.specs.declared.report.Report.{Report}
-
--- the sight is an outcome that the books don't tell
-abbrev pub Contradicts : (ℕ → List Event) → Place × State → Type 0
-Contradicts J sight = (outcome : Outcome) × (sight.1 ≡ Decided outcome) × (told J sight.0 ≢ Decided outcome)
-
-abbrev pub NoneContradicts : (ℕ → List Event) → List (Place × State) → Type 0
-NoneContradicts J sights = (i : ℕ) (sight : Place × State) → slice_get sights i ≡ Some sight → ¬ Contradicts J sight
 
 -- the books tell each outcome that was seen, and their positions sum to the net funding
 pub record IsUnited (report : Report) : Type 0 where

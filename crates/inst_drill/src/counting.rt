@@ -1,7 +1,7 @@
 //! What the books of a closed hub say of what was seen of its transfers.
 ghost use Rattle.std.specs.Prelude.{◌≡◌, true, false};
 ghost use Rattle.inst_together.specs.Together.{histories};
-ghost use Rattle.inst_drill.specs.Report.{Contradicts, NoneContradicts};
+ghost use Rattle.inst_drill.specs.inner.Report.{Contradicts, NoneContradicts};
 
 use inst_base::mention;
 use inst_close::Books;

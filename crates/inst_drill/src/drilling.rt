@@ -4,7 +4,7 @@ ghost use Rattle.std.specs.Io.KnownBytes.{Appends};
 ghost use Rattle.inst_hub.specs.Calls.{AreOf};
 ghost use Rattle.inst_hub.specs.Opening.{parts_of};
 ghost use Rattle.inst_drill.specs.declared.report.Report.{Report as SomeReport};
-ghost use Rattle.inst_drill.specs.Chain.{AreAfter, IsOpenedAt};
+ghost use Rattle.inst_drill.specs.inner.Chain.{AreAfter, IsOpenedAt};
 ghost use Rattle.inst_drill.specs.Plan.{MayDrill};
 ghost use Rattle.inst_drill.specs.Report.{IsUnited, report_text, reports_text};
 

@@ -5,7 +5,7 @@ ghost use Rattle.inst_hub.specs.Calls.{AreOf};
 ghost use Rattle.inst_hub.specs.Opening.{parts_of};
 ghost use Rattle.inst_crew.specs.Seen.{AreSeenByOne};
 ghost use Rattle.inst_close.specs.Closing.{IsOpenedSo, HaveOpened};
-ghost use Rattle.inst_drill.specs.Plan.{IsPlan};
+ghost use Rattle.inst_drill.specs.inner.Plan.{IsPlan};
 ghost use Rattle.inst_drill.specs.Report.{IsUnited};
 
 use crate::counting::{contradicted, decided};

@@ -6,7 +6,8 @@ ghost use Rattle.inst_base.specs.declared.cents.TheConstants.{MOST_CENTS};
 ghost use Rattle.inst_base.specs.declared.moment.TheConstants.{LAST};
 ghost use Rattle.inst_settings.specs.Settings.{HubSettings};
 ghost use Rattle.inst_command.specs.Ask.{ask_fits};
-ghost use Rattle.inst_drill.specs.Plan.{MayDrill, IsPlan};
+ghost use Rattle.inst_drill.specs.Plan.{MayDrill};
+ghost use Rattle.inst_drill.specs.inner.Plan.{IsPlan};
 
 use inst_base::{Cents, Fault, Ident, Moment};
 use inst_command::{Ask, Command, Submission};

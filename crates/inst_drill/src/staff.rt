@@ -6,8 +6,8 @@ ghost use Rattle.inst_hub.specs.Calls.{AreOf};
 ghost use Rattle.inst_hub.specs.Opening.{parts_of};
 ghost use Rattle.inst_crew.specs.Later.{Pairs, IsLaterTeller};
 ghost use Rattle.inst_crew.specs.Seen.{AreSeenByOne};
-ghost use Rattle.inst_drill.specs.Plan.{IsPlan};
-ghost use Rattle.inst_drill.specs.Staff.{IsStaffOf, tellers_of};
+ghost use Rattle.inst_drill.specs.inner.Plan.{IsPlan};
+ghost use Rattle.inst_drill.specs.inner.Staff.{IsStaffOf, tellers_of};
 
 use crate::feeding::{Phase, feed};
 use crate::plan::Plan;

@@ -31,7 +31,8 @@ use Rattle.inst_participant.specs.Answers.{Answered, IsSubmitted, IsTicket}
 use Rattle.inst_participant.specs.declared.follow_up.FollowUp.{FollowUp}
 use Rattle.inst_participant.specs.Following.{follow_up_of, Does}
 use Rattle.inst_participant.specs.Serving.{Serves}
-use Rattle.inst_hub.specs.Calls.{IsCall, Calls, Asks, IsLeft, KnowsMore, Follows, IsFollowed, knows_of, sights_of}
+use Rattle.inst_hub.specs.Calls.{IsCall, Calls, IsLeft, KnowsMore, IsFollowed, knows_of, sights_of}
+use Rattle.inst_hub.specs.inner.Calls.{Asks, Follows}
 
 abbrev Seat : Type 0
 Seat = RowSeat (Box Participant) Event Outset

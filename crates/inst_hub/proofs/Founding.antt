@@ -23,7 +23,7 @@ use Rattle.inst_participant.specs.Answers.{Answered}
 use Rattle.inst_participant.specs.Behind.{IsBehind}
 use Rattle.inst_participant.specs.Told.{IsTold, IsToldMore}
 use Rattle.inst_hub.specs.Founding.{IsSince, history_in, outset_of}
-use Rattle.inst_hub.specs.Opening.{unboxed, AreBehind}
+use Rattle.inst_hub.specs.inner.Opening.{unboxed, AreBehind}
 use Rattle.inst_participant.specs.Told.{IsToldAll}
 use Rattle.inst_hub.proofs.Starting.{behind_values}
 

@@ -15,7 +15,7 @@ use Rattle.inst_slot.specs.Book.{Book}
 use Rattle.inst_slot.proofs.Growing.{snoc_cases}
 use Rattle.inst_participant.specs.declared.participant.Participant.{Participant}
 use Rattle.inst_hub.specs.declared.teller.Teller.{Teller}
-use Rattle.inst_hub.specs.Closing.{IsSeated, AreSeated, IsTakenOut, AreTakenOut}
+use Rattle.inst_hub.specs.inner.Closing.{IsSeated, AreSeated, IsTakenOut, AreTakenOut}
 use Rattle.inst_hub.specs.Opening.{parts_of}
 use Rattle.inst_hub.proofs.Starting.{parts_more}
 

@@ -32,9 +32,10 @@ use Rattle.inst_world.proofs.Carrying.{below as less}
 use Rattle.inst_world.proofs.Reopening.{begun_known}
 use Rattle.inst_participant.specs.declared.participant.Participant.{Participant}
 use Rattle.inst_participant.specs.Behind.{IsBehind}
-use Rattle.inst_hub.specs.Opening.{unboxed, AreBehind, IsBlank, AreBlank}
+use Rattle.inst_hub.specs.Opening.{IsBlank}
+use Rattle.inst_hub.specs.inner.Opening.{unboxed, AreBehind, AreBlank}
 use Rattle.inst_hub.proofs.Starting.{unboxed_push, behind_values}
-use Rattle.inst_hub.specs.NextOpening.{IsCarriedBook, AreCarried, pairs, seated}
+use Rattle.inst_hub.specs.inner.NextOpening.{IsCarriedBook, AreCarried, pairs, seated}
 
 -- From the first board to this one the places of the first n participants were opened, and nothing else was learnt
 pub record OpenedSoFar (s : HubSettings) (books : ℕ → List Event) (n : ℕ) (first b : SharedBoard) : Type 0 where

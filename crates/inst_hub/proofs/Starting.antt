@@ -25,7 +25,8 @@ use Rattle.inst_hub.specs.declared.hub.Hub.{Hub}
 use Rattle.inst_participant.specs.Behind.{IsBehind}
 use Rattle.inst_hub.specs.Calls.{AreOf}
 use Rattle.inst_hub.specs.declared.teller.Teller.{Teller}
-use Rattle.inst_hub.specs.Opening.{AreBoards, unboxed, AreBehind, AreParticipants, IsBlank, AreBlank, sights_from, first_sights, IsNew, AreNew, parts_of}
+use Rattle.inst_hub.specs.Opening.{IsBlank, sights_from, first_sights, IsNew, AreNew, parts_of}
+use Rattle.inst_hub.specs.inner.Opening.{AreBoards, unboxed, AreBehind, AreParticipants, AreBlank}
 
 none_arrived : (x : Arrival) → Contains [] x → is_some x.index ≡ true
 none_arrived x (i, below, is) = absurd (omega arith)

@@ -20,7 +20,7 @@ use Rattle.inst_parts.specs.Uniting.{AreSeparate, AreAtOne, AreSights}
 use Rattle.inst_hub.specs.declared.hub.Hub.{Hub}
 use Rattle.inst_hub.specs.declared.teller.Teller.{Teller}
 use Rattle.inst_hub.specs.Calls.{AreOf}
-use Rattle.inst_hub.specs.Closing.{AreTakenOut}
+use Rattle.inst_hub.specs.inner.Closing.{AreTakenOut}
 use Rattle.inst_hub.specs.Founding.{HasOpened}
 use Rattle.inst_hub.proofs.Gathering.{Seat, sight_of}
 

@@ -70,12 +70,6 @@ abbrev pub IsFollowed : Hub → Option FollowUp → Teller → List (Front Event
 IsFollowed h None t sights = sights ≡ []
 IsFollowed h (Some f) t sights = IsDone h f t sights
 
--- nothing else was seen, and nothing forgotten
-pub record Follows (h : Hub) (f : Option FollowUp) (t u : Teller) : Type 0 where
-  pub sights : List (Front Event)
-  pub followed : IsFollowed h f t sights
-  pub seen : sights_of u ≡ sights_of t ++ sights
-
 -- A call of the ask is answered
 -- found, left: what was found behind the asker's lock, and what was left there
 -- goes_on: the history that was found goes on from all that the teller had seen of it
@@ -97,10 +91,6 @@ pub record IsCall (h : Hub) (t : Teller) (ask : Ask) (answer : Reply × Option P
 abbrev pub Calls : Hub → Teller → Ask → Reply × Option Place → Teller → Type 0
 Calls h t ask answer u = (sights : List (Front Event)) × (call : IsCall h t ask answer sights u)
     × IsFollowed h (follow_up_of call.left.slot.events ask.command answer.0 answer.1) t sights
-
--- a call, and what is to follow from it
-abbrev pub Asks : Hub → Teller → Ask → (Reply × Option Place) × Option FollowUp → Teller → Type 0
-Asks h t ask r u = (call : IsCall h t ask r.0 [] u) × (r.1 ≡ follow_up_of call.left.slot.events ask.command r.0.0 r.0.1)
 
 -- A call that memory was refused for: the asker's slot was found, and left as it was; at most the place that the ask
 -- decides was looked at

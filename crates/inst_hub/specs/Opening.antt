@@ -1,54 +1,23 @@
--- A hub that opens: behind each lock is its participant, the first time with no history; its tellers have seen how the
--- histories begin, and know of no place. This hub's own choice.
-use Rattle.std.specs.Prelude.{◌≡◌, ℕ, zero, suc, ◌<◌, List, [], ◌∷◌, length, slice_get, sum_by, Option, Some, None}
-use Rattle.std.specs.Global.{Box}
+-- The tellers of a hub that opens: they have seen how the histories begin, the first time with no events, and know of
+-- no place. This hub's own choice.
+use Rattle.std.specs.Prelude.{◌≡◌, ℕ, zero, suc, List, [], ◌∷◌, slice_get, sum_by, Some}
 use Rattle.atomic_table.specs.Seated.{TableId}
-use Rattle.inst_settings.specs.Settings.{HubSettings, participants}
 use Rattle.inst_cell.specs.declared.shared_board.SharedBoard.{SharedBoard}
 use Rattle.inst_hub.specs.declared.outset.Outset.{Outset}
 use Rattle.inst_board.specs.declared.about.Fact.{Fact}
 use Rattle.inst_cell.specs.declared.sight.Sight.{Sight}
 use Rattle.inst_cell.specs.Held.{AtOneTable}
-use Rattle.inst_cell.specs.Opening.{IsOpened}
 use Rattle.inst_cell.specs.Seen.{board_of, sees}
 use Rattle.inst_journal.specs.declared.event.Event.{Event}
 use Rattle.inst_row.specs.declared.view.Front.{Front}
 use Rattle.inst_row.specs.View.{front}
 use Rattle.inst_row.specs.Seated.{IsOn, IsFree, view_of}
 use Rattle.inst_hub.specs.declared.teller.Teller.{Teller}
-use Rattle.inst_participant.specs.declared.participant.Participant.{Participant}
-use Rattle.inst_participant.specs.Behind.{IsBehind}
-
--- the boards of all participants, by number
-pub record AreBoards (s : HubSettings) (id : TableId) (boards : List SharedBoard) : Type 0 where
-  pub enough : length boards ≡ participants s
-  pub each : (p : ℕ) (b : SharedBoard) → slice_get boards p ≡ Some b → IsOpened s id p b
-
--- what lies in the boxes
-abbrev pub unboxed : List (Option (Box Participant)) → List (Option Participant)
-unboxed [] = []
-unboxed (None ∷ all) = None ∷ unboxed all
-unboxed (Some x ∷ all) = Some x.value ∷ unboxed all
-
--- the participants, by number, over these words, with these histories
-pub record AreBehind (words : SharedBoard) (n : ℕ) (J : ℕ → List Event) (all : List (Option Participant)) : Type 0 where
-  pub enough : length all ≡ n
-  pub each : (p : ℕ) → p < n →
-      (x : Participant) × (slice_get all p ≡ Some (Some x)) × IsBehind words p x × (x.slot.events ≡ J p)
-
--- the participants of these boards, by number, with no history
-pub record AreParticipants (boards : List SharedBoard) (all : List (Option Participant)) : Type 0 where
-  pub enough : length all ≡ length boards
-  pub each : (p : ℕ) (b : SharedBoard) → slice_get boards p ≡ Some b →
-      (x : Participant) × (slice_get all p ≡ Some (Some x)) × IsBehind b p x × (x.slot.events ≡ [])
 
 -- what a teller sees with at first: over these words, and it knows of no place
 pub record IsBlank (words : SharedBoard) (t : Sight) : Type 0 where
   pub one : AtOneTable words (board_of t)
   pub nothing : (f : Fact) → ¬ sees t f
-
-abbrev pub AreBlank : SharedBoard → List Sight → Type 0
-AreBlank words sights = (i : ℕ) (t : Sight) → slice_get sights i ≡ Some t → IsBlank words t
 
 -- a history for each of n participants, from p on
 abbrev pub sights_from : (ℕ → List Event) → ℕ → ℕ → List (Front Event)

@@ -6,7 +6,8 @@ use Rattle.serde_json.specs.Data.{Data}
 use Rattle.serde_json.specs.Read.{read, of_json}
 use Rattle.json.specs.Json.{Json}
 use Rattle.inst_base.specs.declared.fault.Fault.TheVariants.{NotJson}
-use Rattle.inst_json.specs.Lines.{document, json_of}
+use Rattle.inst_json.specs.Lines.{json_of}
+use Rattle.inst_json.specs.inner.Lines.{document}
 
 pub json_of-value : (line : List ℕ) (d : Data) → IsUtf8 line → read line ≡ Some d → Ok d ≡ json_of line
 unfolding json_of

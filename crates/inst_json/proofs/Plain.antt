@@ -10,7 +10,7 @@ use Rattle.inst_base.specs.Fault.{name_of}
 use Rattle.inst_base.specs.declared.fault.Fault.{Fault}
 use Rattle.inst_base.specs.declared.fault.Fault.TheVariants.{NotJson, BadField, BadIdentifier, BadAmount, BadMoment, UnknownParticipant, SelfTransfer, UnknownTransfer, Duplicate, StampAhead, Expired, Full, Shortage, Memory, BadSettings, LineTooLong, ReadFault, WriteFault}
 use Rattle.inst_settings.specs.Settings.{same_text}
-use Rattle.inst_json.specs.Replies.{is_state_name}
+use Rattle.inst_json.specs.inner.Replies.{is_state_name}
 use Rattle.std.proofs.lemmas.Bool.{and_parts, or_cases}
 
 -- a character that stands for itself

@@ -4,7 +4,7 @@ use Rattle.std.proofs.Math.Seq.{take-append_seam, drop-append_seam}
 use Rattle.std.proofs.lemmas.List.{length-append, length-replicate, replicate-append-replicate}
 use Rattle.inst_command.specs.LineText.{left_in, right_in}
 use Rattle.inst_command.proofs.Telling.{left_width, right_width}
-use Rattle.inst_json.specs.Row.{put}
+use Rattle.inst_json.specs.inner.Row.{put}
 
 -- a text put over another of its length
 put_over : (front over back text : List ℕ) → length over ≡ length text → put (front ++ (over ++ back)) (length front) text ≡ front ++ (text ++ back)

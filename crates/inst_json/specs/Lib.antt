@@ -1,3 +1,4 @@
+-- Public contracts cite these.
 pub mod Name
 pub mod Refusals
 pub mod Fields
@@ -6,7 +7,8 @@ pub mod Checks
 pub mod Asker
 pub mod Commands
 pub mod Replies
-pub mod Row
 pub mod Steps
 pub mod Lines
 pub mod Laws
+-- Only inner functions and proofs cite these.
+pub mod inner

@@ -1,10 +1,9 @@
 -- What a line of bytes is: a JSON text (RFC 8259) in UTF-8 that nests at most 127 deep, or none.
-use Rattle.std.specs.Prelude.{ℕ, List, Option, None, ok_or, option_and_then, Result, if◌then◌else◌}
+use Rattle.std.specs.Prelude.{ℕ, List, None, ok_or, Result, if◌then◌else◌}
 use Rattle.std.specs.Str.{is_utf8}
 use Rattle.serde_json.specs.Data.{Data}
-use Rattle.json.specs.Json.{Json, if_last, value}
-use Rattle.json.specs.Lex.{tokens}
-use Rattle.serde_json.specs.Read.{max_depth, read}
+use Rattle.json.specs.Json.{value}
+use Rattle.serde_json.specs.Read.{read}
 use Rattle.inst_base.specs.declared.fault.Fault.{Fault}
 use Rattle.inst_base.specs.declared.fault.Fault.TheVariants.{NotJson}
 use Rattle.inst_settings.specs.Settings.{HubSettings}
@@ -15,10 +14,6 @@ use Rattle.inst_scan.specs.Fields.{fields_of}
 use Rattle.inst_json.specs.Commands.{ask_of}
 use Rattle.inst_json.specs.Steps.{step_of}
 use Rattle.inst_json.specs.declared.refusal.Refusal.{Refusal}
-
--- the value of JSON that a text is, before its numbers are read
-abbrev pub document : List ℕ → Option Json
-document text = option_and_then (λ p. if_last p.0 p.1) (value max_depth (tokens text))
 
 -- the JSON value of a line
 unfoldable pub json_of : List ℕ → Result Data Fault

@@ -33,11 +33,6 @@ abbrev pub Gives : {X Y : Type 0} → (X → Y) → Result X Fault → Result Y 
 Gives view (Ok x) wanted = Ok (view x) ≡ wanted
 Gives view (Err fault) wanted = Err fault ≡ wanted
 
--- what is returned, seen by view, is what is wanted, unless memory was refused
-abbrev pub GivesUnlessMemory : {X Y : Type 0} → (X → Y) → Result X Fault → Result Y Fault → Type 0
-GivesUnlessMemory view (Ok x) wanted = Ok (view x) ≡ wanted
-GivesUnlessMemory view (Err fault) wanted = (fault ≡ Memory) ⊎ (Err fault ≡ wanted)
-
 -- what is read of a line is what is wanted, unless memory was refused
 abbrev pub IsReadUnlessMemory : {A : Type 0} → Result A Refusal → Result A Refusal → Type 0
 IsReadUnlessMemory (Ok x) wanted = Ok x ≡ wanted

@@ -2,11 +2,11 @@
 -- milliseconds, amounts cents, and participants codes. The replies stand for the scheme's answers and
 -- confirmations (EPC004-16, chapter 4: datasets); their form is this hub's own choice.
 use Rattle.std.specs.Prelude.{ℕ, ◌+◌, ◌&&◌, Bool, true, false, List, [], ◌∷◌, map, codes}
-use Rattle.std.specs.List.{list_all, list_any}
+use Rattle.std.specs.List.{list_all}
 use Rattle.serde_json.specs.Data.{Data, object, array, string, boolean, number, unsigned, Items, no_items, item, Members, no_members, member}
 use Rattle.inst_base.specs.Fault.{number_of, name_of}
 use Rattle.inst_base.specs.declared.fault.Fault.{Fault}
-use Rattle.inst_settings.specs.Settings.{HubSettings, same_text, is_participant}
+use Rattle.inst_settings.specs.Settings.{HubSettings, is_participant}
 use Rattle.inst_command.specs.LineText.{code_numbered, line_text, line_fits}
 use Rattle.inst_command.specs.declared.outcome.Outcome.TheVariants.{Accepted, Rejected, TimedOut}
 use Rattle.inst_command.specs.declared.outcome.State.{State}
@@ -46,10 +46,6 @@ taken_data id deadline = object (members (
     (codes "deadline", whole deadline)
     ∷ (codes "id", string id)
     ∷ named (codes "taken") ∷ []))
-
--- the names of the states without a reason
-abbrev pub is_state_name : List ℕ → Bool
-is_state_name name = list_any (same_text name) (codes "pending" ∷ codes "accepted" ∷ codes "timed_out" ∷ [])
 
 -- a state without a reason
 abbrev pub state_data : List ℕ → List ℕ → List ℕ → Data

@@ -6,7 +6,7 @@ ghost use Rattle.serde_json.specs.Written.{compact_text, comma_if};
 ghost use Rattle.inst_settings.specs.Settings.{is_participant};
 ghost use Rattle.inst_command.specs.LineText.{line_fits, line_text};
 ghost use Rattle.inst_json.specs.Laws.{entry_has_words};
-ghost use Rattle.inst_json.specs.Row.{put};
+ghost use Rattle.inst_json.specs.inner.Row.{put};
 ghost use Rattle.inst_json.specs.Replies.{entry_data, inbox_data, statement_data};
 
 use crate::piece::{push_number, push_text};

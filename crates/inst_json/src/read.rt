@@ -3,8 +3,10 @@ ghost use Rattle.std.specs.Prelude.{◌≡◌, ◌↔◌, true, IfOk, IsTrue, Is
 ghost use Rattle.serde_json.specs.View.{view};
 ghost use Rattle.inst_command.specs.Ask.{ask_fits};
 ghost use Rattle.inst_command.specs.Step.{step_fits};
-ghost use Rattle.inst_json.specs.Refusals.{GivesUnlessMemory, IsUnlessMemory, IsReadUnlessMemory};
-ghost use Rattle.inst_json.specs.Lines.{document, json_of, blamed_command_of_line, command_of_line, blamed_step_of_line, step_of_line};
+ghost use Rattle.inst_json.specs.Refusals.{IsUnlessMemory, IsReadUnlessMemory};
+ghost use Rattle.inst_json.specs.inner.Refusals.{GivesUnlessMemory};
+ghost use Rattle.inst_json.specs.Lines.{json_of, blamed_command_of_line, command_of_line, blamed_step_of_line, step_of_line};
+ghost use Rattle.inst_json.specs.inner.Lines.{document};
 
 use crate::Refusal;
 use crate::command::ask_of;

@@ -6,7 +6,8 @@ ghost use Rattle.inst_settings.specs.Settings.{is_participant};
 ghost use Rattle.inst_command.specs.LineText.{code_numbered};
 ghost use Rattle.inst_json.specs.Laws.{has_words};
 ghost use Rattle.inst_json.specs.Replies.{done_data, taken_data, state_data, rejected_data, state_of, is_used};
-ghost use Rattle.inst_json.specs.Replies.{is_state_name, position_data, refused_data, reply_data, reply_can_be_written};
+ghost use Rattle.inst_json.specs.Replies.{position_data, refused_data, reply_data, reply_can_be_written};
+ghost use Rattle.inst_json.specs.inner.Replies.{is_state_name};
 
 use crate::lists::{append_inbox, append_statement};
 use crate::piece::{push_number, push_text};

@@ -21,7 +21,8 @@ use Rattle.inst_journal.proofs.OwnBookings.{own_unforwarded, own_booked-booked}
 use Rattle.inst_journal.proofs.Covering.{own_push}
 use Rattle.inst_journal.proofs.Places.{sum_same}
 use Rattle.inst_ledger.specs.declared.sending.Sending.{Sending}
-use Rattle.inst_ledger.specs.Kept.{sending_of, cents_of, is_sending}
+use Rattle.inst_ledger.specs.Kept.{sending_of}
+use Rattle.inst_ledger.specs.inner.Kept.{cents_of, is_sending}
 use Rattle.inst_ledger.proofs.Tables.{or_else_none, sending_absent}
 
 -- an event that books nothing of the participant's own leaves what each taken transfer counts for

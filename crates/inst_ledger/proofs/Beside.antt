@@ -33,7 +33,8 @@ use Rattle.inst_ledger.specs.declared.totals.Totals.{Totals}
 use Rattle.inst_ledger.specs.Beside.{funding_of, amount_of, most_of, IsBeside}
 use Rattle.inst_ledger.specs.Book.{BookAndRoom}
 use Rattle.inst_ledger.specs.Inbox.{IsRead}
-use Rattle.inst_ledger.specs.Kept.{sending_of, IsTable, cents_of}
+use Rattle.inst_ledger.specs.Kept.{sending_of, IsTable}
+use Rattle.inst_ledger.specs.inner.Kept.{cents_of}
 use Rattle.inst_ledger.specs.Right.{sending_in, forwarding_in, own_ids, id_of, IsRight}
 use Rattle.inst_ledger.proofs.Amounts.{own_reserved}
 use Rattle.inst_ledger.proofs.Forwards.{forwarded_found}

@@ -13,8 +13,9 @@ use Rattle.inst_journal.specs.Sound.{Fits, IsSound}
 use Rattle.inst_journal.proofs.Pushing.{sum_by_push, sum_by-both, first_some_push, list_any_push}
 use Rattle.inst_journal.proofs.Soundness.{sound_induction}
 use Rattle.inst_ledger.specs.declared.sending.Forwarding.{Forwarding}
-use Rattle.inst_ledger.specs.Kept.{forwarding_of, credit_of}
-use Rattle.inst_ledger.specs.Transfers.{same_key}
+use Rattle.inst_ledger.specs.Kept.{forwarding_of}
+use Rattle.inst_ledger.specs.inner.Kept.{credit_of}
+use Rattle.inst_ledger.specs.inner.Transfers.{same_key}
 use Rattle.inst_ledger.proofs.Tables.{or_else_none, none_of, any_first, some_cond}
 use Rattle.inst_journal.proofs.Places.{sum_same}
 use Rattle.inst_ledger.proofs.Amounts.{or_parts, accepted_none, sum_accepted}

@@ -11,7 +11,8 @@ use Rattle.inst_journal.proofs.Pushing.{first_some_push, list_any_push}
 use Rattle.inst_journal.proofs.Soundness.{sound_induction}
 use Rattle.inst_ledger.specs.declared.references.KeptFunding.{KeptFunding}
 use Rattle.inst_ledger.specs.Kept.{IsTable}
-use Rattle.inst_ledger.specs.Beside.{funding_of, is_funding_of}
+use Rattle.inst_ledger.specs.Beside.{funding_of}
+use Rattle.inst_ledger.specs.inner.Beside.{is_funding_of}
 use Rattle.inst_ledger.proofs.Tables.{or_else_none, table_put, none_of, any_first, some_cond}
 
 refers_funding : (reference : List ℕ) (event : Event) → refers reference event ≡ is_some (funding_of reference event)

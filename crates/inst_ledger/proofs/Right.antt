@@ -15,7 +15,8 @@ use Rattle.inst_journal.specs.Sums.{if_accepted, if_unbooked, credit, debit, res
 use Rattle.inst_journal.specs.Sound.{Fits, IsSound}
 use Rattle.inst_journal.proofs.OwnBookings.{own_unforwarded, own_booked-booked}
 use Rattle.inst_journal.proofs.Soundness.{sound_induction}
-use Rattle.inst_ledger.specs.Kept.{sending_of, cents_of, forwarding_of, credit_of, outcome_of}
+use Rattle.inst_ledger.specs.Kept.{sending_of, forwarding_of}
+use Rattle.inst_ledger.specs.inner.Kept.{cents_of, credit_of, outcome_of}
 use Rattle.inst_ledger.proofs.Amounts.{quiet_own, quiet_debits, quiet_reserved, quiet_booked, quiet_credits, untaken_unbooked, own_reserved, own_debits, own_credits}
 use Rattle.inst_ledger.proofs.Forwards.{key_is, forwarding_absent, unforwarded_unbooked, forwarded_found, booked_credits}
 use Rattle.inst_ledger.proofs.Live.{new_lives, quiet_waiting, one_less}

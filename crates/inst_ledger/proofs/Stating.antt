@@ -21,12 +21,13 @@ use Rattle.inst_ledger.specs.Right.{sending_in, forwarding_in}
 use Rattle.inst_ledger.proofs.Right.{own_party}
 use Rattle.inst_ledger.specs.declared.sending.Forwarding.{Forwarding}
 use Rattle.inst_ledger.specs.declared.sending.Sending.{Sending}
-use Rattle.inst_ledger.specs.Beside.{amount_of, IsBeside, IsLedger, movement_by, movement_booked, MayAddIf, AddsIf}
+use Rattle.inst_ledger.specs.Beside.{amount_of, IsBeside, IsLedger}
+use Rattle.inst_ledger.specs.inner.Beside.{movement_by, movement_booked, MayAddIf, AddsIf}
 use Rattle.inst_ledger.specs.Kept.{sending_of, forwarding_of}
 use Rattle.inst_ledger.proofs.Beside.{beside_same, position_small, position_next}
 use Rattle.inst_statement.specs.declared.movement.Movement.{Movement}
 use Rattle.inst_statement.specs.KeptStatement.{Stated, MayAdd, IsStatementOf}
-use Rattle.inst_statement.specs.Movement.{came, sent, accepted, accepted_movement, movement_of}
+use Rattle.inst_statement.specs.inner.Movement.{came, sent, accepted, accepted_movement, movement_of}
 use Rattle.inst_statement.proofs.Found.{not_come}
 use Rattle.inst_statement.proofs.Movements.{map_cond, first_mapped}
 use Rattle.inst_statement.proofs.Stated.{covers_movement, moved_to, line_added, line_less, number_fits}

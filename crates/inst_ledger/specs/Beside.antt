@@ -1,8 +1,7 @@
 -- What a ledger keeps beside its history, all of it: the totals, the transfers and the fundings by their keys, how many
 -- are live, and the inbox with how much of it was handed out.
-use Rattle.std.specs.Prelude.{◌≡◌, ℕ, ◌+◌, ◌*◌, ◌≤◌, List, length, Option, Some, None, sum_by, if◌then◌else◌, Bool, true, false, not, ◌&&◌, ◌==◌}
+use Rattle.std.specs.Prelude.{◌≡◌, ℕ, ◌+◌, ◌*◌, ◌≤◌, List, length, Option, Some, None, sum_by, if◌then◌else◌, true, false}
 use Rattle.inst_settings.specs.Settings.{HubSettings, same_text}
-use Rattle.inst_command.specs.declared.outcome.Outcome.{Outcome}
 use Rattle.inst_journal.specs.declared.event.Event.{Event}
 use Rattle.inst_journal.specs.declared.event.Event.TheVariants.{Funded, Defunded, Forwarded}
 use Rattle.inst_journal.specs.Keys.{is_funding, fundings}
@@ -16,19 +15,8 @@ use Rattle.inst_ledger.specs.Right.{IsRight}
 use Rattle.inst_settings.specs.Lawful.{IsSettings}
 use Rattle.inst_journal.specs.Sound.{IsSound}
 use Rattle.inst_journal.specs.Sums.{funded, defunded}
-use Rattle.inst_transfers.specs.declared.transfer.Side.{Side}
-use Rattle.inst_transfers.specs.declared.transfer.Side.TheVariants.{Own, Other}
-use Rattle.inst_transfers.specs.declared.transfer.Transfer.{Transfer}
 use Rattle.inst_transfers.specs.Held.{Held, state_in}
-use Rattle.inst_command.specs.declared.line.LineKind.TheVariants.{Received, Paid}
-use Rattle.inst_command.specs.declared.outcome.Outcome.TheVariants.{Accepted, Rejected, TimedOut}
-use Rattle.inst_statement.specs.declared.movement.Movement.{Movement}
-use Rattle.inst_statement.specs.KeptStatement.{Stated, MayAdd, Adds, IsStatementOf}
-
--- whether both are defundings, or neither
-abbrev pub same_kind : Bool → Bool → Bool
-same_kind true other = other
-same_kind false other = not other
+use Rattle.inst_statement.specs.KeptStatement.{Stated, IsStatementOf}
 
 -- the funding that the event keeps under this reference
 abbrev pub funding_of : List ℕ → Event → Option KeptFunding
@@ -37,12 +25,6 @@ funding_of reference (Funded other cents) =
 funding_of reference (Defunded other cents) =
     if same_text other reference then Some (record { is_defunding = true; cents = cents }) else None
 funding_of reference _ = None
-
--- whether this funding is found
-abbrev pub is_funding_of : Bool → ℕ → Option KeptFunding → Bool
-is_funding_of is_defunding cents (Some funding) =
-    same_kind funding.is_defunding is_defunding && (funding.cents == cents)
-is_funding_of is_defunding cents None = false
 
 -- what the event adds to the position at most
 abbrev pub amount_of : Event → ℕ
@@ -70,26 +52,6 @@ pub record IsBeside (s : HubSettings) (who : ℕ) (J : List Event) (t : Totals) 
   pub fundings : since ≡ fundings J
   pub inboxed : IsRead who J positions read
   pub amounts : sum_by amount_of J ≤ most_of J
-
--- what an accepted transfer moves: the amount is paid to its beneficiary, or received from its originator
-abbrev pub movement_by : ℕ → List ℕ → ℕ → Side → Movement
-movement_by from id cents (Own to stamp) = record { kind = Paid; other = Some to; id = id; cents = cents }
-movement_by from id cents (Other deadline) = record { kind = Received; other = Some from; id = id; cents = cents }
-
--- what a booked transfer moves, where it is accepted
-abbrev pub movement_booked : ℕ → List ℕ → Transfer → Outcome → Option Movement
-movement_booked from id transfer Accepted = Some (movement_by from id transfer.cents transfer.side)
-movement_booked from id transfer (Rejected reason) = None
-movement_booked from id transfer TimedOut = None
-
--- the line of what was moved, if anything was, may be added, and is
-abbrev pub MayAddIf : Stated → Option Movement → Type 0
-MayAddIf stated None = Unit {0}
-MayAddIf stated (Some movement) = MayAdd stated movement
-
-abbrev pub AddsIf : Stated → Option Movement → Stated → Type 0
-AddsIf before None after = (after.lines ≡ before.lines) × (after.position ≡ before.position)
-AddsIf before (Some movement) after = Adds before movement after
 
 -- the statement that is kept beside them is the history's too
 pub record IsLedger (s : HubSettings) (who : ℕ) (J : List Event) (t : Totals) (table : Held) (references : List ℕ → Option KeptFunding)

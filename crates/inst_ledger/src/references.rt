@@ -1,6 +1,7 @@
 //! What is known of each funding, by its reference.
 ghost use Rattle.std.specs.Prelude.{◌≡◌, ℕ, List, None, OnOk, OnErr};
-ghost use Rattle.inst_ledger.specs.References.{funding_at, PutsFunding};
+ghost use Rattle.inst_ledger.specs.References.{funding_at};
+ghost use Rattle.inst_ledger.specs.inner.References.{PutsFunding};
 
 use indexmap::IndexMap;
 use inst_base::{Cents, Ident};

@@ -21,8 +21,9 @@ use Rattle.inst_lines.specs.declared.mode.Mode.{Mode}
 use Rattle.inst_lines.specs.declared.mode.Mode.TheVariants.{Run, Play}
 use Rattle.inst_agenda.specs.declared.runner.Runner.{Runner}
 use Rattle.inst_lines.specs.Answers.{is_too_long, reply_to, is_refused, AnswersLine}
-use Rattle.inst_lines.specs.Answering.{Past, Keeps, opened, answering, answer_text, too_long_text, is_refusal, line_answer, after_line, any_line_answer, after_any_line, RepliesToLine, RepliesToRead}
+use Rattle.inst_lines.specs.Answering.{Past, Keeps, opened, answering, answer_text, too_long_text, is_refusal, line_answer, after_line}
 use Rattle.inst_lines.specs.Answering.{command_answer, after_command, script_answer, after_script}
+use Rattle.inst_lines.specs.inner.Answering.{any_line_answer, after_any_line, RepliesToLine, RepliesToRead}
 use Rattle.inst_agenda.specs.FollowUps.{followed_up}
 use Rattle.inst_world.specs.HasRun.{settings_of, Runs}
 use Rattle.inst_agenda.specs.Watching.{Watches}

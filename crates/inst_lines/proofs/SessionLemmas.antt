@@ -14,7 +14,8 @@ use Rattle.inst_lines.specs.Answers.{Answerer, AnswersLine, MakesRoom, state_aft
 use Rattle.inst_lines.specs.LineBuffer.{held, Fills, FillFails}
 use Rattle.inst_lines.specs.Replies.{WritesPart, WritesFirst}
 use Rattle.inst_lines.specs.Progress.{Progress, Stopped, Finished}
-use Rattle.inst_lines.specs.Session.{Reached, IsAnswered, IsReady, TakesLine, Advances, Stops, AnsweredAll, AnswersLast, Finishes, IsNoReadFault, Leaves, Turns, Ends, Fails}
+use Rattle.inst_lines.specs.Session.{Reached, IsAnswered, IsReady, Finishes, Leaves, Turns, Ends, Fails}
+use Rattle.inst_lines.specs.inner.Session.{TakesLine, Advances, Stops, AnsweredAll, AnswersLast, IsNoReadFault}
 use Rattle.inst_lines.proofs.WriteLemmas.{writes-none}
 use Rattle.inst_lines.proofs.ProgressLemmas.{progress-read, progress-line, progress-last, progress-write, progress-stop, progress-end, progress-room, progress-full, progress-cut}
 

@@ -1,7 +1,7 @@
 -- How a hub answers lines. In a run a line is a command: its ask is answered, and then all transfers are followed up. In a
 -- play a line is one step, and nothing else happens. That a line refused in reading changes nothing, and all of this, is
 -- this hub's own choice.
-use Rattle.std.specs.Prelude.{◌≡◌, ℕ, Bool, true, false, if◌then◌else◌, List, [], ◌∷◌, ◌++◌, Result, Ok, Err}
+use Rattle.std.specs.Prelude.{◌≡◌, ℕ, Bool, true, false, List, [], ◌∷◌, Result, Ok, Err}
 use Rattle.serde_json.specs.Written.{compact_text}
 use Rattle.inst_base.specs.declared.fault.Fault.{Fault}
 use Rattle.inst_base.specs.declared.fault.Fault.TheVariants.{LineTooLong}
@@ -13,14 +13,14 @@ use Rattle.inst_command.specs.declared.reply.Answer.TheVariants.{Reply, New}
 use Rattle.inst_command.specs.declared.step.Step.{Step}
 use Rattle.inst_command.specs.declared.step.Step.TheVariants.{Ask}
 use Rattle.inst_json.specs.Lines.{command_of_line, step_of_line}
-use Rattle.inst_json.specs.Replies.{answer_data, answer_can_be_written, refused_data}
+use Rattle.inst_json.specs.Replies.{answer_data, refused_data}
 use Rattle.inst_model.specs.Opening.{Opening}
 use Rattle.inst_model.specs.Opening.Opening.{First}
 use Rattle.inst_model.specs.Trace.{answer}
 use Rattle.inst_lines.specs.declared.mode.Mode.{Mode}
 use Rattle.inst_lines.specs.declared.mode.Mode.TheVariants.{Run, Play}
 use Rattle.inst_agenda.specs.declared.runner.Runner.{Runner}
-use Rattle.inst_lines.specs.Answers.{Answerer, is_too_long, IsFront}
+use Rattle.inst_lines.specs.Answers.{Answerer}
 use Rattle.inst_agenda.specs.FollowUps.{followed_up}
 use Rattle.inst_world.specs.HasRun.{Hub, settings_of, HasRun}
 use Rattle.inst_agenda.specs.Watching.{Watches}
@@ -120,27 +120,3 @@ running = answering Run
 
 abbrev pub playing : Answerer Past
 playing = answering Play
-
--- what a line of any length is answered
-abbrev pub any_line_answer : Mode → Past → List ℕ → Answer
-any_line_answer mode past line = if is_too_long line then Reply (Refused LineTooLong) else line_answer mode past line
-
--- what it leaves
-abbrev pub after_any_line : Mode → Past → List ℕ → Past
-after_any_line mode past line = if is_too_long line then past else after_line mode past line
-
--- a line is answered, of which this part is held and any front of it was let go
-pub record RepliesToLine (mode : Mode) (is_long : Bool) (part : List ℕ) (old new : Runner) (answer : Answer) : Type 0 where
-  pub told : (past : Past) → Keeps mode past old → (front : List ℕ) → IsFront is_long front →
-      answer ≡ any_line_answer mode past (front ++ part)
-  pub after : (past : Past) → Keeps mode past old → (front : List ℕ) → IsFront is_long front →
-      Keeps mode (after_any_line mode past (front ++ part)) new
-  pub same_settings : settings_of new.world ≡ settings_of old.world
-  pub can_be_written : answer_can_be_written (settings_of old.world) answer ≡ true
-
--- a line that was read is answered so and leaves this, whatever the runner has gone through
-pub record RepliesToRead (mode : Mode) (old new : Runner) (answer : Answer) (answered : Past → Answer) (left : Past → Past) : Type 0 where
-  pub told : (past : Past) → Keeps mode past old → answer ≡ answered past
-  pub after : (past : Past) → Keeps mode past old → Keeps mode (left past) new
-  pub same_settings : settings_of new.world ≡ settings_of old.world
-  pub can_be_written : answer_can_be_written (settings_of old.world) answer ≡ true

@@ -1,3 +1,4 @@
+-- Public contracts cite these.
 pub mod Limits
 pub mod Lines
 pub mod Answers
@@ -8,3 +9,5 @@ pub mod Progress
 pub mod Session
 pub mod Headline
 pub mod Check
+-- Only inner functions and proofs cite these.
+pub mod inner

@@ -38,8 +38,10 @@ impl Session {
     ghost use Rattle.inst_lines.specs.Limits.{most_lines};
     ghost use Rattle.inst_lines.specs.Answering.{answering, Keeps};
     ghost use Rattle.inst_lines.specs.LineBuffer.{held};
-    ghost use Rattle.inst_lines.specs.Session.{IsAnswered, IsReady, TakesLine, AnswersLast, IsNoReadFault, stage};
-    ghost use Rattle.inst_lines.specs.Session.{MovesOn, HasStopped, HasFinished, HasTurned, HasEnded, HasFailed};
+    ghost use Rattle.inst_lines.specs.Session.{IsAnswered, IsReady, stage};
+    ghost use Rattle.inst_lines.specs.Session.{HasTurned, HasEnded, HasFailed};
+    ghost use Rattle.inst_lines.specs.inner.Session.{TakesLine, AnswersLast, IsNoReadFault};
+    ghost use Rattle.inst_lines.specs.inner.Session.{MovesOn, HasStopped, HasFinished};
 
     /// A session that has read nothing.
     pub fn new(alloc: Global) -> Result<Session, Fault>

@@ -8,7 +8,8 @@ use Rattle.std.specs.Cmp.Lexicographic.{pointwise}
 use Rattle.sqlite_disk.specs.Disk.{Holds, Torn}
 use Rattle.inst_log.specs.Layout.{recovered, blocks, IsBatch, IsClosed}
 use Rattle.inst_log.specs.Log.{IsAtStage}
-use Rattle.inst_log.specs.Opening.{kept, Begins, IsNew, Opens, OpensAlike, IsBlanked, IsBlanking}
+use Rattle.inst_log.specs.Opening.{kept, Begins, IsNew, Opens, OpensAlike}
+use Rattle.inst_log.specs.inner.Opening.{IsBlanked, IsBlanking}
 use Rattle.inst_log.proofs.Bytes.{torn_back, written_is}
 use Rattle.inst_log.proofs.Lines.{parts, all_lines, recovered_blocks, none_without_newline, closed, blocks-append}
 use Rattle.inst_log.proofs.Crash.{batch_is, long_batch, closed_at}

@@ -1,7 +1,6 @@
 -- With which settings a file opens, and what is left of it. Settings are a batch: the first lines of each log that
 -- opens with them.
-use Rattle.std.specs.Prelude.{◌≡◌, ◌≢◌, ◌⊎◌, ◌≤◌, ◌<◌, ℕ, max, List, [], ◌∷◌, ◌++◌, length, take, drop}
-use Rattle.sqlite_disk.specs.Disk.{Torn}
+use Rattle.std.specs.Prelude.{◌≡◌, ◌⊎◌, ◌≤◌, ◌<◌, ℕ, List, [], ◌∷◌, ◌++◌, length, take, drop}
 use Rattle.inst_log.specs.Layout.{recovered}
 use Rattle.inst_log.specs.declared.error.LogError.{LogError}
 use Rattle.inst_log.specs.declared.error.LogError.TheVariants.{Disk, Memory, Full, Write, Told, OtherSettings, NoLog}
@@ -27,14 +26,6 @@ Opens settings file = Begins settings file ⊎ IsNew settings file
 pub record OpensAlike (settings old new : List ℕ) : Type 0 where
   pub lines : kept settings new ≡ kept settings old
   pub opens : Opens settings old → Opens settings new
-
--- the closed byte was written to the beginning, or stood there
-abbrev pub IsBlanked : List ℕ → List ℕ → Type 0
-IsBlanked old new = (take 1 new ≡ 0 ∷ []) × (length new ≤ max (length old) 1)
-
--- what a crash leaves meanwhile
-abbrev pub IsBlanking : List ℕ → List ℕ → Type 0
-IsBlanking old c = (c ≡ old) ⊎ ((take 1 old ≢ 0 ∷ []) × Torn 0 1 old c)
 
 -- Why a log was not opened: the disk failed, there was no memory, or the file does not open with these settings, and
 -- then it is as it was.

@@ -3,7 +3,8 @@ ghost use Rattle.std.specs.Prelude.{◌≡◌, ◌≢◌, ◌⊎◌, ◌<◌, �
 ghost use Rattle.sqlite_disk.specs.Disk.{Only, MoreFaults, CountsFault};
 ghost use Rattle.inst_log.specs.Layout.{recovered, blocks, IsBatch};
 ghost use Rattle.inst_log.specs.Log.{IsSettled, HasCause};
-ghost use Rattle.inst_log.specs.Opening.{kept, Begins, IsNew, Opens, OpensAlike, IsBlanked, IsBlanking, Unopened};
+ghost use Rattle.inst_log.specs.Opening.{kept, Begins, IsNew, Opens, OpensAlike, Unopened};
+ghost use Rattle.inst_log.specs.inner.Opening.{IsBlanked, IsBlanking};
 
 use crate::front::first_line;
 use crate::repair::repair;

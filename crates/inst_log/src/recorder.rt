@@ -4,8 +4,9 @@ ghost use Rattle.sqlite_disk.specs.Disk.{Only, MoreFaults};
 ghost use Rattle.inst_log.specs.Layout.{recovered, blocks, IsBatch, IsWhole};
 ghost use Rattle.inst_log.specs.Log.{IsSettled, HasCause};
 ghost use Rattle.inst_log.specs.Opening.{kept, Opens, OpensAlike, Unopened};
-ghost use Rattle.inst_log.specs.Serving.{Replies, TellsKept, Tells, TellsPart, SaysOn, AllBatches, lines_of, Owing};
+ghost use Rattle.inst_log.specs.Serving.{Replies, TellsKept, Tells, SaysOn, AllBatches, lines_of, Owing};
 ghost use Rattle.inst_log.specs.Serving.{HasFewer, Unanswered};
+ghost use Rattle.inst_log.specs.inner.Serving.{TellsPart};
 
 use crate::batch::close_batch;
 use crate::delivery::deliver;

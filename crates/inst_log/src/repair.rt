@@ -1,7 +1,8 @@
 //! The end of a file is repaired: closed, and nothing behind it. What the file stands for stays the same.
 ghost use Rattle.std.specs.Prelude.{◌≡◌, ◌<◌, ◌≤◌, ◌+◌, ◌^◌, List, ℕ, length, IsTrue, IfOk, OnOk};
 ghost use Rattle.sqlite_disk.specs.Disk.{Only, CountsFault};
-ghost use Rattle.inst_log.specs.Layout.{recovered, blocks, IsClosed, IsUnclosed};
+ghost use Rattle.inst_log.specs.Layout.{recovered, blocks, IsClosed};
+ghost use Rattle.inst_log.specs.inner.Layout.{IsUnclosed};
 
 use crate::front::{is_closed, kept_len};
 use crate::synced::write_synced;

@@ -9,7 +9,8 @@ use Rattle.inst_lines.proofs.AnswersLemmas.{output-append}
 use Rattle.inst_log.specs.Escape.{line_of}
 use Rattle.inst_log.specs.Serving.{Replies, SaysOn}
 use Rattle.inst_log.specs.Layout.{recovered}
-use Rattle.inst_logged.specs.Answering.{replies_at, past_after, SaysLines, AnswersLines, AnswersFront, AnswersNext, AnswersFirst}
+use Rattle.inst_logged.specs.Answering.{replies_at, past_after, SaysLines}
+use Rattle.inst_logged.specs.inner.Answering.{AnswersLines, AnswersFront, AnswersNext, AnswersFirst}
 
 pub answers_none : (mode : Mode) (runner : Runner) (out : List ℕ) → AnswersLines mode runner runner out out []
 answers_none mode runner out = record { replies = λ past of. sym (append-nil out); state = λ past of. of }

@@ -13,8 +13,9 @@ use Rattle.inst_log.proofs.WriteLemmas.{Appends-append, Appends-keeps, Keeps-sam
 use Rattle.inst_log.proofs.Serve.{on_more, tells_more, kept_after}
 use Rattle.inst_logged.specs.Answering.{SaysLines}
 use Rattle.inst_logged.specs.Intake.{held}
-use Rattle.inst_logged.specs.Input.{cut, logged, lines_from, rest_from, last_line}
-use Rattle.inst_logged.specs.Logged.{Turned, Ended, Came, IsInput, CameIn, ServedOn, KeptOn, HasCome}
+use Rattle.inst_logged.specs.Input.{cut, logged}
+use Rattle.inst_logged.specs.inner.Input.{lines_from, rest_from, last_line}
+use Rattle.inst_logged.specs.inner.Logged.{Turned, Ended, Came, IsInput, CameIn, ServedOn, KeptOn, HasCome}
 use Rattle.inst_logged.specs.declared.line_answers.LineAnswers.{LineAnswers}
 use Rattle.inst_logged.specs.declared.intake.Intake.{Intake}
 use Rattle.inst_logged.proofs.Cutting.{lines_append, rest_append, lines_of-from, whole_lines_of-from}

@@ -7,7 +7,8 @@ use Rattle.inst_lines.specs.Lines.{newline, lines_of, whole_lines_of, NoNewline 
 use Rattle.inst_lines.proofs.LinesLemmas.{lines_of-line, whole_lines_of-line, lines_of-part, whole_lines_of-part}
 use Rattle.inst_log.specs.Layout.{NoNewline}
 use Rattle.inst_log.specs.Escape.{raw_of}
-use Rattle.inst_logged.specs.Input.{lines_from, rest_from, last_line, cut, logged}
+use Rattle.inst_logged.specs.Input.{cut, logged}
+use Rattle.inst_logged.specs.inner.Input.{lines_from, rest_from, last_line}
 
 -- behind a line and its newline
 pub lines_behind : (part line later : List ℕ) → NoNewline line → lines_from part (line ++ newline ∷ later) ≡ (part ++ line) ∷ lines_from [] later

@@ -8,7 +8,8 @@ use lib.Seq.{paste}
 use Rattle.std.proofs.lemmas.Bool.{cases_lt}
 use Rattle.inst_log.specs.Layout.{NoNewline, BreaksAt}
 use Rattle.inst_log.specs.Escape.{raw_of}
-use Rattle.inst_logged.specs.Input.{lines_from, rest_from, last_line, cut, logged}
+use Rattle.inst_logged.specs.Input.{cut, logged}
+use Rattle.inst_logged.specs.inner.Input.{lines_from, rest_from, last_line}
 use Rattle.inst_logged.proofs.Cutting.{lines_behind, rest_behind, lines_beyond, rest_beyond, lines_alike, rest_alike, cut_twice, NoNewline-take}
 
 -- the shorter of two fronts

@@ -4,7 +4,8 @@ use Rattle.std.proofs.lemmas.List.{append-nil, drop_at, take-append-drop}
 use Rattle.inst_lines.specs.declared.mode.Mode.{Mode}
 use Rattle.inst_lines.specs.Answering.{Past, Keeps}
 use Rattle.inst_agenda.specs.declared.runner.Runner.{Runner}
-use Rattle.inst_log.specs.Serving.{Replies, TellsPart, SaysOn}
+use Rattle.inst_log.specs.Serving.{Replies, SaysOn}
+use Rattle.inst_log.specs.inner.Serving.{TellsPart}
 use Rattle.inst_log.proofs.WriteLemmas.{Appends-keeps, Keeps-same}
 use Rattle.inst_logged.specs.Answering.{replies_at, SaysLines}
 use Rattle.inst_logged.specs.Logged.{Are, owed}

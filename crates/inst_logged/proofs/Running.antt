@@ -6,12 +6,14 @@ use Rattle.inst_lines.specs.Answering.{Past}
 use Rattle.inst_lines.proofs.ProgressLemmas.{Consumes-keeps}
 use Rattle.inst_log.specs.Layout.{recovered}
 use Rattle.inst_log.specs.Opening.{kept}
-use Rattle.inst_log.specs.Serving.{Replies, Tells, TellsPart, TellsKept, SaysOn}
+use Rattle.inst_log.specs.Serving.{Replies, Tells, TellsKept, SaysOn}
+use Rattle.inst_log.specs.inner.Serving.{TellsPart}
 use Rattle.inst_log.specs.declared.recorder.Recorder.{Recorder}
 use Rattle.inst_log.proofs.WriteLemmas.{Appends-append, Keeps-same}
 use Rattle.inst_log.proofs.Serve.{run_kept, reopen_kept}
 use Rattle.inst_logged.specs.Answering.{SaysLines, told_of}
-use Rattle.inst_logged.specs.Logged.{Are, owed, IsInput, CameIn, ServedOn, KeptOn, HasLogged, SurvivesACrash}
+use Rattle.inst_logged.specs.Logged.{Are, owed, HasLogged, SurvivesACrash}
+use Rattle.inst_logged.specs.inner.Logged.{IsInput, CameIn, ServedOn, KeptOn}
 use Rattle.inst_logged.specs.declared.line_answers.LineAnswers.{LineAnswers}
 
 module _ (mode : Mode) (past : Past) (header : List ℕ) (told : Option ℕ) (file : List ℕ) where

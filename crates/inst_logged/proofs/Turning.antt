@@ -2,9 +2,11 @@
 use Rattle.std.proofs.Common.{◌≡◌, inl, inr, ℕ, Bool, true, false, List, [], ◌++◌, map, Option, refl, ap, ◌∙◌}
 use Rattle.std.specs.Prelude.{MatchBool}
 use Rattle.inst_log.specs.Layout.{recovered}
-use Rattle.inst_logged.specs.Input.{cut, logged, lines_from, last_line}
-use Rattle.inst_logged.specs.Intake.{held, TakesIn, TakesLast}
-use Rattle.inst_logged.specs.Logged.{Turned, Ended, Came}
+use Rattle.inst_logged.specs.Input.{cut, logged}
+use Rattle.inst_logged.specs.inner.Input.{lines_from, last_line}
+use Rattle.inst_logged.specs.Intake.{held}
+use Rattle.inst_logged.specs.inner.Intake.{TakesIn, TakesLast}
+use Rattle.inst_logged.specs.inner.Logged.{Turned, Ended, Came}
 use Rattle.inst_logged.specs.declared.intake.Intake.{Intake}
 
 pub turned_of : (old new : Intake) (before after part : List ℕ) (left left' : Option (List ℕ)) (more : Bool) → before ≡ [] → held old ≡ cut part

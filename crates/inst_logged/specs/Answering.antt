@@ -1,5 +1,5 @@
 -- What a hub in one thread says to lines as a log has them. That a log has lines so is this hub's own choice.
-use Rattle.std.specs.Prelude.{◌≡◌, ◌≤◌, ◌-◌, ℕ, List, [], ◌∷◌, map, ◌++◌, length, take, drop, Option, Some, None}
+use Rattle.std.specs.Prelude.{◌≡◌, ℕ, List, [], map, length, Option, Some, None}
 use Rattle.inst_settings.specs.Settings.{HubSettings}
 use Rattle.inst_journal.specs.History.{History}
 use Rattle.inst_world.specs.NextOpening.{opening_from, AreCarried}
@@ -7,7 +7,6 @@ use Rattle.inst_agenda.specs.declared.runner.Runner.{Runner}
 use Rattle.inst_lines.specs.declared.mode.Mode.{Mode}
 use Rattle.inst_lines.specs.Answers.{output, state_after}
 use Rattle.inst_lines.specs.Answering.{Past, Keeps, answering}
-use Rattle.inst_log.specs.Layout.{recovered, IsFirstLine}
 use Rattle.inst_log.specs.Escape.{line_of}
 use Rattle.inst_log.specs.Serving.{Replies}
 
@@ -29,32 +28,10 @@ pub record SaysLines (mode : Mode) (runner : Runner) (replies : Replies) : Type 
   pub keeps : Keeps mode past runner
   pub are : (lines : List (List ℕ)) → replies lines ≡ replies_at mode past lines
 
--- the lines were answered, whatever the hub had gone through
-pub record AnswersLines (mode : Mode) (old new : Runner) (out_old out_new : List ℕ) (lines : List (List ℕ)) : Type 0 where
-  pub replies : (past : Past) → Keeps mode past old → out_new ≡ out_old ++ replies_at mode past lines
-  pub state : (past : Past) → Keeps mode past old → Keeps mode (past_after mode past lines) new
-
 -- the journals are the books of a hub that had gone through this, answered these lines and was closed
 abbrev pub AreBooksAfter : Mode → Past → List (List ℕ) → List History → Type 0
 AreBooksAfter mode past lines journals =
     let after = past_after mode past lines in AreCarried after.settings after.opening after.steps journals
-
--- the first lines of a batch were answered, and the others are left
-pub record AnswersFront (mode : Mode) (old new : Runner) (out_old out_new batch rest : List ℕ) : Type 0 where
-  pub done : List (List ℕ)
-  pub split : done ++ recovered rest ≡ recovered batch
-  pub answered : AnswersLines mode old new out_old out_new done
-
--- the first line was answered, which has so many bytes with its newline
-pub record AnswersNext (mode : Mode) (old new : Runner) (out_old out_new lines : List ℕ) (n : ℕ) : Type 0 where
-  pub first : IsFirstLine lines n
-  pub answered : AnswersLines mode old new out_old out_new (take (n - 1) lines ∷ [])
-
--- the first lines were answered, so many, and the others begin there
-pub record AnswersFirst (mode : Mode) (old new : Runner) (out_old out_new lines : List ℕ) (start count : ℕ) : Type 0 where
-  pub within : start ≤ length lines
-  pub rest : recovered (drop start lines) ≡ drop count (recovered lines)
-  pub answered : AnswersLines mode old new out_old out_new (take count (recovered lines))
 
 -- how many of a log's lines have been told: so many, or all
 abbrev pub told_of : Option ℕ → List (List ℕ) → ℕ

@@ -1,24 +1,7 @@
 -- Bytes that come piece by piece, cut into lines, and how each line stands in a log. This hub's own choice.
-use Rattle.std.specs.Prelude.{◌≡◌, ℕ, ◌+◌, ◌≤◌, List, [], ◌∷◌, ◌++◌, map, length, take, drop, ◌==◌, if◌then◌else◌}
+use Rattle.std.specs.Prelude.{ℕ, ◌+◌, List, take}
 use Rattle.inst_lines.specs.Limits.{most_line_bytes}
-use Rattle.inst_lines.specs.Lines.{newline}
-use Rattle.inst_log.specs.Layout.{recovered, IsWhole}
 use Rattle.inst_log.specs.Escape.{raw_of}
-
--- the lines that end in these bytes, which come behind a part of a line
-abbrev pub lines_from : List ℕ → List ℕ → List (List ℕ)
-lines_from part [] = []
-lines_from part (b ∷ bytes) = if b == newline then part ∷ lines_from [] bytes else lines_from (part ++ b ∷ []) bytes
-
--- the part of a line that is left behind them
-abbrev pub rest_from : List ℕ → List ℕ → List ℕ
-rest_from part [] = part
-rest_from part (b ∷ bytes) = if b == newline then rest_from [] bytes else rest_from (part ++ b ∷ []) bytes
-
--- a part of a line is a line at the end of the input, if it isn't empty
-abbrev pub last_line : List ℕ → List (List ℕ)
-last_line [] = []
-last_line (b ∷ part) = (b ∷ part) ∷ []
 
 -- of a line that is too long no more than shows it to be
 abbrev pub cut : List ℕ → List ℕ
@@ -27,10 +10,3 @@ cut line = take (most_line_bytes + 1) line
 -- a line that was read, as the log has it
 abbrev pub logged : List ℕ → List ℕ
 logged line = raw_of (cut line)
-
--- the bytes are these lines, each with its newline, and then what stands from `start` on
-pub record CutsLines (bytes : List ℕ) (start : ℕ) (before after : List ℕ) : Type 0 where
-  pub within : start ≤ length bytes
-  pub rest_is : drop start bytes ≡ rest_from [] bytes
-  pub whole : IsWhole after
-  pub lines_are : recovered after ≡ recovered before ++ map logged (lines_from [] bytes)

@@ -1,24 +1,7 @@
--- What is held of an input, and what a read does to it.
-use Rattle.std.specs.Prelude.{◌≡◌, ℕ, ◌<◌, List, [], ◌++◌, map, length, take, Option}
-use Rattle.std.specs.Io.KnownBytes.{Consumes, IsAtEnd}
-use Rattle.inst_log.specs.Layout.{recovered}
-use Rattle.inst_logged.specs.Input.{cut, logged, lines_from, rest_from, last_line}
+-- What is held of an input.
+use Rattle.std.specs.Prelude.{ℕ, List, take}
 use Rattle.inst_logged.specs.declared.intake.Intake.{Intake}
 
 -- what is held of a part of a line
 abbrev pub held : Intake → List ℕ
 held intake = take intake.len intake.bytes.items
-
--- further bytes were read, the lines that end there went into a batch, and the part of a line behind them is held
-pub record TakesIn (old new : Intake) (before after : List ℕ) (left left' : Option (List ℕ)) : Type 0 where
-  pub read : List ℕ
-  pub some : 0 < length read
-  pub consumes : Consumes left left' read
-  pub lines_are : (part : List ℕ) → held old ≡ cut part → recovered after ≡ recovered before ++ map logged (lines_from part read)
-  pub held_is : (part : List ℕ) → held old ≡ cut part → held new ≡ cut (rest_from part read)
-
--- the input is at its end, and what was held of a line went into the batch
-pub record TakesLast (old : Intake) (before after : List ℕ) (left left' : Option (List ℕ)) : Type 0 where
-  pub consumes : Consumes left left' []
-  pub at_end : IsAtEnd left'
-  pub lines_are : (part : List ℕ) → held old ≡ cut part → recovered after ≡ recovered before ++ map logged (last_line part)

@@ -1,3 +1,4 @@
+-- Public contracts cite these.
 pub mod Answering
 pub mod LineAnswers
 pub mod Header
@@ -5,3 +6,5 @@ pub mod Input
 pub mod Intake
 pub mod Logged
 pub mod Refused
+-- Only inner functions and proofs cite these.
+pub mod inner

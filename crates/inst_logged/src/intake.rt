@@ -5,7 +5,8 @@ ghost use Rattle.std.specs.Io.KnownBytes.{Consumes, ReadConsumes};
 ghost use Rattle.inst_lines.specs.Limits.{buffer_bytes, most_line_bytes};
 ghost use Rattle.inst_log.specs.Layout.{recovered, IsWhole, NoNewline};
 ghost use Rattle.inst_log.specs.Escape.{raw_of};
-ghost use Rattle.inst_logged.specs.Input.{cut, logged, last_line, lines_from, rest_from, CutsLines};
+ghost use Rattle.inst_logged.specs.Input.{cut, logged};
+ghost use Rattle.inst_logged.specs.inner.Input.{last_line, lines_from, rest_from, CutsLines};
 
 use crate::LoggedError;
 use inst_lines::MOST_LINE_BYTES;
@@ -29,7 +30,8 @@ pub struct Intake {
 }
 
 impl Intake {
-    ghost use Rattle.inst_logged.specs.Intake.{held, TakesIn, TakesLast};
+    ghost use Rattle.inst_logged.specs.Intake.{held};
+    ghost use Rattle.inst_logged.specs.inner.Intake.{TakesIn, TakesLast};
     ghost use Rattle.inst_logged.specs.Refused.{IsRefused};
 
     /// Nothing was read yet.

@@ -1,7 +1,8 @@
 //! A hub in one thread answers the lines of a log.
 ghost use Rattle.std.specs.Prelude.{◌≡◌, ◌<◌, [], length, IfOk, OnOk, MatchOption};
 ghost use Rattle.inst_log.specs.Layout.{recovered};
-ghost use Rattle.inst_logged.specs.Answering.{SaysLines, AnswersLines, AnswersNext, AnswersFirst, told_of};
+ghost use Rattle.inst_logged.specs.Answering.{SaysLines, told_of};
+ghost use Rattle.inst_logged.specs.inner.Answering.{AnswersLines, AnswersNext, AnswersFirst};
 
 use inst_agenda::Runner;
 use inst_journal::Journal;

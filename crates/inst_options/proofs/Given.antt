@@ -6,12 +6,14 @@ use Rattle.clap.specs.Words.{ReadsOne, Row, first_of, first_value, one_text, row
 use Rattle.clap.specs.declared.parser.matches.Found.{Found}
 use Rattle.clap.proofs.WalkLemmas.{first_value-rows, one_text-rows}
 use Rattle.inst_base.specs.declared.fault.Fault.{Fault}
-use Rattle.inst_options.specs.Options.{Gives, GivesNoneBelow, IsText}
+use Rattle.inst_options.specs.Options.{Gives, IsText}
+use Rattle.inst_options.specs.inner.Options.{GivesNoneBelow}
 use Rattle.clap.specs.Words.{HasKind, IsAmong, kind_of, subcommand_of}
 use Rattle.inst_options.specs.CommandLine.{command_line}
 use Rattle.clap.specs.declared.error.Error.{Error}
 use Rattle.clap.specs.declared.error.kind.ErrorKind.TheVariants.{OutOfMemory}
-use Rattle.inst_options.specs.Asking.{IsNoWish, IsOfKind, IsRefusedBy, faults_of}
+use Rattle.inst_options.specs.Asking.{IsNoWish, faults_of}
+use Rattle.inst_options.specs.inner.Asking.{IsOfKind, IsRefusedBy}
 use Rattle.inst_options.specs.declared.error.WordsError.{WordsError}
 use Rattle.inst_options.specs.declared.error.WordsError.TheVariants as error
 

@@ -9,7 +9,8 @@ use Rattle.inst_base.specs.declared.fault.Fault.TheVariants.{BadSettings}
 use Rattle.inst_settings.specs.Settings.{HubSettings, same_text}
 use Rattle.inst_settings.specs.Lawful.{IsSettings, are_different}
 use Rattle.inst_options.specs.CommandLine.{command_line}
-use Rattle.inst_options.specs.Options.{AskForNone, ChooseNone, Chooses, Gives, GivesLog, GivesNoneBelow, IsTask, IsWish, SpeaksOfALog, Task}
+use Rattle.inst_options.specs.Options.{Chooses, Gives, IsTask, SpeaksOfALog, Task}
+use Rattle.inst_options.specs.inner.Options.{AskForNone, ChooseNone, GivesLog, GivesNoneBelow, IsWish}
 use Rattle.inst_options.specs.Options.Task.{Run, Play, Drill, Check}
 use Rattle.inst_options.specs.Asking.{AreChosen, AreUnfit, AreWhole, IsNoWish, IsRefusal, IsWished, NameTheLog}
 use Rattle.inst_options.specs.declared.error.WordsError.TheVariants as error

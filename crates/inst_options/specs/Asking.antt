@@ -81,19 +81,7 @@ pub record AreUnfit (words : List (List ℕ)) : Type 0 where
   pub whole : AreWhole words
   pub none : (task : Task) (s : HubSettings) → AreChosen words task s → ¬ (AreOfAHub s × HasSmallNumbers task)
 
--- an error of the words of this kind, and want of memory as a fault
-abbrev pub IsOfKind : ErrorKind → WordsError → Type 0
-IsOfKind kind (error.Words e) = (kind_of e ≡ kind) × (kind ≢ OutOfMemory)
-IsOfKind kind (error.Option bad) = ⊥
-IsOfKind kind (error.Fault fault) = (fault ≡ Memory) × (kind ≡ OutOfMemory)
-
--- an error of options that were refused by this fault: an option that is named has that value
-abbrev pub IsRefusedBy : List Row → Fault → WordsError → Type 0
-IsRefusedBy rows fault (error.Words e) = ⊥
-IsRefusedBy rows fault (error.Option bad) = (fault ≡ BadSettings) × (first_of bad.name.now rows ≡ Some bad.value.now)
-IsRefusedBy rows fault (error.Fault other) = other ≡ fault
-
--- the option has that value in the words
+-- the bad option has its value in the words
 abbrev pub IsGivenBy : List (List ℕ) → BadOption → Type 0
 IsGivenBy words bad = (name : List ℕ) × (rows : List Row) × (subcommand_of command_line words ≡ Some (name, rows))
     × (first_of bad.name.now rows ≡ Some bad.value.now)

@@ -1,10 +1,8 @@
 -- The command line of the program. Its words are this hub's own choice.
-use Rattle.std.specs.Prelude.{◌≡◌, ◌-◌, ◌^◌, ℕ, true, false, List, ◌∷◌, [], Some, codes}
+use Rattle.std.specs.Prelude.{◌-◌, ◌^◌, ℕ, true, List, ◌∷◌, [], Some, codes}
 use Rattle.clap.specs.Words.{App, Rule, new_app, new_rule, with_rule, with_subcommand}
 use Rattle.clap.specs.Simple.{on_top}
 use Rattle.clap.specs.declared.builder.action.ArgAction.TheVariants.{Set, SetTrue}
-use Rattle.clap.specs.declared.builder.command.Command.{Command}
-use Rattle.clap.specs.declared.builder.command.Command.TheViews.{out-Command}
 use Rattle.clap.specs.declared.builder.value_parser.ValueParser.TheVariants.{Unsigned}
 
 -- the participants' codes, which must be given
@@ -57,10 +55,6 @@ with_bounds app = with_rule (with_rule app
 -- a subcommand of this name, with the options of a hub
 abbrev pub hub_command : List ℕ → App
 hub_command name = with_bounds (with_times (with_room (with_rule (new_app name) participants_rule)))
-
--- no option of the command is one of its subcommands' too
-abbrev pub IsLocal : Command → Type 0
-IsLocal command = (out-Command command).has_globals ≡ false
 
 -- the program without its subcommands, of which it needs one; it tells its version
 abbrev pub bare_command_line : App

@@ -1,13 +1,9 @@
 -- The options of a subcommand, and the settings that their values choose. They are this hub's own choice.
-use Rattle.std.specs.Prelude.{◌⊎◌, ◌≡◌, ◌<◌, ◌≤◌, ◌^◌, ℕ, Bool, true, false, List, Option, Some, None, codes}
+use Rattle.std.specs.Prelude.{◌⊎◌, ◌≡◌, ◌<◌, ◌^◌, ℕ, Bool, true, false, List, Some, None, codes}
 use Rattle.std.specs.Str.Parse.{IsNumeral, digits_value, without_leading_plus}
 use Rattle.clap.specs.Words.{Row, Text, first_of, one_of}
 use Rattle.inst_codes.specs.Parts.{parts_of}
 use Rattle.inst_settings.specs.Settings.{HubSettings, same_text}
-use Rattle.inst_settings.specs.Lawful.{AreOfAHub, IsSettings}
-use Rattle.inst_options.specs.declared.wish.LogOptions.{LogOptions}
-use Rattle.inst_options.specs.declared.wish.Wish.{Wish}
-use Rattle.inst_options.specs.declared.wish.Wish.TheVariants as wish
 
 -- what the subcommand of a name does at a hub, or for one
 -- drill: so many transfers in each of so many openings
@@ -24,10 +20,6 @@ Gives rows name n =
     (text : Text) × (one_of name rows ≡ Some text) × IsNumeral 10 (without_leading_plus text)
     × (n ≡ digits_value 10 (without_leading_plus text))
 
--- the option of this name has no text that is a number below this one
-abbrev pub GivesNoneBelow : ℕ → List Row → List ℕ → Type 0
-GivesNoneBelow bound rows name = (n : ℕ) → Gives rows name n → bound ≤ n
-
 -- the option has a text
 abbrev pub IsGiven : List ℕ → List Row → Type 0
 IsGiven name rows = (text : Text) × (first_of name rows ≡ Some text)
@@ -36,21 +28,11 @@ IsGiven name rows = (text : Text) × (first_of name rows ≡ Some text)
 abbrev pub IsText : List ℕ → List Row → List ℕ → Type 0
 IsText name rows text = (given : List ℕ) → first_of name rows ≡ Some given → text ≡ given
 
--- the options name this log and say so much of what was told, or name none
-abbrev pub GivesLog : List Row → Option LogOptions → Type 0
-GivesLog rows None = first_of (codes "log") rows ≡ None
-GivesLog rows (Some log) =
-    (first_of (codes "log") rows ≡ Some log.path.now) × ((n : ℕ) → log.told ≡ Some n → Gives rows (codes "told") n)
-
 -- whether the option, which has no value, is there
 abbrev pub IsFlag : List ℕ → List Row → Bool → Type 0
 IsFlag name rows flag =
     (one_of name rows ≡ Some (codes "true") → flag ≡ true)
     × (((one_of name rows ≡ None) ⊎ (one_of name rows ≡ Some (codes "false"))) → flag ≡ false)
-
--- the options say what was told, and name no log
-abbrev pub TellsOfNoLog : List Row → Type 0
-TellsOfNoLog rows = (first_of (codes "log") rows ≡ None) × IsGiven (codes "told") rows
 
 -- the subcommand is `log` or `next`, or an option is of a log
 abbrev pub SpeaksOfALog : List ℕ → List Row → Type 0
@@ -84,32 +66,9 @@ pub record Chooses (rows : List Row) (s : HubSettings) : Type 0 where
   pub ceiling : Gives rows (codes "ceiling") s.ceiling
   pub base : Gives rows (codes "base") s.base
 
--- the options choose no settings that a hub can have
-abbrev pub ChooseNone : List Row → Type 0
-ChooseNone rows = (s : HubSettings) → Chooses rows s → ¬ (AreOfAHub s)
-
 -- the numbers of a drill are as small as a word can give them; lines have none
 abbrev pub HasSmallNumbers : Task → Type 0
 HasSmallNumbers Run = Unit {0}
 HasSmallNumbers Play = Unit {0}
 HasSmallNumbers (Drill transfers openings) = (transfers < 2 ^ 16) × (openings < 2 ^ 8)
 HasSmallNumbers Check = Unit {0}
-
--- the options of the subcommand of this name choose no settings that a hub can have, or no task that fits
-abbrev pub AskForNone : List ℕ → List Row → Type 0
-AskForNone name rows =
-    (task : Task) (s : HubSettings) → IsTask name rows task → Chooses rows s → ¬ (AreOfAHub s × HasSmallNumbers task)
-
--- what the subcommand of this name asks for, with these options
-abbrev pub IsWish : List ℕ → List Row → Wish → Type 0
-IsWish name rows (wish.Run s log sums) =
-    IsSettings s × IsTask name rows Run × Chooses rows s × GivesLog rows log × IsFlag (codes "summary") rows sums
-IsWish name rows (wish.Play s log sums) =
-    IsSettings s × IsTask name rows Play × Chooses rows s × GivesLog rows log × IsFlag (codes "summary") rows sums
-IsWish name rows (wish.Drill s transfers openings) =
-    IsSettings s × IsTask name rows (Drill transfers openings) × Chooses rows s
-IsWish name rows (wish.Check s) = IsSettings s × IsTask name rows Check × Chooses rows s
-IsWish name rows (wish.Log path) = (same_text name (codes "log") ≡ true) × IsText (codes "file") rows path.now
-IsWish name rows (wish.Next from to) =
-    (same_text name (codes "next") ≡ true) × IsText (codes "log") rows from.now × IsText (codes "to") rows to.now
-IsWish name rows (wish.Explain word) = (same_text name (codes "explain") ≡ true) × IsText (codes "fault") rows word.now

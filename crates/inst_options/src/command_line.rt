@@ -2,8 +2,9 @@ ghost use Rattle.std.specs.Prelude.{◌≡◌, IfOk, false};
 ghost use Rattle.clap.specs.Words.{app_of, rule_of};
 ghost use Rattle.inst_options.specs.CommandLine.{participants_rule, number_rule, with_room, with_times, with_bounds, hub_command};
 ghost use Rattle.inst_options.specs.CommandLine.{file_rule, log_rule, told_rule, summary_rule, named_rule, fault_rule, log_command, next_command};
-ghost use Rattle.inst_options.specs.CommandLine.{run_command, drill_command, explain_command, with_runs, with_logs, IsLocal};
+ghost use Rattle.inst_options.specs.CommandLine.{run_command, drill_command, explain_command, with_runs, with_logs};
 ghost use Rattle.inst_options.specs.CommandLine.{command_line as the_command_line};
+ghost use Rattle.inst_options.specs.inner.CommandLine.{IsLocal};
 
 use crate::texts;
 use clap::{Arg, ArgAction, Command};

@@ -2,8 +2,10 @@
 ghost use Rattle.std.specs.Prelude.{◌≡◌, ◌^◌, ◌⊎◌, IfOk, IfErr, OnErr, IsOkUnless, Some, None};
 ghost use Rattle.std.specs.Prelude.{codes};
 ghost use Rattle.clap.specs.Words.{first_of, found_of, rows_of};
-ghost use Rattle.inst_options.specs.Options.{GivesLog, TellsOfNoLog, SpeaksOfALog, IsText, IsWish};
-ghost use Rattle.inst_options.specs.Options.{IsFlag, Gives, GivesNoneBelow, Chooses, ChooseNone, IsDrill, AskForNone};
+ghost use Rattle.inst_options.specs.Options.{SpeaksOfALog, IsText};
+ghost use Rattle.inst_options.specs.Options.{IsFlag, Gives, Chooses, IsDrill};
+ghost use Rattle.inst_options.specs.inner.Options.{GivesLog, TellsOfNoLog, IsWish};
+ghost use Rattle.inst_options.specs.inner.Options.{GivesNoneBelow, ChooseNone, AskForNone};
 ghost use Rattle.inst_options.specs.Asking.{IsRefusal};
 ghost use Rattle.inst_settings.specs.Lawful.{IsSettings};
 

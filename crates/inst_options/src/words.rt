@@ -1,7 +1,8 @@
 //! The words of a command line, read by `clap`.
 ghost use Rattle.std.specs.Prelude.{map, string_bytes, IfOk, IfErr};
 ghost use Rattle.clap.specs.Words.{found_of, kind_of, rows_of};
-ghost use Rattle.inst_options.specs.Asking.{IsWished, IsNoWish, IsOfKind, IsRefusedBy};
+ghost use Rattle.inst_options.specs.Asking.{IsWished, IsNoWish};
+ghost use Rattle.inst_options.specs.inner.Asking.{IsOfKind, IsRefusedBy};
 
 use crate::bad_option::bad_option;
 use crate::command_line::command_line;

@@ -28,7 +28,7 @@ use Rattle.inst_slot.specs.Asking.{request, handle_ask, Applies, AppliesTo}
 use Rattle.inst_participant.specs.declared.participant.Participant.{Participant}
 use Rattle.inst_participant.specs.Behind.{IsReady}
 use Rattle.inst_participant.specs.Answers.{Answered, IsTicket}
-use Rattle.inst_participant.specs.Telling.{IsToldBy}
+use Rattle.inst_participant.specs.inner.Telling.{IsToldBy}
 use Rattle.inst_participant.specs.declared.follow_up.Errand.{Errand}
 use Rattle.inst_participant.specs.declared.follow_up.Errand.TheVariants.{Deliver, Learn}
 use Rattle.inst_participant.specs.Following.{Does}

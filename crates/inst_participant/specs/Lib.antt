@@ -1,3 +1,4 @@
+-- Public contracts cite these.
 pub mod Behind
 pub mod Answers
 pub mod Telling
@@ -5,3 +6,5 @@ pub mod Following
 pub mod Serving
 pub mod Told
 pub mod Sweeping
+-- Only inner functions and proofs cite these.
+pub mod inner

@@ -21,7 +21,8 @@ use Rattle.inst_slot.proofs.Growing.{slice_get_at}
 use Rattle.inst_slot.proofs.Keeping.{kept_opening}
 use Rattle.inst_together.specs.Together.{IsMember, AreTogether}
 use Rattle.inst_parts.specs.Parts.{AreParts}
-use Rattle.inst_parts.specs.Uniting.{IsSeparate, AreSeparate, AreAtOne, AreSights, AreJoined, IsToldMore}
+use Rattle.inst_parts.specs.Uniting.{IsSeparate, AreSeparate, AreAtOne, AreSights}
+use Rattle.inst_parts.specs.inner.Uniting.{AreJoined, IsToldMore}
 
 -- from the board a to one that knows what a and the other knew
 module _ (a other new : SharedBoard) (both : KnowsBoth a other new) (truth : KnowsTruth new) (vouches : Vouches a other) (same : settings_of new ≡ settings_of a) where

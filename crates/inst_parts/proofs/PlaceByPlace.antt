@@ -42,7 +42,8 @@ use Rattle.std.proofs.lemmas.List.Sums.{sum_by-cons}
 use Rattle.std.specs.declared.alloc.AllocError.{AllocError}
 use Rattle.inst_together.specs.Together.{IsSettled}
 use Rattle.inst_together.proofs.Listing.{got, kept, counted_at, some_same}
-use Rattle.inst_parts.specs.Settling.{HasAll, IsReady, IsLater, IsBookedAt, HasCome, OwnAreBooked, ArrivedAreBooked, HaveCome}
+use Rattle.inst_parts.specs.Settling.{HasAll, IsReady, IsLater}
+use Rattle.inst_parts.specs.inner.Settling.{IsBookedAt, HasCome, OwnAreBooked, ArrivedAreBooked, HaveCome}
 
 -- what is booked, and what has come, stays so as the history grows
 still_some : {A : Type 0} (o p : Option A) → is_some o ≡ true → is_some (or_else o p) ≡ true

@@ -1,7 +1,7 @@
 -- A participant's book is settled over a board whose holder has all roles: the outcomes of its own live transfers are
 -- booked, then those of what came to it, and then what is pending for it comes. Nothing is decided, and nothing new is
 -- known. In which order is this hub's own choice.
-use Rattle.std.specs.Prelude.{◌≡◌, ◌⊎◌, ℕ, ◌<◌, true, is_some, List, slice_get, Contains, Some}
+use Rattle.std.specs.Prelude.{◌≡◌, ◌⊎◌, ℕ, ◌<◌, Contains, Some}
 use Rattle.inst_settings.specs.Settings.{HubSettings, participants}
 use Rattle.inst_command.specs.declared.outcome.Outcome.{Outcome}
 use Rattle.inst_terms.specs.declared.terms.Terms.{Terms}
@@ -10,13 +10,11 @@ use Rattle.inst_board.specs.declared.about.About.TheVariants.{Opened, HasTerms, 
 use Rattle.inst_board.specs.declared.about.Fact.{Fact}
 use Rattle.inst_board.specs.Standing.{about}
 use Rattle.inst_board.specs.Learning.{KnowTheSame}
-use Rattle.inst_journal.specs.declared.event.Event.TheVariants.{Taken}
-use Rattle.inst_journal.specs.Booked.{is_forwarded, booked}
 use Rattle.inst_journal.specs.Opened.{live_taken, carried}
 use Rattle.inst_model.specs.Closing.{OnlyTold}
 use Rattle.inst_slot.specs.declared.arrival.Arrival.{Arrival}
 use Rattle.inst_slot.specs.Book.{Book, place_at}
-use Rattle.inst_slot.specs.LawfulBoard.{LiesAt, IsLawfulBoard, KeepsOthers, AllAreAdopted}
+use Rattle.inst_slot.specs.LawfulBoard.{IsLawfulBoard, KeepsOthers, AllAreAdopted}
 
 -- The board's holder has the roles of all participants, and what it knows opened is addressed to one whose role it has
 pub record HasAll {B : Type 0} (settings : B → HubSettings) (knows : B → Fact → Type 0) (has_role : B → ℕ → Type 0) (b : B) : Type 0 where
@@ -49,28 +47,3 @@ pub record IsLater {B : Type 0} (settings : B → HubSettings) (knows : B → Fa
       ⊎ ((index : ℕ) (o : Outcome) → z.index ≡ Some index → ¬ knows b (about (place_at z.entry.from index) (Decided o)))
   pub others : KeepsOthers settings knows has_role b x.who c
   pub stays_on : stays b c
-
--- where the transfer of x that lies at the place has ended, as b knows, y has it booked
-abbrev pub IsBookedAt : {B : Type 0} → (B → Fact → Type 0) → B → Book → Place → Book → Type 0
-IsBookedAt knows b x k y = (id : List ℕ) (o : Outcome) → LiesAt x k.owner id k.index → knows b (about k (Decided o)) →
-    is_some (booked k.owner id y.events) ≡ true
-
--- where a transfer for the participant was opened at the place, as b knows, it has come, or has ended
-abbrev pub HasCome : {B : Type 0} → (B → Fact → Type 0) → B → Place → Book → Type 0
-HasCome knows b k y = (t : Terms) → t.to ≡ y.who → knows b (about k Opened) → knows b (about k (HasTerms t)) →
-    (is_forwarded k.owner t.id y.events ≡ true) ⊎ ((o : Outcome) × knows b (about k (Decided o)))
-
--- each own live transfer is booked that has ended, as b knows
-abbrev pub OwnAreBooked : {B : Type 0} → (B → Fact → Type 0) → B → Book → Type 0
-OwnAreBooked knows b y = (index : ℕ) (id : List ℕ) (to cents stamp : ℕ) (o : Outcome) →
-    slice_get (live_taken y.who y.events) index ≡ Some (Taken id to cents stamp) →
-    knows b (about (place_at y.who index) (Decided o)) → is_some (booked y.who id y.events) ≡ true
-
--- and each that came
-abbrev pub ArrivedAreBooked : {B : Type 0} → (B → Fact → Type 0) → B → Book → Type 0
-ArrivedAreBooked knows b y = (x : Arrival) (index : ℕ) (o : Outcome) → Contains y.arrivals x → x.index ≡ Some index →
-    knows b (about (place_at x.entry.from index) (Decided o)) → is_some (booked x.entry.from x.entry.id y.events) ≡ true
-
--- the originator's transfers for the participant have come
-abbrev pub HaveCome : {B : Type 0} → (B → Fact → Type 0) → B → ℕ → Book → Type 0
-HaveCome knows b owner y = (index : ℕ) → HasCome knows b (place_at owner index) y

@@ -1,15 +1,13 @@
 -- The participants of a hub with a board each, over one and the same words, and what the boards make when they are joined
 -- to one. This hub's own choice.
-use Rattle.std.specs.Prelude.{◌≡◌, ℕ, ◌<◌, List, length, slice_get, Some}
+use Rattle.std.specs.Prelude.{◌≡◌, ℕ, List, length, slice_get, Some}
 use Rattle.inst_settings.specs.Settings.{HubSettings, participants}
-use Rattle.inst_board.specs.declared.about.Fact.{Fact}
 use Rattle.inst_cell.specs.declared.shared_board.SharedBoard.{SharedBoard}
 use Rattle.inst_cell.specs.declared.sight.Sight.{Sight}
-use Rattle.inst_cell.specs.Held.{settings_of, knows, has_role, Stays, AtOneTable}
+use Rattle.inst_cell.specs.Held.{settings_of, knows, has_role, AtOneTable}
 use Rattle.inst_cell.specs.Seen.{board_of}
 use Rattle.inst_model.specs.Opening.{Opening, IsOpening}
 use Rattle.inst_slot.specs.Book.{Book}
-use Rattle.inst_slot.specs.LawfulBoard.{IsLawfulBoard}
 use Rattle.inst_together.specs.Together.{IsMember}
 
 -- a board is over these words, and lawful for the book of the participant p of a hub that was opened so
@@ -35,16 +33,3 @@ pub record AreAtOne (words : SharedBoard) (s : HubSettings) (slots : List Book) 
 -- tellers that see these words
 abbrev pub AreSights : SharedBoard → List Sight → Type 0
 AreSights words sights = (i : ℕ) (t : Sight) → slice_get sights i ≡ Some t → AtOneTable words (board_of t)
-
--- the board has the roles of the participants whose boards these were, and is lawful for their books
-pub record AreJoined (words : SharedBoard) (O : Opening) (s : HubSettings) (slots : List Book) (done : List SharedBoard) (whole : SharedBoard) : Type 0 where
-  pub one : AtOneTable words whole
-  pub role : (p : ℕ) → p < length done → has_role whole p
-  pub member : (p : ℕ) (x : Book) → p < length done → slice_get slots p ≡ Some x →
-      IsMember settings_of knows has_role whole s O p x
-
--- the same board later, which knows more, and is lawful for what it was lawful for
-pub record IsToldMore (a b : SharedBoard) : Type 0 where
-  pub stays : Stays a b
-  pub kept : (f : Fact) → knows a f → knows b f
-  pub lawful : (x : Book) → IsLawfulBoard settings_of knows has_role a x → IsLawfulBoard settings_of knows has_role b x

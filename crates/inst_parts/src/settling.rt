@@ -4,7 +4,8 @@ ghost use Rattle.inst_settings.specs.Settings.{participants};
 ghost use Rattle.inst_journal.specs.Sound.{IsSound};
 ghost use Rattle.inst_participant.specs.Sweeping.{new_events};
 ghost use Rattle.inst_together.specs.Together.{IsSettled};
-ghost use Rattle.inst_parts.specs.Settling.{IsReady, IsLater, IsBookedAt, HasCome, OwnAreBooked, ArrivedAreBooked, HaveCome};
+ghost use Rattle.inst_parts.specs.Settling.{IsReady, IsLater};
+ghost use Rattle.inst_parts.specs.inner.Settling.{IsBookedAt, HasCome, OwnAreBooked, ArrivedAreBooked, HaveCome};
 
 use inst_board::{Board, Place};
 use inst_slot::Slot;

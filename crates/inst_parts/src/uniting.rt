@@ -7,7 +7,8 @@ ghost use Rattle.inst_cell.specs.Held.{knows, AtOneTable};
 ghost use Rattle.inst_cell.specs.Seen.{sees};
 ghost use Rattle.inst_model.specs.Opening.{Opening};
 ghost use Rattle.inst_parts.specs.Apart.{IsPartsOf};
-ghost use Rattle.inst_parts.specs.Uniting.{AreSeparate, AreAtOne, AreSights, AreJoined, IsToldMore};
+ghost use Rattle.inst_parts.specs.Uniting.{AreSeparate, AreAtOne, AreSights};
+ghost use Rattle.inst_parts.specs.inner.Uniting.{AreJoined, IsToldMore};
 
 use crate::Parts;
 use inst_cell::{SharedBoard, Sight};

@@ -6,7 +6,7 @@ use Rattle.std.specs.List.{prefix_len}
 use Rattle.json.specs.Token.{string, number, end_object, begin_object}
 use Rattle.json.specs.Text.{content, plain, prepend}
 use Rattle.json.specs.Run.{is_plain}
-use Rattle.inst_scan.specs.Scalar.{is_text}
+use Rattle.inst_scan.specs.inner.Scalar.{is_text}
 use Rattle.json.specs.Word.{is_operator, is_space, ends_word}
 use Rattle.json.specs.Lex.{Lexeme, Mode, token, comma, colon, lex, lex_byte, between, in_string, operator, space, other}
 use Rattle.json.proofs.Printed.Numbers.{lex-number}

@@ -15,8 +15,8 @@ use Rattle.serde_json.specs.Read.{of_json, of_members, converted, number_of}
 use Rattle.serde_json.specs.Find.{get_member}
 use Rattle.inst_scan.proofs.Reading.{converted-object, member_read, members_over, whole, whole_read}
 use Rattle.serde_json.proofs.Views.{get_member-put, get_member-put_other}
-use Rattle.inst_scan.specs.Scalar.{IsScalar, data_of}
-use Rattle.inst_scan.specs.Names.{names, place_of}
+use Rattle.inst_scan.specs.inner.Scalar.{IsScalar, data_of}
+use Rattle.inst_scan.specs.inner.Names.{names, place_of}
 use Rattle.inst_scan.specs.Fields.{no_fields}
 use Rattle.inst_scan.proofs.Told.{TellsMembers, TellsObject}
 use Rattle.inst_scan.specs.declared.fields.Field.{Field}

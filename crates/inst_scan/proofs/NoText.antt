@@ -8,7 +8,7 @@ use Rattle.json.specs.Json.{Json, value, members, parse_map, read_key, if_last}
 use Rattle.json.proofs.Grammar.{members_no_key, members_fail}
 use Rattle.serde_json.specs.Data.{Data, object, Members}
 use Rattle.serde_json.specs.Read.{of_json, of_members, converted}
-use Rattle.inst_scan.specs.Scalar.{IsScalar, data_of}
+use Rattle.inst_scan.specs.inner.Scalar.{IsScalar, data_of}
 use Rattle.inst_scan.specs.declared.fields.Field.{Field}
 use Rattle.inst_scan.proofs.Reading.{converted_some, members_over, whole}
 use Rattle.inst_scan.proofs.Members.{Reading, member_read_on}

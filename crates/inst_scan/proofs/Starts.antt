@@ -13,8 +13,8 @@ use Rattle.json.specs.Lex.{Lexeme, token, comma, colon, quote, backslash, operat
 use Rattle.json.specs.Lex.{Place, fresh, after_value, after_comma, after_key, begins_colon, may_begin, if_allowed, place_token, punctuate}
 use Rattle.json.specs.Json.{read_key, value}
 use Rattle.json.proofs.Grammar.{value_is}
-use Rattle.inst_scan.specs.Begin.{begins_value}
-use Rattle.inst_scan.specs.Scalar.{is_text}
+use Rattle.inst_scan.specs.inner.Begin.{begins_value}
+use Rattle.inst_scan.specs.inner.Scalar.{is_text}
 use Rattle.inst_scan.proofs.Lexing.{at_place, lex_quote}
 
 -- ---- a text that breaks off

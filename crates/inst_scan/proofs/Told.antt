@@ -2,8 +2,8 @@
 use Rattle.std.proofs.Common.{◌≡◌, ℕ, ◌<◌, List, [], get_or, refl, ap, ◌∙◌, arith, codes}
 use Rattle.serde_json.specs.Data.{Data, Members}
 use Rattle.serde_json.specs.Find.{get, get_member}
-use Rattle.inst_scan.specs.Names.{names}
-use Rattle.inst_scan.specs.Scalar.{data_of}
+use Rattle.inst_scan.specs.inner.Names.{names}
+use Rattle.inst_scan.specs.inner.Scalar.{data_of}
 use Rattle.inst_scan.specs.Fields.{found, told, fields_of, fields_told, listed}
 use Rattle.inst_scan.specs.declared.fields.Field.{Field}
 use Rattle.inst_scan.specs.declared.fields.Fields.{Fields}

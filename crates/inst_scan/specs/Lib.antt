@@ -1,4 +1,4 @@
-pub mod Scalar
-pub mod Names
+-- Public contracts cite these.
 pub mod Fields
-pub mod Begin
+-- Only inner functions and proofs cite these.
+pub mod inner

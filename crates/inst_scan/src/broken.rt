@@ -3,7 +3,7 @@ ghost use Rattle.std.specs.Prelude.{◌≡◌, ◌-◌, ◌≤◌, ℕ, true, le
 ghost use Rattle.json.specs.Text.{content, plain};
 ghost use Rattle.json.specs.Json.{read_key, value};
 ghost use Rattle.json.specs.Lex.{lex, between, Place, fresh, after_comma, may_begin, punctuate};
-ghost use Rattle.inst_scan.specs.Begin.{begins_value};
+ghost use Rattle.inst_scan.specs.inner.Begin.{begins_value};
 
 use crate::parts::{plain_end, skip_space, string};
 

@@ -1,6 +1,6 @@
 //! What a line has under the names that lines know.
 ghost use Rattle.std.specs.Prelude.{◌≡◌, set};
-ghost use Rattle.inst_scan.specs.Names.{place_of};
+ghost use Rattle.inst_scan.specs.inner.Names.{place_of};
 ghost use Rattle.inst_scan.specs.Fields.{listed, no_fields};
 
 /// What a line has under one name.

@@ -4,7 +4,7 @@ ghost use Rattle.std.specs.Str.{IsAscii};
 ghost use Rattle.json.specs.Token.{Token, string};
 ghost use Rattle.json.specs.Lex.{lex, between, token, colon};
 ghost use Rattle.serde_json.specs.Data.{Data};
-ghost use Rattle.inst_scan.specs.Scalar.{IsScalar, data_of};
+ghost use Rattle.inst_scan.specs.inner.Scalar.{IsScalar, data_of};
 
 use crate::fields::Field;
 use crate::parts::{skip_space, string, whole};

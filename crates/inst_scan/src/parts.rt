@@ -2,7 +2,7 @@
 ghost use Rattle.std.specs.Prelude.{◌≡◌, ◌+◌, ◌<◌, ◌≤◌, ◌^◌, ◌++◌, ◌∷◌, [], true, false, not, map, length, drop, slice_index, Some, IfSome, decimal};
 ghost use Rattle.std.specs.List.{prefix_len};
 ghost use Rattle.std.specs.Str.{IsAscii};
-ghost use Rattle.inst_scan.specs.Scalar.{is_text};
+ghost use Rattle.inst_scan.specs.inner.Scalar.{is_text};
 ghost use Rattle.std.specs.Simd.Lanes.{mask_l};
 ghost use Rattle.json.specs.Word.{is_space, ends_word};
 ghost use Rattle.json.specs.Text.{content, plain};

@@ -31,12 +31,6 @@ is_among number Nobody = false
 is_among number (Only holder) = nat_eq holder number
 is_among number Several = true
 
--- the holders with one more participant
-abbrev pub with_one_more : Holders → ℕ → Holders
-with_one_more Nobody number = Only number
-with_one_more (Only holder) number = Several
-with_one_more Several number = Several
-
 -- the holders of a code's mark
 abbrev pub holders_of : List ℕ → List Holders → Holders
 holders_of code table = get_or table (mark_of code) Nobody

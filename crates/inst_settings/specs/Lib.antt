@@ -1,4 +1,7 @@
+-- Public contracts cite these.
 pub mod Settings
 pub mod Lawful
 pub mod Codes
 pub mod Finder
+-- Only inner functions and proofs cite these.
+pub mod inner

@@ -18,7 +18,7 @@ use Rattle.inst_journal.proofs.OwnBookings.{own_unforwarded}
 use Rattle.inst_ledger.specs.Book.{Book as Kept, BookAndRoom}
 use Rattle.inst_slot.specs.declared.arrival.Arrival.{Arrival}
 use Rattle.inst_slot.specs.declared.answering.Request.{Request}
-use Rattle.inst_slot.specs.Answering.{beside, named, is_expiry, pending_for, IsAsking, IsOwnAt}
+use Rattle.inst_slot.specs.inner.Answering.{beside, named, is_expiry, pending_for, IsAsking, IsOwnAt}
 use Rattle.inst_slot.specs.Book.{Book, place_at}
 use Rattle.inst_slot.specs.Asking.{request, handle_ask, Settles, Finds}
 use Rattle.inst_slot.specs.LawfulBoard.{IsLawfulBoard}

@@ -12,7 +12,7 @@ use Rattle.inst_journal.specs.Opened.{carried, takes_live, live_taken}
 use Rattle.inst_journal.specs.Sound.{IsSound, Fits}
 use Rattle.inst_journal.proofs.KeyOnce.{taken_once}
 use Rattle.inst_ledger.specs.Book.{Book as Kept, with_event}
-use Rattle.inst_slot.specs.Answering.{IsOwnAt}
+use Rattle.inst_slot.specs.inner.Answering.{IsOwnAt}
 use Rattle.inst_slot.specs.Book.{place_at}
 use Rattle.inst_slot.specs.Indexed.{own_ids}
 use Rattle.inst_slot.specs.Telling.{taken_by}

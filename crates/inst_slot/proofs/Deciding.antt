@@ -35,7 +35,7 @@ use Rattle.inst_slot.specs.Book.{Book, place_at, terms_to, arrived_at}
 use Rattle.inst_slot.specs.LawfulBoard.{IsTakenAt, LiesAt, IsLawfulBoard, IsAdopted}
 use Rattle.inst_slot.specs.Asking.{wish_for, request, decides, AsksAdopted}
 use Rattle.inst_slot.specs.Telling.{booking}
-use Rattle.inst_slot.specs.Answering.{named, is_expiry, pending_for}
+use Rattle.inst_slot.specs.inner.Answering.{named, is_expiry, pending_for}
 use Rattle.inst_slot.proofs.Keeping.{arrival_at}
 use Rattle.inst_slot.proofs.Learning.{taken_is, arrival_forwarded}
 

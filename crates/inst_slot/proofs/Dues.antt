@@ -17,7 +17,8 @@ use Rattle.inst_journal.specs.Booked.{booked, books, or_else}
 use Rattle.inst_journal.specs.Opened.{takes_live}
 use Rattle.inst_journal.proofs.Pushing.{first_some_push}
 use Rattle.inst_slot.specs.Telling.{taken_by}
-use Rattle.inst_slot.specs.Waiting.{AreTimed, takes_waiting, books_own, deadline_in}
+use Rattle.inst_slot.specs.Waiting.{takes_waiting, deadline_in}
+use Rattle.inst_slot.specs.inner.Waiting.{AreTimed, books_own}
 use Rattle.inst_slot.proofs.Growing.{slice_get_left}
 use Rattle.inst_slot.proofs.Indexed.{last_at}
 

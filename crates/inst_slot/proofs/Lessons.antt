@@ -16,7 +16,7 @@ use Rattle.inst_ledger.proofs.Tables.{taken_found}
 use Rattle.inst_transfers.specs.declared.transfer.Transfer.{Transfer}
 use Rattle.inst_transfers.specs.Held.{state_in, found_at}
 use Rattle.inst_slot.specs.declared.arrivals.Spot.{Spot}
-use Rattle.inst_slot.specs.Answering.{over, IsOwnAt}
+use Rattle.inst_slot.specs.inner.Answering.{over, IsOwnAt}
 use Rattle.inst_slot.specs.Book.{arrived_at, is_at}
 use Rattle.inst_slot.specs.Spots.{rows_of, arrivals_of, AreSpots}
 use Rattle.inst_slot.specs.Telling.{is_party, lesson}

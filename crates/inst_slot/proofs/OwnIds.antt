@@ -24,9 +24,11 @@ use Rattle.inst_journal.proofs.Soundness.{sound_push}
 use Rattle.inst_ledger.specs.Book.{Book as Kept, with_event}
 use Rattle.inst_slot.specs.Book.{Book}
 use Rattle.inst_slot.specs.Telling.{taken_by, if_unbooked, unbooked_at}
-use Rattle.inst_slot.specs.Indexed.{is_id, id_of, own_ids}
+use Rattle.inst_slot.specs.Indexed.{id_of, own_ids}
+use Rattle.inst_slot.specs.inner.Indexed.{is_id}
 use Rattle.inst_slot.specs.OwnState.{booked_state, state_of, own_state}
-use Rattle.inst_slot.specs.Waiting.{Deadlines, IsRight, IsWaiting, GivesNextDue, moves_none, waits, takes_waiting, books_own, deadline_in}
+use Rattle.inst_slot.specs.Waiting.{Deadlines, IsRight, IsWaiting, GivesNextDue, waits, takes_waiting, deadline_in}
+use Rattle.inst_slot.specs.inner.Waiting.{moves_none, books_own}
 use Rattle.inst_slot.proofs.Dues.{waiting_after, and_true_is, taken_books_none, at_end, undone}
 use Rattle.inst_slot.proofs.Entering.{takes_the_next}
 use Rattle.inst_slot.proofs.Growing.{live_taken_push, live_taken_still}

@@ -32,11 +32,12 @@ use Rattle.inst_ledger.proofs.Inbox.{get_still, get_next}
 use Rattle.inst_ledger.proofs.Right.{rows_push}
 use Rattle.inst_slot.specs.declared.arrival.Arrival.{Arrival}
 use Rattle.inst_slot.specs.declared.arrivals.Spot.{Spot}
-use Rattle.inst_slot.specs.Answering.{beside, over}
+use Rattle.inst_slot.specs.inner.Answering.{beside, over}
 use Rattle.inst_slot.specs.Arrived.{unbooked_place, NoneUnbooked}
 use Rattle.inst_slot.specs.Book.{Book, arrived_at, placed}
 use Rattle.inst_slot.specs.Opening.{is_of, is_unfound}
-use Rattle.inst_slot.specs.Spots.{rows_of, no_entry, arrival_of, arrivals_of, positions_of, AreSpots, FindsSpot, IsSpotAt}
+use Rattle.inst_slot.specs.Spots.{rows_of, no_entry, arrival_of, arrivals_of, positions_of, AreSpots}
+use Rattle.inst_slot.specs.inner.Spots.{FindsSpot, IsSpotAt}
 use Rattle.inst_slot.proofs.Arrived.{none_counted, counted_once, none_arrived, arrived_there}
 use Rattle.inst_slot.proofs.Indexed.{none_there}
 

@@ -1,3 +1,4 @@
+-- Public contracts cite these.
 pub mod Book
 pub mod LawfulBoard
 pub mod Asking
@@ -9,6 +10,5 @@ pub mod OwnState
 pub mod Waiting
 pub mod Laws
 pub mod Arrived
-pub mod Answering
-pub mod Lessons
-pub mod Expiries
+-- Only inner functions and proofs cite these.
+pub mod inner

@@ -2,11 +2,8 @@
 -- else an arrival has is read off the table. This hub's own choice.
 pub use Rattle.inst_transfers.specs.State.{rows_of}
 pub use Rattle.inst_ledger.specs.Inbox.{no_entry}
-use Rattle.std.specs.Prelude.{◌≡◌, ◌≢◌, ℕ, get_or, List, map, length, slice_get, Option, Some, None}
+use Rattle.std.specs.Prelude.{ℕ, get_or, List, map, length}
 use Rattle.inst_command.specs.declared.entry.Entry.{Entry}
-use Rattle.inst_command.specs.declared.outcome.Outcome.{Outcome}
-use Rattle.inst_journal.specs.declared.event.Event.{Event}
-use Rattle.inst_journal.specs.Booked.{booked}
 use Rattle.inst_transfers.specs.Held.{AreWithin, AreRising}
 use Rattle.inst_slot.specs.declared.arrival.Arrival.{Arrival}
 use Rattle.inst_slot.specs.declared.arrivals.Spot.{Spot}
@@ -21,22 +18,6 @@ arrivals_of rows spots = map (arrival_of rows) spots
 abbrev pub positions_of : List Spot → List ℕ
 positions_of spots = map (λ spot. spot.position) spots
 
--- what is booked of the transfer at a position of the table
-abbrev pub booked_at : ℕ → List Event → ℕ → Option Outcome
-booked_at who J position =
-    booked (get_or (rows_of who J) position no_entry).from (get_or (rows_of who J) position no_entry).id J
-
 -- each spot is within the table, and they rise, as transfers arrive in its order
 abbrev pub AreSpots : List Entry → List Spot → Type 0
 AreSpots rows spots = AreWithin (length rows) (positions_of spots) × AreRising (positions_of spots)
-
--- a spot at the position
-pub record IsSpotAt (spots : List Spot) (position k : ℕ) : Type 0 where
-  pub spot : Spot
-  pub there : slice_get spots k ≡ Some spot
-  pub is : spot.position ≡ position
-
--- where the spot at the position stands, or that there is none
-abbrev pub FindsSpot : List Spot → ℕ → Option ℕ → Type 0
-FindsSpot spots position None = (k : ℕ) (spot : Spot) → slice_get spots k ≡ Some spot → spot.position ≢ position
-FindsSpot spots position (Some k) = IsSpotAt spots position k

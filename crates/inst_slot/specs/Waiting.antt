@@ -1,12 +1,12 @@
 -- Which of a participant's own live transfers have nothing booked, by their deadlines: by deadline, as time limits end
 -- (EPC004-16, chapter 4: time-out deadline), and of one deadline by place, which is this hub's own choice.
-use Rattle.std.specs.Prelude.{◌≡◌, ℕ, Bool, true, false, ◌&&◌, ◌==◌, nat_eq, is_none, List, map, slice_get, Option, Some, None}
+use Rattle.std.specs.Prelude.{◌≡◌, ℕ, Bool, true, false, ◌&&◌, nat_eq, is_none, List, map, slice_get, Option, Some, None}
 use Rattle.inst_base.specs.TimeLimit.{deadline_of}
-use Rattle.inst_settings.specs.Settings.{HubSettings, same_text}
+use Rattle.inst_settings.specs.Settings.{HubSettings}
 use Rattle.inst_settings.specs.Lawful.{IsSettings}
 use Rattle.inst_due.specs.Due.{has, comes_before, comes_after}
 use Rattle.inst_journal.specs.declared.event.Event.{Event}
-use Rattle.inst_journal.specs.declared.event.Event.TheVariants.{Taken, Booked, Opened}
+use Rattle.inst_journal.specs.declared.event.Event.TheVariants.{Taken}
 use Rattle.inst_journal.specs.Booked.{booked}
 use Rattle.inst_journal.specs.Opened.{live_taken}
 use Rattle.inst_journal.specs.Sound.{IsSound}
@@ -41,10 +41,6 @@ pub record Deadlines : Type 0 where
   pub deadlines : List ℕ
   pub pairs : List (ℕ × ℕ)
 
--- each pair is of a deadline and of its index
-abbrev pub AreTimed : List ℕ → List (ℕ × ℕ) → Type 0
-AreTimed deadlines pairs = (d k : ℕ) → has pairs d k ≡ true → slice_get deadlines k ≡ Some d
-
 -- the deadline of the transfer that the event takes
 abbrev pub deadline_in : HubSettings → Event → ℕ
 deadline_in s (Taken id to cents stamp) = deadline_of s.limit stamp
@@ -52,17 +48,6 @@ deadline_in s _ = 0
 
 abbrev pub own_deadlines : HubSettings → ℕ → List Event → List ℕ
 own_deadlines s who J = map (deadline_in s) (live_taken who J)
-
--- whether the event books the own transfer with this identifier
-abbrev pub books_own : ℕ → Event → Option (List ℕ) → Bool
-books_own who (Booked from id outcome) (Some other) = (from == who) && same_text id other
-books_own who event other = false
-
--- whether the event leaves the own live transfers as they are
-abbrev pub moves_none : Event → Bool
-moves_none (Taken id to cents stamp) = false
-moves_none Opened = false
-moves_none _ = true
 
 -- what waits is right of the history
 pub record IsWaiting (s : HubSettings) (who : ℕ) (J : List Event) (waiting : Deadlines) : Type 0 where

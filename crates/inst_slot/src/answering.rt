@@ -8,7 +8,7 @@ ghost use Rattle.inst_slot.specs.Book.{arrived_at};
 ghost use Rattle.inst_slot.specs.Indexed.{own_ids};
 ghost use Rattle.inst_slot.specs.LawfulBoard.{IsLawfulBoard};
 ghost use Rattle.inst_slot.specs.Spots.{rows_of, arrivals_of, AreSpots};
-ghost use Rattle.inst_slot.specs.Answering.{over, named, is_expiry, pending_for, IsAsking, Gives};
+ghost use Rattle.inst_slot.specs.inner.Answering.{over, named, is_expiry, pending_for, IsAsking, Gives};
 ghost use Rattle.inst_slot.specs.Waiting.{IsRight};
 
 use crate::arrivals::{Spot, arrived_at};

@@ -5,7 +5,8 @@ ghost use Rattle.inst_journal.specs.Opened.{carried};
 ghost use Rattle.inst_transfers.specs.Held.{IsFound, AreRising};
 ghost use Rattle.inst_slot.specs.Book.{live_inbox, arrived_at};
 ghost use Rattle.inst_slot.specs.Opening.{unplaced, awaits, found_at};
-ghost use Rattle.inst_slot.specs.Spots.{rows_of, arrivals_of, positions_of, booked_at, AreSpots, FindsSpot};
+ghost use Rattle.inst_slot.specs.Spots.{rows_of, arrivals_of, positions_of, AreSpots};
+ghost use Rattle.inst_slot.specs.inner.Spots.{booked_at, FindsSpot};
 
 use crate::Arrival;
 use crate::arrival::awaits;

@@ -4,7 +4,7 @@ ghost use Rattle.inst_journal.specs.declared.event.Event.{Event};
 ghost use Rattle.inst_journal.specs.Sound.{Fits};
 ghost use Rattle.inst_ledger.specs.Book.{with_event};
 ghost use Rattle.inst_transfers.specs.Held.{IsFound};
-ghost use Rattle.inst_slot.specs.Answering.{IsOwnAt};
+ghost use Rattle.inst_slot.specs.inner.Answering.{IsOwnAt};
 ghost use Rattle.inst_slot.specs.Book.{place_at};
 ghost use Rattle.inst_slot.specs.Indexed.{own_ids};
 ghost use Rattle.inst_slot.specs.Waiting.{IsRight};

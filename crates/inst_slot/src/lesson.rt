@@ -1,8 +1,8 @@
 //! What a look at a place teaches a participant of the transfer that lies there, which is looked up once.
 ghost use Rattle.std.specs.Prelude.{◌≡◌};
 ghost use Rattle.inst_transfers.specs.Held.{IsFound};
-ghost use Rattle.inst_slot.specs.Answering.{over};
-ghost use Rattle.inst_slot.specs.Lessons.{ShowsOwn, GivesLesson};
+ghost use Rattle.inst_slot.specs.inner.Answering.{over};
+ghost use Rattle.inst_slot.specs.inner.Lessons.{ShowsOwn, GivesLesson};
 ghost use Rattle.inst_slot.specs.Spots.{rows_of, AreSpots};
 ghost use Rattle.inst_slot.specs.Telling.{is_party, lesson};
 

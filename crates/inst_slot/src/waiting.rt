@@ -3,7 +3,8 @@ ghost use Rattle.std.specs.Prelude.{◌≡◌, ℕ, ◌<◌, ◌^◌, ◌++◌, 
 ghost use Rattle.inst_due.specs.Due.{has, Adds, IsLeast, comes_after};
 ghost use Rattle.inst_journal.specs.Opened.{carried};
 ghost use Rattle.inst_slot.specs.Indexed.{own_ids};
-ghost use Rattle.inst_slot.specs.Waiting.{books_own, IsWaiting};
+ghost use Rattle.inst_slot.specs.Waiting.{IsWaiting};
+ghost use Rattle.inst_slot.specs.inner.Waiting.{books_own};
 
 use inst_base::{Moment, mention};
 use inst_command::Outcome;
@@ -22,7 +23,8 @@ pub(crate) struct Waiting {
 }
 
 impl Model for Waiting {
-    ghost use Rattle.inst_slot.specs.Waiting.{Deadlines, AreTimed};
+    ghost use Rattle.inst_slot.specs.Waiting.{Deadlines};
+    ghost use Rattle.inst_slot.specs.inner.Waiting.{AreTimed};
 
     ghost Value = { Deadlines };
 

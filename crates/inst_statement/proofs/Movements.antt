@@ -21,7 +21,7 @@ use Rattle.inst_journal.proofs.Moving.{coming, credited_by, debited_by, position
 use Rattle.inst_journal.proofs.OwnBookings.{own_unforwarded}
 use Rattle.inst_statement.specs.declared.movement.Movement.{Movement}
 use Rattle.inst_statement.specs.KeptStatement.{line_with}
-use Rattle.inst_statement.specs.Movement.{came, sent, accepted, accepted_movement, movement_of}
+use Rattle.inst_statement.specs.inner.Movement.{came, sent, accepted, accepted_movement, movement_of}
 use Rattle.inst_statement.proofs.Found.{takes_sent, forwards_came, taken_found, forwarded_found, not_come}
 
 pub map_cond : {A B : Type 0} (h : A → B) (b : Bool) (x : A) → cond b (Some (h x)) None ≡ option_map h (cond b (Some x) None)

@@ -17,7 +17,7 @@ use Rattle.inst_journal.proofs.Soundness.{sound_push}
 use Rattle.inst_journal.proofs.Walking.{may_have_line, lined, lines_few, front_fits, rest_fits}
 use Rattle.inst_statement.specs.declared.movement.Movement.{Movement}
 use Rattle.inst_statement.specs.KeptStatement.{Stated, Adds, IsStatementOf, line_with}
-use Rattle.inst_statement.specs.Movement.{movement_of}
+use Rattle.inst_statement.specs.inner.Movement.{movement_of}
 use Rattle.inst_statement.proofs.Lines.{so_far, as_list, so_far_more, so_far_anew}
 use Rattle.inst_statement.proofs.Movements.{Moves, movement_line, movement_moves}
 

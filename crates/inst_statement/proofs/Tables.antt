@@ -8,8 +8,8 @@ use Rattle.inst_journal.specs.declared.event.Event.{Event}
 use Rattle.inst_journal.specs.declared.event.Event.TheVariants.{Taken, Forwarded}
 use Rattle.inst_journal.specs.Booked.{or_else, first_some, is_taken, is_forwarded, same_transfer}
 use Rattle.inst_journal.proofs.Pushing.{first_some_push}
-use Rattle.inst_statement.specs.Movement.{came, sent}
-use Rattle.inst_statement.specs.Kept.{AreKept, same_key}
+use Rattle.inst_statement.specs.inner.Movement.{came, sent}
+use Rattle.inst_statement.specs.inner.Kept.{AreKept, same_key}
 use Rattle.inst_statement.proofs.Found.{unsent, not_come}
 
 or_else_none : {A : Type 0} (o : Option A) → or_else o None ≡ o

@@ -17,8 +17,8 @@ use Rattle.inst_journal.specs.Statement.{statement_part}
 use Rattle.inst_journal.proofs.Counting.{count_push}
 use Rattle.inst_journal.proofs.Walking.{may_have_line, lines_few, rest_fits, sound_front}
 use Rattle.inst_statement.specs.declared.movement.Movement.{Movement}
-use Rattle.inst_statement.specs.Movement.{movement_of}
-use Rattle.inst_statement.specs.Kept.{AreKept, IsNew}
+use Rattle.inst_statement.specs.inner.Movement.{movement_of}
+use Rattle.inst_statement.specs.inner.Kept.{AreKept, IsNew}
 use Rattle.inst_statement.specs.Someones.{IsSomeones}
 use Rattle.inst_statement.specs.KeptStatement.{Stated, MayAdd, Adds, IsStatementOf}
 use Rattle.inst_statement.proofs.Stated.{may_line, covers_movement, line_added, line_less, line_anew, number_fits}

@@ -1,4 +1,5 @@
+-- Public contracts cite these.
 pub mod Someones
-pub mod Movement
-pub mod Kept
 pub mod KeptStatement
+-- Only inner functions and proofs cite these.
+pub mod inner

@@ -2,8 +2,8 @@
 ghost use Rattle.std.specs.Prelude.{◌≡◌, [], ◌∷◌, ◌++◌, List, OnOk};
 ghost use Rattle.inst_journal.specs.declared.event.Event.{Event as Passed};
 ghost use Rattle.inst_journal.specs.Booked.{first_some};
-ghost use Rattle.inst_statement.specs.Movement.{came, sent, movement_of, accepted_movement};
-ghost use Rattle.inst_statement.specs.Kept.{AreKept, IsNew};
+ghost use Rattle.inst_statement.specs.inner.Movement.{came, sent, movement_of, accepted_movement};
+ghost use Rattle.inst_statement.specs.inner.Kept.{AreKept, IsNew};
 
 use crate::movement::Movement;
 use indexmap::IndexMap;

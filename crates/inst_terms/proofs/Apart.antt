@@ -8,7 +8,8 @@ use Rattle.inst_command.specs.declared.outcome.Outcome.TheVariants.{Accepted, Re
 use Rattle.inst_terms.specs.declared.terms.Terms.{Terms}
 use Rattle.inst_terms.specs.declared.word.Word.{Word}
 use Rattle.inst_terms.specs.declared.word.Word.TheVariants.{Unused, Pending, Final}
-use Rattle.inst_terms.specs.Identifier.{identifier_words, digit}
+use Rattle.inst_terms.specs.Identifier.{identifier_words}
+use Rattle.inst_terms.specs.inner.Identifier.{digit}
 use Rattle.inst_terms.specs.Reason.{reason_number}
 use Rattle.inst_terms.specs.Terms.{IsTerms, words_of}
 use Rattle.inst_terms.specs.Word.{IsWord, number_of}

@@ -10,7 +10,8 @@ use Rattle.inst_base.specs.declared.fault.Fault.TheVariants.{BadField}
 use Rattle.inst_base.specs.Text.{is_code_character, is_reason, reason_of}
 use Rattle.std.proofs.lemmas.Bool.{and_parts}
 use Rattle.inst_base.proofs.Ascii.{IsAscii-code}
-use Rattle.inst_terms.specs.Reason.{digit_of, character_of, reason_number}
+use Rattle.inst_terms.specs.Reason.{digit_of, reason_number}
+use Rattle.inst_terms.specs.inner.Reason.{character_of}
 
 pub digit_below : (c : ℕ) → is_code_character c ≡ true → digit_of c < 36
 digit_below c h = grind (arith, nat_tests)

@@ -1,7 +1,7 @@
 -- An identifier in four words: nine characters a word, the first character lowest, each by its ASCII value, and 0
 -- past the end. How an identifier lies in words is this hub's own choice; its characters are the scheme's
 -- (EPC004-16, chapter 4: attributes).
-use Rattle.std.specs.Prelude.{◌≡◌, ℕ, zero, suc, ◌+◌, ◌*◌, ◌/◌, ◌%◌, ◌^◌, ◌<◌, List, [], ◌∷◌, get_or}
+use Rattle.std.specs.Prelude.{ℕ, zero, suc, ◌+◌, ◌*◌, ◌^◌, List, [], ◌∷◌, get_or}
 
 -- the sum of f j over j below n
 unfoldable pub sum_below : ℕ → (ℕ → ℕ) → ℕ
@@ -11,10 +11,6 @@ sum_below (suc n) f = sum_below n f + f n
 -- above each character's value
 abbrev pub base : ℕ
 base = 128
-
--- how many characters the four words have room for
-abbrev pub room : ℕ
-room = 36
 
 -- the number of n characters, the first lowest
 abbrev pub in_base_128 : ℕ → (ℕ → ℕ) → ℕ
@@ -27,11 +23,3 @@ nine_from text start = in_base_128 9 (λ j. get_or text (start + j) 0)
 -- the four words of an identifier
 abbrev pub identifier_words : List ℕ → List ℕ
 identifier_words id = nine_from id 0 ∷ nine_from id 9 ∷ nine_from id 18 ∷ nine_from id 27 ∷ []
-
--- the character at a place of a word
-abbrev pub digit : ℕ → ℕ → ℕ
-digit word place = word / base ^ place % base
-
--- the characters are the identifier's, with zeros up to their end
-abbrev pub StandsIn : List ℕ → List ℕ → Type 0
-StandsIn id characters = (k : ℕ) → k < room → get_or characters k 0 ≡ get_or id k 0

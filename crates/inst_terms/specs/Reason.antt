@@ -7,10 +7,6 @@ use Rattle.std.specs.Prelude.{ℕ, ◌+◌, ◌-◌, ◌*◌, ◌^◌, List, get
 abbrev pub digit_of : ℕ → ℕ
 digit_of character = if nat_lt character 65 then character - 48 else character - 55
 
--- the character with this value
-abbrev pub character_of : ℕ → ℕ
-character_of digit = if nat_lt digit 10 then digit + 48 else digit + 55
-
 -- how many digits there are
 abbrev pub digits : ℕ
 digits = 36

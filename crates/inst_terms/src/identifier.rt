@@ -3,7 +3,8 @@ ghost use Rattle.std.specs.Prelude.{◌≡◌, ◌+◌, ◌*◌, ◌/◌, ◌%�
 ghost use Rattle.std.specs.List.{list_all};
 ghost use Rattle.std.specs.Str.{IsAscii};
 ghost use Rattle.inst_base.specs.Text.{is_identifier};
-ghost use Rattle.inst_terms.specs.Identifier.{nine_from, identifier_words, digit, StandsIn};
+ghost use Rattle.inst_terms.specs.Identifier.{nine_from, identifier_words};
+ghost use Rattle.inst_terms.specs.inner.Identifier.{digit, StandsIn};
 
 use inst_base::Ident;
 use std::str;

@@ -16,7 +16,8 @@ use Rattle.inst_command.specs.declared.entry.Entry.{Entry}
 use Rattle.inst_transfers.specs.declared.transfer.Found.{Found}
 use Rattle.inst_transfers.specs.declared.transfer.Transfer.{Transfer}
 use Rattle.inst_transfers.specs.State.{Key, same_key, put, outcome_in}
-use Rattle.inst_transfers.specs.Held.{found_at, row_in, rows_in, AreApart, id_in, ids_at, AreWithin, AreOwn, AreAbove, AreRising, ArePositions, waits_row, waits_at, FindsAt, FindsOwn, Held}
+use Rattle.inst_transfers.specs.Held.{found_at, row_in, rows_in, AreApart, id_in, ids_at, AreWithin, AreOwn, AreAbove, AreRising, ArePositions, FindsAt, FindsOwn, Held}
+use Rattle.inst_transfers.specs.inner.Held.{waits_row, waits_at}
 
 and_parts : (a b : Bool) → (a && b) ≡ true → (a ≡ true) × (b ≡ true)
 and_parts true b h = (refl, h)

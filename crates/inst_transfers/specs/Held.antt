@@ -1,6 +1,6 @@
 -- What a contract sees of a table of transfers: its state, where it holds each, and for how many more it has room. This hub's
 -- own choice.
-use Rattle.std.specs.Prelude.{◌≡◌, ℕ, ◌+◌, ◌≤◌, ◌<◌, ◌^◌, Bool, false, is_none, List, [], ◌∷◌, length, map, slice_get, Option, Some, None}
+use Rattle.std.specs.Prelude.{◌≡◌, ℕ, ◌+◌, ◌≤◌, ◌<◌, ◌^◌, List, [], ◌∷◌, length, map, slice_get, Option, Some, None}
 use Rattle.std.specs.Map.{lookup, keys_of}
 use Rattle.inst_command.specs.declared.entry.Entry.{Entry}
 use Rattle.inst_transfers.specs.declared.transfer.Found.{Found}
@@ -84,15 +84,6 @@ state_in held = record {
   debits = held.debits;
   waiting = held.waiting;
 }
-
--- whether nothing is booked of the transfer in a row
-abbrev pub waits_row : Option (Key × Transfer) → Bool
-waits_row None = false
-waits_row (Some e) = is_none e.1.outcome
-
--- whether nothing is booked of the transfer at the position
-abbrev pub waits_at : List (Key × Transfer) → ℕ → Bool
-waits_at entries p = waits_row (slice_get entries p)
 
 -- what was found is what the table holds at its key, and it holds it at the position
 pub record IsFound (held : Held) (f : Found) : Type 0 where

@@ -4,7 +4,8 @@ ghost use Rattle.std.specs.Map.{keys_of};
 ghost use Rattle.inst_journal.specs.declared.event.Event.{Event};
 ghost use Rattle.inst_journal.specs.Sums.{if_accepted};
 ghost use Rattle.inst_transfers.specs.State.{nothing, step};
-ghost use Rattle.inst_transfers.specs.Held.{Finds, FindsAt, FindsOwn, IsFound, Covers, AreApart, found_at, rows_in, state_in, waits_at};
+ghost use Rattle.inst_transfers.specs.Held.{Finds, FindsAt, FindsOwn, IsFound, Covers, AreApart, found_at, rows_in, state_in};
+ghost use Rattle.inst_transfers.specs.inner.Held.{waits_at};
 
 use crate::transfer::{Found, Side, Transfer};
 use indexmap::IndexMap;

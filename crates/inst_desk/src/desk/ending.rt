@@ -1,7 +1,8 @@
 //! How a desk ends, with all its hands.
 ghost use Rattle.std.specs.Prelude.{◌≡◌, [], ◌++◌, vec_capacity};
 ghost use Rattle.crossbeam_queue.specs.Passes.{view, IsPassOf, ruled_capacity};
-ghost use Rattle.inst_desk.specs.Account.{EachAsOften, account, counted, together};
+ghost use Rattle.inst_desk.specs.Account.{EachAsOften, account, counted};
+ghost use Rattle.inst_desk.specs.inner.Account.{together};
 ghost use Rattle.inst_desk.specs.Desk.{account_of, AreAllHandsOf, put_together, taken_together};
 
 use super::Desk;

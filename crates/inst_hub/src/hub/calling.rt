@@ -1,7 +1,8 @@
 //! Calls of a hub, under the locks of participants.
 ghost use Rattle.std.specs.Prelude.{◌≡◌, ◌<◌, true, IfOk, IfSome, OnErr};
 ghost use Rattle.inst_command.specs.Ask.{ask_fits};
-ghost use Rattle.inst_hub.specs.Calls.{IsOf, KnowsMore, Follows, Calls, Asks, IsLeft};
+ghost use Rattle.inst_hub.specs.Calls.{IsOf, KnowsMore, Calls, IsLeft};
+ghost use Rattle.inst_hub.specs.inner.Calls.{Follows, Asks};
 ghost use Rattle.inst_row.specs.Row.{size};
 
 use super::Hub;

@@ -13,7 +13,8 @@ ghost use Rattle.inst_hub.specs.Calls.{AreOf, knows_of};
 ghost use Rattle.inst_hub.specs.Opening.{parts_of};
 ghost use Rattle.inst_settings.specs.Settings.{participants};
 ghost use Rattle.inst_hub.specs.Founding.{HasOpened};
-ghost use Rattle.inst_hub.specs.Closing.{AreSeated, AreTakenOut, HandsBack};
+ghost use Rattle.inst_hub.specs.Closing.{HandsBack};
+ghost use Rattle.inst_hub.specs.inner.Closing.{AreSeated, AreTakenOut};
 
 use super::Hub;
 use crate::behind::Behind;

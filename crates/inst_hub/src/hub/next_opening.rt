@@ -10,8 +10,10 @@ ghost use Rattle.inst_world.specs.NextOpening.{CanOpenFrom, IsOpenedBelow, books
 ghost use Rattle.inst_row.specs.Row.{row_id, key_of};
 ghost use Rattle.inst_hub.specs.Calls.{AreOf};
 ghost use Rattle.inst_hub.specs.Founding.{HasOpened};
-ghost use Rattle.inst_hub.specs.Opening.{unboxed, AreBehind, AreNew, first_sights, parts_of};
-ghost use Rattle.inst_hub.specs.NextOpening.{histories_from, AreCarried, pairs, seated};
+ghost use Rattle.inst_hub.specs.Opening.{AreNew, first_sights, parts_of};
+ghost use Rattle.inst_hub.specs.inner.Opening.{unboxed, AreBehind};
+ghost use Rattle.inst_hub.specs.NextOpening.{histories_from};
+ghost use Rattle.inst_hub.specs.inner.NextOpening.{AreCarried, pairs, seated};
 
 use super::Hub;
 use super::opening::admit;

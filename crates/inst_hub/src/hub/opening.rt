@@ -10,7 +10,8 @@ ghost use Rattle.inst_model.specs.Opening.{First};
 ghost use Rattle.inst_participant.specs.Behind.{IsBehind};
 ghost use Rattle.inst_hub.specs.Founding.{HasOpened};
 ghost use Rattle.inst_hub.specs.Calls.{AreOf};
-ghost use Rattle.inst_hub.specs.Opening.{AreBoards, unboxed, AreParticipants, AreBlank, AreNew, first_sights, parts_of};
+ghost use Rattle.inst_hub.specs.Opening.{AreNew, first_sights, parts_of};
+ghost use Rattle.inst_hub.specs.inner.Opening.{AreBoards, unboxed, AreParticipants, AreBlank};
 
 use super::Hub;
 use crate::behind::Behind;

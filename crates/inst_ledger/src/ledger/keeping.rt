@@ -1,7 +1,7 @@
 //! Events that are kept, with all that stands beside them.
 ghost use Rattle.std.specs.Prelude.{◌≡◌, ◌<◌, false, OnOk, OnErr, IsOk};
 ghost use Rattle.inst_journal.specs.Sound.{Fits};
-ghost use Rattle.inst_ledger.specs.Beside.{movement_booked, MayAddIf, AddsIf};
+ghost use Rattle.inst_ledger.specs.inner.Beside.{movement_booked, MayAddIf, AddsIf};
 ghost use Rattle.inst_ledger.specs.Book.{with_event, brings_key};
 ghost use Rattle.inst_transfers.specs.Held.{IsFound};
 

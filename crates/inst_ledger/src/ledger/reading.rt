@@ -7,11 +7,13 @@ ghost use Rattle.inst_journal.specs.Money.{reserved, position, available};
 ghost use Rattle.inst_journal.specs.Opened.{live_submissions};
 ghost use Rattle.inst_journal.specs.Sound.{IsSound};
 ghost use Rattle.inst_ledger.specs.Beneficiary.{beneficiary_of};
-ghost use Rattle.inst_ledger.specs.Beside.{funding_of, is_funding_of};
+ghost use Rattle.inst_ledger.specs.Beside.{funding_of};
+ghost use Rattle.inst_ledger.specs.inner.Beside.{is_funding_of};
 ghost use Rattle.inst_ledger.specs.Right.{sending_in, forwarding_in, own_ids, IsRight};
 ghost use Rattle.inst_transfers.specs.Held.{Finds, FindsAt, IsFound, AreApart, found_at, rows_in, state_in};
 ghost use Rattle.inst_transfers.specs.State.{outcome_in};
-ghost use Rattle.inst_ledger.specs.Kept.{sending_of, is_sending, forwarding_of};
+ghost use Rattle.inst_ledger.specs.Kept.{sending_of, forwarding_of};
+ghost use Rattle.inst_ledger.specs.inner.Kept.{is_sending};
 
 use super::Ledger;
 use crate::references::KeptFunding;

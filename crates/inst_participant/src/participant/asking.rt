@@ -6,7 +6,8 @@ ghost use Rattle.inst_board.specs.Learning.{KnowTheSame};
 ghost use Rattle.inst_cell.specs.Held.{AtOneTable, knows};
 ghost use Rattle.inst_cell.specs.Seen.{board_of, sees};
 ghost use Rattle.inst_participant.specs.Behind.{IsReady, IsLater, HistoryGrows};
-ghost use Rattle.inst_participant.specs.Telling.{SeesMore, IsToldOf, IsToldBy};
+ghost use Rattle.inst_participant.specs.Telling.{SeesMore};
+ghost use Rattle.inst_participant.specs.inner.Telling.{IsToldOf, IsToldBy};
 ghost use Rattle.inst_participant.specs.Answers.{Answered, IsTicket};
 ghost use Rattle.inst_participant.specs.Serving.{Serves};
 

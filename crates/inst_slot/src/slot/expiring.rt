@@ -1,8 +1,8 @@
 //! How the transfers of a slot expire.
 ghost use Rattle.std.specs.Prelude.{◌≡◌, Some};
 ghost use Rattle.inst_slot.specs.LawfulBoard.{IsLawfulBoard, KeepsOthers, AllAreAdopted};
-ghost use Rattle.inst_slot.specs.Answering.{over};
-ghost use Rattle.inst_slot.specs.Expiries.{IsUnbooked, FindsUnbooked};
+ghost use Rattle.inst_slot.specs.inner.Answering.{over};
+ghost use Rattle.inst_slot.specs.inner.Expiries.{IsUnbooked, FindsUnbooked};
 ghost use Rattle.inst_slot.specs.Indexed.{own_ids};
 ghost use Rattle.inst_slot.specs.Spots.{rows_of, AreSpots};
 ghost use Rattle.inst_slot.specs.Telling.{ExpiresFor, Expires};

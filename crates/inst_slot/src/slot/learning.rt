@@ -2,11 +2,11 @@
 ghost use Rattle.std.specs.Prelude.{◌≡◌, is_some, IfSome};
 ghost use Rattle.inst_board.specs.declared.look.Look.{Look};
 ghost use Rattle.inst_board.specs.Learning.{Looks};
-ghost use Rattle.inst_slot.specs.Answering.{over};
-ghost use Rattle.inst_slot.specs.Expiries.{IsUnbooked};
+ghost use Rattle.inst_slot.specs.inner.Answering.{over};
+ghost use Rattle.inst_slot.specs.inner.Expiries.{IsUnbooked};
 ghost use Rattle.inst_slot.specs.Indexed.{own_ids};
 ghost use Rattle.inst_slot.specs.LawfulBoard.{IsLawfulBoard, KeepsOthers, AllAreAdopted};
-ghost use Rattle.inst_slot.specs.Lessons.{LearnsOutcome};
+ghost use Rattle.inst_slot.specs.inner.Lessons.{LearnsOutcome};
 ghost use Rattle.inst_slot.specs.Spots.{rows_of, AreSpots};
 ghost use Rattle.inst_slot.specs.Telling.{lesson, with_event, Keeps};
 ghost use Rattle.inst_slot.specs.Waiting.{IsRight};

@@ -5,7 +5,7 @@ ghost use Rattle.inst_board.specs.Learning.{Looks};
 ghost use Rattle.inst_journal.specs.Sound.{IsSound, Fits};
 ghost use Rattle.inst_slot.specs.LawfulBoard.{IsLawfulBoard, KeepsOthers, AllAreAdopted};
 ghost use Rattle.inst_slot.specs.Telling.{delivery, with_delivery, with_event, Keeps};
-ghost use Rattle.inst_slot.specs.Waiting.{moves_none};
+ghost use Rattle.inst_slot.specs.inner.Waiting.{moves_none};
 
 use super::Slot;
 use crate::arrivals::Spot;

@@ -1,5 +1,5 @@
 use Rattle.std.proofs.Common.{◌≡◌, length}
-use Rattle.inst_audit.specs.Replaying.{AreKept}
+use Rattle.inst_audit.specs.inner.Replaying.{AreKept}
 use Rattle.inst_audit.proofs.audit.all_replayed.Given as goal
 
 abbrev pub invariant-loop-who : goal.invariant-loop-who

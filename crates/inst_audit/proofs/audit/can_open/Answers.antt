@@ -1,6 +1,6 @@
 use Rattle.std.proofs.Common.{◌≡◌, length, subst, arith, IfSome}
 use Rattle.inst_settings.specs.Settings.{participants}
-use Rattle.inst_audit.specs.Replaying.{AreAllKept}
+use Rattle.inst_audit.specs.inner.Replaying.{AreAllKept}
 use Rattle.inst_audit.proofs.Replaying.{agreement_tells}
 use Rattle.inst_audit.proofs.audit.can_open.Goals as goal
 

@@ -1,6 +1,6 @@
 use Rattle.std.proofs.Common.{sym, subst, IsTrue, ◌↔◌}
 use Rattle.inst_journal.specs.declared.event.Event.{Event}
-use Rattle.inst_audit.specs.Agreeing.{IsSent, Agrees, histories_of}
+use Rattle.inst_audit.specs.inner.Agreeing.{IsSent, Agrees, histories_of}
 use Rattle.inst_audit.proofs.sides.agrees.Goals as goal
 
 pub returns-in-Forwarded : goal.returns-in-Forwarded

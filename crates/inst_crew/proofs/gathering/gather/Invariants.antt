@@ -2,7 +2,7 @@ use Rattle.std.proofs.Common.{◌≡◌, ◌++◌, List}
 use Rattle.std.specs.Prelude.{map, Ok}
 use Rattle.std.specs.Vec.Iter.{into_iter_items}
 use Rattle.inst_crew.specs.declared.shift.Shift.{Shift}
-use Rattle.inst_crew.specs.Workers.{IsGathered}
+use Rattle.inst_crew.specs.inner.Workers.{IsGathered}
 use Rattle.inst_crew.proofs.gathering.gather.Given as goal
 
 abbrev pub invariant-loop-result : goal.invariant-loop-result

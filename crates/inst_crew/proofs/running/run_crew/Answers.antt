@@ -7,7 +7,7 @@ use Rattle.inst_hub.specs.declared.teller.Teller.{Teller}
 use Rattle.inst_hub.specs.Calls.{AreOf}
 use Rattle.inst_crew.specs.Crew.{sweeper_of}
 use Rattle.inst_crew.specs.Later.{Pairs, IsLaterTeller}
-use Rattle.inst_crew.specs.Workers.{AllWork}
+use Rattle.inst_crew.specs.inner.Workers.{AllWork}
 use Rattle.inst_crew.proofs.Pairing.{all_ready, are_hands, are_tellers, same_parts, same_row, pairs_length}
 use Rattle.inst_crew.proofs.Together.{Ran, ran}
 use Rattle.inst_crew.proofs.running.run_crew.Given.{Over}

@@ -1,4 +1,4 @@
-use Rattle.inst_crew.specs.Workers.{Works}
+use Rattle.inst_crew.specs.inner.Workers.{Works}
 use Rattle.inst_crew.proofs.shift.work.Given as goal
 
 abbrev pub invariant-loop : goal.invariant-loop

@@ -1,6 +1,6 @@
 use Rattle.std.proofs.Common.{◌≡◌, ◌++◌, length}
 use Rattle.std.specs.Vec.Iter.{into_iter_items}
-use Rattle.inst_crew.specs.Workers.{hands_of, tellers_of}
+use Rattle.inst_crew.specs.inner.Workers.{hands_of, tellers_of}
 use Rattle.inst_crew.proofs.worker.workers.Given as goal
 
 abbrev pub invariant-loop-hand : goal.invariant-loop-hand

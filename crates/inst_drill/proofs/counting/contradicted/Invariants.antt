@@ -1,6 +1,6 @@
 use Rattle.std.proofs.Common.{◌≡◌}
 use Rattle.inst_together.specs.Together.{histories}
-use Rattle.inst_drill.specs.Report.{NoneContradicts}
+use Rattle.inst_drill.specs.inner.Report.{NoneContradicts}
 use Rattle.inst_drill.proofs.counting.contradicted.Given as goal
 
 abbrev pub invariant-loop-ticket : goal.invariant-loop-ticket

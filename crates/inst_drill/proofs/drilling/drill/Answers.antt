@@ -1,6 +1,6 @@
 use Rattle.std.proofs.Common.{◌≡◌, ◌≤◌, ◌+◌, ℕ, suc, refl, sym, subst, arith, ◌∙◌}
 use Rattle.std.proofs.lemmas.Bool.{false≢true}
-use Rattle.inst_drill.specs.Chain.{IsAfter}
+use Rattle.inst_drill.specs.inner.Chain.{IsAfter}
 use Rattle.inst_drill.proofs.Counted.{after_opening}
 use Rattle.inst_drill.proofs.Drilled.{none_drilled, one_drilled}
 use Rattle.inst_drill.proofs.drilling.drill.Goals as goal

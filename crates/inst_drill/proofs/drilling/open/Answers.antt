@@ -1,7 +1,7 @@
 use Rattle.std.proofs.Common.{ℕ, suc, refl, subst}
 use Rattle.std.specs.Prelude.{Option}
 use Rattle.inst_close.specs.ClosedHub.{ClosedHub, IsClosed}
-use Rattle.inst_drill.specs.Chain.{AreAfter, IsAfter, IsOpenedAt}
+use Rattle.inst_drill.specs.inner.Chain.{AreAfter, IsAfter, IsOpenedAt}
 use Rattle.inst_close.proofs.Reopened.{if_both}
 use Rattle.inst_drill.proofs.Counted.{next_opening, may_open}
 use Rattle.inst_drill.proofs.Staffed.{only_memory}

@@ -2,7 +2,7 @@ use Rattle.std.proofs.Common.{subst, ◌∙◌, sym, arith, List}
 use Rattle.inst_board.specs.declared.place.Place.{Place}
 use Rattle.inst_command.specs.declared.outcome.State.{State}
 use Rattle.inst_together.specs.Together.{histories}
-use Rattle.inst_drill.specs.Report.{NoneContradicts}
+use Rattle.inst_drill.specs.inner.Report.{NoneContradicts}
 use Rattle.inst_drill.proofs.Seen.{none_contradicts, same_number}
 use Rattle.inst_drill.proofs.opening.run_opening.Goals as goal
 

@@ -1,5 +1,5 @@
 use Rattle.std.proofs.Common.{length}
-use Rattle.inst_log.specs.Serving.{WritesFirst}
+use Rattle.inst_log.specs.inner.Serving.{WritesFirst}
 use Rattle.inst_log.proofs.delivery.write_bytes.Given as goal
 
 abbrev pub invariant-loop-rest : goal.invariant-loop-rest

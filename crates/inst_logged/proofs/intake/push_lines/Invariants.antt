@@ -1,6 +1,7 @@
 use Rattle.std.proofs.Common.{◌≡◌, ◌≤◌, ◌-◌, [], ◌++◌, map, length, drop}
 use Rattle.inst_log.specs.Layout.{recovered, IsWhole}
-use Rattle.inst_logged.specs.Input.{lines_from, rest_from, logged}
+use Rattle.inst_logged.specs.Input.{logged}
+use Rattle.inst_logged.specs.inner.Input.{lines_from, rest_from}
 use Rattle.inst_logged.proofs.intake.push_lines.Given as goal
 
 abbrev pub invariant-loop-len : goal.invariant-loop-len

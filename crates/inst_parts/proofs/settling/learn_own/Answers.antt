@@ -1,6 +1,6 @@
 use Rattle.std.proofs.Common.{◌≡◌, ℕ, sym, ◌∙◌, subst}
 use Rattle.inst_slot.specs.Book.{place_at}
-use Rattle.inst_parts.specs.Settling.{IsBookedAt}
+use Rattle.inst_parts.specs.inner.Settling.{IsBookedAt}
 use Rattle.inst_parts.proofs.PlaceByPlace.{later_on, own_more}
 use Rattle.inst_parts.proofs.settling.learn_own.Goals as goal
 

@@ -2,7 +2,7 @@ use Rattle.std.proofs.Common.{◌≢◌, ℕ}
 use Rattle.std.specs.Prelude.{Result, Ok, Err, IfOk}
 use Rattle.std.specs.declared.alloc.AllocError.{AllocError}
 use Rattle.inst_together.specs.Together.{IsSettled}
-use Rattle.inst_parts.specs.Settling.{HaveCome}
+use Rattle.inst_parts.specs.inner.Settling.{HaveCome}
 use Rattle.inst_parts.proofs.PlaceByPlace.{later_on, settled_then}
 use Rattle.inst_parts.proofs.settling.settle_all.Goals as goal
 

@@ -1,6 +1,6 @@
 use Rattle.std.proofs.Common.{not, sym, ap, ◌∙◌, arith}
 use lib.Count.{count_trailing_zeros}
-use Rattle.inst_scan.specs.Scalar.{is_text}
+use Rattle.inst_scan.specs.inner.Scalar.{is_text}
 use Rattle.inst_scan.proofs.Runs.{not-not, run_bound, run_through, run_stops}
 use Rattle.inst_scan.proofs.parts.plain_end.Goals as goal
 

@@ -1,6 +1,6 @@
 use Rattle.std.proofs.Common.{◌≡◌, ◌+◌, ◌-◌, ◌≤◌, length, drop}
 use Rattle.std.specs.List.{prefix_len}
-use Rattle.inst_scan.specs.Scalar.{is_text}
+use Rattle.inst_scan.specs.inner.Scalar.{is_text}
 use Rattle.inst_scan.proofs.parts.plain_end.Given as goal
 
 abbrev pub invariant-loop-at : goal.invariant-loop-at

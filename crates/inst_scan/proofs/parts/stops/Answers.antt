@@ -1,6 +1,6 @@
 use Rattle.std.proofs.Common.{◌≤◌, length, leb, cond, not, refl, arith}
 use Rattle.std.proofs.lemmas.Simd.{zip2_splat, zip2_splat_left}
-use Rattle.inst_scan.specs.Scalar.{is_text}
+use Rattle.inst_scan.specs.inner.Scalar.{is_text}
 use Rattle.inst_base.proofs.Masks.{joined, masked}
 use Rattle.inst_scan.proofs.parts.stops.Goals as goal
 

@@ -2,7 +2,7 @@ use Rattle.std.proofs.Common.{◌≡◌, ◌+◌, ◌-◌, suc, ℕ, List, ap, s
 use Rattle.std.proofs.lemmas.List.{get_or-drop, drop-drop, take-append-drop}
 use Rattle.std.proofs.lemmas.Str.{IsAscii-append, IsUtf8-from_ascii}
 use Rattle.std.specs.List.{prefix_len}
-use Rattle.inst_scan.specs.Scalar.{is_text}
+use Rattle.inst_scan.specs.inner.Scalar.{is_text}
 use Rattle.json.specs.Lex.{lex, between}
 use Rattle.inst_scan.proofs.Ascii.{ascii_byte}
 use Rattle.inst_scan.proofs.Lexing.{string_at, ascii_at}

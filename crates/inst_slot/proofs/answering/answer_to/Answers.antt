@@ -1,7 +1,7 @@
 use Rattle.std.proofs.Common.{sym, subst, Option}
 use Rattle.inst_journal.specs.Booked.{booked}
 use Rattle.inst_slot.specs.declared.answering.Request.{Request}
-use Rattle.inst_slot.specs.Answering.{Gives}
+use Rattle.inst_slot.specs.inner.Answering.{Gives}
 use Rattle.inst_slot.specs.Asking.{wish_for}
 use Rattle.inst_slot.specs.Book.{arrived_at}
 use Rattle.inst_slot.specs.Spots.{rows_of, arrivals_of}

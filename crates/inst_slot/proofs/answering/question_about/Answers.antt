@@ -6,7 +6,7 @@ use Rattle.inst_ledger.specs.Right.{own_ids}
 use Rattle.inst_transfers.specs.Held.{state_in, found_at}
 use Rattle.inst_board.specs.declared.wish.Wish.TheVariants.{Expire}
 use Rattle.inst_slot.specs.declared.answering.Request.{Request}
-use Rattle.inst_slot.specs.Answering.{Gives}
+use Rattle.inst_slot.specs.inner.Answering.{Gives}
 use Rattle.inst_slot.specs.Asking.{wish_for}
 use Rattle.inst_slot.specs.Book.{place_at}
 use Rattle.inst_slot.proofs.Requests.{unknown_question, known_question, own_position_is, wish_none}

@@ -5,7 +5,7 @@ use Rattle.inst_journal.specs.declared.event.Event.TheVariants.{Booked}
 use Rattle.inst_journal.specs.Sound.{Fits}
 use Rattle.inst_ledger.specs.Book.{Book as Kept, with_event}
 use Rattle.inst_slot.specs.declared.arrival.Arrival.{Arrival}
-use Rattle.inst_slot.specs.Answering.{over, beside, IsOwnAt}
+use Rattle.inst_slot.specs.inner.Answering.{over, beside, IsOwnAt}
 use Rattle.inst_slot.specs.Book.{place_at}
 use Rattle.inst_slot.specs.Spots.{rows_of, arrivals_of}
 use Rattle.inst_slot.specs.Asking.{Finds}

@@ -9,7 +9,8 @@ use Rattle.inst_transfers.specs.Held.{AreApart, AreWithin, AreRising}
 use Rattle.inst_slot.specs.declared.arrival.Arrival.{Arrival}
 use Rattle.inst_slot.specs.declared.arrivals.Spot.{Spot}
 use Rattle.inst_slot.specs.Opening.{awaits}
-use Rattle.inst_slot.specs.Spots.{rows_of, no_entry, arrival_of, arrivals_of, FindsSpot, IsSpotAt}
+use Rattle.inst_slot.specs.Spots.{rows_of, no_entry, arrival_of, arrivals_of}
+use Rattle.inst_slot.specs.inner.Spots.{FindsSpot, IsSpotAt}
 use Rattle.inst_slot.proofs.Found.{no_arrival, another_arrival, this_arrival}
 use Rattle.inst_slot.proofs.Spots.{found_row, arrives_once, unknown_counted, counted_none, is_here, is_named, arrival_there, arrivals_set, positions_set}
 use Rattle.inst_slot.proofs.arrivals.find_at.Goals as goal

@@ -1,8 +1,8 @@
 use Rattle.std.proofs.Common.{ap, sym, ◌∙◌, subst, Option}
 use Rattle.inst_board.specs.declared.look.Look.{Look}
 use Rattle.inst_slot.specs.declared.lesson.Lesson.{Lesson}
-use Rattle.inst_slot.specs.Answering.{over}
-use Rattle.inst_slot.specs.Lessons.{GivesLesson}
+use Rattle.inst_slot.specs.inner.Answering.{over}
+use Rattle.inst_slot.specs.inner.Lessons.{GivesLesson}
 use Rattle.inst_slot.specs.Telling.{lesson}
 use Rattle.inst_slot.proofs.Lessons.{no_lesson}
 use Rattle.inst_slot.proofs.lesson.lesson_of.Goals as goal

@@ -1,5 +1,5 @@
 use Rattle.std.proofs.Common.{◌≡◌, ℕ, ◌<◌, ◌≤◌, ◌*◌, ◌/◌, ◌%◌, get_or}
-use Rattle.inst_terms.specs.Identifier.{digit}
+use Rattle.inst_terms.specs.inner.Identifier.{digit}
 use Rattle.inst_terms.proofs.identifier.characters_of.Given as goal
 
 abbrev pub invariant-loop-index : goal.invariant-loop-index

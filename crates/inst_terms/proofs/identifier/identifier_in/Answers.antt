@@ -1,6 +1,6 @@
 use Rattle.std.proofs.Common.{◌≡◌, ℕ, List, take, ◌∙◌, ap, sym, subst}
 use Rattle.std.specs.Result.{result_ok}
-use Rattle.inst_terms.specs.Identifier.{StandsIn}
+use Rattle.inst_terms.specs.inner.Identifier.{StandsIn}
 use Rattle.inst_terms.proofs.Identifiers.{stands_in_front, front_stands, identifier_found, finds_identifier, utf8_identifier}
 use Rattle.inst_terms.proofs.identifier.identifier_in.Goals as goal
 

@@ -1,5 +1,5 @@
 use Rattle.std.proofs.Common.{◌≡◌, ◌≢◌, ◌/◌, ℕ, suc, sym, subst, arith}
-use Rattle.inst_terms.specs.Identifier.{digit}
+use Rattle.inst_terms.specs.inner.Identifier.{digit}
 use Rattle.inst_terms.proofs.Base128.{no_digit, a_digit, stands}
 use Rattle.inst_terms.proofs.identifier.length_in.Goals as goal
 

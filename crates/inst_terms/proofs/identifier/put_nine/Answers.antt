@@ -2,7 +2,7 @@ use Rattle.std.proofs.Common.{◌≡◌, ℕ, ◌+◌, ◌∙◌, ap, sym, inl, 
 use Rattle.std.proofs.lemmas.Bool.{cases_eq}
 use Rattle.std.proofs.lemmas.List.{get_or-set_same, get_or-set_other}
 use Rattle.std.proofs.Math.ListN.{length-set}
-use Rattle.inst_terms.specs.Identifier.{digit}
+use Rattle.inst_terms.specs.inner.Identifier.{digit}
 use Rattle.inst_terms.proofs.identifier.put_nine.Goals as goal
 
 pub loop-place-preserved : goal.loop-place-preserved

@@ -1,5 +1,5 @@
 use Rattle.std.proofs.Common.{◌≡◌, ℕ, ◌+◌, ◌<◌, ◌≤◌, get_or, length}
-use Rattle.inst_terms.specs.Identifier.{digit}
+use Rattle.inst_terms.specs.inner.Identifier.{digit}
 use Rattle.inst_terms.proofs.identifier.put_nine.Given as goal
 
 abbrev pub invariant-loop-place : goal.invariant-loop-place

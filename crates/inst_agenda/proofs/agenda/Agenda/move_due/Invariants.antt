@@ -1,5 +1,5 @@
 use Rattle.std.proofs.Common.{length}
-use Rattle.inst_agenda.specs.Agenda.{Moves}
+use Rattle.inst_agenda.specs.inner.Agenda.{Moves}
 use Rattle.inst_agenda.proofs.agenda.Agenda.move_due.Given as goal
 
 abbrev pub invariant-loop-place : goal.invariant-loop-place

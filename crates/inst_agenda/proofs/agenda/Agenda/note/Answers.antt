@@ -1,5 +1,6 @@
 use Rattle.std.proofs.Common.{subst}
-use Rattle.inst_agenda.specs.Agenda.{Agenda, Notes}
+use Rattle.inst_agenda.specs.Agenda.{Agenda}
+use Rattle.inst_agenda.specs.inner.Agenda.{Notes}
 use Rattle.inst_agenda.proofs.Agendas.{notes}
 use Rattle.inst_agenda.proofs.agenda.Agenda.note.Goals as goal
 

@@ -1,5 +1,6 @@
 use Rattle.std.proofs.Common.{refl, subst, sym, ◌∙◌}
-use Rattle.inst_agenda.specs.Agenda.{Agenda, NothingIsDue}
+use Rattle.inst_agenda.specs.Agenda.{Agenda}
+use Rattle.inst_agenda.specs.inner.Agenda.{NothingIsDue}
 use Rattle.inst_agenda.proofs.Agendas.{none_is_due}
 use Rattle.inst_agenda.proofs.agenda.Agenda.take_due.Goals as goal
 

@@ -1,5 +1,6 @@
 use Rattle.std.proofs.Common.{subst}
-use Rattle.inst_agenda.specs.Agenda.{Agenda, Waits}
+use Rattle.inst_agenda.specs.Agenda.{Agenda}
+use Rattle.inst_agenda.specs.inner.Agenda.{Waits}
 use Rattle.inst_agenda.proofs.Agendas.{makes_wait}
 use Rattle.inst_agenda.proofs.agenda.Agenda.wait.Goals as goal
 

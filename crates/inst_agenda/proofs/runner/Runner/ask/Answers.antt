@@ -1,8 +1,9 @@
 use Rattle.std.proofs.Common.{ℕ, ◌∷◌, ◌≤◌, length, sym, subst, ◌∙◌, ap}
 use Rattle.inst_command.specs.declared.step.Step.TheVariants.{Ask}
 use Rattle.inst_world.specs.HasRun.{Hub, settings_of, Runs}
-use Rattle.inst_agenda.specs.Naming.{named_by}
-use Rattle.inst_agenda.specs.Watching.{Watches, NotesNamed}
+use Rattle.inst_agenda.specs.inner.Naming.{named_by}
+use Rattle.inst_agenda.specs.Watching.{Watches}
+use Rattle.inst_agenda.specs.inner.Watching.{NotesNamed}
 use Rattle.inst_agenda.specs.declared.runner.Runner.{Runner}
 use Rattle.inst_agenda.proofs.AfterAsking.{watches_ask, watches_quiet}
 use Rattle.inst_agenda.proofs.runner.Runner.ask.Goals as goal

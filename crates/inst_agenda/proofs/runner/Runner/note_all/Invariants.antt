@@ -1,5 +1,5 @@
 use Rattle.std.proofs.Common.{◌≡◌}
-use Rattle.inst_agenda.specs.Watching.{NotesSome}
+use Rattle.inst_agenda.specs.inner.Watching.{NotesSome}
 use Rattle.inst_agenda.proofs.Noting.{NotedBelow}
 use Rattle.inst_agenda.proofs.runner.Runner.note_all.Given as goal
 

@@ -1,6 +1,6 @@
 use Rattle.std.proofs.Common.{sym, ◌∙◌}
 use Rattle.std.proofs.lemmas.Result.{on_ok_weaker}
-use Rattle.inst_agenda.specs.Naming.{named_by}
+use Rattle.inst_agenda.specs.inner.Naming.{named_by}
 use Rattle.inst_agenda.proofs.AfterAsking.{named_some}
 use Rattle.inst_agenda.proofs.runner.Runner.note_named.Goals as goal
 

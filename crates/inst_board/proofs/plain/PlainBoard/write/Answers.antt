@@ -2,7 +2,8 @@ use Rattle.std.proofs.Common.{◌≡◌, ℕ, ◌+◌, ◌*◌, ◌∙◌, ap, s
 use Rattle.inst_board.specs.declared.plain.Kept.{Kept}
 use Rattle.inst_board.specs.declared.plain.Kept.TheVariants.{Written}
 use Rattle.inst_board.specs.Standing.{IsPlace}
-use Rattle.inst_board.specs.Plain.{Contents, rank_of, Puts, PutsTerms, Becomes}
+use Rattle.inst_board.specs.Plain.{Contents, rank_of, Becomes}
+use Rattle.inst_board.specs.inner.Plain.{Puts, PutsTerms}
 use Rattle.inst_board.proofs.Places.{with_kept, written, contents_written, terms_come}
 use Rattle.inst_board.proofs.plain.PlainBoard.write.Goals as goal
 

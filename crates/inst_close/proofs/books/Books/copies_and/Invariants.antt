@@ -1,4 +1,4 @@
-use Rattle.inst_close.specs.NextOpening.{AreCopiesAnd}
+use Rattle.inst_close.specs.inner.NextOpening.{AreCopiesAnd}
 use Rattle.inst_close.proofs.books.Books.copies_and.Given as goal
 
 abbrev pub invariant-loop : goal.invariant-loop

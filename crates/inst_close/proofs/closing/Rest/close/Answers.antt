@@ -3,7 +3,8 @@ use Rattle.inst_hub.specs.declared.teller.Teller.{Teller}
 use Rattle.inst_hub.specs.declared.hub.Hub.{Hub}
 use Rattle.inst_parts.proofs.Parted.{if_ok}
 use Rattle.inst_close.specs.declared.closing.Rest.{Rest}
-use Rattle.inst_close.specs.Closing.{IsLeftOf, IsClosedFrom, IsPartly, rest_of}
+use Rattle.inst_close.specs.Closing.{IsLeftOf, IsClosedFrom, rest_of}
+use Rattle.inst_close.specs.inner.Closing.{IsPartly}
 use Rattle.inst_close.proofs.Left.{if_err, books_of_parts, books_of_whole, left_partly}
 use Rattle.inst_close.proofs.closing.Rest.close.Goals as goal
 

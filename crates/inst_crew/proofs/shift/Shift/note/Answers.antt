@@ -1,7 +1,7 @@
 use Rattle.std.proofs.Common.{sym, subst, List}
 use Rattle.inst_board.specs.declared.place.Place.{Place}
 use Rattle.inst_command.specs.declared.outcome.State.{State}
-use Rattle.inst_crew.specs.Seen.{AreSeen}
+use Rattle.inst_crew.specs.inner.Seen.{AreSeen}
 use Rattle.inst_crew.proofs.Seeing.{all_seen_more, one_more_seen}
 use Rattle.inst_crew.proofs.shift.Shift.note.Goals as goal
 

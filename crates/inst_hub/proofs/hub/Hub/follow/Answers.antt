@@ -4,7 +4,7 @@ use Rattle.inst_row.specs.Seated.{GoesOn, Sees}
 use Rattle.inst_participant.specs.declared.follow_up.FollowUp.{FollowUp}
 use Rattle.inst_hub.specs.declared.teller.Teller.{Teller}
 use Rattle.inst_participant.specs.Behind.{IsBehind}
-use Rattle.inst_hub.specs.Calls.{Follows}
+use Rattle.inst_hub.specs.inner.Calls.{Follows}
 use Rattle.inst_hub.proofs.Calling.{out_of_box, seen_still, follows_one}
 use Rattle.inst_participant.proofs.Later.{behind_later}
 use Rattle.inst_participant.proofs.Serving.{told_grows}

@@ -5,7 +5,8 @@ use Rattle.inst_row.specs.declared.view.Front.{Front}
 use Rattle.inst_row.specs.Row.{row_id, key_of}
 use Rattle.inst_settings.specs.Settings.{participants}
 use Rattle.inst_hub.specs.Founding.{outset_of}
-use Rattle.inst_hub.specs.Opening.{unboxed, AreNew}
+use Rattle.inst_hub.specs.Opening.{AreNew}
+use Rattle.inst_hub.specs.inner.Opening.{unboxed}
 use Rattle.inst_hub.proofs.Starting.{unboxed_length, opened_behind, behind_sights, new_are_of}
 use Rattle.inst_hub.proofs.Founding.{first_since, first_carried}
 use Rattle.inst_hub.proofs.hub.Hub.open.Goals as goal

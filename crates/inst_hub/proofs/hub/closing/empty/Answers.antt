@@ -9,7 +9,7 @@ use Rattle.inst_journal.specs.Sound.{IsSound}
 use Rattle.inst_row.specs.Row.{key_of, size}
 use Rattle.inst_row.specs.Seated.{GoesOn}
 use Rattle.inst_hub.specs.Founding.{IsSince}
-use Rattle.inst_hub.specs.Closing.{IsTakenOut}
+use Rattle.inst_hub.specs.inner.Closing.{IsTakenOut}
 use Rattle.inst_participant.specs.declared.participant.Participant.{Participant}
 use Rattle.inst_hub.proofs.Gathering.{one_out}
 use Rattle.inst_hub.proofs.hub.closing.empty.Goals as goal

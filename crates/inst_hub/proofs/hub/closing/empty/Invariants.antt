@@ -2,7 +2,7 @@ use Rattle.std.proofs.Common.{◌≡◌, ◌≤◌, ◌<◌, ℕ, true, false}
 use Rattle.std.specs.Prelude.{vec_capacity, slice_index_or}
 use Rattle.std.specs.Mem.Slots.{slots_items, slots_len, slots_filled}
 use Rattle.inst_row.specs.Row.{key_of, size}
-use Rattle.inst_hub.specs.Closing.{AreTakenOut}
+use Rattle.inst_hub.specs.inner.Closing.{AreTakenOut}
 use Rattle.inst_hub.proofs.hub.closing.empty.Given as goal
 
 abbrev pub invariant-loop-lock : goal.invariant-loop-lock

@@ -1,7 +1,7 @@
 use Rattle.std.proofs.Common.{◌≡◌, ◌++◌, length}
 use Rattle.std.specs.Vec.Iter.{into_iter_items}
-use Rattle.inst_hub.specs.NextOpening.{pairs, seated}
-use Rattle.inst_hub.specs.Opening.{unboxed}
+use Rattle.inst_hub.specs.inner.NextOpening.{pairs, seated}
+use Rattle.inst_hub.specs.inner.Opening.{unboxed}
 use Rattle.inst_hub.proofs.hub.next_opening.seat.Given as goal
 
 abbrev pub invariant-loop-slot : goal.invariant-loop-slot

@@ -1,6 +1,6 @@
 use Rattle.std.proofs.Common.{◌≡◌, ◌++◌, length}
 use Rattle.std.specs.Vec.Iter.{into_iter_items}
-use Rattle.inst_hub.specs.Opening.{unboxed, AreParticipants}
+use Rattle.inst_hub.specs.inner.Opening.{unboxed, AreParticipants}
 use Rattle.inst_hub.proofs.hub.opening.participants.Given as goal
 
 abbrev pub invariant-loop-board : goal.invariant-loop-board

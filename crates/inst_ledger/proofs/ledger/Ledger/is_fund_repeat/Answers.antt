@@ -1,7 +1,8 @@
 use Rattle.std.proofs.Common.{false, sym, ap, ◌∙◌}
 use Rattle.inst_journal.specs.Keys.{is_fund_repeat}
 use Rattle.inst_journal.specs.Booked.{first_some}
-use Rattle.inst_ledger.specs.Beside.{funding_of, is_funding_of}
+use Rattle.inst_ledger.specs.Beside.{funding_of}
+use Rattle.inst_ledger.specs.inner.Beside.{is_funding_of}
 use Rattle.inst_ledger.specs.Book.{BookAndRoom}
 use Rattle.inst_ledger.proofs.Funded.{fund_found}
 use Rattle.inst_ledger.proofs.ledger.Ledger.is_fund_repeat.Goals as goal

@@ -1,7 +1,7 @@
 use Rattle.std.proofs.Common.{sym, ap, ◌∙◌}
 use Rattle.inst_journal.specs.Keys.{is_submission_repeat}
 use Rattle.inst_transfers.specs.Held.{found_at}
-use Rattle.inst_ledger.specs.Kept.{is_sending}
+use Rattle.inst_ledger.specs.inner.Kept.{is_sending}
 use Rattle.inst_ledger.specs.Right.{sending_in}
 use Rattle.inst_ledger.specs.Book.{BookAndRoom}
 use Rattle.inst_ledger.proofs.Amounts.{repeat_found}

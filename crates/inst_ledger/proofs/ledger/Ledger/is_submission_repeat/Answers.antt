@@ -1,7 +1,8 @@
 use Rattle.std.proofs.Common.{sym, ap, ◌∙◌}
 use Rattle.inst_journal.specs.Booked.{first_some}
 use Rattle.inst_journal.specs.Keys.{is_submission_repeat}
-use Rattle.inst_ledger.specs.Kept.{is_sending, sending_of}
+use Rattle.inst_ledger.specs.Kept.{sending_of}
+use Rattle.inst_ledger.specs.inner.Kept.{is_sending}
 use Rattle.inst_ledger.specs.Book.{BookAndRoom}
 use Rattle.inst_ledger.proofs.Amounts.{repeat_found}
 use Rattle.inst_ledger.proofs.ledger.Ledger.is_submission_repeat.Goals as goal

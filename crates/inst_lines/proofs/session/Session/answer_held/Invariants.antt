@@ -1,6 +1,6 @@
 use Rattle.std.proofs.Common.{◌≡◌, ◌-◌}
 use Rattle.inst_lines.specs.Answering.{answering, Keeps}
-use Rattle.inst_lines.specs.Session.{Advances}
+use Rattle.inst_lines.specs.inner.Session.{Advances}
 use Rattle.inst_lines.proofs.session.Session.answer_held.Given as goal
 use Rattle.inst_lines.specs.Limits.{most_lines}
 

@@ -2,7 +2,8 @@ use Rattle.std.proofs.Common.{◌≡◌, refl, sym, subst, ◌∙◌}
 use Rattle.std.proofs.lemmas.Result.{err_from_is_err_and}
 use Rattle.inst_base.specs.declared.fault.Fault.TheVariants.{ReadFault, WriteFault}
 use Rattle.inst_lines.specs.Answering.{answering, Keeps}
-use Rattle.inst_lines.specs.Session.{Fails, IsNoReadFault}
+use Rattle.inst_lines.specs.Session.{Fails}
+use Rattle.inst_lines.specs.inner.Session.{IsNoReadFault}
 use Rattle.inst_lines.proofs.WriteLemmas.{writes-all}
 use Rattle.inst_lines.proofs.SessionLemmas.{err_passed, answered-read, turn-fill_fails, turn-stops, stops-after, turn-ends, turn-full, turn-goes_on}
 use Rattle.inst_lines.proofs.session.Session.turn.Goals as goal

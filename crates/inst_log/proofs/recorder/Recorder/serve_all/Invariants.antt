@@ -1,7 +1,7 @@
 use Rattle.std.proofs.Common.{◌≡◌, ◌+◌, ◌++◌, List, ℕ, length, drop, IsTrue}
 use Rattle.inst_log.specs.Layout.{recovered, blocks}
 use Rattle.inst_log.specs.Log.{IsSettled}
-use Rattle.inst_log.specs.Serving.{Served}
+use Rattle.inst_log.specs.inner.Serving.{Served}
 use Rattle.inst_log.proofs.recorder.Recorder.serve_all.Given as goal
 
 -- what is answered is on the disk

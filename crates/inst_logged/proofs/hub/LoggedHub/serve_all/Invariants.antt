@@ -1,7 +1,7 @@
 use Rattle.std.proofs.Common.{◌≡◌, IsTrue}
 use Rattle.inst_log.specs.Layout.{NoNewline}
 use Rattle.inst_logged.specs.Intake.{held}
-use Rattle.inst_logged.specs.Logged.{HasCome}
+use Rattle.inst_logged.specs.inner.Logged.{HasCome}
 use Rattle.inst_logged.proofs.hub.LoggedHub.serve_all.Given as goal
 
 abbrev pub invariant-loop : goal.invariant-loop

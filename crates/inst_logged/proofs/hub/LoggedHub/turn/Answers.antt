@@ -1,7 +1,8 @@
 use Rattle.std.proofs.Common.{inl, refl, ap, [], map}
 use Rattle.inst_log.specs.Layout.{recovered}
 use Rattle.inst_log.proofs.Serve.{kept_before}
-use Rattle.inst_logged.specs.Input.{logged, lines_from}
+use Rattle.inst_logged.specs.Input.{logged}
+use Rattle.inst_logged.specs.inner.Input.{lines_from}
 use Rattle.inst_logged.proofs.Turning.{turned_of, came_of}
 use Rattle.inst_logged.proofs.hub.LoggedHub.turn.Goals as goal
 

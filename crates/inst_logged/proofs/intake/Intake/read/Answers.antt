@@ -3,7 +3,8 @@ use Rattle.std.proofs.lemmas.List.{with_items_is, length-take-le, length-drop}
 use borrow.Rule.Slice.PartMut.{put_mid}
 use Rattle.inst_lines.proofs.BufferLemmas.{length-put_mid}
 use Rattle.inst_log.specs.Layout.{recovered}
-use Rattle.inst_logged.specs.Input.{cut, logged, lines_from, rest_from}
+use Rattle.inst_logged.specs.Input.{cut, logged}
+use Rattle.inst_logged.specs.inner.Input.{lines_from, rest_from}
 use Rattle.inst_logged.specs.Intake.{held}
 use Rattle.inst_logged.proofs.Cutting.{quiet_held}
 use Rattle.inst_logged.proofs.Intaking.{read_behind, lines_taken, rest_taken}

@@ -2,7 +2,7 @@ use Rattle.std.proofs.Common.{◌≡◌, ◌<◌, ◌≤◌, ℕ, [], ◌∷◌,
 use Rattle.std.proofs.lemmas.List.{append-nil, length-take-le}
 use Rattle.inst_log.specs.Layout.{recovered}
 use Rattle.inst_log.specs.Escape.{raw_of}
-use Rattle.inst_logged.specs.Input.{last_line}
+use Rattle.inst_logged.specs.inner.Input.{last_line}
 use Rattle.inst_logged.specs.Intake.{held}
 use Rattle.inst_logged.proofs.Intaking.{last_some}
 use Rattle.inst_logged.proofs.intake.Intake.take_last.Goals as goal

@@ -1,6 +1,7 @@
 use Rattle.std.proofs.Common.{◌+◌, ◌-◌, ◌≤◌, ℕ, [], List, length, drop, take, sym, ◌∙◌, ap, arith}
 use Rattle.std.proofs.lemmas.List.{length-drop, length-take-le}
-use Rattle.inst_logged.specs.Input.{cut, rest_from}
+use Rattle.inst_logged.specs.Input.{cut}
+use Rattle.inst_logged.specs.inner.Input.{rest_from}
 use Rattle.inst_logged.proofs.Intaking.{copied, cut_range}
 use Rattle.inst_logged.proofs.intake.Intake.take_lines.Goals as goal
 

@@ -1,5 +1,5 @@
 use Rattle.std.proofs.Common.{◌≡◌, length}
-use Rattle.inst_logged.specs.Answering.{AnswersFront}
+use Rattle.inst_logged.specs.inner.Answering.{AnswersFront}
 use Rattle.inst_logged.proofs.line_answers.LineAnswers.answer_all.Given as goal
 
 abbrev pub invariant-loop-len : goal.invariant-loop-len

@@ -1,5 +1,5 @@
 use Rattle.std.proofs.Common.{◌≡◌, ◌≤◌, ◌-◌, length, drop}
-use Rattle.inst_logged.specs.Answering.{AnswersFront}
+use Rattle.inst_logged.specs.inner.Answering.{AnswersFront}
 use Rattle.inst_logged.proofs.line_answers.LineAnswers.answer_first.Given as goal
 
 abbrev pub invariant-loop : goal.invariant-loop

@@ -1,6 +1,6 @@
 use Rattle.std.proofs.Common.{sym, subst}
 use Rattle.inst_command.specs.declared.reply.Reply.{Reply}
-use Rattle.inst_participant.specs.Telling.{IsToldBy}
+use Rattle.inst_participant.specs.inner.Telling.{IsToldBy}
 use Rattle.inst_participant.proofs.participant.Participant.ticket.Goals as goal
 
 pub returns-in-Taken-clause-told : goal.returns-in-Taken-clause-told

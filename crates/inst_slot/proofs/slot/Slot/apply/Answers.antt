@@ -6,7 +6,7 @@ use Rattle.inst_board.specs.Learning.{KnowTheSame}
 use Rattle.inst_settings.specs.Settings.{is_participant}
 use Rattle.inst_command.specs.Ask.{command_fits}
 use Rattle.inst_journal.specs.Sound.{IsSound}
-use Rattle.inst_slot.specs.Answering.{over}
+use Rattle.inst_slot.specs.inner.Answering.{over}
 use Rattle.inst_board.specs.declared.place.Place.{Place}
 use Rattle.inst_board.specs.declared.wish.Wish.{Wish}
 use Rattle.inst_slot.specs.declared.arrivals.Spot.{Spot}

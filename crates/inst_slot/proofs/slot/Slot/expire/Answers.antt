@@ -1,6 +1,6 @@
 use Rattle.std.proofs.Common.{◌≡◌, refl, ◌∙◌, sym, ap, subst, ℕ, List, Option, Some, Ok, false}
 use Rattle.inst_slot.specs.declared.arrivals.Spot.{Spot}
-use Rattle.inst_slot.specs.Answering.{over}
+use Rattle.inst_slot.specs.inner.Answering.{over}
 use Rattle.inst_slot.specs.Book.{Book}
 use Rattle.inst_slot.specs.Spots.{rows_of, arrivals_of}
 use Rattle.inst_slot.specs.Telling.{unbooked_at, ExpiresFor}

@@ -5,7 +5,7 @@ use Rattle.inst_journal.specs.declared.event.Event.TheVariants.{Forwarded}
 use Rattle.inst_journal.specs.Sound.{Fits}
 use Rattle.inst_transfers.specs.Held.{row_in}
 use Rattle.inst_slot.specs.declared.arrivals.Spot.{Spot}
-use Rattle.inst_slot.specs.Answering.{over}
+use Rattle.inst_slot.specs.inner.Answering.{over}
 use Rattle.inst_slot.specs.Book.{Book}
 use Rattle.inst_slot.specs.Indexed.{own_ids}
 use Rattle.inst_slot.specs.Spots.{rows_of, AreSpots}

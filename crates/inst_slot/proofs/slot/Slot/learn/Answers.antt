@@ -1,8 +1,8 @@
 use Rattle.std.proofs.Common.{refl, subst, List}
 use Rattle.inst_slot.specs.declared.arrivals.Spot.{Spot}
-use Rattle.inst_slot.specs.Answering.{over}
+use Rattle.inst_slot.specs.inner.Answering.{over}
 use Rattle.inst_slot.specs.Book.{Book}
-use Rattle.inst_slot.specs.Lessons.{LearnsOutcome}
+use Rattle.inst_slot.specs.inner.Lessons.{LearnsOutcome}
 use Rattle.inst_slot.specs.Telling.{lesson}
 use Rattle.inst_slot.proofs.Glancing.{learns_keep, keeps_adopted, keeps_same}
 use Rattle.inst_slot.proofs.Others.{others_look}

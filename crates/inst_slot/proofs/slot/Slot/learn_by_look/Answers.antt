@@ -4,7 +4,7 @@ use Rattle.inst_journal.specs.declared.event.Event.{Event}
 use Rattle.inst_journal.specs.declared.event.Event.TheVariants.{Booked}
 use Rattle.inst_ledger.specs.Book.{Book as Kept}
 use Rattle.inst_slot.specs.declared.arrivals.Spot.{Spot}
-use Rattle.inst_slot.specs.Answering.{over, IsOwnAt}
+use Rattle.inst_slot.specs.inner.Answering.{over, IsOwnAt}
 use Rattle.inst_slot.specs.Book.{Book, place_at}
 use Rattle.inst_slot.specs.LawfulBoard.{IsLawfulBoard, AllAreAdopted}
 use Rattle.inst_slot.specs.Telling.{lesson, with_event}

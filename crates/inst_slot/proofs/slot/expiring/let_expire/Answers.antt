@@ -4,7 +4,7 @@ use Rattle.inst_board.specs.Learning.{MayDecide}
 use Rattle.inst_journal.specs.declared.event.Event.TheVariants.{Booked}
 use Rattle.inst_journal.specs.Sound.{Fits}
 use Rattle.inst_ledger.specs.Book.{Book as Kept, with_event as keeping}
-use Rattle.inst_slot.specs.Answering.{over, IsOwnAt}
+use Rattle.inst_slot.specs.inner.Answering.{over, IsOwnAt}
 use Rattle.inst_slot.specs.Book.{Book, place_at}
 use Rattle.inst_slot.specs.Spots.{rows_of, arrivals_of}
 use Rattle.inst_slot.specs.Telling.{with_event}

@@ -5,7 +5,7 @@ use Rattle.inst_journal.specs.declared.event.Event.TheVariants.{Booked}
 use Rattle.inst_journal.specs.Booked.{booked}
 use Rattle.inst_journal.specs.Sound.{Fits}
 use Rattle.inst_ledger.specs.Book.{Book as Kept}
-use Rattle.inst_slot.specs.Answering.{over, IsOwnAt}
+use Rattle.inst_slot.specs.inner.Answering.{over, IsOwnAt}
 use Rattle.inst_slot.specs.Book.{Book, place_at, terms_to}
 use Rattle.inst_slot.specs.Spots.{rows_of, arrivals_of}
 use Rattle.inst_slot.specs.Telling.{with_event}

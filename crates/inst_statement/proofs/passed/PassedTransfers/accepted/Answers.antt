@@ -1,6 +1,6 @@
 use Rattle.std.proofs.Common.{◌≡◌, ◌∙◌, sym, ap, Option, List, ℕ, Some, None}
 use Rattle.inst_journal.specs.Booked.{first_some}
-use Rattle.inst_statement.specs.Movement.{came, sent, accepted}
+use Rattle.inst_statement.specs.inner.Movement.{came, sent, accepted}
 use Rattle.inst_statement.proofs.passed.PassedTransfers.accepted.Goals as goal
 
 -- the movement by what was found

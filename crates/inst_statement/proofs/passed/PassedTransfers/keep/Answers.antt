@@ -1,8 +1,8 @@
 use Rattle.std.proofs.Common.{◌≡◌, ◌∷◌, [], ◌++◌, List, ℕ, None, refl, sym, subst}
 use Rattle.inst_journal.specs.declared.event.Event.TheVariants.{Funded, Defunded, Taken, Forwarded, Booked, Fetched, Opened}
 use Rattle.inst_journal.specs.declared.event.Event.{Event}
-use Rattle.inst_statement.specs.Movement.{sent, came}
-use Rattle.inst_statement.specs.Kept.{AreKept, IsNew}
+use Rattle.inst_statement.specs.inner.Movement.{sent, came}
+use Rattle.inst_statement.specs.inner.Kept.{AreKept, IsNew}
 use Rattle.inst_statement.proofs.Tables.{kept_taken, kept_forwarded, kept_other}
 use Rattle.inst_statement.proofs.passed.PassedTransfers.keep.Goals as goal
 

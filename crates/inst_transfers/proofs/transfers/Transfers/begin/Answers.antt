@@ -2,7 +2,8 @@ use Rattle.std.proofs.Common.{List, sym, ap, ◌∙◌, subst, rules, ℕ}
 use Rattle.std.specs.Map.{keys_of}
 use Rattle.std.proofs.lemmas.Fn.{filter_same}
 use Rattle.inst_transfers.specs.State.{opened_in}
-use Rattle.inst_transfers.specs.Held.{Held, ArePositions, waits_at, ids_at, found_at, rows_in, state_in}
+use Rattle.inst_transfers.specs.Held.{Held, ArePositions, ids_at, found_at, rows_in, state_in}
+use Rattle.inst_transfers.specs.inner.Held.{waits_at}
 use Rattle.inst_transfers.proofs.Rows.{live_on, positions_filtered}
 use Rattle.inst_transfers.proofs.transfers.Transfers.begin.Goals as goal
 

@@ -7,7 +7,7 @@ use Rattle.inst_journal.specs.Opened.{openings}
 use Rattle.inst_journal.specs.Sound.{IsSound}
 use Rattle.inst_ledger.specs.Book.{BookAndRoom}
 use Rattle.inst_world.specs.NextOpening.{books_of}
-use Rattle.inst_audit.specs.Agreeing.{histories_of}
+use Rattle.inst_audit.specs.inner.Agreeing.{histories_of}
 
 -- a history that a participant can open from, whatever the others have
 pub record CanBeBook (s : HubSettings) (who : ℕ) (J : List Event) : Type 0 where

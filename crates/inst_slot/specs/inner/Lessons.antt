@@ -14,7 +14,7 @@ use Rattle.inst_journal.specs.declared.event.Event.TheVariants.{Booked}
 use Rattle.inst_ledger.specs.Book.{Book as Kept, BookAndRoom}
 use Rattle.inst_transfers.specs.Held.{IsFound}
 use Rattle.inst_slot.specs.declared.lesson.Lesson.{Lesson}
-use Rattle.inst_slot.specs.Answering.{IsOwnAt}
+use Rattle.inst_slot.specs.inner.Answering.{IsOwnAt}
 use Rattle.inst_slot.specs.Book.{Book}
 use Rattle.inst_slot.specs.Telling.{lesson, with_event, Keeps}
 

@@ -5,7 +5,7 @@ use Rattle.inst_ledger.specs.Book.{BookAndRoom}
 use Rattle.inst_transfers.specs.declared.transfer.Found.{Found}
 use Rattle.inst_transfers.specs.Held.{IsFound}
 use Rattle.inst_slot.specs.declared.arrival.Arrival.{Arrival}
-use Rattle.inst_slot.specs.Answering.{beside}
+use Rattle.inst_slot.specs.inner.Answering.{beside}
 use Rattle.inst_slot.specs.Telling.{unbooked_at}
 
 -- the participant's own live transfer at the index, with nothing booked

@@ -14,7 +14,7 @@ use Rattle.inst_crew.specs.declared.shift.Shift.{Shift}
 use Rattle.inst_crew.specs.declared.worker.Worker.{Worker}
 use Rattle.inst_crew.specs.Crew.{fitting}
 use Rattle.inst_crew.specs.Later.{IsLaterHand, IsLaterTeller}
-use Rattle.inst_crew.specs.Seen.{AreSeen}
+use Rattle.inst_crew.specs.inner.Seen.{AreSeen}
 
 abbrev pub hands_of : List Worker → List Hand
 hands_of workers = map (λ w. w.hand) workers

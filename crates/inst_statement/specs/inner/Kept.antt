@@ -4,7 +4,7 @@ use Rattle.indexmap.specs.IndexMap.{IndexMap, get}
 use Rattle.inst_journal.specs.declared.event.Event.{Event}
 use Rattle.inst_journal.specs.declared.event.Event.TheVariants.{Funded, Defunded, Taken, Forwarded, Booked, Fetched, Opened}
 use Rattle.inst_journal.specs.Booked.{first_some, is_taken, is_forwarded}
-use Rattle.inst_statement.specs.Movement.{came, sent}
+use Rattle.inst_statement.specs.inner.Movement.{came, sent}
 use Rattle.inst_settings.specs.Settings.{same_text}
 
 -- whether two keys are of the same transfer

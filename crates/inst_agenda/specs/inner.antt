@@ -1,0 +1,3 @@
+pub mod Agenda
+pub mod Naming
+pub mod Watching

@@ -1,0 +1,4 @@
+pub mod Plan
+pub mod Staff
+pub mod Report
+pub mod Chain

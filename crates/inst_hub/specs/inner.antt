@@ -1,0 +1,4 @@
+pub mod Opening
+pub mod Calls
+pub mod NextOpening
+pub mod Closing

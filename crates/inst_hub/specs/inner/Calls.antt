@@ -1,0 +1,22 @@
+-- The two halves of a call: the ask, and what follows from it.
+use Rattle.std.specs.Prelude.{◌≡◌, List, [], ◌++◌, Option}
+use Rattle.inst_command.specs.declared.ask.Ask.{Ask}
+use Rattle.inst_command.specs.declared.reply.Reply.{Reply}
+use Rattle.inst_board.specs.declared.place.Place.{Place}
+use Rattle.inst_journal.specs.declared.event.Event.{Event}
+use Rattle.inst_row.specs.declared.view.Front.{Front}
+use Rattle.inst_hub.specs.declared.hub.Hub.{Hub}
+use Rattle.inst_hub.specs.declared.teller.Teller.{Teller}
+use Rattle.inst_hub.specs.Calls.{sights_of, IsFollowed, IsCall}
+use Rattle.inst_participant.specs.declared.follow_up.FollowUp.{FollowUp}
+use Rattle.inst_participant.specs.Following.{follow_up_of}
+
+-- what followed was seen, nothing else was, and nothing is forgotten
+pub record Follows (h : Hub) (f : Option FollowUp) (t u : Teller) : Type 0 where
+  pub sights : List (Front Event)
+  pub followed : IsFollowed h f t sights
+  pub seen : sights_of u ≡ sights_of t ++ sights
+
+-- a call, and what is to follow from it
+abbrev pub Asks : Hub → Teller → Ask → (Reply × Option Place) × Option FollowUp → Teller → Type 0
+Asks h t ask r u = (call : IsCall h t ask r.0 [] u) × (r.1 ≡ follow_up_of call.left.slot.events ask.command r.0.0 r.0.1)

@@ -1,0 +1,35 @@
+-- How a hub is taken apart: its tellers are seated on its row, and what was taken out of the locks is what lay behind
+-- them.
+use Rattle.std.specs.Prelude.{◌≡◌, ℕ, List, length, slice_get, Some}
+use Rattle.atomic_table.specs.Seated.{TableId}
+use Rattle.inst_hub.specs.declared.outset.Outset.{Outset}
+use Rattle.inst_cell.specs.declared.shared_board.SharedBoard.{SharedBoard}
+use Rattle.inst_journal.specs.Sound.{IsSound}
+use Rattle.inst_journal.specs.declared.event.Event.{Event}
+use Rattle.std.specs.Global.{Box}
+use Rattle.inst_row.specs.declared.seat.RowSeat.{RowSeat}
+use Rattle.inst_row.specs.Seated.{IsOn, IsFree, GoesOn}
+use Rattle.inst_slot.specs.Book.{Book}
+use Rattle.inst_participant.specs.declared.participant.Participant.{Participant}
+use Rattle.inst_hub.specs.declared.teller.Teller.{Teller}
+use Rattle.inst_hub.specs.Founding.{IsSince}
+use Rattle.inst_hub.specs.inner.NextOpening.{seated}
+
+-- each sits on this row, and has no lock
+pub record IsSeated (id : TableId) (key : Outset) (t : Teller) : Type 0 where
+  pub on : IsOn id key t.seat
+  pub free : IsFree t.seat
+
+abbrev pub AreSeated : TableId → Outset → List Teller → Type 0
+AreSeated id key tellers = (i : ℕ) (t : Teller) → slice_get tellers i ≡ Some t → IsSeated id key t
+
+-- what lay behind a lock, as the seat had seen it
+pub record IsTakenOut (key : Outset) (seat : RowSeat (Box Participant) Event Outset) (p : ℕ) (x : Book) (b : SharedBoard) : Type 0 where
+  pub since : IsSince key p (seated x b)
+  pub sound : IsSound x.settings x.who x.events
+  pub goes_on : GoesOn p x.events seat
+
+-- so many slots and boards, by number
+pub record AreTakenOut (key : Outset) (n : ℕ) (seat : RowSeat (Box Participant) Event Outset) (slots : List Book) (boards : List SharedBoard) : Type 0 where
+  pub enough : (length slots ≡ n) × (length boards ≡ n)
+  pub each : (p : ℕ) (x : Book) (b : SharedBoard) → slice_get slots p ≡ Some x → slice_get boards p ≡ Some b → IsTakenOut key seat p x b

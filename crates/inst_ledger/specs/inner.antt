@@ -1,0 +1,4 @@
+pub mod References
+pub mod Transfers
+pub mod Kept
+pub mod Beside

@@ -1,0 +1,42 @@
+-- How a ledger's fundings are found, and what a booked transfer adds to its statement.
+use Rattle.std.specs.Prelude.{◌≡◌, ℕ, List, Option, Some, None, Bool, true, false, not, ◌&&◌, ◌==◌}
+use Rattle.inst_command.specs.declared.outcome.Outcome.{Outcome}
+use Rattle.inst_ledger.specs.declared.references.KeptFunding.{KeptFunding}
+use Rattle.inst_transfers.specs.declared.transfer.Side.{Side}
+use Rattle.inst_transfers.specs.declared.transfer.Side.TheVariants.{Own, Other}
+use Rattle.inst_transfers.specs.declared.transfer.Transfer.{Transfer}
+use Rattle.inst_command.specs.declared.line.LineKind.TheVariants.{Received, Paid}
+use Rattle.inst_command.specs.declared.outcome.Outcome.TheVariants.{Accepted, Rejected, TimedOut}
+use Rattle.inst_statement.specs.declared.movement.Movement.{Movement}
+use Rattle.inst_statement.specs.KeptStatement.{Stated, MayAdd, Adds}
+
+-- whether both are defundings, or neither
+abbrev pub same_kind : Bool → Bool → Bool
+same_kind true other = other
+same_kind false other = not other
+
+-- whether this funding is found
+abbrev pub is_funding_of : Bool → ℕ → Option KeptFunding → Bool
+is_funding_of is_defunding cents (Some funding) =
+    same_kind funding.is_defunding is_defunding && (funding.cents == cents)
+is_funding_of is_defunding cents None = false
+
+-- what an accepted transfer moves: the amount is paid to its beneficiary, or received from its originator
+abbrev pub movement_by : ℕ → List ℕ → ℕ → Side → Movement
+movement_by from id cents (Own to stamp) = record { kind = Paid; other = Some to; id = id; cents = cents }
+movement_by from id cents (Other deadline) = record { kind = Received; other = Some from; id = id; cents = cents }
+
+-- what a booked transfer moves, where it is accepted
+abbrev pub movement_booked : ℕ → List ℕ → Transfer → Outcome → Option Movement
+movement_booked from id transfer Accepted = Some (movement_by from id transfer.cents transfer.side)
+movement_booked from id transfer (Rejected reason) = None
+movement_booked from id transfer TimedOut = None
+
+-- the line of what was moved, if anything was, may be added, and is
+abbrev pub MayAddIf : Stated → Option Movement → Type 0
+MayAddIf stated None = Unit {0}
+MayAddIf stated (Some movement) = MayAdd stated movement
+
+abbrev pub AddsIf : Stated → Option Movement → Stated → Type 0
+AddsIf before None after = (after.lines ≡ before.lines) × (after.position ≡ before.position)
+AddsIf before (Some movement) after = Adds before movement after

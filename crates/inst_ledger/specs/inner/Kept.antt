@@ -1,0 +1,27 @@
+-- What is read off a ledger's tables.
+use Rattle.std.specs.Prelude.{ℕ, Bool, false, ◌&&◌, ◌==◌, List, Option, Some, None}
+use Rattle.inst_command.specs.declared.outcome.Outcome.{Outcome}
+use Rattle.inst_command.specs.declared.submission.Submission.{Submission}
+use Rattle.inst_journal.specs.declared.event.Event.{Event}
+use Rattle.inst_journal.specs.Booked.{books}
+use Rattle.inst_ledger.specs.declared.sending.Forwarding.{Forwarding}
+use Rattle.inst_ledger.specs.declared.sending.Sending.{Sending}
+
+-- whether just this is found to be sent
+abbrev pub is_sending : Submission → Option Sending → Bool
+is_sending x (Some sending) = (sending.to == x.to) && (sending.cents == x.cents) && (sending.stamp == x.stamp)
+is_sending x None = false
+
+-- the amount of what was sent, where there is any
+abbrev pub cents_of : Option Sending → ℕ
+cents_of (Some sending) = sending.cents
+cents_of None = 0
+
+-- the amount of what is forwarded, where there is any
+abbrev pub credit_of : Option Forwarding → ℕ
+credit_of (Some forwarding) = forwarding.cents
+credit_of None = 0
+
+-- the outcome that the event books for the transfer of this key
+abbrev pub outcome_of : ℕ × List ℕ → Event → Option Outcome
+outcome_of key event = books key.0 key.1 event

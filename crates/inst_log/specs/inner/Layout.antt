@@ -1,0 +1,10 @@
+-- The file of a log whose end isn't closed.
+use Rattle.std.specs.Prelude.{◌≡◌, ℕ, List, ◌++◌, length}
+use Rattle.inst_log.specs.Layout.{recovered, blocks, NoNewline}
+
+-- behind its lines the file has no further newline
+pub record IsUnclosed (file : List ℕ) (end : ℕ) : Type 0 where
+  pub rest : List ℕ
+  pub split : file ≡ blocks (recovered file) ++ rest
+  pub quiet : NoNewline rest
+  pub ends : end ≡ length (blocks (recovered file))

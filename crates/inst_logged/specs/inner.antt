@@ -1,0 +1,4 @@
+pub mod Answering
+pub mod Input
+pub mod Intake
+pub mod Logged

@@ -1,0 +1,21 @@
+-- The errors of words that ask for nothing.
+use Rattle.std.specs.Prelude.{◌≢◌, ◌≡◌, List, Some}
+use Rattle.clap.specs.Words.{Row, first_of, kind_of}
+use Rattle.clap.specs.declared.error.kind.ErrorKind.{ErrorKind}
+use Rattle.clap.specs.declared.error.kind.ErrorKind.TheVariants.{OutOfMemory}
+use Rattle.inst_base.specs.declared.fault.Fault.{Fault}
+use Rattle.inst_base.specs.declared.fault.Fault.TheVariants.{BadSettings, Memory}
+use Rattle.inst_options.specs.declared.error.WordsError.{WordsError}
+use Rattle.inst_options.specs.declared.error.WordsError.TheVariants as error
+
+-- an error of the words of this kind, and want of memory as a fault
+abbrev pub IsOfKind : ErrorKind → WordsError → Type 0
+IsOfKind kind (error.Words e) = (kind_of e ≡ kind) × (kind ≢ OutOfMemory)
+IsOfKind kind (error.Option bad) = ⊥
+IsOfKind kind (error.Fault fault) = (fault ≡ Memory) × (kind ≡ OutOfMemory)
+
+-- an error of options that were refused by this fault: an option that is named has that value
+abbrev pub IsRefusedBy : List Row → Fault → WordsError → Type 0
+IsRefusedBy rows fault (error.Words e) = ⊥
+IsRefusedBy rows fault (error.Option bad) = (fault ≡ BadSettings) × (first_of bad.name.now rows ≡ Some bad.value.now)
+IsRefusedBy rows fault (error.Fault other) = other ≡ fault

@@ -1,0 +1,47 @@
+-- What the options of a subcommand give, and when they choose nothing.
+use Rattle.std.specs.Prelude.{◌≡◌, ◌≤◌, ℕ, true, List, Option, Some, None, codes}
+use Rattle.clap.specs.Words.{Row, first_of}
+use Rattle.inst_settings.specs.Settings.{HubSettings, same_text}
+use Rattle.inst_settings.specs.Lawful.{AreOfAHub, IsSettings}
+use Rattle.inst_options.specs.declared.wish.LogOptions.{LogOptions}
+use Rattle.inst_options.specs.declared.wish.Wish.{Wish}
+use Rattle.inst_options.specs.declared.wish.Wish.TheVariants as wish
+use Rattle.inst_options.specs.Options.{Task, Gives, IsGiven, IsText, IsFlag, IsTask, Chooses, HasSmallNumbers}
+use Rattle.inst_options.specs.Options.Task.{Run, Play, Drill, Check}
+
+-- the option of this name has no text that is a number below this one
+abbrev pub GivesNoneBelow : ℕ → List Row → List ℕ → Type 0
+GivesNoneBelow bound rows name = (n : ℕ) → Gives rows name n → bound ≤ n
+
+-- the options name this log and say so much of what was told, or name none
+abbrev pub GivesLog : List Row → Option LogOptions → Type 0
+GivesLog rows None = first_of (codes "log") rows ≡ None
+GivesLog rows (Some log) =
+    (first_of (codes "log") rows ≡ Some log.path.now) × ((n : ℕ) → log.told ≡ Some n → Gives rows (codes "told") n)
+
+-- the options say what was told, and name no log
+abbrev pub TellsOfNoLog : List Row → Type 0
+TellsOfNoLog rows = (first_of (codes "log") rows ≡ None) × IsGiven (codes "told") rows
+
+-- the options choose no settings that a hub can have
+abbrev pub ChooseNone : List Row → Type 0
+ChooseNone rows = (s : HubSettings) → Chooses rows s → ¬ (AreOfAHub s)
+
+-- the options of the subcommand of this name choose no settings that a hub can have, or no task that fits
+abbrev pub AskForNone : List ℕ → List Row → Type 0
+AskForNone name rows =
+    (task : Task) (s : HubSettings) → IsTask name rows task → Chooses rows s → ¬ (AreOfAHub s × HasSmallNumbers task)
+
+-- what the subcommand of this name asks for, with these options
+abbrev pub IsWish : List ℕ → List Row → Wish → Type 0
+IsWish name rows (wish.Run s log sums) =
+    IsSettings s × IsTask name rows Run × Chooses rows s × GivesLog rows log × IsFlag (codes "summary") rows sums
+IsWish name rows (wish.Play s log sums) =
+    IsSettings s × IsTask name rows Play × Chooses rows s × GivesLog rows log × IsFlag (codes "summary") rows sums
+IsWish name rows (wish.Drill s transfers openings) =
+    IsSettings s × IsTask name rows (Drill transfers openings) × Chooses rows s
+IsWish name rows (wish.Check s) = IsSettings s × IsTask name rows Check × Chooses rows s
+IsWish name rows (wish.Log path) = (same_text name (codes "log") ≡ true) × IsText (codes "file") rows path.now
+IsWish name rows (wish.Next from to) =
+    (same_text name (codes "next") ≡ true) × IsText (codes "log") rows from.now × IsText (codes "to") rows to.now
+IsWish name rows (wish.Explain word) = (same_text name (codes "explain") ≡ true) × IsText (codes "fault") rows word.now

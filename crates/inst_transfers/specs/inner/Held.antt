@@ -1,0 +1,13 @@
+-- Which transfers of a table have nothing booked.
+use Rattle.std.specs.Prelude.{ℕ, Bool, false, is_none, List, slice_get, Option, Some, None}
+use Rattle.inst_transfers.specs.declared.transfer.Transfer.{Transfer}
+use Rattle.inst_transfers.specs.State.{Key}
+
+-- whether nothing is booked of the transfer in a row
+abbrev pub waits_row : Option (Key × Transfer) → Bool
+waits_row None = false
+waits_row (Some e) = is_none e.1.outcome
+
+-- whether nothing is booked of the transfer at the position
+abbrev pub waits_at : List (Key × Transfer) → ℕ → Bool
+waits_at entries p = waits_row (slice_get entries p)
