@@ -42,17 +42,6 @@ named_some hub named a b place participant notes lies =
           ap (λ (q : Place). is_next b q.owner q.index) (sym same) ∙ noted_here a b place notes;
     }
 
--- no live transfer has this name
-pub named_nowhere : (hub : Hub) (named : Option (ℕ × List ℕ)) (a : Agenda)
-    → ((O : Opening) (L : List Step) → HasRun O L hub → (p k : ℕ) (x : Transfer) → at_place p (history (settings_of hub) O L p) k ≡ Some x → named ≡ Some (p, x.id) → ◌≡◌ {A = Option Place} None (Some (place_at p k)))
-    → NotesNamed hub named a a
-named_nowhere hub named a nowhere = record {
-  waiting_is = refl;
-  next_still = λ p k it. it;
-  next_from = λ p k it. inl it;
-  noted = λ O L was p k x there is. let clash = nowhere O L was p k x there is in let no : ⊥ = cc in absurd no;
-}
-
 pub watches_ask : (hub middle : Hub) (a b : Agenda) (ask : AskValue) (told : Answer) → Runs hub (Ask ask) told middle → settings_of middle ≡ settings_of hub
     → NotesNamed middle (named_by ask.who ask.command) a b → (O : Opening) (L : List Step) → Watches O L hub a
     → (told ≡ answer (settings_of hub) O L (Ask ask)) × Watches O (Ask ask ∷ L) middle b

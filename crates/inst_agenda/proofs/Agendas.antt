@@ -1,5 +1,5 @@
 -- The sets of an agenda do what its definitions say.
-use Rattle.std.proofs.Common.{◌≡◌, ℕ, suc, Bool, true, false, ◌||◌, cond, List, [], ◌∷◌, refl, sym, ap, ◌∙◌, arith, nat_cmp, is_gt, Ordering, inl, inr, ◌⊎◌}
+use Rattle.std.proofs.Common.{◌≡◌, ℕ, suc, Bool, true, false, ◌||◌, cond, List, [], ◌∷◌, refl, sym, ap, ◌∙◌, arith, nat_cmp, is_gt, Ordering, inl, inr}
 use Rattle.std.specs.List.{list_any, All}
 use Rattle.std.specs.Ordering.{ordering_then}
 use Rattle.std.specs.BTreeMap.{is_at}
@@ -9,8 +9,8 @@ use Rattle.std.proofs.lemmas.Bool.{false≢true, cases_Bool}
 use Rattle.std.proofs.lemmas.Bool.Decides.{nat_tests}
 use Rattle.inst_base.specs.TimeLimit.{is_due}
 use Rattle.inst_board.specs.declared.place.Place.{Place}
-use Rattle.inst_agenda.specs.Agenda.{Agenda, is_place, is_entry, waits, is_next}
-use Rattle.inst_agenda.specs.inner.Agenda.{comes_before, Notes, Waits, NothingIsDue, TakesDue, Moves, TakesNext}
+use Rattle.inst_agenda.specs.Agenda.{is_place, is_entry}
+use Rattle.inst_agenda.specs.inner.Agenda.{comes_before, Notes, Waits, NothingIsDue, TakesNext}
 
 -- how the sets compare two places, and two entries
 abbrev pub place_cmp : ℕ × ℕ → ℕ × ℕ → Ordering
@@ -68,10 +68,6 @@ none_is_due next s first at least early m p k waiting = later (least (m, (p, k))
     later : is_gt (entry_cmp first (m, (p, k))) ≡ false → is_due first.0 at ≡ false → is_due m at ≡ false
     later not_before early = grind (arith, nat_tests, not_before, early)
 
--- nothing waits
-pub nothing_due : (next : List (ℕ × ℕ)) (at : ℕ) → NothingIsDue (record { waiting = []; next = next }) at
-nothing_due next at m p k waiting = absurd (false≢true waiting)
-
 -- those that are above the first come after it
 pub above : (first : ℕ × ℕ) (places : List (ℕ × ℕ)) → All (IsLtBy place_cmp first) places → (p k : ℕ) → list_any (is_place p k) places ≡ true → comes_before first (p, k) ≡ true
 above first [] all p k there = absurd (false≢true there)
@@ -91,57 +87,3 @@ takes_next waiting old new place first all = record {
   first = first;
   after = above (place.owner, place.index) new.keys all;
 }
-
--- an entry that is the first, or one of the others
-of_first : (m p k moment : ℕ) (place : Place) → is_entry m p k (moment, (place.owner, place.index)) ≡ true → is_place p k (place.owner, place.index) ≡ true
-of_first m p k moment place is = grind (arith, nat_tests, is)
-
-place_turned : (p k : ℕ) (place : Place) → is_place p k (place.owner, place.index) ≡ true → is_place place.owner place.index (p, k) ≡ true
-place_turned p k place is = grind (arith, nat_tests, is)
-
-pub moves_none : (agenda : Agenda) → Moves agenda agenda
-moves_none agenda = record {
-  waits_on = λ m p k it. it;
-  waits_still = λ m p k it. inl it;
-  next_still = λ p k it. it;
-  next_from = λ p k it. inl it;
-}
-
--- one more was moved
-pub moves_one : (a b c d : Agenda) (at moment : ℕ) (place : Place) → Moves a b → TakesDue b c at moment place → Notes c d place → Moves a d
-moves_one a b c d at moment place moved takes notes = record {
-  waits_on = λ m p k it. moved.waits_on m p k (in_b m p k (sym (ap (λ (w : List (ℕ × (ℕ × ℕ))). list_any (is_entry m p k) w) notes.waiting_is) ∙ it));
-  waits_still = λ m p k it. elim (moved.waits_still m p k it) [
-    | inr next ↦ inr (still p k next)
-    | inl waiting ↦ elim (cases_Bool (is_entry m p k (moment, (place.owner, place.index)))) [
-      | inl same ↦ inr (notes.next_are p k ∙ or_true (is_next c p k) (place_turned p k place (of_first m p k moment place same)))
-      | inr other ↦ inl (ap (λ (w : List (ℕ × (ℕ × ℕ))). list_any (is_entry m p k) w) notes.waiting_is
-          ∙ sym (ap (λ (t : Bool). t || waits c m p k) other) ∙ sym (ap (λ (w : List (ℕ × (ℕ × ℕ))). list_any (is_entry m p k) w) takes.first) ∙ waiting)
-    ]
-  ];
-  next_still = λ p k it. still p k (moved.next_still p k it);
-  next_from = λ p k it. elim (or_cases (is_next c p k) (is_place place.owner place.index (p, k)) (sym (notes.next_are p k) ∙ it)) [
-    | inl before ↦ moved.next_from p k (sym (ap (λ (n : List (ℕ × ℕ)). list_any (is_place p k) n) takes.next_is) ∙ before)
-    | inr now ↦ inr (moment, moved.waits_on moment p k (ap (λ (w : List (ℕ × (ℕ × ℕ))). list_any (is_entry moment p k) w) takes.first ∙ or_here (waits c moment p k) (entry_here p k now)))
-  ];
-}
-  where
-    or_true : (x : Bool) {y : Bool} → y ≡ true → (x || y) ≡ true
-    or_true true is = refl
-    or_true false is = is
-
-    or_here : {x : Bool} (y : Bool) → x ≡ true → (x || y) ≡ true
-    or_here y is = ap (λ (t : Bool). t || y) is
-
-    or_cases : (x y : Bool) → (x || y) ≡ true → (x ≡ true) ⊎ (y ≡ true)
-    or_cases true y is = inl refl
-    or_cases false y is = inr is
-
-    in_b : (m p k : ℕ) → waits c m p k ≡ true → waits b m p k ≡ true
-    in_b m p k it = ap (λ (w : List (ℕ × (ℕ × ℕ))). list_any (is_entry m p k) w) takes.first ∙ or_true (is_entry m p k (moment, (place.owner, place.index))) it
-
-    still : (p k : ℕ) → is_next b p k ≡ true → is_next d p k ≡ true
-    still p k it = notes.next_are p k ∙ or_here (is_place place.owner place.index (p, k)) (ap (λ (n : List (ℕ × ℕ)). list_any (is_place p k) n) takes.next_is ∙ it)
-
-    entry_here : (p k : ℕ) → is_place place.owner place.index (p, k) ≡ true → is_entry moment p k (moment, (place.owner, place.index)) ≡ true
-    entry_here p k is = grind (arith, nat_tests, is)

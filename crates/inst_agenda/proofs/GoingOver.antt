@@ -88,18 +88,3 @@ goes_decided O L at place hub middle new a to settings same found ran until =
     let no : ⊥ = cc in
     absurd no)
     (λ m p k it. it) (λ m p k it. inl it)
-
--- there is none
-pub goes_nowhere : (O : Opening) (L : List Step) (at : ℕ) (place : Place) (hub new : Hub) (a : Agenda) → new ≡ hub
-    → None ≡ option_map (λ (x : Transfer). x.to) (at_place place.owner (history (settings_of hub) O L place.owner) place.index) → HasRun O L hub → GoesOver O L at place hub new a a
-goes_nowhere O L at place hub new a same found ran =
-    let s : HubSettings = settings_of hub in
-    let never : (x : Transfer) → at_place place.owner (history s O L place.owner) place.index ≡ Some x → ⊥ =
-    λ x there. let clash : None ≡ Some x.to = found ∙ ap (λ (Y : Option Transfer). option_map (λ (y : Transfer). y.to) Y) there in cc in
-    record {
-      none = λ none. subst (λ (h : Hub). HasRun O L h) (sym same) ran;
-      some = λ x there. absurd (never x there);
-      waits_for = λ x there none. absurd (never x there);
-      waits_still = λ m p k it. it;
-      waits_from = λ m p k it. inl it;
-    }

@@ -2,7 +2,6 @@
 use Rattle.std.proofs.Common.{◌≡◌, ◌≢◌, ℕ, ◌+◌, ◌-◌, ◌<◌, ◌≤◌, Bool, true, false, ◌&&◌, ◌==◌, cond, List, [], ◌∷◌, ◌++◌, length, Option, Some, None, is_none, get_or, set, sum_by, count_by, refl, sym, ap, ◌∙◌, arith, ◌⊎◌, inl, inr, subst, get_or-set_same, get_or-set_other}
 use Rattle.std.specs.Cmp.Lexicographic.{same_text as text_same, nat_list_eq_equiv}
 use Rattle.std.proofs.lemmas.Bool.{eq-eqb, ne_eqb, cases_eq}
-use Rattle.std.proofs.lemmas.List.Sums.{count_by-le-length}
 use Rattle.inst_settings.specs.Settings.{HubSettings, same_text}
 use Rattle.inst_command.specs.declared.outcome.Outcome.{Outcome}
 use Rattle.inst_journal.specs.declared.event.Event.{Event}
@@ -93,23 +92,6 @@ module _ (s : HubSettings) (who from : ℕ) (J : List Event) (id : List ℕ) (ou
       let both : sum_by (λ e. one_if (forwards_live from (J ++ new ∷ []) e) + one_if (forwards from id e)) J ≡ count_by (forwards_live from (J ++ new ∷ [])) J + count_by (forwards from id) J =
       sum_by-both (λ e. one_if (forwards_live from (J ++ new ∷ []) e)) (λ e. one_if (forwards from id e)) J in
       omega (arith, pushed, same, both, forwarded_once s who from id J sound, one_counted (forwards from id) J came)
-
-pub waiting_within : (from : ℕ) (J : List Event) → waiting_from from J ≤ length J
-waiting_within from J = count_by-le-length (forwards_live from J) J
-
-pub live_within : (from : ℕ) (J : List Event) → live_forwarded from J ≤ length J
-live_within from J = count_by-le-length (forwards_live from (carried J)) J
-
-pub openings_within : (J : List Event) → openings J ≤ length J
-openings_within J = count_by-le-length is_opening J
-
--- the counts of an empty history
-pub nothing_came : (who : ℕ) (t : Tally) → ((from : ℕ) → from < 256 → get_or t.live from 0 ≡ 0) → ((from : ℕ) → from < 256 → get_or t.waiting from 0 ≡ 0) → t.openings ≡ 0 → IsTally who [] t
-nothing_came who t live waiting opened = record {
-  live = λ from below another. live from below;
-  waiting = λ from below another. waiting from below;
-  opened = opened;
-}
 
 -- an event that neither brings nor books anything of another's, and opens nothing
 pub as_before : (who : ℕ) (J : List Event) (event : Event) (t : Tally) → is_opening event ≡ false → ((from : ℕ) → from ≢ who → (id : List ℕ) → books from id event ≡ None)

@@ -1,6 +1,5 @@
 //! Whether a hub may open from journals.
-ghost use Rattle.std.specs.Prelude.{◌≡◌, ◌↔◌, ℕ, ◌<◌, ◌≤◌, length, Some, IfOk, IfSome, IsSome, IsTrue, MatchOption};
-ghost use Rattle.inst_settings.specs.Settings.{participants};
+ghost use Rattle.std.specs.Prelude.{◌≡◌, ◌↔◌, ℕ, ◌≤◌, length, IfOk, IfSome, IsSome, IsTrue};
 ghost use Rattle.inst_world.specs.NextOpening.{books_of, CanOpenFrom};
 ghost use Rattle.inst_audit.specs.inner.Replaying.{CanBeBook, AreAllKept};
 

@@ -3,12 +3,12 @@ ghost use Rattle.std.specs.Prelude.{◌≡◌, ◌≢◌, ◌↔◌, ◌<◌, �
 ghost use Rattle.inst_settings.specs.Settings.{is_participant, is_within_ceiling};
 ghost use Rattle.inst_journal.specs.Money.{available};
 ghost use Rattle.inst_journal.specs.Opened.{live_submissions, live_forwarded};
-ghost use Rattle.inst_journal.specs.Sound.{Fits, FundedFits, DefundedFits, TakenFits, ForwardedFits, BookedFits, FetchedFits, OpenedFits};
+ghost use Rattle.inst_journal.specs.Sound.{Fits, FundedFits, TakenFits, ForwardedFits, BookedFits, FetchedFits, OpenedFits};
 ghost use Rattle.inst_ledger.specs.Book.{with_event};
 
 use crate::tally::Tally;
 use inst_base::{Cents, Ident, Moment};
-use inst_command::{Outcome, is_count};
+use inst_command::is_count;
 use inst_journal::Event;
 use inst_ledger::Ledger;
 use inst_settings::Settings;

@@ -1,4 +1,4 @@
-ghost use Rattle.std.specs.Prelude.{◌≡◌, ℕ, List, IsTrue, nat_eq, not, map};
+ghost use Rattle.std.specs.Prelude.{◌≡◌, ℕ, List, IsTrue, not, map};
 ghost use Rattle.std.specs.List.{list_all};
 ghost use Rattle.std.specs.Simd.Lanes.{mask_l};
 ghost use Rattle.inst_base.specs.Text.{is_identifier, is_latin, identifier_of};

@@ -5,11 +5,10 @@ use Rattle.inst_command.specs.declared.outcome.Outcome.{Outcome}
 use Rattle.inst_terms.specs.declared.terms.Terms.{Terms}
 use Rattle.inst_board.specs.declared.place.Place.{Place}
 use Rattle.inst_board.specs.declared.wish.Wish.{Wish}
-use Rattle.inst_board.specs.declared.wish.Wish.TheVariants.{Accept, Reject, Expire}
-use Rattle.inst_board.specs.declared.about.About.TheVariants.{Opened, HasTerms, Due, Decided, DecidedAt}
+use Rattle.inst_board.specs.declared.about.About.TheVariants.{Decided, DecidedAt}
 use Rattle.inst_board.specs.declared.about.Fact.{Fact}
 use Rattle.inst_board.specs.Standing.{Standing, unused, pending, final, Says, about}
-use Rattle.inst_board.specs.Learning.{Learns, Answers, MayDecide, IsParty}
+use Rattle.inst_board.specs.Learning.{Learns, Answers}
 use Rattle.inst_board.specs.Laws.{KnowsMore, DecidedOnce, EachDecisionIsOfItsReading, OnlyOwnReadingsAreLearnt}
 
 module _ (margin : ℕ) where
@@ -70,21 +69,3 @@ module _ (margin : ℕ) where
       λ look h. new (h.reading moment known),
       λ wish at found h. elim (h.reading moment known) [ inl was ↦ absurd (new was) | inr own ↦ own ],
     )
-
-  party_still : (before later : ℕ → Type 0) (wish : Wish) (k : Place) (t : Terms) → ((p : ℕ) → before p → later p) → IsParty before wish k t → IsParty later wish k t
-  party_still before later Accept k t keeps h = keeps t.to h
-  party_still before later (Reject r) k t keeps h = keeps t.to h
-  party_still before later Expire k t keeps (inl h) = inl (keeps k.owner h)
-  party_still before later Expire k t keeps (inr h) = inr (keeps t.to h)
-
-  -- who may decide a place may do so later
-  pub may_still : {B : Type 0} (knows : B → Fact → Type 0) (has_role : B → ℕ → Type 0) (b c : B) (k : Place) (wish : Wish) → KnowsMore knows b c → ((p : ℕ) → has_role b p → has_role c p) →
-      MayDecide knows has_role b k wish → MayDecide knows has_role c k wish
-  may_still knows has_role b c k wish more keeps may = record {
-    terms = may.terms;
-    deadline = may.deadline;
-    opened = more (about k Opened) may.opened;
-    has_terms = more (about k (HasTerms may.terms)) may.has_terms;
-    due = more (about k (Due may.deadline)) may.due;
-    party = party_still (has_role b) (has_role c) wish k may.terms keeps may.party;
-  }

@@ -1,10 +1,9 @@
 -- Places in the list of a plain board.
-use Rattle.std.proofs.Common.{◌≡◌, ◌≢◌, ℕ, zero, suc, ◌*◌, ◌<◌, ◌⊎◌, Bool, true, false, nat_lt, List, [], ◌∷◌, ◌++◌, length, set, get_or, inl, inr, refl, sym, ap, ◌∙◌, subst, arith}
+use Rattle.std.proofs.Common.{◌≡◌, ◌≢◌, ℕ, zero, suc, ◌*◌, ◌<◌, ◌⊎◌, Bool, true, false, nat_lt, List, [], ◌∷◌, length, set, get_or, inl, inr, refl, sym, ap, ◌∙◌, subst, arith}
 use Rattle.std.specs.Prelude.{Some, None, slice_get, if◌then◌else◌}
 use Rattle.std.proofs.lemmas.Bool.{and_parts, cases_eq}
 use Rattle.std.proofs.lemmas.Bool.Decides.{nat_tests}
-use Rattle.std.proofs.Math.Seq.{get_or-append_seam}
-use Rattle.std.proofs.lemmas.List.{length-append, length-set, get_or-set_same, get_or-set_other}
+use Rattle.std.proofs.lemmas.List.{length-set, get_or-set_same, get_or-set_other}
 use Rattle.std.proofs.lemmas.Nat.{same_from_place, mul-add-lt}
 use Rattle.inst_settings.specs.Settings.{HubSettings, participants}
 use Rattle.inst_terms.specs.declared.terms.Terms.{Terms}
@@ -14,7 +13,7 @@ use Rattle.inst_board.specs.declared.place.Place.{Place}
 use Rattle.inst_board.specs.declared.plain.Kept.{Kept}
 use Rattle.inst_board.specs.declared.plain.Kept.TheVariants.{Unused, Written, Pending, Final}
 use Rattle.inst_board.specs.Standing.{is_place, IsPlace, IsLawful, word_of}
-use Rattle.inst_board.specs.Plain.{Contents, number_of, rank_of, kept_at, standing_of, standing_at, terms_of, HaveTerms, IsContents, Becomes}
+use Rattle.inst_board.specs.Plain.{Contents, number_of, rank_of, kept_at, standing_of, terms_of, HaveTerms, IsContents, Becomes}
 use Rattle.inst_board.specs.inner.Plain.{Puts, PutsTerms}
 
 pub record IsInside (s : HubSettings) (k : Place) : Type 0 where
@@ -69,31 +68,11 @@ kept_outside b k h = ap (λ t. if t then get_or b.kept (rank_of b.settings k) Un
 
 -- ---- a value is put at its rank
 
--- an unused place behind a list is not seen
-pub unused_behind : (l : List Kept) (i : ℕ) → get_or (l ++ Unused ∷ []) i Unused ≡ get_or l i Unused
-unused_behind [] zero = refl
-unused_behind [] (suc i) = refl
-unused_behind (x ∷ xs) zero = refl
-unused_behind (x ∷ xs) (suc i) = unused_behind xs i
-
-pushed_elsewhere : (l : List Kept) (w : Kept) (i : ℕ) → i ≢ length l → get_or (l ++ w ∷ []) i Unused ≡ get_or l i Unused
-pushed_elsewhere [] w zero other = absurd (other refl)
-pushed_elsewhere [] w (suc i) other = refl
-pushed_elsewhere (x ∷ xs) w zero other = refl
-pushed_elsewhere (x ∷ xs) w (suc i) other = pushed_elsewhere xs w i (λ e. other (ap suc e))
-
 pub set_puts : (l : List Kept) (n : ℕ) (w : Kept) → n < length l → Puts l n w (set l n w)
 set_puts l n w h = record {
   here = get_or-set_same l n w Unused h;
   elsewhere = λ j other. get_or-set_other l n j w Unused other;
   within = λ most fits below. omega (arith, length-set l n w);
-}
-
-pub push_puts : (l front : List Kept) (n : ℕ) (w : Kept) → length front ≡ n → ((j : ℕ) → get_or front j Unused ≡ get_or l j Unused) → Puts l n w (front ++ w ∷ [])
-push_puts l front n w long same = record {
-  here = ap (λ m. get_or (front ++ w ∷ []) m Unused) (sym long) ∙ get_or-append_seam front w [] Unused;
-  elsewhere = λ j other. pushed_elsewhere front w j (λ e. other (e ∙ long)) ∙ same j;
-  within = λ most fits below. omega (arith, length-append front (w ∷ []), long);
 }
 
 -- ---- a place is written
@@ -127,13 +106,6 @@ contents_written b k w new form h lawful puts = record {
   sized = puts.within (participants b.settings * b.settings.places) form.sized (rank_below b.settings k h);
   lawful = lawful_put b.settings.margin b.kept new (rank_of b.settings k) w puts lawful form.lawful;
 }
-
--- what each place is, is lawful
-pub lawful_at : (b : Contents) (k : Place) → IsContents b → IsLawful b.settings.margin (standing_at b k)
-lawful_at b k form = at_either (is_place b.settings k) refl where
-  at_either : (t : Bool) → is_place b.settings k ≡ t → IsLawful b.settings.margin (standing_at b k)
-  at_either true e = subst (λ (v : Kept). IsLawful b.settings.margin (standing_of v)) (sym (kept_inside b k e)) (form.lawful (rank_of b.settings k))
-  at_either false e = subst (λ (v : Kept). IsLawful b.settings.margin (standing_of v)) (sym (kept_outside b k e)) tt
 
 -- ---- the terms of a place
 
@@ -187,15 +159,3 @@ terms_come l new all others n w t puts beside have is k u h = elim (cases_eq k n
 ]
 
 -- ---- a board of unused places
-
-abbrev pub empty : HubSettings → Contents
-empty s = record { settings = s; kept = [] }
-
-pub empty_unused : (s : HubSettings) (k : Place) → kept_at (empty s) k ≡ Unused
-empty_unused s k = at_either (is_place s k) refl where
-  at_either : (t : Bool) → is_place s k ≡ t → kept_at (empty s) k ≡ Unused
-  at_either true e = kept_inside (empty s) k e
-  at_either false e = kept_outside (empty s) k e
-
-pub empty_contents : (s : HubSettings) → IsContents (empty s)
-empty_contents s = record { sized = omega arith; lawful = λ i. tt }

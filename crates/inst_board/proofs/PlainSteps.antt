@@ -32,16 +32,6 @@ module _ (margin : ℕ) where
   shows_says (final t d o at) (Decided q) h = h
   shows_says (final t d o at) (DecidedAt u) h = absurd h
 
-  -- one who knows all that is true learns nothing by a look
-  pub learns_still : (b : Contents) (k : Place) → IsLawful margin (standing_at b k) → Learns margin plain_knows b k (standing_at b k) b
-  learns_still b k lawful = record {
-    lawful = lawful;
-    agrees = λ a h. h;
-    kept = λ f h. h;
-    shown = λ a h. shows_says (standing_at b k) a h;
-    only = λ f h. inl h;
-  }
-
   module _ (b : Contents) (k : Place) (w : Kept) (c : Contents) (becomes : Becomes b k w c) where
     says_at : (j : Place) (a : About) → (j ≡ k → Says (standing_of w) a) → (j ≢ k → Says (standing_at b j) a) → Says (standing_at c j) a
     says_at j a here there = elim (place_cases j k) [

@@ -1,9 +1,8 @@
 //! The laws of boards, and code over any board. A function without a body has the law for its
 //! contract, so that the check proves it.
 ghost use Rattle.std.specs.Prelude.{◌≡◌, ◌≢◌, ◌≤◌, ℕ, Some, IfSome};
-ghost use Rattle.inst_terms.specs.declared.terms.Terms.{Terms};
 ghost use Rattle.inst_board.specs.declared.about.About.TheVariants.{Opened};
-ghost use Rattle.inst_board.specs.Standing.{pending, about};
+ghost use Rattle.inst_board.specs.Standing.{about};
 ghost use Rattle.inst_board.specs.Learning.{MayDecide, Decides};
 ghost use Rattle.inst_board.specs.Plain.{plain_knows, standing_at, after, outcome_of};
 ghost use Rattle.inst_board.specs.Laws.{KnowsMore, KnowsOpening, CanOpen, DecidedOnce, OnlyPartiesDecide};

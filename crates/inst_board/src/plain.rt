@@ -1,5 +1,5 @@
 //! The board of a hub on one thread.
-ghost use Rattle.std.specs.Prelude.{◌≡◌, ◌+◌, ◌*◌, ◌<◌, ◌≤◌, ℕ, Some, IfOk, IsTrue, length, get_or, vec_capacity};
+ghost use Rattle.std.specs.Prelude.{◌≡◌, ◌+◌, ◌*◌, ◌<◌, ◌≤◌, ℕ, Some, IfOk, length, get_or, vec_capacity};
 ghost use Rattle.inst_board.specs.declared.plain.Kept.TheVariants.{Unused as KeptUnused};
 ghost use Rattle.inst_board.specs.inner.Plain.{Puts, PutsTerms};
 
@@ -222,8 +222,8 @@ impl Board for PlainBoard {
     ghost use Rattle.inst_board.specs.Standing.{IsPlace, pending, about, look_of, glance_of};
     ghost use Rattle.inst_board.specs.Learning.{Learns, KnowTheSame, KeepsWritten, Looks, Decides};
     ghost use Rattle.inst_board.specs.Plain.{Becomes, after, outcome_of, kept_at, standing_at};
-    ghost use Rattle.std.proofs.Common.{refl, ◌∙◌, inl, ap};
-    ghost use Rattle.inst_board.specs.Plain.{Contents, plain_knows, plain_wrote, plain_stood, known_is_place};
+    ghost use Rattle.std.proofs.Common.{refl, ◌∙◌, inl};
+    ghost use Rattle.inst_board.specs.Plain.{plain_knows, plain_wrote, plain_stood, known_is_place};
 
     ghost settings = { λ b. b.settings };
 

@@ -1,5 +1,5 @@
 //! The books of all participants as text, and from the text again.
-ghost use Rattle.std.specs.Prelude.{◌≡◌, ◌<◌, ◌++◌, true, [], length, map, replicate, IfOk, OnOk};
+ghost use Rattle.std.specs.Prelude.{◌≡◌, ◌<◌, ◌++◌, true, length, map, IfOk, OnOk};
 ghost use Rattle.std.specs.List.{list_all};
 ghost use Rattle.inst_base.specs.Text.{is_code};
 ghost use Rattle.inst_settings.specs.Settings.{participants, is_participant};

@@ -165,7 +165,3 @@ module _ (v : View) (k : ℕ) (p : Standing) (honest : (a : About) → Contains 
 -- what is true of a world is true of one standing a place
 pub one_from : (world : ℕ → Standing) (v : View) → ((f : Known) → Contains (all_of v) f → Says (world f.place) f.about) → KnowsOne v
 one_from world v honest = λ k a h. one_by v k (world k) (λ b g. honest (known k b) g) a h
-
--- who knows no more than another
-pub one_less : (v w : View) → ((f : Known) → Contains (all_of w) f → Contains (all_of v) f) → KnowsOne v → KnowsOne w
-one_less v w less one = λ k a h. one_by w k (known_standing v k) (λ b g. one k b (less (known k b) g)) a h

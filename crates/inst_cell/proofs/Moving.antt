@@ -90,9 +90,6 @@ replies t d Accepted m roles p is role = inr (λ u has. subst (λ (x : Terms). 0
 replies t d (Rejected z) m roles p is role = inr (λ u has. subst (λ (x : Terms). 0 < count x.to roles) (sym has) (role tt))
 replies t d TimedOut m roles p is role = inl (λ z ans says. absurd (subst IsAnswer says ans))
 
-five : (a b c d e : ℕ) → List ℕ
-five a b c d e = a ∷ b ∷ c ∷ d ∷ e ∷ []
-
 unwrap : (m n : ℕ) → Some m ≡ Some n → m ≡ n
 unwrap m n e = cc
 

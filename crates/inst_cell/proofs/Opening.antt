@@ -1,5 +1,5 @@
 -- The boards of a hub that opens.
-use Rattle.std.proofs.Common.{◌≡◌, ℕ, zero, suc, ◌*◌, ◌+◌, ◌-◌, ◌<◌, ◌≤◌, List, [], ◌∷◌, ◌++◌, length, get_or, take, drop, replicate, inl, inr, ⊎_elim, ◌⊎◌, sym, refl, ap, ◌∙◌, subst, arith, Some, None, length-append}
+use Rattle.std.proofs.Common.{◌≡◌, ℕ, zero, suc, ◌*◌, ◌+◌, ◌-◌, ◌<◌, ◌≤◌, List, [], ◌∷◌, ◌++◌, length, get_or, take, drop, replicate, inl, inr, ⊎_elim, ◌⊎◌, sym, refl, ap, ◌∙◌, subst, arith, Some, length-append}
 use Rattle.std.specs.Prelude.{Contains, slice_get, ◌↔◌}
 use Rattle.std.proofs.Math.Nat.{suc-mul}
 use mathlib.Core.Logic.{dite}
@@ -12,12 +12,11 @@ use Rattle.inst_cell.specs.declared.view.Known.{Known}
 use Rattle.inst_cell.specs.declared.view.View.{View}
 use Rattle.inst_cell.specs.declared.shared_board.SharedBoard.{SharedBoard}
 use Rattle.inst_cell.specs.declared.sight.Sight.{Sight}
-use Rattle.inst_cell.specs.View.{known, all_of, count, roles_from, first_view, with_role, without_role, told}
+use Rattle.inst_cell.specs.View.{known, all_of, count, roles_from, with_role, without_role, told}
 use Rattle.inst_cell.specs.Rule.{total}
 use Rattle.inst_cell.specs.Held.{settings_of, table_of, view_of, roles_of, has_role, knows, AtOneTable}
 use Rattle.inst_cell.specs.Seen.{board_of}
 use Rattle.inst_cell.specs.Opening.{HasAllRoles, IsWhole, IsDealt, IsAdmitted, AreDealt, AreAdmitted, AreOpened}
-use Rattle.inst_cell.proofs.Stepping.{no_fact}
 use Rattle.inst_cell.proofs.Tally.{count_one, count_left, count_right, only_role}
 
 pub some_words : (a b x : ℕ) → 1 ≤ a → 1 ≤ b → x ≡ b * a * 6 → 0 < x
@@ -57,9 +56,6 @@ snoc_cases (y ∷ ys) x b (suc p) e = ⊎_elim (λ old. inl old) (λ new. inr (a
 pub sized_as : (l a b : ℕ) (s t : HubSettings) → l ≡ a * b * 6 → a ≡ t.places → b ≡ participants t → s ≡ t → l ≡ total s * 6
 sized_as l a b s t e p q f = e ∙ (ap (λ (x : ℕ). x * b * 6) p ∙ (ap (λ (x : ℕ). t.places * x * 6) q ∙ ap (λ (x : HubSettings). total x * 6) (sym f)))
 
-no_some : {A : Type 0} (b : A) → None ≡ Some b → ⊥
-no_some b e = cc
-
 roles_cut : (i n : ℕ) → i < n → roles_from i (n - i) ≡ i ∷ roles_from (suc i) (n - suc i)
 roles_cut i n h = let e : n - i ≡ suc (n - suc i) = omega arith in ap (λ (m : ℕ). roles_from i m) e
 
@@ -97,15 +93,6 @@ pub record Dealt (all0 : SharedBoard) (n next : ℕ) (all : SharedBoard) (boards
   pub facts : all_of (view_of all) ≡ all_of (view_of all0)
   pub each : (p : ℕ) (b : SharedBoard) → slice_get boards p ≡ Some b → IsDealt (settings_of all0) (table_of all0) (knows all0) p b
 
-pub dealt_none : (all : SharedBoard) (n : ℕ) → n ≡ participants (settings_of all) → HasAllRoles all → Dealt all n 0 all []
-dealt_none all n m roles = record {
-  enough = refl;
-  one = (refl, refl);
-  roles = roles ∙ (ap (λ (x : ℕ). roles_from 0 x) (let z : participants (settings_of all) ≡ n - 0 = omega arith in z));
-  facts = refl;
-  each = λ p b f. absurd (no_some b f);
-}
-
 -- a board that has the role i alone
 alone_role : (b : SharedBoard) (i q : ℕ) → roles_of b ≡ i ∷ [] → has_role b q ↔ (q ≡ i)
 alone_role b i q e = (
@@ -140,19 +127,12 @@ dealt_more all0 n i all later new boards d below t1 v1 t2 v2 =
           (snoc_cases boards new b p f);
     }
 
--- all roles were handed over
-pub all_dealt : (all0 : SharedBoard) (n : ℕ) (all : SharedBoard) (boards : List SharedBoard) → n ≡ participants (settings_of all0) → Dealt all0 n n all boards → AreDealt all0 boards
-all_dealt all0 n all boards m d = record { enough = d.enough ∙ m; each = d.each }
-
 -- the tellers that were admitted by a board that knows nothing
 pub record Seated (all0 : SharedBoard) (next : ℕ) (all : SharedBoard) (tellers : List Sight) : Type 0 where
   pub enough : length tellers ≡ next
   pub one : AtOneTable all0 all
   pub same : view_of all ≡ view_of all0
   pub each : (i : ℕ) (t : Sight) → slice_get tellers i ≡ Some t → IsAdmitted (settings_of all0) (table_of all0) t
-
-pub seated_none : (all : SharedBoard) → Seated all 0 all []
-seated_none all = record { enough = refl; one = (refl, refl); same = refl; each = λ i t f. absurd (no_some t f) }
 
 pub seated_more : (all0 : SharedBoard) (i : ℕ) (all later : SharedBoard) (new : Sight) (tellers : List Sight) → ((f : Fact) → ¬ knows all0 f) → Seated all0 i all tellers
     → AtOneTable all (board_of new) → view_of (board_of new) ≡ told (view_of all)
@@ -176,28 +156,6 @@ seated_more all0 i all later new tellers nothing d t1 v1 t2 v2 =
           (λ last. subst (λ (x : Sight). IsAdmitted (settings_of all0) (table_of all0) x) last.1 admitted)
           (snoc_cases tellers new t p f);
     }
-
--- a board of a hub that begins has all roles, and knows nothing
-pub begins_whole : (s : HubSettings) (b : SharedBoard) → settings_of b ≡ s → view_of b ≡ first_view s → IsWhole s b
-begins_whole s b same first = record {
-  settings = same;
-  roles = ap (λ (v : View). v.roles) first ∙ ap (λ (t : HubSettings). roles_from 0 (participants t)) (sym same);
-  nothing = λ f h. no_fact (known (number_of (settings_of b) f.place) f.about) (subst (λ (l : List Known). Contains l (known (number_of (settings_of b) f.place) f.about)) (ap all_of first) h.1);
-}
-
--- after its tellers were admitted it is as it was
-pub whole_after : (s : HubSettings) (a b : SharedBoard) → AtOneTable a b → view_of b ≡ view_of a → IsWhole s a → IsWhole s b
-whole_after s a b one view w = record {
-  settings = one.1 ∙ w.settings;
-  roles = whole_still a b one.1 (ap (λ (v : View). v.roles) view) w.roles;
-  nothing = λ f h. w.nothing f ((same_facts a b f one.1 (ap all_of view)).0 h);
-}
-
-pub admitted_after : (a b : SharedBoard) (n : ℕ) (tellers : List Sight) → AtOneTable a b → AreAdmitted a n tellers → AreAdmitted b n tellers
-admitted_after a b n tellers one are = record {
-  enough = are.enough;
-  each = λ i t at. let x = are.each i t at in record { settings = x.settings ∙ sym one.1; table = x.table ∙ sym one.0; roles = x.roles; nothing = x.nothing };
-}
 
 -- a whole board that knows nothing, dealt
 pub opened_dealt : (s : HubSettings) (n : ℕ) (all : SharedBoard) (boards : List SharedBoard) (tellers : List Sight) → IsWhole s all → AreAdmitted all n tellers → AreDealt all boards → AreOpened s n boards tellers

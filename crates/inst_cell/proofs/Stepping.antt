@@ -50,10 +50,6 @@ module _ (world : ℕ → Standing) (k : ℕ) (q : Standing) where
       (λ e. subst (λ (b : Bool). P (cond b q (world j))) (sym (eq-eqb j k e)) (here e))
       (λ ne. subst (λ (b : Bool). P (cond b q (world j))) (sym (ne_eqb j k ne)) (there ne))
 
-pub in_cons : {A : Type 0} (a b : A) (l : List A) → Contains (a ∷ l) b → (a ≡ b) ⊎ Contains l b
-in_cons a b l (zero, below, is) = inl is
-in_cons a b l (suc i, below, is) = inr (i, omega arith, is)
-
 pub no_fact : (f : Known) → Contains [] f → ⊥
 no_fact f c = let z = c.1 in omega arith
 

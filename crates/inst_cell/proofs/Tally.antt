@@ -49,9 +49,6 @@ noted_then ns x n y m e = dite (ℕ_discrete x y)
     let is : n ≡ m = cc in inl (sym same, is))
     (λ other. inr ((λ t. other (sym t)), subst (λ (c : Bool). cond c (Some n) (note ns y) ≡ Some m) (ne_eqb x y other) e))
 
-pub note_here : (ns : List (ℕ × ℕ)) (x n : ℕ) → note ((x, n) ∷ ns) x ≡ Some n
-note_here ns x n = ap (λ (c : Bool). cond c (Some n) (note ns x)) (eq-eqb x x refl)
-
 pub note_else : (ns : List (ℕ × ℕ)) (x n y : ℕ) → x ≢ y → note ((x, n) ∷ ns) y ≡ note ns y
 note_else ns x n y ne = ap (λ (c : Bool). cond c (Some n) (note ns y)) (ne_eqb x y ne)
 

@@ -92,13 +92,6 @@ one_more_empty books journals more n j none pushed so = record {
   same = λ p. ap (λ (l : List History). books_of l p) pushed ∙ (and_empty journals j p none ∙ so.same p);
 }
 
--- one that was opened from too often
-pub not_few : (books : List Book) (n : ℕ) (book : Book) → n < length books → book ≡ get_or books n book → 500 ≤ openings book.events → ¬ ((p : ℕ) → openings (histories books p) < 500)
-not_few books n book below here many few =
-    let found : slice_get books n ≡ Some book = slice_get-get_or books n book below ∙ ap (λ (b : Book). Some b) (sym here) in
-    let less : openings book.events < 500 = subst (λ (J : List Event). openings J < 500) (ap events_of found) (few n) in
-    absurd (omega (arith, many, less))
-
 pub can_open_wider : (s : HubSettings) (codes : List (List ℕ)) (books : List Book) (journals : List History) → IsClosed s books → ((p : ℕ) → openings (histories books p) < 500) → AreCopiesAnd books (length codes) journals → CanOpenFrom (widened s codes) journals
 can_open_wider s codes books journals closed few copies =
     let wider = closed_wider s codes (histories books) closed.closed in

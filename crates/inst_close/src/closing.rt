@@ -13,7 +13,7 @@ ghost use Rattle.inst_hub.specs.declared.hub.Hub.{Hub};
 ghost use Rattle.inst_hub.specs.declared.teller.Teller.{Teller};
 ghost use Rattle.inst_hub.specs.Calls.{AreOf};
 ghost use Rattle.inst_hub.specs.Opening.{parts_of};
-ghost use Rattle.inst_parts.specs.Apart.{IsPartsOf, AreLater, histories_of, board_of, hub_of};
+ghost use Rattle.inst_parts.specs.Apart.{IsPartsOf, histories_of, board_of, hub_of};
 ghost use Rattle.inst_close.specs.Closing.{IsOpenedSo, HaveOpened, GoOnFrom, TellAll, IsLeftOf, MayClose, IsClosedFrom, rest_of};
 ghost use Rattle.inst_close.specs.inner.Closing.{IsPartly};
 

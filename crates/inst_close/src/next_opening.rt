@@ -1,13 +1,10 @@
 //! The hub of the next opening.
-ghost use Rattle.std.specs.Prelude.{◌≡◌, ◌⊎◌, ◌↔◌, ◌<◌, ◌++◌, ◌∷◌, [], ℕ, true, false, length, IfOk, IfErr, Err};
-ghost use Rattle.inst_settings.specs.Settings.{participants};
+ghost use Rattle.std.specs.Prelude.{◌≡◌, ◌⊎◌, ◌<◌, [], ℕ, true, false, length, IfOk, IfErr, Err};
 ghost use Rattle.inst_journal.specs.Opened.{openings};
-ghost use Rattle.inst_world.specs.NextOpening.{CanOpenFrom};
 ghost use Rattle.inst_together.specs.Together.{histories};
 ghost use Rattle.inst_together.specs.Wider.{widened};
 ghost use Rattle.inst_hub.specs.Calls.{AreOf};
 ghost use Rattle.inst_hub.specs.Opening.{parts_of};
-ghost use Rattle.inst_close.specs.ClosedHub.{ClosedHub};
 ghost use Rattle.inst_close.specs.NextOpening.{MayOpenWider};
 ghost use Rattle.inst_close.specs.inner.NextOpening.{AreCopies, AreCopiesAnd};
 ghost use Rattle.inst_close.specs.Closing.{IsNextOf};

@@ -1,5 +1,5 @@
 -- What workers did, gathered one by one.
-use Rattle.std.proofs.Common.{◌≡◌, ◌+◌, ◌-◌, ◌^◌, List, [], ◌∷◌, ◌++◌, length, sym, refl, ap, ◌∙◌, arith, append_assoc}
+use Rattle.std.proofs.Common.{◌≡◌, ◌+◌, ◌-◌, ◌^◌, List, [], ◌∷◌, ◌++◌, sym, refl, ap, ◌∙◌, arith, append_assoc}
 use Rattle.std.specs.Prelude.{min, map, Result, Ok}
 use Rattle.std.proofs.lemmas.List.{append-nil}
 use Rattle.std.proofs.lemmas.List.Sums.{sum_by_push}
@@ -20,9 +20,6 @@ sights_more : (ss : List Shift) (s : Shift) → sights_of (ss ++ s ∷ []) ≡ s
 sights_more [] s = append-nil s.sights.items
 sights_more (x ∷ xs) s = ap (λ (l : List (Place × State)). x.sights.items ++ l) (sights_more xs s) ∙ sym (append_assoc x.sights.items (sights_of xs) s.sights.items)
 
-pub nothing_gathered : (crew : Crew) → crew.answered ≡ 0 → crew.sights.items ≡ [] → crew.hands.items ≡ [] → crew.tellers.items ≡ [] → IsGathered [] crew
-nothing_gathered crew answered sights hands tellers = record { answered = answered; sights = sights; hands = hands; tellers = tellers }
-
 pub gathered_more : (ss : List Shift) (s : Shift) (crew more : Crew) → IsGathered ss crew → more.answered ≡ min (crew.answered + s.answered) (2 ^ 64 - 1) → more.sights.items ≡ crew.sights.items ++ s.sights.items → more.hands.items ≡ crew.hands.items ++ s.hand ∷ [] → more.tellers.items ≡ crew.tellers.items ++ s.teller ∷ [] → IsGathered (ss ++ s ∷ []) more
 gathered_more ss s crew more g answered sights hands tellers = record {
   answered = (let a = sum_by_push (λ (x : Shift). x.answered) ss s in let e = g.answered in omega arith);
@@ -37,10 +34,3 @@ ends_more ss s r all rest after e is ok =
     let mine : List (Result Shift AllocError) = map Ok ss in
     e ∙ (ap (λ (l : List (Result Shift AllocError)). mine ++ l) (is ∙ ap (λ (x : Result Shift AllocError). x ∷ after) ok)
     ∙ (sym (append_assoc mine (Ok s ∷ []) after) ∙ ap (λ (l : List (Result Shift AllocError)). l ++ after) (sym (map_more Ok ss s))))
-
-pub no_results : (rs : List (Result Shift AllocError)) → length rs ≡ 0 → rs ≡ []
-no_results [] e = refl
-no_results (r ∷ rs) e = absurd (omega arith)
-
-pub all_ended : (ss : List Shift) (all rest : List (Result Shift AllocError)) → all ≡ map Ok ss ++ rest → rest ≡ [] → all ≡ map Ok ss
-all_ended ss all rest e none = let mine : List (Result Shift AllocError) = map Ok ss in e ∙ (ap (λ (l : List (Result Shift AllocError)). mine ++ l) none ∙ append-nil mine)

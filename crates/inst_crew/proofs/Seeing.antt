@@ -1,5 +1,5 @@
 -- What a worker sees, and goes on knowing.
-use Rattle.std.proofs.Common.{◌≡◌, ℕ, zero, suc, List, [], ◌∷◌, ◌++◌, Some, None, ap, subst}
+use Rattle.std.proofs.Common.{◌≡◌, ℕ, zero, suc, List, [], ◌∷◌, ◌++◌, Some, None, subst}
 use Rattle.std.specs.Prelude.{Option, slice_get}
 use Rattle.inst_settings.specs.Settings.{HubSettings}
 use Rattle.inst_command.specs.declared.command.Command.{Command}
@@ -62,9 +62,6 @@ at_end (z ∷ zs) x y (suc i) P new old e = at_end zs x y i P new (λ j w f. old
 
 pub one_more_seen : (u : Teller) (sights : List (Place × StateValue)) (x : Place × StateValue) → AreSeen u sights → IsSeen u x → AreSeen u (sights ++ x ∷ [])
 one_more_seen u sights x seen new i y at = at_end sights x y i (IsSeen u) new seen at
-
-pub none_seen : (u : Teller) (sights : List (Place × StateValue)) → sights ≡ [] → AreSeen u sights
-none_seen u sights none i y at = let no : ⊥ = (let f : slice_get sights i ≡ None = ap (λ (l : List (Place × StateValue)). slice_get l i) none in cc) in absurd no
 
 -- after a call the ticket's place is known opened
 pub call_opened : (h : Hub) (t : Teller) (ask : Ask) (answer : Reply × Option Place) (u : Teller) (k : Place) → Calls h t ask answer u → answer.1 ≡ Some k → knows_of u (about k Opened)

@@ -1,13 +1,13 @@
 -- Each step keeps the rule of a desk.
-use Rattle.std.proofs.Common.{◌≡◌, ℕ, zero, suc, ◌<◌, List, [], ◌∷◌, ◌++◌, set, sym, refl, ap, ◌∙◌, subst, arith}
+use Rattle.std.proofs.Common.{◌≡◌, ℕ, ◌<◌, List, [], ◌∷◌, ◌++◌, set, sym, refl, ap, ◌∙◌, arith}
 use Rattle.std.specs.Prelude.{sum_by}
 use Rattle.std.proofs.lemmas.List.Sums.{sum_by-cons, sum_by-append}
-use mathlib.Core.Option.{some, some-injective, some-ne-none}
+use mathlib.Core.Option.{some}
 use lib.ListN.{get_elem?}
 use Rattle.crossbeam_queue.specs.Fifo.{Pushes, Pops, Forks, Merges, Learns}
 use Rattle.inst_desk.specs.declared.account.Account.{Account}
 use Rattle.inst_desk.specs.declared.job.Job.{Job}
-use Rattle.inst_desk.specs.Account.{all_of, first_account, MayLie, LiesFirst}
+use Rattle.inst_desk.specs.Account.{all_of, MayLie, LiesFirst}
 use Rattle.inst_desk.specs.inner.Account.{with_put, with_taken, one_part, less_one_part, together, no_account}
 use Rattle.inst_desk.specs.Rule.{IsTallied}
 use Rattle.atomic_table.proofs.Lists.{set_else}
@@ -15,17 +15,6 @@ use Rattle.inst_desk.proofs.Lists.{sum_set, sum_snoc, weigh_set, weigh_snoc, eac
 
 abbrev Idle : Account → Type 0
 Idle v = v.parts ≡ 0 → (v.put ≡ []) × (v.taken ≡ [])
-
-only_one : (v w : Account) (i : ℕ) → get_elem? (v ∷ []) i ≡ some w → v ≡ w
-only_one v w zero e = some-injective v w e
-only_one v w (suc i) e = absurd (some-ne-none w (sym e))
-
-pub begins : IsTallied [] (first_account ∷ [])
-begins = record {
-  dealt = refl;
-  idle = λ i v e. subst Idle (only_one first_account v i e) (λ z. absurd (omega arith));
-  even = λ weight. refl;
-}
 
 pub may_lie : (port : ℕ) (v : Account) → Learns IsTallied port v (MayLie v)
 may_lie port v jobs views r at =

@@ -10,7 +10,7 @@ use Rattle.inst_journal.specs.declared.event.Event.{Event}
 use Rattle.inst_journal.specs.declared.event.Event.TheVariants.{Opened}
 use Rattle.inst_journal.specs.Opened.{is_opening, has_opening, openings, carried}
 use Rattle.inst_journal.proofs.Counting.{count_push}
-use Rattle.inst_model.specs.Opening.{Opening, First, FromBooks}
+use Rattle.inst_model.specs.Opening.{Opening, FromBooks}
 use Rattle.inst_together.specs.Together.{events_of, histories}
 use Rattle.inst_close.specs.ClosedHub.{ClosedHub, IsClosed}
 use Rattle.inst_settings.specs.Lawful.{IsSettings}
@@ -75,11 +75,7 @@ may_open n closed s tellers is so most three = record {
   seats = (omega (arith, three), omega (arith, three));
 }
 
--- the first opening
-pub first_opening : (n : ℕ) (hub : Hub) → IsOpenedSo First hub → IsOpenedAt (suc n) hub
-first_opening n hub opened = record { opening = First; opened = opened; few = λ p small. omega arith }
-
--- and the next one
+-- the next opening
 pub next_opening : (n : ℕ) (s : HubSettings) (closed : ClosedHub) (hub : Hub) → IsAfter s n closed → hub.settings ≡ closed.settings → IsNextOf closed.books hub → IsOpenedAt (suc n) hub
 next_opening n s closed hub so same next = record {
   opening = FromBooks next.from;

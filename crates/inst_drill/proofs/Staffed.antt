@@ -27,9 +27,6 @@ same_tellers hub (t ∷ ts) are = (same_teller hub t (are 0 t refl), same_teller
 long_front : {X : Type 0} (all front : List X) (x : X) → all ≡ front ++ x ∷ [] → length all ≡ 3 → length front ≡ 2
 long_front all front x is three = let n = ap length is ∙ length-append front (x ∷ []) in omega (arith, n, three)
 
-pub not_none : {X : Type 0} (all : List X) → all ≡ [] → length all ≡ 3 → ⊥
-not_none all none three = let n = ap length none in omega (arith, n, three)
-
 pub hands_apart : (d : Desk) (all front : List Hand) (h : Hand) → all ≡ front ++ h ∷ [] → AreAllHandsOf d all → length all ≡ 3
     → IsHandOf d h × (AreHandsOf d front × ((length front ≡ 2) × (sum_by parts_of_hand front + parts_of_hand h ≡ 16)))
 hands_apart d all front h is are three =

@@ -1,5 +1,5 @@
 //! What a drill asks of a hub: participant 0 is funded and submits transfers to participant 1, which confirms them.
-ghost use Rattle.std.specs.Prelude.{◌≡◌, ◌↔◌, ◌≤◌, ◌+◌, ◌-◌, ◌*◌, true, length, IfOk, IsOkUnless, Err};
+ghost use Rattle.std.specs.Prelude.{◌≡◌, ◌≤◌, true, length, IfOk, IsOkUnless, Err};
 ghost use Rattle.std.specs.List.{list_all};
 ghost use Rattle.inst_base.specs.Text.{is_latin};
 ghost use Rattle.inst_base.specs.declared.cents.TheConstants.{MOST_CENTS};

@@ -1,6 +1,5 @@
 //! Who works in an opening: two hands with a teller each, one hand that puts the jobs, and one teller that sweeps.
-ghost use Rattle.std.specs.Prelude.{◌≡◌, true, length, IfOk, OnOk};
-ghost use Rattle.inst_command.specs.Ask.{ask_fits};
+ghost use Rattle.std.specs.Prelude.{◌≡◌, length, IfOk, OnOk};
 ghost use Rattle.inst_desk.specs.Desk.{AreAllHandsOf};
 ghost use Rattle.inst_hub.specs.Calls.{AreOf};
 ghost use Rattle.inst_hub.specs.Opening.{parts_of};
@@ -11,7 +10,7 @@ ghost use Rattle.inst_drill.specs.inner.Staff.{IsStaffOf, tellers_of};
 
 use crate::feeding::{Phase, feed};
 use crate::plan::Plan;
-use inst_command::{Outcome, State};
+use inst_command::State;
 use inst_crew::{Sweep, run_crew};
 use inst_desk::{Desk, Hand};
 use inst_hub::{Gate, Hub, Teller, Ticket};

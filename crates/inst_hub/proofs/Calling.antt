@@ -1,7 +1,7 @@
 -- A call under a lock: what lies behind it stays lawful, and what the caller has then seen.
-use Rattle.std.proofs.Common.{◌≡◌, ℕ, ◌<◌, true, ltb-true, IfSome, List, [], ◌∷◌, sym, refl, ◌∙◌, subst, arith, Option, Some, None, ◌++◌, append-nil, append_assoc, ap}
+use Rattle.std.proofs.Common.{◌≡◌, ℕ, ◌<◌, true, ltb-true, IfSome, List, [], ◌∷◌, sym, refl, ◌∙◌, subst, Option, Some, None, ◌++◌, append_assoc, ap}
 use Rattle.std.specs.Prelude.{Bool, Contains, Result, Ok, Err, OnErr, alloc_error}
-use Rattle.std.proofs.lemmas.List.Elements.{Contains-append_left, Contains-append_right}
+use Rattle.std.proofs.lemmas.List.Elements.{Contains-append_left}
 use Rattle.inst_settings.specs.Settings.{HubSettings, participants, is_participant}
 use Rattle.inst_command.specs.declared.ask.Ask.{Ask}
 use Rattle.inst_command.specs.declared.command.Command.{Command}
@@ -55,10 +55,6 @@ module _ {T E K : Type 0} where
   pub seen_still : (p q : ℕ) (h l : List E) (s t : RowSeat T E K) → Sees p h s t → HasSeen q l s → HasSeen q l t
   seen_still p q h l s t sees c = subst (λ (fs : List (Front E)). Contains fs (front q l)) (sym sees.seen)
       (Contains-append_left (view_of s).fronts (front p h ∷ []) (front q l) c)
-
-  pub seen_last : (p : ℕ) (h : List E) (s t : RowSeat T E K) → Sees p h s t → HasSeen p h t
-  seen_last p h s t sees = subst (λ (fs : List (Front E)). Contains fs (front p h)) (sym sees.seen)
-      (Contains-append_right (view_of s).fronts (front p h ∷ []) (front p h) (0, omega arith, refl))
 
 -- who took a lock and gave it back knows what it knew
 pub still_knows : (t : Teller) (mid : Seat) (sight : Sight) (last : Seat) (p : ℕ) (h l : List Event) → ((f : Fact) → sees t.sight f → sees sight f)
@@ -142,9 +138,6 @@ left_at h t u ask x y p is behind goes_on seen serves same = record {
 pub seen_both : (s mid last : Seat) (p : ℕ) (h l : List Event) → Sees p h s mid → Sees p l mid last → (view_of last).fronts ≡ (view_of s).fronts ++ front p h ∷ front p l ∷ []
 seen_both s mid last p h l first second =
     second.seen ∙ (ap (λ (fs : List (Front Event)). fs ++ front p l ∷ []) first.seen ∙ append_assoc (view_of s).fronts (front p h ∷ []) (front p l ∷ []))
-
-pub follows_nothing : (h : Hub) (t : Teller) → Follows h None t t
-follows_nothing h t = record { sights = []; followed = refl; seen = sym (append-nil (sights_of t)) }
 
 pub follows_one : (h : Hub) (f : FollowUp) (t : Teller) (mid last : Seat) (x y : Participant) (result : Result Bool AllocError) → IsBehind (key_of h.row).words.value f.who x
     → GoesOn f.who x.slot.events t.seat → Sees f.who x.slot.events t.seat mid → Sees f.who y.slot.events mid last → Does f.errand x f.place result y

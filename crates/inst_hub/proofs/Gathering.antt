@@ -1,5 +1,5 @@
 -- The seats of all tellers are joined to one, and what lay behind the locks is taken out, one after the other.
-use Rattle.std.proofs.Common.{◌≡◌, ℕ, zero, suc, ◌+◌, ◌<◌, arith, List, [], ◌∷◌, ◌++◌, length, length-append, append_assoc, append-nil, inl, inr, ◌⊎◌, ⊎_elim, refl, sym, ap, ◌∙◌, subst, Some, None}
+use Rattle.std.proofs.Common.{◌≡◌, ℕ, zero, suc, ◌+◌, arith, List, [], ◌∷◌, ◌++◌, length, length-append, append_assoc, append-nil, inl, inr, ◌⊎◌, ⊎_elim, refl, sym, ap, ◌∙◌, subst, Some}
 use Rattle.std.specs.Prelude.{slice_get, map}
 use Rattle.std.specs.Global.{Box}
 use Rattle.std.proofs.lemmas.List.{map-append}
@@ -87,26 +87,7 @@ all_seen id key all done rest seat sights none so i t p h at seen = so.seen i t 
 pub all_sights : (id : TableId) (key : Outset) (all done rest : List Teller) (seat : Seat) (sights : List Sight) → rest ≡ [] → Gathered id key all done rest seat sights → sights ≡ map sight_of all
 all_sights id key all done rest seat sights none so = so.sights_are ∙ ap (map sight_of) (whole id key all done rest seat sights none so)
 
--- there is room for one sight more
-pub room_left : (id : TableId) (key : Outset) (all done rest left : List Teller) (t : Teller) (seat : Seat) (sights : List Sight) → rest ≡ t ∷ left → Gathered id key all done rest seat sights → length sights < length all
-room_left id key all done rest left t seat sights e so =
-    let split = ap (λ (l : List Teller). length l) so.split in
-    let joined : length (done ++ rest) ≡ length done + length rest = length-append done rest in
-    let some : length rest ≡ suc (length left) = ap (λ (l : List Teller). length l) e in
-    let few : length sights ≡ length done = ap (λ (l : List Sight). length l) so.sights_are ∙ same_length done in
-    omega (arith, split, joined, some, few)
-  where
-    same_length : (ts : List Teller) → length (map sight_of ts) ≡ length ts
-    same_length [] = refl
-    same_length (x ∷ xs) = ap suc (same_length xs)
-
 -- one slot and its board more were taken out
-pub none_out : (words : Outset) (seat : Seat) (slots : List Book) (boards : List SharedBoard) → slots ≡ [] → boards ≡ [] → AreTakenOut words 0 seat slots boards
-none_out words seat slots boards e f = record {
-  enough = (ap length e, ap length f);
-  each = λ p x b at on. let no : None ≡ Some x = sym (ap (λ (l : List Book). slice_get l p) e) ∙ at in let bad : ⊥ = cc in absurd bad;
-}
-
 pub one_out : (words : Outset) (n : ℕ) (seat : Seat) (slots more : List Book) (boards others : List SharedBoard) (x : Book) (b : SharedBoard) → AreTakenOut words n seat slots boards → IsTakenOut words seat n x b → more ≡ slots ++ x ∷ [] → others ≡ boards ++ b ∷ []
     → AreTakenOut words (n + 1) seat more others
 one_out words n seat slots more boards others x b so new e f = record {

@@ -1,5 +1,5 @@
 -- A hub opens again: the places of all live transfers are opened on one board that has all roles, which is then dealt.
-use Rattle.std.proofs.Common.{◌≡◌, ◌≢◌, ℕ, zero, suc, ◌<◌, ◌≤◌, ◌+◌, ◌-◌, List, [], ◌∷◌, ◌++◌, length, append_assoc, append-nil, sym, ap, ◌∙◌, subst, refl, true, get_or, arith, Option, Some, inl, inr}
+use Rattle.std.proofs.Common.{◌≡◌, ◌≢◌, ℕ, zero, suc, ◌<◌, ◌≤◌, ◌+◌, ◌-◌, List, [], ◌∷◌, ◌++◌, length, append_assoc, sym, ap, ◌∙◌, subst, refl, true, get_or, arith, Option, Some, inl, inr}
 use Rattle.std.specs.Prelude.{slice_get, ◌↔◌, Result, Ok, Err, IfOk}
 use Rattle.std.specs.Global.{Box}
 use mathlib.Core.Logic.{dite}
@@ -34,7 +34,7 @@ use Rattle.inst_participant.specs.declared.participant.Participant.{Participant}
 use Rattle.inst_participant.specs.Behind.{IsBehind}
 use Rattle.inst_hub.specs.Opening.{IsBlank}
 use Rattle.inst_hub.specs.inner.Opening.{unboxed, AreBehind, AreBlank}
-use Rattle.inst_hub.proofs.Starting.{unboxed_push, behind_values}
+use Rattle.inst_hub.proofs.Starting.{unboxed_push}
 use Rattle.inst_hub.specs.inner.NextOpening.{IsCarriedBook, AreCarried, pairs, seated}
 
 -- From the first board to this one the places of the first n participants were opened, and nothing else was learnt
@@ -113,16 +113,6 @@ pub carried_may : (s : HubSettings) (books : ℕ → List Event) (p : ℕ) (book
 carried_may s books p book b is may =
     subst (λ (t : HubSettings). MayOpenAgain settings_of knows has_role b t book.who) (sym is.settings_are)
     (subst (λ (q : ℕ). MayOpenAgain settings_of knows has_role b s q) (sym is.who_is) may)
-
--- each value finds its pair
-pub pairs_next : {A B C : Type 0} (pair : A → B → C) (xs : List A) (ys : List B) (x : A) (y : B) (done all : List (Option C)) (rest : List A) (others : List B)
-    → rest ≡ x ∷ xs → others ≡ y ∷ ys → done ++ pairs pair rest others ≡ all → (done ++ Some (pair x y) ∷ []) ++ pairs pair xs ys ≡ all
-pairs_next {A} {B} pair xs ys x y done all rest others e f is =
-    append_assoc done (Some (pair x y) ∷ []) (pairs pair xs ys)
-    ∙ (ap (λ (l : List A). done ++ pairs pair l (y ∷ ys)) (sym e) ∙ (ap (λ (l : List B). done ++ pairs pair rest l) (sym f) ∙ is))
-
-pub pairs_done : {A B C : Type 0} (pair : A → B → C) (done all : List (Option C)) (rest : List A) (others : List B) → rest ≡ [] → done ++ pairs pair rest others ≡ all → done ≡ all
-pairs_done {A} pair done all rest others e is = sym (append-nil done) ∙ (ap (λ (l : List A). done ++ pairs pair l others) (sym e) ∙ is)
 
 pub pairs_length : {A B C : Type 0} (pair : A → B → C) (xs : List A) (ys : List B) → length ys ≡ length xs → length (pairs pair xs ys) ≡ length xs
 pairs_length pair [] ys e = refl
@@ -219,10 +209,3 @@ blank_admitted words w n sights are e i t at =
   where
     blank : IsAdmitted (settings_of words) (table_of words) t → IsBlank words t
     blank a = record { one = (a.table, a.settings); nothing = a.nothing }
-
--- the participants lie behind the locks of a row that was told of their words
-pub values_again : (words w : SharedBoard) (n : ℕ) (histories : ℕ → List Event) (all : List (Option (Box Participant))) → AreBehind words n histories (unboxed all) → w ≡ words
-    → (p : ℕ) → p < length all → (x : Box Participant) × (slice_get all p ≡ Some (Some x)) × IsBehind w p x.value
-values_again words w n histories all are e p below =
-    let v = behind_values words n histories all are p below in
-    (v.0, v.1, subst (λ (b : SharedBoard). IsBehind b p v.0.value) (sym e) v.2)

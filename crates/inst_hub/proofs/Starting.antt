@@ -1,5 +1,5 @@
 -- A hub opens: the boards of its participants, one by one, and its tellers.
-use Rattle.std.proofs.Common.{◌≡◌, ℕ, suc, ◌<◌, ◌+◌, zero, List, [], ◌∷◌, ◌++◌, length, append-nil, append_assoc, length-append, sym, ap, ◌∙◌, subst, refl, arith, Some, None, ⊎_elim}
+use Rattle.std.proofs.Common.{◌≡◌, ℕ, suc, ◌<◌, ◌+◌, zero, List, [], ◌∷◌, ◌++◌, length, append_assoc, length-append, sym, ap, ◌∙◌, subst, refl, arith, Some, None, ⊎_elim}
 use Rattle.std.specs.Prelude.{slice_get, Option, Contains, is_some, true}
 use Rattle.std.specs.Global.{Box}
 use Rattle.inst_hub.specs.declared.outset.Outset.{Outset}
@@ -71,12 +71,6 @@ module _ (s : HubSettings) (id : TableId) (boards : List SharedBoard) (are : Are
   pub next_left : (before rest after : List SharedBoard) (b : SharedBoard) → before ++ rest ≡ boards → rest ≡ b ∷ after → before ++ b ∷ after ≡ boards
   next_left before rest after b e is = ap (λ (l : List SharedBoard). before ++ l) (sym is) ∙ e
 
-pub no_participants : AreParticipants [] []
-no_participants = record { enough = refl; each = λ p b e. absurd (none p b e) }
-  where
-    none : (p : ℕ) (b : SharedBoard) → slice_get {X = SharedBoard} [] p ≡ Some b → ⊥
-    none p b e = cc
-
 -- one more participant
 pub one_more : (boards : List SharedBoard) (all : List (Option Participant)) (b : SharedBoard) (n : ℕ) (x : Participant) → AreParticipants boards all
     → n ≡ length boards → IsBehind b n x → x.slot.events ≡ [] → AreParticipants (boards ++ b ∷ []) (all ++ Some x ∷ [])
@@ -92,10 +86,6 @@ one_more boards all b n x are is behind new = record {
       ))
       (snoc_cases boards b c p e);
 }
-
-pub all_participants : (boards yielded rest : List SharedBoard) (all : List (Option Participant)) → AreParticipants yielded all → yielded ++ rest ≡ boards → rest ≡ [] → AreParticipants boards all
-all_participants boards yielded rest all are e none =
-    subst (λ (l : List SharedBoard). AreParticipants l all) (sym (append-nil yielded) ∙ (ap (λ (l : List SharedBoard). yielded ++ l) (sym none) ∙ e)) are
 
 -- the sights are given to tellers in their order, the last one last
 pub next_sight : (before rest after all : List Sight) (t last : Sight) → before ++ (rest ++ last ∷ []) ≡ all → rest ≡ t ∷ after
@@ -215,13 +205,6 @@ behind_sights w n histories all are =
   where
     zero_first : (p : ℕ) → 0 + p ≡ p
     zero_first p = omega arith
-
-pub blank_sights : (s : HubSettings) (n : ℕ) (boards : List SharedBoard) (sights : List Sight) (first w : SharedBoard) → AreOpened s n boards sights → slice_get boards 0 ≡ Some first → w ≡ first → AreBlank w sights
-blank_sights s n boards sights first w opened at is i t there =
-    let o = opened.teller i t there in
-    let f = opened.board 0 first at in
-    let blank : IsBlank first t = record { one = (o.table ∙ sym f.table, o.settings ∙ sym f.settings); nothing = o.nothing } in
-    subst (λ (b : SharedBoard). IsBlank b t) (sym is) blank
 
 pub new_are_of : (h : Hub) (sights : List (Front Event)) (tellers : List Teller) → AreNew (row_id h.row) (key_of h.row) sights tellers → AreOf h tellers
 new_are_of h sights tellers new i t at = let n = new i t at in record { on = n.on; free = n.free; one = n.blank.one }

@@ -54,9 +54,6 @@ or_else-nothing : (o new : Option Outcome) → new ≡ None → or_else o new �
 or_else-nothing None new none = none
 or_else-nothing (Some outcome) new none = refl
 
-nothing_added : (n : ℕ) → n ≡ n + 0
-nothing_added n = omega arith
-
 credit_moved : (J : List Event) (from : ℕ) (id : List ℕ) (outcome : Outcome) → booked from id J ≡ None → (event : Event)
     → credit (J ++ Booked from id outcome ∷ []) event ≡ credit J event + cond (forwards from id event) (if_accepted (Some outcome) (coming event)) 0
 credit_moved J from id outcome none (Forwarded other_from other cents deadline) =

@@ -1,6 +1,6 @@
 //! What a journal has of a transfer: whether it was forwarded, what is booked of it, and the place of
 //! a live one of the participant's own.
-ghost use Rattle.std.specs.Prelude.{◌≡◌, ◌≤◌, position, slice_get, length};
+ghost use Rattle.std.specs.Prelude.{◌≡◌, position, slice_get};
 ghost use Rattle.inst_journal.specs.Booked.{takes, is_forwarded, booked};
 ghost use Rattle.inst_journal.specs.Opened.{live_taken, live_submissions};
 

@@ -1,7 +1,6 @@
 //! Worked rows of one participant's history, computed from the definitions.
-ghost use Rattle.std.specs.Prelude.{◌≡◌, List, [], ◌∷◌, ◌++◌, Some, None, Ok, codes};
+ghost use Rattle.std.specs.Prelude.{◌≡◌, [], ◌∷◌, ◌++◌, Some, None, Ok, codes};
 ghost use Rattle.inst_base.specs.declared.fault.Fault.{Fault};
-ghost use Rattle.inst_command.specs.declared.entry.Entry.{Entry};
 ghost use Rattle.inst_command.specs.declared.line.LineKind.{LineKind};
 ghost use Rattle.inst_command.specs.declared.outcome.Outcome.{Outcome};
 ghost use Rattle.inst_command.specs.declared.outcome.State.{State};

@@ -3,7 +3,7 @@ ghost use Rattle.std.specs.Prelude.{◌≡◌, true, IfOk};
 ghost use Rattle.inst_scan.specs.Fields.{fields_told};
 ghost use Rattle.inst_settings.specs.Settings.{is_participant, is_within_ceiling};
 ghost use Rattle.inst_command.specs.Ask.{ask_fits};
-ghost use Rattle.inst_json.specs.Commands.{funding_of, submit_of, received_of, reject_of, investigate_of, fetch_of, statement_of, command_of, ask_of};
+ghost use Rattle.inst_json.specs.Commands.{funding_of, submit_of, received_of, reject_of, investigate_of, fetch_of, statement_of, ask_of};
 
 use crate::asker::{Asker, KnownAsker, asker_of};
 use crate::checks::{amount, participant, time_stamp};

@@ -1,5 +1,5 @@
 //! From a reply to its line.
-ghost use Rattle.std.specs.Prelude.{◌≡◌, ◌++◌, Some, true, IfOk, IfErr, OnOk, codes, if◌then◌else◌};
+ghost use Rattle.std.specs.Prelude.{◌≡◌, Some, true, IfOk, IfErr, codes, if◌then◌else◌};
 ghost use Rattle.serde_json.specs.Written.{compact_text};
 ghost use Rattle.serde_json.specs.Read.{read};
 ghost use Rattle.inst_json.specs.Replies.{reply_data, reply_can_be_written, answer_data, new_data, answer_can_be_written};

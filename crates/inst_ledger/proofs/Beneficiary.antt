@@ -1,20 +1,16 @@
 -- The beneficiary of a participant's own transfer: what was sent with its submission tells it, and what a sound history
 -- does.
-use Rattle.std.proofs.Common.{◌≡◌, ℕ, Bool, true, false, cond, List, [], ◌∷◌, ◌++◌, Option, Some, None, is_some, IfSome, option_map, inl, inr, refl, sym, ap, subst, ◌∙◌, Contains}
-use Rattle.std.proofs.lemmas.List.Elements.{Contains-push_cases}
+use Rattle.std.proofs.Common.{◌≡◌, ℕ, Bool, true, false, cond, List, [], ◌∷◌, ◌++◌, Option, Some, None, IfSome, option_map, refl, sym, ap, subst, ◌∙◌}
 use Rattle.inst_settings.specs.Settings.{HubSettings, same_text, is_participant}
-use Rattle.inst_settings.proofs.Numbering.{same_text_refl}
 use Rattle.inst_journal.specs.declared.event.Event.{Event}
 use Rattle.inst_journal.specs.declared.event.Event.TheVariants.{Funded, Defunded, Taken, Forwarded, Booked, Fetched, Opened}
-use Rattle.inst_journal.specs.Booked.{or_else, first_some, takes, is_taken}
+use Rattle.inst_journal.specs.Booked.{or_else, first_some}
 use Rattle.inst_journal.specs.Sound.{Fits, IsSound}
-use Rattle.inst_journal.proofs.Finding.{nothing_there}
 use Rattle.inst_journal.proofs.Pushing.{first_some_push}
 use Rattle.inst_journal.proofs.Soundness.{sound_induction}
 use Rattle.inst_ledger.specs.declared.sending.Sending.{Sending}
 use Rattle.inst_ledger.specs.Kept.{sending_of}
 use Rattle.inst_ledger.specs.Beneficiary.{takes_to, beneficiary_of}
-use Rattle.inst_ledger.proofs.Tables.{none_of, any_first, some_cond}
 
 -- what is made of the first thing is the first of what is made of each
 made_or : {A B : Type 0} (make : A → B) (o p : Option A) → option_map make (or_else o p) ≡ or_else (option_map make o) (option_map make p)
@@ -47,19 +43,6 @@ pub beneficiary_found : (id : List ℕ) (J : List Event) (o : Option Sending) �
 beneficiary_found id J o found =
     ap (option_map to_of) (sym found) ∙ made_first to_of (sending_of id) (takes_to id) (sending_to id) J
 
-takes_one : (id : List ℕ) (event : Event) → takes id event ≡ is_some (takes_to id event)
-takes_one id (Taken other to cents stamp) = some_cond (same_text other id) to
-takes_one id (Funded reference cents) = refl
-takes_one id (Defunded reference cents) = refl
-takes_one id (Forwarded from other cents deadline) = refl
-takes_one id (Booked from other outcome) = refl
-takes_one id (Fetched count) = refl
-takes_one id Opened = refl
-
--- a submission is taken where it has a beneficiary
-pub taken_to_one : (id : List ℕ) (J : List Event) → is_taken id J ≡ is_some (beneficiary_of id J)
-taken_to_one id J = any_first (takes id) (takes_to id) (takes_one id) J
-
 -- one event more
 after : (id : List ℕ) (J : List Event) (event : Event) → beneficiary_of id (J ++ event ∷ []) ≡ or_else (beneficiary_of id J) (takes_to id event)
 after id J event = first_some_push (takes_to id) J event
@@ -89,21 +72,3 @@ pub beneficiary_participates : (s : HubSettings) (who : ℕ) (id : List ℕ) (J 
 beneficiary_participates s who id = sound_induction s who (λ J. IfSome (beneficiary_of id J) (Participates s)) tt
     (λ J event sound fits before. subst (λ (o : Option ℕ). IfSome o (Participates s)) (sym (after id J event))
     (either (Participates s) (beneficiary_of id J) (takes_to id event) before (takes_to_participant s who id J event fits)))
-
-taken_now : (s : HubSettings) (who : ℕ) (J : List Event) (id : List ℕ) (to cents stamp : ℕ) → Fits s who J (Taken id to cents stamp) → beneficiary_of id (J ++ Taken id to cents stamp ∷ []) ≡ Some to
-taken_now s who J id to cents stamp fits =
-    after id J (Taken id to cents stamp) ∙ ap (λ (o : Option ℕ). or_else o (takes_to id (Taken id to cents stamp))) (none_of (beneficiary_of id J) (sym (taken_to_one id J) ∙ fits.new))
-    ∙ ap (λ (b : Bool). cond b (Some to) None) (same_text_refl id)
-
--- the beneficiary of a taken submission is that of its event
-pub beneficiary_of_taken : (s : HubSettings) (who : ℕ) (id : List ℕ) (to cents stamp : ℕ) (J : List Event) → IsSound s who J → Contains J (Taken id to cents stamp) → beneficiary_of id J ≡ Some to
-beneficiary_of_taken s who id to cents stamp = sound_induction s who (λ J. Contains J taken → beneficiary_of id J ≡ Some to) (λ there. absurd (nothing_there taken there))
-    (λ J event sound fits before there. elim (Contains-push_cases J event taken there) [
-      | inl earlier ↦ after id J event ∙ ap (λ (o : Option ℕ). or_else o (takes_to id event)) (before earlier)
-      | inr now ↦
-          ap (λ (e : Event). beneficiary_of id (J ++ e ∷ [])) now
-          ∙ taken_now s who J id to cents stamp (subst (λ (e : Event). Fits s who J e) now fits)
-    ])
-  where
-    taken : Event
-    taken = Taken id to cents stamp

@@ -1,16 +1,16 @@
 -- What one more event does to the counts of live transfers and of fundings.
-use Rattle.std.proofs.Common.{◌≡◌, ℕ, ◌+◌, ◌≤◌, Bool, true, false, ◌||◌, ◌&&◌, cond, List, [], ◌∷◌, ◌++◌, length, Option, Some, None, is_none, sum_by, count_by, refl, sym, ap, ◌∙◌, arith}
+use Rattle.std.proofs.Common.{◌≡◌, ℕ, ◌+◌, ◌≤◌, Bool, true, false, ◌||◌, ◌&&◌, cond, List, [], ◌∷◌, ◌++◌, Option, Some, None, is_none, sum_by, count_by, refl, sym, ap, ◌∙◌, arith}
 use Rattle.std.specs.List.{list_any}
 use Rattle.std.specs.Cmp.Lexicographic.{same_text as text_same, nat_list_eq_equiv}
 use Rattle.std.proofs.lemmas.Bool.{eq-eqb, false≢true}
-use Rattle.std.proofs.lemmas.List.Sums.{sum_by-cons, count_by-le-length}
+use Rattle.std.proofs.lemmas.List.Sums.{sum_by-cons}
 use Rattle.inst_settings.specs.Settings.{HubSettings, same_text}
 use Rattle.inst_command.specs.declared.outcome.Outcome.{Outcome}
 use Rattle.inst_journal.specs.declared.event.Event.{Event}
 use Rattle.inst_journal.specs.declared.event.Event.TheVariants.{Funded, Defunded, Taken, Forwarded, Booked, Fetched, Opened}
 use Rattle.inst_journal.specs.Booked.{or_else, takes, is_taken, books, booked}
 use Rattle.inst_journal.specs.Keys.{is_funding, fundings}
-use Rattle.inst_journal.specs.Opened.{is_opening, carried, current, takes_live, live_submissions}
+use Rattle.inst_journal.specs.Opened.{is_opening, carried, current, takes_live}
 use Rattle.inst_journal.specs.Sound.{IsSound}
 use Rattle.inst_journal.proofs.Carrying.{current_push, current_opened, carried_unbooked}
 use Rattle.inst_journal.proofs.Counting.{count_push}
@@ -105,9 +105,3 @@ module _ (s : HubSettings) (who : ℕ) (J : List Event) (id : List ℕ) (outcome
       let both : sum_by (λ e. one_if (takes_live who (J ++ new ∷ []) e) + one_if (takes id e)) J ≡ count_by (takes_live who (J ++ new ∷ [])) J + count_by (takes id) J =
       sum_by-both (λ e. one_if (takes_live who (J ++ new ∷ []) e)) (λ e. one_if (takes id e)) J in
       omega (arith, pushed, same, both, taken_once s who id J sound, one_counted (takes id) J taken)
-
-pub waiting_within : (who : ℕ) (J : List Event) → unbooked who J ≤ length J
-waiting_within who J = count_by-le-length (takes_live who J) J
-
-pub live_within : (who : ℕ) (J : List Event) → live_submissions who J ≤ length J
-live_within who J = count_by-le-length (takes_live who (carried J)) J

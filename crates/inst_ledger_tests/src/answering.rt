@@ -7,7 +7,7 @@ ghost use Rattle.inst_journal.specs.Opened.{openings};
 use crate::asked::{Asks, command, outcome};
 use crate::comparing::{same, same_at};
 use crate::told::{Told, is_refused, is_reply};
-use inst_base::{Fault, Moment};
+use inst_base::Moment;
 use inst_command::{Ask, Outcome};
 use inst_journal::{Event, Handled, Journal, handle_command, reply_of};
 use inst_ledger::Ledger;

@@ -1,5 +1,5 @@
 -- What is answered to a line as it is held, at any hub.
-use Rattle.std.proofs.Common.{◌≡◌, ◌≢◌, inl, inr, ℕ, ◌<◌, ◌≤◌, Bool, true, false, cond, List, [], ◌∷◌, ◌++◌, length, ◌⊎◌, Result, Ok, Err, IfOk, OnOk, refl, sym, ap, subst, ◌∙◌}
+use Rattle.std.proofs.Common.{◌≡◌, ◌≢◌, inl, inr, ℕ, ◌≤◌, Bool, true, false, cond, List, [], ◌∷◌, ◌++◌, length, Result, Ok, Err, IfOk, OnOk, refl, sym, ap, subst, ◌∙◌}
 use Rattle.std.proofs.lemmas.Bool.{le-ltb}
 use Rattle.std.specs.declared.alloc.AllocError.{AllocError}
 use Rattle.serde_json.specs.Written.{compact_text}
@@ -30,7 +30,6 @@ use Rattle.inst_agenda.specs.Watching.{Watches}
 use Rattle.inst_model.specs.Trace.{answer as the_answer}
 use Rattle.inst_lines.specs.Limits.{most_line_bytes}
 use Rattle.inst_lines.specs.Lines.{newline}
-use Rattle.inst_lines.proofs.AnswersLemmas.{is_too_long-front}
 
 -- a line that is read whole is answered as one of any length
 whole : (mode : Mode) (old new : Runner) (line : List ℕ) (answer : Answer) → length line ≤ most_line_bytes → ((past : Past) → Keeps mode past old → answer ≡ line_answer mode past line)
@@ -65,16 +64,6 @@ script_whole old new line answer short r =
     (λ past of. r.told past of ∙ ap (λ s. script_answer past (step_of_line s line)) of.settings_are)
     (λ past of. subst (λ (p : Past). Keeps Play p new) (ap (λ s. after_script past (step_of_line s line)) of.settings_are) (r.after past of))
     r.same_settings r.can_be_written
-
--- a line that is too long is refused
-pub replies_too_long : (mode : Mode) (is_long : Bool) (runner : Runner) (part : List ℕ) → (is_long ≡ true) ⊎ (most_line_bytes < length part) → RepliesToLine mode is_long part runner runner (Reply (Refused LineTooLong))
-replies_too_long mode is_long runner part why = record {
-  told = λ past of front is_front. sym (ap (λ b. cond b (Reply (Refused LineTooLong)) (line_answer mode past (front ++ part))) (is_too_long-front is_long front part is_front why));
-  after = λ past of front is_front.
-      subst (λ (p : Past). Keeps mode p runner) (sym (ap (λ b. cond b past (after_line mode past (front ++ part))) (is_too_long-front is_long front part is_front why))) of;
-  same_settings = refl;
-  can_be_written = refl;
-}
 
 settings_kept : (mode : Mode) (past : Past) (runner : Runner) → Keeps mode past runner → settings_of runner.world ≡ past.settings
 settings_kept Run past runner of = of.settings_are
@@ -178,7 +167,3 @@ script_answered old new step value (Err fault) is runs can same = tt
 pub keeps_opened : (s : HubSettings) (runner : Runner) → settings_of runner.world ≡ s → Watches First [] runner.world runner.agenda → (mode : Mode) → Keeps mode (opened s) runner
 keeps_opened s runner settings watches Run = record { settings_are = settings; watches = watches }
 keeps_opened s runner settings watches Play = record { settings_are = settings; ran = watches.ran }
-
-pub if_both : {X : Type 0} (r : Result X Fault) (P Q : X → Type 0) → IfOk r P → IfOk r Q → IfOk r (λ x. P x × Q x)
-if_both (Ok x) P Q first second = (first, second)
-if_both (Err fault) P Q first second = tt

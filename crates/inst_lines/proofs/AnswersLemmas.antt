@@ -1,10 +1,8 @@
 -- Replies to one line more, at any world.
-use Rattle.std.proofs.Common.{◌≡◌, ℕ, ◌+◌, ◌<◌, Bool, true, false, cond, List, [], ◌∷◌, ◌++◌, ◌⊎◌, inl, inr, length, refl, sym, ap, ◌∙◌, arith, append_assoc, length-append}
-use Rattle.std.proofs.lemmas.Bool.{lt-ltb, false≢true}
+use Rattle.std.proofs.Common.{◌≡◌, ℕ, ◌+◌, cond, List, [], ◌∷◌, ◌++◌, refl, sym, ap, ◌∙◌, arith, append_assoc}
 use Rattle.std.proofs.lemmas.List.{append-nil}
 use Rattle.inst_lines.specs.Lines.{newline}
-use Rattle.inst_lines.specs.Answers.{Answerer, is_too_long, reply_to, state_after_line, is_refused, output, state_after, refusals, IsFront}
-use Rattle.inst_lines.specs.Limits.{most_line_bytes}
+use Rattle.inst_lines.specs.Answers.{Answerer, reply_to, state_after_line, is_refused, output, state_after, refusals}
 
 pub output-append : {S : Type 0} (a : Answerer S) (s : S) (xs ys : List (List ℕ)) → output a s (xs ++ ys) ≡ output a s xs ++ output a (state_after a s xs) ys
 output-append a s [] ys = refl
@@ -22,9 +20,3 @@ state_after-push a s (y ∷ xs) x = state_after-push a (state_after_line a s y) 
 pub refusals-push : {S : Type 0} (a : Answerer S) (s : S) (xs : List (List ℕ)) (x : List ℕ) → refusals a s (xs ++ x ∷ []) ≡ refusals a s xs + cond (is_refused a (state_after a s xs) x) 1 0
 refusals-push a s [] x = omega arith
 refusals-push a s (y ∷ xs) x = let h : _ ≡ _ = refusals-push a (state_after_line a s y) xs x in omega (arith, h)
-
--- a line is too long where its front was let go, or the part held is too long
-pub is_too_long-front : (is_long : Bool) (front part : List ℕ) → IsFront is_long front → (is_long ≡ true) ⊎ (most_line_bytes < length part) → is_too_long (front ++ part) ≡ true
-is_too_long-front true front part h why = lt-ltb _ _ (let long : most_line_bytes < length front = h.0 in omega (arith, length-append front part))
-is_too_long-front false front part h (inl is) = absurd (false≢true is)
-is_too_long-front false front part h (inr long) = lt-ltb _ _ (omega (arith, length-append front part))

@@ -1,5 +1,5 @@
 -- How far the telling of refused lines has come.
-use Rattle.std.proofs.Common.{◌≡◌, ℕ, ◌+◌, ◌<◌, ◌≤◌, List, [], ◌∷◌, ◌++◌, length, take, drop, refl, sym, ap, subst, ◌∙◌, arith, append_assoc}
+use Rattle.std.proofs.Common.{◌≡◌, ℕ, ◌+◌, ◌<◌, ◌≤◌, List, ◌∷◌, ◌++◌, length, take, drop, sym, ap, ◌∙◌, arith, append_assoc}
 use Rattle.std.proofs.lemmas.List.{append-nil, length-drop}
 use Rattle.inst_settings.specs.Settings.{HubSettings}
 use Rattle.inst_lines.specs.Check.{told_line, told_lines, told_of}
@@ -10,9 +10,6 @@ use Rattle.inst_lines.proofs.LinesLemmas.{lines_of-line, lines_of-part}
 pub record ToldFirst (s : HubSettings) (input rest : List ℕ) (n : ℕ) (before now : List ℕ) : Type 0 where
   pub told : now ++ told_lines s (n + 1) (lines_of rest) ≡ before ++ told_of s input
   pub few : n + length rest ≤ length input
-
-pub told-none : (s : HubSettings) (input before : List ℕ) → ToldFirst s input input 0 before before
-told-none s input before = record { told = refl; few = omega arith }
 
 pub told-line : (s : HubSettings) (input rest : List ℕ) (n len : ℕ) (before now new : List ℕ) → ToldFirst s input rest n before now → BreaksAt rest len
     → new ≡ now ++ told_line s (n + 1) (take len rest)
@@ -29,11 +26,6 @@ told-line s input rest n len before now new first breaks is =
           ∙ first.told;
       few = omega (arith, first.few, breaks.within, length-drop (len + 1) rest);
     }
-
-pub told-all : (s : HubSettings) (input rest : List ℕ) (n : ℕ) (before now : List ℕ) → ToldFirst s input rest n before now → rest ≡ []
-    → now ≡ before ++ told_of s input
-told-all s input rest n before now first none =
-    sym (append-nil now) ∙ ap (λ (r : List ℕ). now ++ told_lines s (n + 1) (lines_of r)) (sym none) ∙ first.told
 
 pub told-last : (s : HubSettings) (input rest : List ℕ) (n : ℕ) (before now new : List ℕ) → ToldFirst s input rest n before now → NoNewline rest → 0 < length rest
     → new ≡ now ++ told_line s (n + 1) rest → new ≡ before ++ told_of s input

@@ -3,17 +3,16 @@ use Rattle.std.proofs.Common.{◌≡◌, ◌∙◌, ℕ, Bool, true, false, List
 use Rattle.std.proofs.lemmas.List.{reverse-reverse}
 use Rattle.std.specs.Prelude.{if◌then◌else◌}
 use Rattle.inst_base.specs.declared.fault.Fault.{Fault}
-use Rattle.inst_settings.specs.Settings.{HubSettings, is_participant}
+use Rattle.inst_settings.specs.Settings.{HubSettings}
 use Rattle.inst_command.specs.declared.ask.Ask.{Ask}
 use Rattle.inst_command.specs.declared.step.Step.{Step}
-use Rattle.inst_journal.specs.declared.event.Event.{Event}
 use Rattle.inst_json.specs.Lines.{command_of_line, step_of_line}
 use Rattle.inst_model.specs.Hub.{history}
 use Rattle.inst_model.specs.Interleaving.{IsInterleaving}
 use Rattle.inst_model.specs.Opening.{IsOpening}
 use Rattle.inst_model.specs.Trace.{trace}
 use Rattle.inst_world.specs.HasRun.{Hub, settings_of, HasRun}
-use Rattle.inst_world.specs.Headline.{IsRun, KeepsTheHeadline}
+use Rattle.inst_world.specs.Headline.{IsRun}
 use Rattle.inst_world.proofs.Promising.{keeps_the_headline}
 use Rattle.inst_agenda.specs.declared.runner.Runner.{Runner}
 use Rattle.inst_lines.specs.declared.mode.Mode.{Mode}

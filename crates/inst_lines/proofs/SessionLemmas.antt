@@ -1,5 +1,5 @@
 -- How far a session has come after each of its steps, at any world.
-use Rattle.std.proofs.Common.{◌≡◌, ℕ, ◌+◌, ◌<◌, ◌≤◌, Bool, true, false, ◌||◌, nat_lt, List, [], ◌∷◌, ◌++◌, ◌⊎◌, inl, inr, ⊎_elim, Option, Result, Ok, Err, OnOk, OnErr, IfErr, length, take, drop, refl, sym, ap, subst, ◌∙◌, arith, length-append}
+use Rattle.std.proofs.Common.{◌≡◌, ℕ, ◌+◌, ◌<◌, ◌≤◌, Bool, true, false, ◌||◌, nat_lt, List, [], ◌∷◌, ◌++◌, ◌⊎◌, inl, inr, ⊎_elim, Option, Result, Ok, Err, OnErr, IfErr, length, take, drop, sym, ap, subst, ◌∙◌, arith, length-append}
 use Rattle.std.proofs.lemmas.Bool.{or_cases, or_parts, ltb-true, ltb-false}
 use Rattle.std.proofs.lemmas.List.{append-nil, nil_from_length, take_all}
 use Rattle.std.specs.Io.KnownBytes.{Appends, Consumes}
@@ -27,10 +27,6 @@ err_passed P r f p h = subst (λ (q : _). IfErr q P) (sym p.1) (subst P (sym p.2
 pub on_err : {T E P : Type 0} (r : Result T E) → P → OnErr r P
 on_err (Ok x) p = tt
 on_err (Err e) p = p
-
-pub on_ok : {T E P : Type 0} (r : Result T E) → P → OnOk r P
-on_ok (Ok x) p = p
-on_ok (Err e) p = tt
 
 module _ {S W : Type 0} (a : Answerer S) (holds : S → W → Type 0) where
   -- a line is answered and let go
@@ -127,23 +123,6 @@ module _ {S W : Type 0} (a : Answerer S) (holds : S → W → Type 0) where
   stops-line first s0 now0 old middle s s' now now' n d b t w = record {
     stops = λ start before bytes r. reached-stop start before bytes now now' middle s' (reached-line start before bytes now old middle s s' n (d.reaches start before bytes r) b t) w;
   }
-
-  -- the last line
-  pub answers-no_last : (old : Session) (s : W) → (old.input.is_long || nat_lt 0 (length (held old.input))) ≡ false → AnswersLast a holds old old s s
-  answers-no_last old s idle =
-      let parts : (old.input.is_long ≡ false) × (nat_lt 0 (length (held old.input)) ≡ false) = or_parts _ _ idle in
-      let none : length (held old.input) ≤ 0 = ltb-false _ _ parts.1 in
-      let empty : held old.input ≡ [] = nil_from_length _ (omega arith) in
-      record {
-        ends = λ start before bytes now r. record {
-          state = r.state;
-          is_held = r.is_held;
-          closed = bytes;
-          progress = subst (λ (h : List ℕ). Progress a start before bytes now old.replies.bytes.items r.state false h old.counts.lines old.counts.refused) empty
-              (subst (λ (l : Bool). Progress a start before bytes now old.replies.bytes.items r.state l (held old.input) old.counts.lines old.counts.refused) parts.0 r.progress);
-          same_lines = refl;
-        };
-      }
 
   in_line_cases : (l : Bool) (n : ℕ) → (l || nat_lt 0 n) ≡ true → (l ≡ true) ⊎ (0 < n)
   in_line_cases l n h = ⊎_elim (λ (is : l ≡ true). inl is) (λ (is : nat_lt 0 n ≡ true). inr (ltb-true _ _ is)) (or_cases _ _ h)

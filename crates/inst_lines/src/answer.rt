@@ -5,8 +5,8 @@ ghost use Rattle.inst_json.specs.Replies.{answer_data, answer_can_be_written};
 ghost use Rattle.inst_json.specs.Lines.{command_of_line, step_of_line};
 ghost use Rattle.inst_lines.specs.Lines.{newline};
 ghost use Rattle.inst_lines.specs.Answers.{AnswersLine};
-ghost use Rattle.inst_lines.specs.Answering.{Keeps, Past, is_refusal, answering};
-ghost use Rattle.inst_lines.specs.Answering.{command_answer, after_command, script_answer, after_script, line_answer, after_line};
+ghost use Rattle.inst_lines.specs.Answering.{Keeps, is_refusal, answering};
+ghost use Rattle.inst_lines.specs.Answering.{command_answer, after_command, script_answer, after_script};
 ghost use Rattle.inst_lines.specs.inner.Answering.{RepliesToLine, RepliesToRead};
 
 use crate::line_buffer::is_too_long;

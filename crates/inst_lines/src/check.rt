@@ -1,8 +1,7 @@
 //! What is wrong with lines by themselves, before any hub answers them.
-ghost use Rattle.std.specs.Prelude.{◌≡◌, ◌<◌, ◌⊎◌, ◌++◌, OnOk, IfOk, IfErr, IfSome, OnErr};
+ghost use Rattle.std.specs.Prelude.{◌≡◌, ◌⊎◌, ◌++◌, OnOk, IfOk, IfErr, IfSome, OnErr};
 ghost use Rattle.std.specs.Io.KnownBytes.{Appends, IsAtEnd};
-ghost use Rattle.inst_lines.specs.Check.{refusal_of, refusal_text, field_text, told_line, told_lines, told_of, TellsPart};
-ghost use Rattle.inst_lines.specs.Lines.{lines_of};
+ghost use Rattle.inst_lines.specs.Check.{refusal_of, refusal_text, field_text, told_line, told_of, TellsPart};
 
 use crate::limits::MOST_LINE_BYTES;
 use crate::line_buffer::find_newline;

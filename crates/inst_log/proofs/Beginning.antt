@@ -127,16 +127,6 @@ begins_split settings file begins =
           ∙ append_assoc (blocks lines) (blocks more) end,
     )
 
--- a file that stands for the same lines
-pub same_alike : (settings old c : List ℕ) → Begins settings old → recovered c ≡ recovered old → OpensAlike settings old c
-same_alike settings old c begins same =
-    let lines : kept settings c ≡ kept settings old = ap (drop (length (recovered settings))) same in
-    record { lines = lines; opens = λ _. inl (same ∙ begins ∙ ap (λ (ls : List (List ℕ)). recovered settings ++ ls) (sym lines)) }
-
--- the very file
-pub self_alike : (settings old c : List ℕ) → c ≡ old → OpensAlike settings old c
-self_alike settings old c same = record { lines = ap (kept settings) same; opens = λ o. subst (Opens settings) (sym same) o }
-
 -- the test of the first bytes, either way
 pub begins_test : (settings file front : List ℕ) (r : Bool) → IsBatch settings → front ≡ take (length settings - 1) settings
     → r ≡ pointwise nat_eq front (take (length front) file) → MatchBool r (Begins settings file) (Begins settings file → ⊥)

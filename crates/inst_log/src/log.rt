@@ -1,5 +1,5 @@
 //! Whole lines and a closed byte. It is closed on the disk before anything is written behind it.
-ghost use Rattle.std.specs.Prelude.{◌≡◌, ◌<◌, ◌≤◌, ◌+◌, ◌^◌, ◌++◌, List, ℕ, length, IsTrue, IfErr, OnOk};
+ghost use Rattle.std.specs.Prelude.{◌≡◌, ◌≤◌, ◌+◌, ◌^◌, ◌++◌, List, ℕ, length, IsTrue, IfErr, OnOk};
 ghost use Rattle.sqlite_disk.specs.Disk.{MoreFaults};
 ghost use Rattle.inst_log.specs.Layout.{recovered, blocks, IsBatch};
 ghost use Rattle.inst_log.specs.Log.{IsSettled, IsBeforeOrAfter, IsAtStage, HasCause};

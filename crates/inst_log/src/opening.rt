@@ -1,5 +1,5 @@
 //! A log is opened with the settings that it begins with, or made with them. Any other file is left as it is.
-ghost use Rattle.std.specs.Prelude.{◌≡◌, ◌≢◌, ◌⊎◌, ◌<◌, ◌≤◌, ◌+◌, ◌++◌, [], ◌∷◌, List, ℕ, length, take, IsTrue, IfOk, IfErr, OnOk, MatchBool, ⊤};
+ghost use Rattle.std.specs.Prelude.{◌≡◌, ◌≢◌, ◌≤◌, ◌+◌, ◌++◌, [], ◌∷◌, List, ℕ, length, take, IsTrue, IfOk, IfErr, OnOk, MatchBool, ⊤};
 ghost use Rattle.sqlite_disk.specs.Disk.{Only, MoreFaults, CountsFault};
 ghost use Rattle.inst_log.specs.Layout.{recovered, blocks, IsBatch};
 ghost use Rattle.inst_log.specs.Log.{IsSettled, HasCause};

@@ -1,16 +1,16 @@
 -- Lines of a log are answered one by one.
-use Rattle.std.proofs.Common.{◌≡◌, ℕ, ◌≤◌, ◌-◌, Bool, false, List, [], ◌∷◌, ◌++◌, map, length, take, drop, ◌+◌, append_assoc, length-append, refl, sym, ap, subst, ◌∙◌, arith}
-use Rattle.std.proofs.lemmas.List.{append-nil, map-append, drop_at, take_at, drop_all, take_all}
+use Rattle.std.proofs.Common.{◌≡◌, ℕ, ◌-◌, Bool, false, List, [], ◌∷◌, ◌++◌, map, length, take, drop, ◌+◌, append_assoc, length-append, refl, sym, ap, subst, ◌∙◌, arith}
+use Rattle.std.proofs.lemmas.List.{append-nil, map-append}
 use Rattle.inst_agenda.specs.declared.runner.Runner.{Runner}
 use Rattle.inst_lines.specs.declared.mode.Mode.{Mode}
 use Rattle.inst_lines.specs.Answers.{Answerer, AnswersLine, output, state_after, state_after_line}
 use Rattle.inst_lines.specs.Answering.{Past, Keeps, answering}
 use Rattle.inst_lines.proofs.AnswersLemmas.{output-append}
 use Rattle.inst_log.specs.Escape.{line_of}
-use Rattle.inst_log.specs.Serving.{Replies, SaysOn}
+use Rattle.inst_log.specs.Serving.{SaysOn}
 use Rattle.inst_log.specs.Layout.{recovered}
 use Rattle.inst_logged.specs.Answering.{replies_at, past_after, SaysLines}
-use Rattle.inst_logged.specs.inner.Answering.{AnswersLines, AnswersFront, AnswersNext, AnswersFirst}
+use Rattle.inst_logged.specs.inner.Answering.{AnswersLines, AnswersFront, AnswersNext}
 
 pub answers_none : (mode : Mode) (runner : Runner) (out : List ℕ) → AnswersLines mode runner runner out out []
 answers_none mode runner out = record { replies = λ past of. sym (append-nil out); state = λ past of. of }
@@ -44,10 +44,6 @@ answers_join mode old mid new out out' out'' done more so next = record {
       (next.state (past_after mode past done) (so.state past of));
 }
 
--- nothing was answered yet
-pub front_none : (mode : Mode) (runner : Runner) (out batch : List ℕ) → AnswersFront mode runner runner out out batch batch
-front_none mode runner out batch = record { done = []; split = refl; answered = answers_none mode runner out }
-
 pub front_more : (mode mode' : Mode) (old mid new : Runner) (out out' out'' batch rest : List ℕ) (n : ℕ) → mode' ≡ mode → AnswersFront mode old mid out out' batch rest
     → AnswersNext mode' mid new out' out'' rest n → AnswersFront mode old new out out'' batch (drop n rest)
 front_more mode mode' old mid new out out' out'' batch rest n same f next =
@@ -73,34 +69,6 @@ front_next mode mode' old mid new out out' out'' batch rest n k same f next =
       },
       omega (arith, f.1, length-append f.0.done line),
     )
-
--- no line is left
-pub front_all : (mode : Mode) (old new : Runner) (out out' batch rest : List ℕ) → AnswersFront mode old new out out' batch rest → recovered rest ≡ []
-    → AnswersLines mode old new out out' (recovered batch)
-front_all mode old new out out' batch rest f none =
-    subst (λ (ls : List (List ℕ)). AnswersLines mode old new out out' ls)
-    (sym (append-nil f.done) ∙ ap (λ (ls : List (List ℕ)). f.done ++ ls) (sym none) ∙ f.split) f.answered
-
--- so many are done
-pub front_first : (mode : Mode) (old new : Runner) (out out' batch rest : List ℕ) (start count : ℕ) → (f : AnswersFront mode old new out out' batch rest) → length f.done ≡ count
-    → start ≤ length batch → drop start batch ≡ rest → AnswersFirst mode old new out out' batch start count
-front_first mode old new out out' batch rest start count f many within left = record {
-  within = within;
-  rest = ap recovered left ∙ sym (drop_at f.done (recovered rest) count many) ∙ ap (drop count) f.split;
-  answered = subst (λ (ls : List (List ℕ)). AnswersLines mode old new out out' ls) (sym (take_at f.done (recovered rest) count many) ∙ ap (take count) f.split) f.answered;
-}
-
--- all were told
-pub all_first : (mode : Mode) (old new : Runner) (out out' batch : List ℕ) → AnswersLines mode old new out out' (recovered batch)
-    → AnswersFirst mode old new out out' batch (length batch) (length (recovered batch))
-all_first mode old new out out' batch so = record {
-  within = omega arith;
-  rest = ap recovered (drop_all (length batch) batch (omega arith)) ∙ sym (drop_all (length (recovered batch)) (recovered batch) (omega arith));
-  answered = subst (λ (ls : List (List ℕ)). AnswersLines mode old new out out' ls) (sym (take_all (length (recovered batch)) (recovered batch) (omega arith))) so;
-}
-
-pub says_so : (mode : Mode) (old new : Runner) (out out' : List ℕ) (lines : List (List ℕ)) → AnswersLines mode old new out out' lines → (replies : Replies) → SaysLines mode old replies → out' ≡ out ++ replies lines
-says_so mode old new out out' lines so replies said = so.replies said.past said.keeps ∙ ap (λ (l : List ℕ). out ++ l) (sym (said.are lines))
 
 pub says_on : (mode : Mode) (old new : Runner) (out out' : List ℕ) (lines : List (List ℕ)) → AnswersLines mode old new out out' lines → SaysOn (SaysLines mode old) lines (SaysLines mode new)
 says_on mode old new out out' lines so replies said =

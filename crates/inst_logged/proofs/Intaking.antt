@@ -52,13 +52,6 @@ module _ (part held read : List ℕ) (same : held ≡ cut part) (none : NoNewlin
   pub rest_taken : cut (rest_from [] (held ++ read)) ≡ cut (rest_from part read)
   rest_taken = ap cut (rest_beyond [] held read none) ∙ rest_alike held part read alike
 
-last_cut : (part : List ℕ) → map raw_of (last_line (cut part)) ≡ map logged (last_line part)
-last_cut [] = refl
-last_cut (b ∷ part) = refl
-
-pub last_taken : (part held : List ℕ) → held ≡ cut part → map raw_of (last_line held) ≡ map logged (last_line part)
-last_taken part held same = ap (λ (l : List ℕ). map raw_of (last_line l)) same ∙ last_cut part
-
 -- a suffix of a suffix
 pub suffix_more : (bytes rest : List ℕ) (n : ℕ) → drop (length bytes - length rest) bytes ≡ rest → length rest ≤ length bytes → n ≤ length rest
     → drop (length bytes - length (drop n rest)) bytes ≡ drop n rest

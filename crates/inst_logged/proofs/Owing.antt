@@ -1,22 +1,14 @@
 -- What is owed once a log was opened and its lines were answered again.
-use Rattle.std.proofs.Common.{◌≡◌, ℕ, List, [], ◌++◌, Option, length, take, drop, append_assoc, refl, sym, ◌∙◌, ap}
+use Rattle.std.proofs.Common.{◌≡◌, ℕ, List, [], ◌++◌, length, take, drop, append_assoc, refl, sym, ◌∙◌, ap}
 use Rattle.std.proofs.lemmas.List.{append-nil, drop_at, take-append-drop}
 use Rattle.inst_lines.specs.declared.mode.Mode.{Mode}
 use Rattle.inst_lines.specs.Answering.{Past, Keeps}
 use Rattle.inst_agenda.specs.declared.runner.Runner.{Runner}
 use Rattle.inst_log.specs.Serving.{Replies, SaysOn}
-use Rattle.inst_log.specs.inner.Serving.{TellsPart}
-use Rattle.inst_log.proofs.WriteLemmas.{Appends-keeps, Keeps-same}
 use Rattle.inst_logged.specs.Answering.{replies_at, SaysLines}
 use Rattle.inst_logged.specs.Logged.{Are, owed}
 
 module _ (mode : Mode) (past : Past) (first : List (List ℕ)) (n : ℕ) where
-  these : Replies
-  these = replies_at mode past
-
-  debts : Replies → Type 0
-  debts = Are (owed mode past first n)
-
   -- the hub that opened says just these
   pub says_these : (runner : Runner) → Keeps mode past runner → SaysLines mode runner (replies_at mode past)
   says_these runner keeps = record { past = past; keeps = keeps; are = λ lines. refl }
@@ -57,6 +49,3 @@ module _ (mode : Mode) (past : Past) (first : List (List ℕ)) (n : ℕ) where
       (next g on.1).1,
       λ more. are more ∙ owed_is more ∙ ap (λ (l : List ℕ). l ++ h more) (sym (owed_none none) ∙ sym (are [])),
     )
-
-  pub tells_none : (now : Option (List ℕ)) → TellsPart (Are (owed mode past first n)) [] now now
-  tells_none now = record { told = []; handed = Appends-keeps now now (Keeps-same now); front = λ f said. (f [], refl) }

@@ -1,5 +1,5 @@
 ghost use Rattle.std.specs.Prelude.{◌≡◌};
-ghost use Rattle.inst_logged.specs.declared.error.LoggedError.TheVariants.{Log, Read};
+ghost use Rattle.inst_logged.specs.declared.error.LoggedError.TheVariants.{Log};
 ghost use Rattle.inst_log.specs.declared.error.LogError.TheVariants.{Memory};
 
 use inst_log::LogError;

@@ -1,5 +1,5 @@
 //! The line with which a log begins.
-ghost use Rattle.std.specs.Prelude.{◌≡◌, ◌++◌, ◌∷◌, [], None, true, false, nat_lt, IfOk, OnOk, string_bytes};
+ghost use Rattle.std.specs.Prelude.{◌≡◌, ◌++◌, ◌∷◌, [], true, false, nat_lt, IfOk, OnOk, string_bytes};
 ghost use Rattle.inst_settings.specs.Settings.{is_participant};
 ghost use Rattle.inst_command.specs.LineText.{code_numbered};
 ghost use Rattle.inst_log.specs.Layout.{recovered, IsBatch, IsWhole};

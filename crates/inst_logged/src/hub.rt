@@ -1,5 +1,5 @@
 //! A hub with a log: its opening, and whole runs of lines.
-ghost use Rattle.std.specs.Prelude.{◌≡◌, ◌≤◌, ◌<◌, ◌++◌, [], List, ℕ, length, take, drop, IsTrue, IfOk, IfErr, OnOk, MatchBool, MatchOption};
+ghost use Rattle.std.specs.Prelude.{◌≡◌, ◌++◌, [], List, ℕ, IsTrue, IfOk, IfErr, OnOk, MatchBool};
 ghost use Rattle.std.specs.Io.KnownBytes.{IsAtEnd};
 ghost use Rattle.sqlite_disk.specs.Disk.{Only};
 ghost use Rattle.inst_log.specs.Layout.{recovered, IsBatch, NoNewline};

@@ -1,5 +1,5 @@
 //! Hubs with logs on disks in memory, and what they write.
-ghost use Rattle.std.specs.Prelude.{◌≡◌, ◌≤◌, length, OnOk, IfSome, IsTrue};
+ghost use Rattle.std.specs.Prelude.{◌≤◌, length, OnOk, IfSome, IsTrue};
 ghost use Rattle.sqlite_disk.specs.Disk.{Only};
 
 use inst_lines::{Mode, play_lines, run_lines};

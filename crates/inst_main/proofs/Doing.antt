@@ -36,11 +36,6 @@ unkept words unread unwritten untouched fails (ending.Fault fault) named both is
 unkept words unread unwritten untouched fails (ending.Log fault) named both is = (named, λ refused. both (is refused))
 unkept words unread unwritten untouched fails ending.Unexplained named both is = absurd is
 
-pub unkept_err : {A : Type 0} (words : List (List ℕ)) (unread unwritten untouched : Type 0) (fails : Fault → Type 0) (r : Result A Ending) → NameALog words →
-    (untouched → unread × unwritten) → IfErr r (IsUnkept untouched) → IfErr r (IsEnding words unread unwritten fails)
-unkept_err words unread unwritten untouched fails (Ok x) named both is = tt
-unkept_err words unread unwritten untouched fails (Err e) named both is = unkept words unread unwritten untouched fails e named both is
-
 -- lines weren't answered
 unanswered : (words : List (List ℕ)) (mode : Mode) (s : HubSettings) (log : Option LogOptions) (unread unwritten : Type 0)
     (left left' held held' : Option (List ℕ)) (e : Ending) → IsSettings s → AreWhole words → AreChosen words (task_of mode) s → NameTheLog words log →

@@ -1,5 +1,5 @@
 -- What the program does as the words ask for, and what it leaves by its exit status.
-use Rattle.std.proofs.Common.{◌≡◌, ◌⊎◌, inl, inr, ℕ, List, Option, Result, Ok, Err, IfErr, IsErrAnd, refl, sym, subst, arith}
+use Rattle.std.proofs.Common.{◌≡◌, ◌⊎◌, inl, inr, ℕ, List, Option, refl, subst, arith}
 use Rattle.inst_base.specs.declared.fault.Fault.{Fault}
 use Rattle.inst_base.specs.declared.fault.Fault.TheVariants.{BadSettings, Memory, WriteFault}
 use Rattle.inst_lines.specs.Answers.{Answerer}
@@ -7,13 +7,10 @@ use Rattle.inst_lines.specs.Session.{Leaves}
 use Rattle.clap.specs.Words.{IsAmong, kind_of}
 use Rattle.clap.specs.declared.error.kind.ErrorKind.{ErrorKind}
 use Rattle.clap.specs.declared.error.kind.ErrorKind.TheVariants.{DisplayHelp, DisplayVersion}
-use Rattle.inst_faults.specs.LogFault.{status_of_log}
-use Rattle.inst_faults.specs.declared.log_fault.LogFault.{LogFault}
-use Rattle.inst_faults.specs.declared.log_fault.LogFault.TheVariants.{DiskFault}
 use Rattle.inst_options.specs.Asking.{AreUnfit, AreWrong, AskForHelp, IsNoWish, IsRefusal, NameALog, faults_of}
 use Rattle.inst_options.specs.declared.error.WordsError.{WordsError}
 use Rattle.inst_options.specs.declared.error.WordsError.TheVariants as error
-use Rattle.inst_main.specs.Program.{status_of, status_of_ending, status_of_error, status_of_kind, AreRefused, AskForADrill, AskForAnExplanation, NameNoFault, IsEnding, IsUnkept, FailsAtLines}
+use Rattle.inst_main.specs.Program.{status_of, status_of_ending, status_of_error, status_of_kind, AreRefused, AskForADrill, AskForAnExplanation, NameNoFault, IsEnding, FailsAtLines}
 use Rattle.inst_main.specs.declared.ending.Ending.{Ending}
 use Rattle.inst_main.specs.declared.ending.Ending.TheVariants as ending
 use Rattle.inst_main.proofs.Refusing.{refused}
@@ -24,12 +21,6 @@ served S K C U H D (inl s) = inl s
 served S K C U H D (inr (inl k)) = inr (inl k)
 served S K C U H D (inr (inr (inl c))) = inr (inr (inl c))
 served S K C U H D (inr (inr (inr (u, d)))) = inr (inr (inr (u, inr d)))
-
--- want of memory before a run with a log
-pub unkept_memory : {A : Type 0} (untouched : Type 0) (r : Result A Ending) (fault : Fault) → IsErrAnd r (λ e. e ≡ ending.Fault fault) → fault ≡ Memory → IfErr r (IsUnkept untouched)
-unkept_memory untouched (Ok x) fault is memory = tt
-unkept_memory untouched (Err e) fault is memory =
-    subst (IsUnkept untouched) (sym is) (λ bad. let no : ⊥ = cc (memory, bad) in no)
 
 only_settings : (fault : Fault) → status_of fault ≡ 2 → fault ≡ BadSettings
 only_settings BadSettings is = refl
@@ -57,17 +48,8 @@ no_fault_is_zero : (fault : Fault) → status_of fault ≡ 0 → ⊥
 no_fault_is_zero BadSettings is = two_is_not_zero is
 no_fault_is_zero _ is = three_is_not_zero is
 
-no_log_fault_is_zero : (fault : LogFault) → status_of_log fault ≡ 0 → ⊥
-no_log_fault_is_zero DiskFault is = three_is_not_zero is
-no_log_fault_is_zero _ is = two_is_not_zero is
-
 -- words whose task wasn't done
 module _ (words : List (List ℕ)) (unread unwritten : Type 0) (left left' held held' : Option (List ℕ)) where
-  pub never_zero : (e : Ending) → status_of_ending e ≡ 0 → ⊥
-  never_zero (ending.Fault fault) is = no_fault_is_zero fault is
-  never_zero (ending.Log fault) is = no_log_fault_is_zero fault is
-  never_zero ending.Unexplained is = two_is_not_zero is
-
   of_failed : (fault : Fault) → fault ≡ BadSettings → (fault ≡ Memory) ⊎ (fault ≡ WriteFault) → ⊥
   of_failed fault bad (inl memory) = cc (memory, bad)
   of_failed fault bad (inr write) = cc (write, bad)

@@ -49,10 +49,6 @@ pub or_else_cases : {A : Type 0} (o p : Option A) (x : A) → or_else o p ≡ So
 or_else_cases None p x e = inr (refl, e)
 or_else_cases (Some y) p x e = inl e
 
-pub or_else_none_parts : {A : Type 0} (o p : Option A) → or_else o p ≡ None → (o ≡ None) × (p ≡ None)
-or_else_none_parts None p e = (refl, e)
-or_else_none_parts (Some y) p e = cc
-
 -- what holds of each element, by recursion
 abbrev pub Each : {A : Type 0} → (A → Type 0) → List A → Type 0
 Each P xs = AllByRecursion P xs

@@ -1,10 +1,8 @@
 -- The replies to a participant are made from its view alone.
-use Rattle.std.proofs.Common.{◌≡◌, ℕ, Bool, true, false, cond, eqb, List, [], ◌∷◌, ◌++◌, Option, refl, sym, ap, ◌∙◌}
+use Rattle.std.proofs.Common.{◌≡◌, ℕ, Bool, true, false, cond, eqb, List, [], ◌∷◌, ◌++◌, refl, sym, ap, ◌∙◌}
 use Rattle.std.proofs.lemmas.Bool.{eqb-true}
 use Rattle.inst_model.specs.Opening.{Opening, beginning}
 use Rattle.inst_settings.specs.Settings.{HubSettings}
-use Rattle.inst_command.specs.declared.ask.Ask.{Ask as AskValue}
-use Rattle.inst_command.specs.declared.outcome.Outcome.{Outcome}
 use Rattle.inst_command.specs.declared.step.Step.{Step}
 use Rattle.inst_command.specs.declared.step.Step.TheVariants.{Ask, Deliver, Learn, Expire}
 use Rattle.inst_command.specs.declared.reply.Answer.{Answer}
@@ -36,10 +34,6 @@ replies_on-append s p J (Asked command at found ∷ v) w =
     ap (λ rest. Reply (as_reply (reply s p J command at found)) ∷ rest) (replies_on-append s p (J ++ kept s p J (Asked command at found)) v w)
 replies_on-append s p J (Came from id cents deadline ∷ v) w = replies_on-append s p (J ++ kept s p J (Came from id cents deadline)) v w
 replies_on-append s p J (Told from id o ∷ v) w = replies_on-append s p (J ++ kept s p J (Told from id o)) v w
-
--- the answer to an ask of the participant `who`, read by its own number p
-answer_to : HubSettings → (ℕ → List Event) → (ℕ → List ℕ → Option Outcome) → AskValue → ℕ → Answer
-answer_to s J after ask p = Reply (as_reply (reply s p (J p) ask.command ask.at (found after p (J p) ask.command)))
 
 own_is : (s : HubSettings) (O : Opening) (past : List Step) (step : Step) (p : ℕ) → own_answer s O past step p ≡ replies_on s p (history s O past p) (sees s (history s O past) (outcome s O past) (decided s (history s O past) (outcome s O past) step) step p)
 own_is s O past (Ask ask) p = at_ask (eqb ask.who p) refl

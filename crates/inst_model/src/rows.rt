@@ -1,8 +1,6 @@
 //! Worked rows, computed from the definitions.
-ghost use Rattle.std.specs.Prelude.{◌≡◌, pos, true, false, List, [], ◌∷◌, ◌++◌, Some, None, reverse, codes};
+ghost use Rattle.std.specs.Prelude.{◌≡◌, pos, true, false, [], ◌∷◌, Some, reverse, codes};
 ghost use Rattle.inst_base.specs.declared.fault.Fault.{Fault};
-ghost use Rattle.inst_command.specs.declared.entry.Entry.{Entry};
-ghost use Rattle.inst_command.specs.declared.line.Line.{Line};
 ghost use Rattle.inst_command.specs.declared.line.LineKind.{LineKind};
 ghost use Rattle.inst_command.specs.declared.outcome.Outcome.{Outcome};
 ghost use Rattle.inst_command.specs.declared.outcome.State.{State};

@@ -1,7 +1,6 @@
 -- A participant serves an ask: its history grows, and the ticket is that of the reply.
-use Rattle.std.proofs.Common.{◌≡◌, ℕ, List, [], ◌∷◌, ◌++◌, append-nil, ⊎_elim, sym, ap, ◌∙◌, subst, Option, Some, None, Bool, inl, inr, refl}
+use Rattle.std.proofs.Common.{◌≡◌, ℕ, List, [], ◌∷◌, ◌++◌, append-nil, ⊎_elim, sym, ap, ◌∙◌, subst, Option, Some, None}
 use Rattle.std.specs.Prelude.{Result}
-use Rattle.std.specs.declared.alloc.AllocError.{AllocError}
 use mathlib.Core.List.{IsPrefix}
 use Rattle.inst_base.specs.declared.fault.Fault.{Fault}
 use Rattle.inst_settings.specs.Settings.{HubSettings}
@@ -12,9 +11,7 @@ use Rattle.inst_command.specs.declared.reply.Reply.TheVariants.{Done, Taken, Sta
 use Rattle.inst_board.specs.declared.place.Place.{Place}
 use Rattle.inst_board.specs.declared.wish.Wish.{Wish}
 use Rattle.inst_board.specs.declared.about.Fact.{Fact}
-use Rattle.inst_command.specs.declared.entry.Entry.{Entry}
 use Rattle.inst_journal.specs.declared.event.Event.{Event}
-use Rattle.inst_journal.specs.declared.event.Event.TheVariants.{Forwarded}
 use Rattle.inst_journal.specs.Sound.{IsSound}
 use Rattle.inst_journal.specs.Reply.{handle, told as told_of, kept_events}
 use Rattle.inst_model.specs.Trace.{as_reply}
@@ -22,17 +19,12 @@ use Rattle.inst_cell.specs.declared.sight.Sight.{Sight}
 use Rattle.inst_cell.specs.Held.{settings_of, knows, has_role}
 use Rattle.inst_cell.specs.Seen.{sees}
 use Rattle.inst_slot.specs.Book.{Book, place_of}
-use Rattle.inst_slot.specs.Telling.{delivery, with_delivery, lesson, with_event}
-use Rattle.inst_slot.proofs.Learning.{teaches}
 use Rattle.inst_slot.specs.Asking.{request, handle_ask, Applies, AppliesTo}
 use Rattle.inst_participant.specs.declared.participant.Participant.{Participant}
 use Rattle.inst_participant.specs.Behind.{IsReady}
 use Rattle.inst_participant.specs.Answers.{Answered, IsTicket}
 use Rattle.inst_participant.specs.inner.Telling.{IsToldBy}
-use Rattle.inst_participant.specs.declared.follow_up.Errand.{Errand}
-use Rattle.inst_participant.specs.declared.follow_up.Errand.TheVariants.{Deliver, Learn}
-use Rattle.inst_participant.specs.Following.{Does}
-use Rattle.inst_participant.specs.Told.{IsTold, IsToldMore}
+use Rattle.inst_participant.specs.Told.{IsToldMore}
 use Rattle.inst_participant.proofs.Ticketing.{IsReplied, ticket_taken, ticket_state}
 
 prefix_still : (J K : List Event) → K ≡ J → IsPrefix J K
@@ -85,23 +77,6 @@ its_ticket x y u ask reply ticket ready same_who same_settings own sound answere
     go (Statement lines) t rep = t
     go (Refused fault) t rep = t
 
--- a delivery or a lesson tells one event more, if any
-pub told_one : (errand : Errand) (x : Participant) (k : Place) (result : Result Bool AllocError) (y : Participant) → Does errand x k result y → IsToldMore x.slot.events y.slot.events
-told_one Deliver x k result y (look, shows, keeps) = ⊎_elim
-    (λ kept. delivered (delivery x.slot k look) (ap (λ (b : Book). b.events) kept.1))
-    (λ refused. inl (ap (λ (b : Book). b.events) refused.1)) keeps
-  where
-    delivered : (entry : Option Entry) → y.slot.events ≡ (with_delivery x.slot k entry).events → IsToldMore x.slot.events y.slot.events
-    delivered None e = inl e
-    delivered (Some entry) e = inr (Forwarded entry.from entry.id entry.cents entry.deadline, tt, e)
-told_one Learn x k result y (look, shows, keeps) = ⊎_elim
-    (λ kept. learnt (lesson x.slot k look) refl (ap (λ (b : Book). b.events) kept.1))
-    (λ refused. inl (ap (λ (b : Book). b.events) refused.1)) keeps
-  where
-    learnt : (event : Option Event) → lesson x.slot k look ≡ event → y.slot.events ≡ (with_event x.slot event).events → IsToldMore x.slot.events y.slot.events
-    learnt None is e = inl e
-    learnt (Some event) is e = inr (event, subst IsTold (sym (teaches x.slot k look event is).event_is) tt, e)
-
--- so its history grows
+-- a history that is told one event more, if any, grows
 pub told_grows : (J K : List Event) → IsToldMore J K → IsPrefix J K
 told_grows J K told = ⊎_elim (λ same. prefix_still J K same) (λ more. prefix_more J K (more.0 ∷ []) more.2) told

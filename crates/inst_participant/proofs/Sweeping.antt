@@ -1,17 +1,12 @@
 -- A sweep under a lock, step by step: what holds of the participant after some of it, and what is left of it.
-use Rattle.std.proofs.Common.{◌≡◌, ◌≢◌, ℕ, zero, suc, ◌+◌, ◌-◌, ◌*◌, ◌<◌, ◌≤◌, Bool, true, false, List, [], ◌∷◌, ◌++◌, length, append-nil, append_assoc, arith, ◌&&◌, ◌||◌, ◌⊎◌, inl, inr, ⊎_elim, refl, sym, ap, ◌∙◌, subst, Option, Some, None}
-use Rattle.std.specs.Prelude.{Contains, nat_lt, nat_eq, Result, Ok, Err, alloc_error}
-use Rattle.std.proofs.lemmas.Bool.{and_parts, ltb-true, eqb-true}
+use Rattle.std.proofs.Common.{◌≡◌, ◌≢◌, ℕ, zero, suc, ◌+◌, ◌-◌, ◌*◌, ◌<◌, ◌≤◌, Bool, true, false, List, [], ◌∷◌, ◌++◌, append-nil, append_assoc, arith, ⊎_elim, sym, ap, ◌∙◌, subst, Option, Some, None}
+use Rattle.std.specs.Prelude.{Contains, Result, Ok, Err, alloc_error}
 use Rattle.std.proofs.lemmas.List.Elements.{Contains-append_cases}
-use Rattle.std.proofs.lemmas.Option.{slice_get_within}
 use Rattle.std.specs.declared.alloc.AllocError.{AllocError}
 use mathlib.Core.List.{IsPrefix}
-use Rattle.inst_due.specs.Due.{comes_after}
 use Rattle.inst_board.specs.declared.place.Place.{Place}
 use Rattle.inst_journal.specs.declared.event.Event.{Event}
 use Rattle.inst_slot.specs.Arrived.{IsNextUnbooked}
-use Rattle.inst_slot.specs.Book.{Book}
-use Rattle.inst_slot.specs.Telling.{lesson, with_event}
 use Rattle.inst_participant.specs.declared.participant.Participant.{Participant}
 use Rattle.inst_participant.specs.declared.follow_up.Errand.TheVariants.{Learn}
 use Rattle.inst_participant.specs.Behind.{IsReady, IsLater}
@@ -55,13 +50,6 @@ pub record On (x y : Participant) : Type 0 where
   pub later : IsLater x y
   pub told : IsToldAll x.slot.events y.slot.events
 
-pub on_start : (x : Participant) → IsReady x → On x x
-on_start x ready = record {
-  ready = ready;
-  later = record { stays = record { settings = refl; table = refl; roles = refl }; who = refl; settings = refl };
-  told = told_nothing x.slot.events x.slot.events refl;
-}
-
 pub on_then : (x y z : Participant) → On x y → IsReady z → IsLater y z → IsToldAll y.slot.events z.slot.events → On x z
 on_then x y z on ready later told = record {
   ready = ready;
@@ -77,40 +65,6 @@ InRange (Some pair) = pair.1 < 65536
 abbrev pub pairs_left : Option (ℕ × ℕ) → ℕ
 pairs_left None = 1000000000000000000
 pairs_left (Some pair) = 900000000000000000 - (pair.0 * 65536 + pair.1)
-
-pub fewer_pairs : (last : Option (ℕ × ℕ)) (d k : ℕ) → InRange last → k < 65536 → d ≤ 2199023255551 → comes_after last (d, k) ≡ true → pairs_left (Some (d, k)) < pairs_left last
-fewer_pairs None d k range index moment after = omega arith
-fewer_pairs (Some pair) d k range index moment after = ⊎_elim
-    (λ earlier. let below : pair.0 < d = ltb-true pair.0 d earlier in omega (arith, range, index, moment, below))
-    (λ same.
-    let parts = and_parts (nat_eq pair.0 d) (nat_lt pair.1 k) same in
-    let is : pair.0 ≡ d = eqb-true pair.0 d parts.0 in
-    let below : pair.1 < k = ltb-true pair.1 k parts.1 in
-    omega (arith, range, index, moment, is, below))
-    (or_cases (nat_lt pair.0 d) (nat_eq pair.0 d && nat_lt pair.1 k) after)
-  where
-    or_cases : (a b : Bool) → (a || b) ≡ true → (a ≡ true) ⊎ (b ≡ true)
-    or_cases true b h = inl refl
-    or_cases false b h = inr h
-
--- a lesson leaves the arrivals
-pub same_arrivals : (x : Participant) (k : Place) (result : Result Bool AllocError) (y : Participant) → Does Learn x k result y → y.slot.arrivals ≡ x.slot.arrivals
-same_arrivals x k result y (look, shows, keeps) = ⊎_elim
-    (λ kept. ap (λ (b : Book). b.arrivals) kept.1 ∙ still (lesson x.slot k look))
-    (λ refused. ap (λ (b : Book). b.arrivals) refused.1) keeps
-  where
-    still : (event : Option Event) → (with_event x.slot event).arrivals ≡ x.slot.arrivals
-    still None = refl
-    still (Some event) = refl
-
-pub position_within : (book : Book) (from : ℕ) (next : ℕ × Place) → IsNextUnbooked book from next → next.0 < length book.arrivals
-position_within book from next is = slice_get_within book.arrivals next.0 is.arrival is.there
-
-pub fewer_arrivals : (x : Participant) (k : Place) (result : Result Bool AllocError) (y : Participant) (from position : ℕ) → IsNextUnbooked x.slot from (position, k) → Does Learn x k result y
-    → length y.slot.arrivals - (position + 1) < length x.slot.arrivals - from
-fewer_arrivals x k result y from position next does =
-    let same : length y.slot.arrivals ≡ length x.slot.arrivals = ap length (same_arrivals x k result y does) in
-    omega (arith, same, position_within x.slot from (position, k) next, next.within)
 
 -- what is left of the own transfers after this pair is left of all of them
 abbrev pub LeftToExpire : ℕ → Option (ℕ × ℕ) → Participant → Participant → Type 0

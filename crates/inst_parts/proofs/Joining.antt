@@ -170,13 +170,6 @@ pub record ToldSoFar (first : SharedBoard) (all done rest : List Sight) (whole :
   pub more : IsToldMore first whole
   pub seen : (i : ℕ) (t : Sight) (f : Fact) → slice_get done i ≡ Some t → sees t f → knows whole f
 
-pub nothing_told : (first : SharedBoard) (all : List Sight) → ToldSoFar first all [] all first
-nothing_told first all = record {
-  split = refl;
-  more = record { stays = record { settings = refl; table = refl; roles = refl }; kept = λ f h. h; lawful = λ x was. was };
-  seen = λ i t f at kn. let no : ⊥ = cc in absurd no;
-}
-
 pub more_told : (first : SharedBoard) (all done rest left : List Sight) (a new : SharedBoard) (t : Sight) → rest ≡ t ∷ left → ToldSoFar first all done rest a → KnowsBoth a (board_of t) new → KnowsTruth new → Vouches a (board_of t) → Stays a new → ToldSoFar first all (done ++ t ∷ []) left new
 more_told first all done rest left a new t e so both truth vouches stays = record {
   split = append_assoc done (t ∷ []) left ∙ (ap (λ (l : List Sight). done ++ l) (sym e) ∙ so.split);

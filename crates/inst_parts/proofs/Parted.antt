@@ -158,9 +158,6 @@ module _ {B : Type 0} (settings : B → HubSettings) (knows : B → Fact → Typ
         (λ other. moved book (done book other.1))
         (set_cases books i q y book a.below there)
 
-  pub parts_still : (b : B) (books : List Book) → AreLaterParts settings knows has_role stays b books b books
-  parts_still b books = record { parts = λ O was. was; told = λ p. told_nothing (histories books p); known = λ f. (λ h. h, λ h. h); stays_on = stays_still b }
-
   pub parts_on : (b c d : B) (xs ys zs : List Book) → AreLaterParts settings knows has_role stays b xs c ys → AreLaterParts settings knows has_role stays c ys d zs → AreLaterParts settings knows has_role stays b xs d zs
   parts_on b c d xs ys zs l m = record {
     parts = λ O was. m.parts O (l.parts O was);

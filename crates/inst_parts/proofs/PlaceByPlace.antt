@@ -152,19 +152,6 @@ no_end (final u x z m) t d o e says = cc
 module _ {B : Type 0} (settings : B → HubSettings) (knows : B → Fact → Type 0) (has_role : B → ℕ → Type 0) (margin : ℕ) (stood : B → Place → Outcome → Type 0) (stays : B → B → Type 0)
     (stays_settings : (a b : B) → stays a b → settings b ≡ settings a) (stays_roles : (a b : B) (p : ℕ) → stays a b → has_role a p ↔ has_role b p)
     (stays_on : (a b c : B) → stays a b → stays b c → stays a c) (stays_still : (a : B) → stays a a) where
-  pub later_still : (b : B) (x : Book) → IsLater settings knows has_role stays b x b x
-  later_still b x = record {
-    settings_are = refl;
-    who_is = refl;
-    told = told_nothing x.events;
-    known = λ f. (λ h. h, λ h. h);
-    still = refl;
-    since = refl;
-    came = λ z there. inl there;
-    others = λ book ne was. was;
-    stays_on = stays_still b;
-  }
-
   pub later_on : (b c d : B) (x y z : Book) → IsLater settings knows has_role stays b x c y → IsLater settings knows has_role stays c y d z → IsLater settings knows has_role stays b x d z
   later_on b c d x y z l m = record {
     settings_are = m.settings_are ∙ l.settings_are;
@@ -250,15 +237,6 @@ module _ {B : Type 0} (settings : B → HubSettings) (knows : B → Fact → Typ
       learnt_later y r keeps = ⊎_elim
           (λ done. subst (λ (z : Book). IsLater settings knows has_role stays b x c z) (sym done.1) (lesson_later (lesson x k look) refl))
           (λ refused. same_later y refused.1) keeps
-
-      pub learnt_arrivals : (y : Book) (r : Result Bool AllocError) → Keeps (is_some (lesson x k look)) x (with_event x (lesson x k look)) r y → y.arrivals ≡ x.arrivals
-      learnt_arrivals y r keeps = ⊎_elim
-          (λ done. ap (λ (z : Book). z.arrivals) done.1 ∙ none_more (lesson x k look))
-          (λ refused. ap (λ (z : Book). z.arrivals) refused.1) keeps
-        where
-          none_more : (o : Option Event) → (with_event x o).arrivals ≡ x.arrivals
-          none_more None = refl
-          none_more (Some e) = refl
 
       entry_later : (entry : Entry) → delivery x k look ≡ Some entry → IsLater settings knows has_role stays b x c (with_delivery x k (Some entry))
       entry_later entry is =
@@ -428,12 +406,6 @@ module _ {B : Type 0} (settings : B → HubSettings) (knows : B → Fact → Typ
         subst (λ (q : ℕ). is_some (booked q id y.events) ≡ true) (sym l.who_is) is
   ]
 
-  pub own_all : (d : B) (y : Book) (n : ℕ) → ((k : Place) (a : About) → knows d (about k a) → IsPlace (settings d) k) → (settings d).places ≤ n → OwnBelow knows d n y → OwnAreBooked knows d y
-  own_all d y n places most done index id to cents stamp o there kn =
-      let at = places (place_at y.who index) (Decided o) kn in
-      let parts = and_parts (nat_lt y.who (participants (settings d))) (nat_lt index (settings d).places) at in
-      done index id to cents stamp o (omega (arith, most, ltb-true index (settings d).places parts.1)) there kn
-
   pub own_on : (d b c : B) (w x y : Book) → IsLater settings knows has_role stays d w b x → IsLater settings knows has_role stays b x c y → OwnAreBooked knows d x → OwnAreBooked knows d y
   own_on d b c w x y before l done index id to cents stamp o there kn =
       own_kept d b c w x y (index + 1) before l (λ i name q n m z below at kn'. done i name q n m z at kn') index id to cents stamp o (omega arith) there kn
@@ -511,12 +483,6 @@ module _ {B : Type 0} (settings : B → HubSettings) (knows : B → Fact → Typ
     | inl same ↦ subst (λ (i : ℕ). HasCome knows d (place_at owner i) y) (sym same) (come_from d b w x y (place_at owner n) before here)
   ]
 
-  pub come_all : (d : B) (y : Book) (owner n : ℕ) → ((k : Place) (a : About) → knows d (about k a) → IsPlace (settings d) k) → (settings d).places ≤ n → ComeBelow knows d owner n y → HaveCome knows d owner y
-  come_all d y owner n places most done index t mine opened has =
-      let at = places (place_at owner index) Opened opened in
-      let parts = and_parts (nat_lt owner (participants (settings d))) (nat_lt index (settings d).places) at in
-      done index (omega (arith, most, ltb-true index (settings d).places parts.1)) t mine opened has
-
   pub owner_more : (d b c : B) (w x y : Book) (n : ℕ) → IsLater settings knows has_role stays d w b x → IsLater settings knows has_role stays b x c y → HaveCome knows b n y → AllComeBelow knows d n x → AllComeBelow knows d (n + 1) y
   owner_more d b c w x y n before l here done owner below ne = elim (cases_eq owner n) [
     | inr other ↦ λ index. come_kept d b c w x y (place_at owner index) before l (done owner (less owner n below other) (λ e. ne (e ∙ sym l.who_is)) index)
@@ -528,12 +494,6 @@ module _ {B : Type 0} (settings : B → HubSettings) (knows : B → Fact → Typ
     | inr other ↦ done owner (less owner n below other) ne
     | inl same ↦ absurd (ne (same ∙ own))
   ]
-
-  pub all_come : (d : B) (y : Book) (n : ℕ) → ((k : Place) (a : About) → knows d (about k a) → IsPlace (settings d) k) → participants (settings d) ≤ n → AllComeBelow knows d n y → (owner : ℕ) → owner ≢ y.who → HaveCome knows d owner y
-  all_come d y n places most done owner ne index t mine opened has =
-      let at = places (place_at owner index) Opened opened in
-      let parts = and_parts (nat_lt owner (participants (settings d))) (nat_lt index (settings d).places) at in
-      done owner (omega (arith, most, ltb-true owner (participants (settings d)) parts.0)) ne index t mine opened has
 
   -- all of it was done
   pub settled_then : (d b c e : B) (w x y z : Book) → IsLater settings knows has_role stays d w b x → IsLater settings knows has_role stays b x c y → IsLater settings knows has_role stays c y e z
@@ -548,13 +508,3 @@ module _ {B : Type 0} (settings : B → HubSettings) (knows : B → Fact → Typ
             (third.came a there);
         come = λ k t ne mine opened has. come_from d c w y z k two (come k.owner ne k.index) t mine opened has;
       }
-
-  pub settled_there : (d e : B) (w z : Book) → IsLater settings knows has_role stays d w e z → IsSettled knows d z → IsSettled knows e z
-  settled_there d e w z l done = record {
-    own = λ index id to cents stamp o there kn. done.own index id to cents stamp o there ((l.known (about (place_at z.who index) (Decided o))).0 kn);
-    arrived = λ a index o there is kn. done.arrived a index o there is ((l.known (about (place_at a.entry.from index) (Decided o))).0 kn);
-    come = λ k t ne mine opened has. ⊎_elim
-        (λ there. inl there)
-        (λ ended. inr (ended.0, (l.known (about k (Decided ended.0))).1 ended.1))
-        (done.come k t ne mine ((l.known (about k Opened)).0 opened) ((l.known (about k (HasTerms t))).0 has));
-  }

@@ -1,4 +1,4 @@
-ghost use Rattle.std.specs.Prelude.{◌≡◌, ℕ, ◌<◌, length, IfOk};
+ghost use Rattle.std.specs.Prelude.{◌≡◌, ◌<◌, IfOk};
 ghost use Rattle.inst_board.specs.declared.about.About.TheVariants.{Opened};
 ghost use Rattle.inst_board.specs.declared.place.Place.{Place};
 ghost use Rattle.inst_board.specs.Standing.{about};

@@ -1,5 +1,5 @@
 //! How the boards of all participants are joined to one.
-ghost use Rattle.std.specs.Prelude.{◌≡◌, ℕ, List, slice_get, Some};
+ghost use Rattle.std.specs.Prelude.{◌≡◌, ℕ, slice_get, Some};
 ghost use Rattle.inst_board.specs.declared.about.Fact.{Fact};
 ghost use Rattle.inst_cell.specs.declared.shared_board.SharedBoard.{SharedBoard};
 ghost use Rattle.inst_cell.specs.declared.sight.Sight.{Sight};

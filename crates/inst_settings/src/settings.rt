@@ -40,7 +40,7 @@ impl Model for Settings {
 }
 
 impl Settings {
-    ghost use Rattle.inst_settings.specs.Settings.{HubSettings, participants, is_participant, is_within_ceiling};
+    ghost use Rattle.inst_settings.specs.Settings.{participants, is_participant, is_within_ceiling};
     ghost use Rattle.inst_settings.specs.Codes.{index_of};
     ghost use Rattle.inst_settings.specs.Lawful.{IsSettings, numbers_of, settings_of};
 

@@ -1,8 +1,7 @@
 -- What a command asks the board to decide, the slot may decide; and what it finds is booked.
-use Rattle.std.proofs.Common.{◌≡◌, ◌⊎◌, ℕ, suc, ◌<◌, arith, ◌+◌, Bool, true, false, not, ◌||◌, ◌&&◌, cond, List, [], ◌∷◌, length, inl, inr, refl, sym, ap, ◌∙◌, subst, Option, Some, None, is_none, is_some}
+use Rattle.std.proofs.Common.{◌≡◌, ◌⊎◌, ℕ, suc, arith, ◌+◌, Bool, true, false, not, ◌||◌, ◌&&◌, cond, List, [], ◌∷◌, length, inl, inr, refl, sym, ap, ◌∙◌, subst, Option, Some, None, is_none, is_some}
 use Rattle.std.specs.Prelude.{slice_get, position, get_or, nat_lt, Result, Err}
 use Rattle.std.specs.List.{list_any, filter, position_or_len}
-use Rattle.std.proofs.lemmas.List.Sums.{length-filter}
 use Rattle.std.specs.Cmp.Lexicographic.{same_text as text_same}
 use Rattle.std.proofs.lemmas.Bool.{false≢true, true≢false}
 use Rattle.std.proofs.lemmas.Bool.Decides.{nat_tests}
@@ -27,10 +26,8 @@ use Rattle.inst_journal.specs.declared.event.Event.TheVariants.{Funded, Defunded
 use Rattle.inst_journal.specs.declared.handle.Handled.{Handled}
 use Rattle.inst_journal.specs.Booked.{takes, is_taken, is_forwarded, booked}
 use Rattle.inst_journal.specs.Opened.{carried, takes_live, live_taken}
-use Rattle.inst_journal.specs.Sound.{IsSound}
 use Rattle.inst_journal.specs.Reply.{handle, kept_event, kept_events, standing, still_pending}
 use Rattle.inst_journal.proofs.Carrying.{carried_unbooked}
-use Rattle.inst_journal.proofs.Counting.{submissions_within}
 use Rattle.inst_slot.specs.Book.{Book, place_at, terms_to, arrived_at}
 use Rattle.inst_slot.specs.LawfulBoard.{IsTakenAt, LiesAt, IsLawfulBoard, IsAdopted}
 use Rattle.inst_slot.specs.Asking.{wish_for, request, decides, AsksAdopted}
@@ -257,12 +254,3 @@ module _ {B : Type 0} (settings : B → HubSettings) (knows : B → Fact → Typ
   asks_where_it_decides b book (Fetch max) was adopted = refl
   asks_where_it_decides b book Position was adopted = refl
   asks_where_it_decides b book (Statement skip count) was adopted = refl
-
--- an own transfer lies at one of the places
-pub place_below : (s : HubSettings) (who : ℕ) (J : List Event) (id : List ℕ) (index : ℕ) → IsSound s who J → position (takes id) (live_taken who J) ≡ Some index → index < s.places
-place_below s who J id index sound e =
-    let first = position-Some (takes id) (live_taken who J) index OpenedEvent e in
-    let few = submissions_within s who J sound in
-    let count = length-filter (takes_live who (carried J)) J in
-    let within = first.0 in
-    omega arith

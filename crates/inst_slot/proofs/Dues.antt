@@ -1,5 +1,5 @@
 -- What waits of a participant's own live transfers, as its history grows.
-use Rattle.std.proofs.Common.{◌≡◌, ◌≢◌, ℕ, zero, suc, ◌+◌, ◌<◌, arith, Bool, true, false, not, ◌&&◌, ◌||◌, ◌==◌, cond, take, List, [], ◌∷◌, ◌++◌, length, inl, inr, ◌⊎◌, ⊎_elim, refl, sym, ap, ◌∙◌, Option, Some, None, is_none}
+use Rattle.std.proofs.Common.{◌≡◌, ◌≢◌, ℕ, zero, suc, ◌+◌, ◌<◌, arith, Bool, true, false, not, ◌&&◌, ◌||◌, ◌==◌, cond, take, List, [], ◌∷◌, ◌++◌, length, ⊎_elim, refl, sym, ap, ◌∙◌, Option, Some, None, is_none}
 use Rattle.std.specs.Prelude.{slice_get, map, nat_eq}
 use Rattle.std.specs.List.{filter}
 use Rattle.std.proofs.lemmas.Bool.{false≢true, and_parts, cases_Bool, eqb-true, eq-eqb}
@@ -10,7 +10,7 @@ use Rattle.inst_base.specs.TimeLimit.{deadline_of}
 use Rattle.inst_settings.specs.Settings.{HubSettings, same_text}
 use Rattle.inst_settings.proofs.Numbering.{same_text_refl}
 use Rattle.inst_command.specs.declared.outcome.Outcome.{Outcome}
-use Rattle.inst_due.specs.Due.{is_of, has, Adds, TakesOut}
+use Rattle.inst_due.specs.Due.{has}
 use Rattle.inst_journal.specs.declared.event.Event.{Event}
 use Rattle.inst_journal.specs.declared.event.Event.TheVariants.{Funded, Defunded, Taken, Forwarded, Booked, Fetched, Opened}
 use Rattle.inst_journal.specs.Booked.{booked, books, or_else}
@@ -19,8 +19,6 @@ use Rattle.inst_journal.proofs.Pushing.{first_some_push}
 use Rattle.inst_slot.specs.Telling.{taken_by}
 use Rattle.inst_slot.specs.Waiting.{takes_waiting, deadline_in}
 use Rattle.inst_slot.specs.inner.Waiting.{AreTimed, books_own}
-use Rattle.inst_slot.proofs.Growing.{slice_get_left}
-use Rattle.inst_slot.proofs.Indexed.{last_at}
 
 -- what one more event leaves of what waits
 none_or : (a b : Option Outcome) → is_none (or_else a b) ≡ (is_none a && is_none b)
@@ -61,56 +59,8 @@ waiting_after s who J e d (Some (Booked from other o)) = refl
 waiting_after s who J e d (Some (Fetched n)) = refl
 waiting_after s who J e d (Some Opened) = refl
 
--- pairs that come and go
-or_cases : (a b : Bool) → (a || b) ≡ true → (a ≡ true) ⊎ (b ≡ true)
-or_cases true b h = inl refl
-or_cases false b h = inr h
-
-pub timed_more : (D : List ℕ) (old new : List (ℕ × ℕ)) (d : ℕ) → AreTimed D old → Adds old new d (length D) → AreTimed (D ++ d ∷ []) new
-timed_more D old new d timed adds e k there = ⊎_elim
-    (λ was. slice_get_left D d e k (timed e k was))
-    (λ is.
-    let p = and_parts (nat_eq e d) (nat_eq k (length D)) is in
-    ap (slice_get (D ++ d ∷ [])) (eqb-true k (length D) p.1) ∙ last_at D d ∙ ap (λ (n : ℕ). Some n) (sym (eqb-true e d p.0)))
-    (or_cases (has old e k) (is_of d (length D) (e, k)) (sym (adds e k) ∙ there))
-
-pub timed_less : (D : List ℕ) (old new : List (ℕ × ℕ)) (gone : ℕ → ℕ → Bool) → AreTimed D old → ((d k : ℕ) → has new d k ≡ (has old d k && not (gone d k))) → AreTimed D new
-timed_less D old new gone timed less d k there = timed d k (and_parts (has old d k) (not (gone d k)) (sym (less d k) ∙ there)).0
-
-pub timed_within : (D : List ℕ) (pairs : List (ℕ × ℕ)) (d k : ℕ) → AreTimed D pairs → has pairs d k ≡ true → k < length D
-timed_within D pairs d k timed there = slice_get_within D k d (timed d k there)
-
 same_number : (a b : ℕ) → a ≡ b → nat_eq a b ≡ true
 same_number a b e = eq-eqb a b e
-
--- of one index only one deadline waits
-out_at : (h i j : Bool) → (h ≡ true → j ≡ true → i ≡ true) → (h && not (i && j)) ≡ (h && not j)
-out_at false i j same = refl
-out_at true i false same = ap not (no i)
-  where
-    no : (i : Bool) → (i && false) ≡ false
-    no true = refl
-    no false = refl
-out_at true i true same = ap (λ (b : Bool). not (b && true)) (same refl refl)
-
-pub taken_out : (D : List ℕ) (old new : List (ℕ × ℕ)) (x index : ℕ) → AreTimed D old → slice_get D index ≡ Some x → TakesOut old new x index → (d k : ℕ) → has new d k ≡ (has old d k && not (nat_eq k index))
-taken_out D old new x index timed there out d k =
-    out d k ∙ out_at (has old d k) (nat_eq d x) (nat_eq k index)
-    (λ was at.
-    let both : Some d ≡ Some x = sym (timed d k was) ∙ ap (slice_get D) (eqb-true k index at) ∙ there in
-    let same : d ≡ x = cc in
-    same_number d x same)
-
-none_out : (h j : Bool) → (h ≡ true → j ≡ true → ⊥) → h ≡ (h && not j)
-none_out false j never = refl
-none_out true false never = refl
-none_out true true never = absurd (never refl refl)
-
-pub none_taken_out : (D : List ℕ) (old : List (ℕ × ℕ)) (index : ℕ) → AreTimed D old → slice_get D index ≡ None → (d k : ℕ) → has old d k ≡ (has old d k && not (nat_eq k index))
-none_taken_out D old index timed none d k = none_out (has old d k) (nat_eq k index)
-    (λ was at.
-    let both : Some d ≡ None = sym (timed d k was) ∙ ap (slice_get D) (eqb-true k index at) ∙ none in
-    let no : ⊥ = cc in no)
 
 -- a booking takes out what it books
 pub books_step : (who : ℕ) (from : ℕ) (id : List ℕ) (ids : List (List ℕ)) (index : ℕ) (outcome : Outcome) → from ≡ who → slice_get ids index ≡ Some id → ((k : ℕ) → slice_get ids k ≡ Some id → index ≡ k)

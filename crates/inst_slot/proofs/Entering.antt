@@ -1,12 +1,11 @@
 -- What a command that decides nothing keeps of what the books have to do with the board: a submission that is taken
 -- opens the next place, and what else is kept moves no transfer.
-use Rattle.std.proofs.Common.{◌≡◌, ℕ, ◌<◌, arith, Bool, true, false, ◌==◌, cond, List, [], ◌∷◌, ◌++◌, length, length-append, append-nil, inl, inr, ⊎_elim, refl, sym, ap, ◌∙◌, subst, Option, Some, None, is_none}
+use Rattle.std.proofs.Common.{◌≡◌, ℕ, ◌<◌, arith, Bool, true, false, ◌==◌, cond, List, [], ◌∷◌, ◌++◌, length, length-append, append-nil, inl, ⊎_elim, refl, sym, ap, ◌∙◌, subst, Option, Some, None, is_none}
 use Rattle.std.specs.Prelude.{slice_get, take, Result, Ok, Err, nat_le, nat_lt}
 use Rattle.std.specs.List.{list_all}
 use Rattle.std.proofs.lemmas.Bool.{false≢true, and_parts}
 use Rattle.std.proofs.lemmas.List.Sums.{length-filter}
 use Rattle.inst_base.specs.TimeLimit.{deadline_of, is_due, is_ahead}
-use Rattle.inst_base.specs.Fault.{IsUnlessMemory}
 use Rattle.inst_base.specs.declared.fault.Fault.{Fault}
 use Rattle.inst_base.specs.declared.fault.Fault.TheVariants.{Expired}
 use Rattle.inst_settings.specs.Settings.{HubSettings}
@@ -17,13 +16,12 @@ use Rattle.inst_command.specs.declared.command.Command.TheVariants.{Fund, Defund
 use Rattle.inst_command.specs.declared.entry.Entry.{Entry}
 use Rattle.inst_command.specs.declared.outcome.Outcome.{Outcome}
 use Rattle.inst_command.specs.declared.reply.Reply.{Reply}
-use Rattle.inst_terms.specs.declared.terms.Terms.{Terms}
 use Rattle.inst_board.specs.declared.place.Place.{Place}
 use Rattle.inst_board.specs.declared.about.About.TheVariants.{Opened, HasTerms, Due, Decided}
 use Rattle.inst_board.specs.declared.about.Fact.{Fact}
 use Rattle.inst_board.specs.Standing.{about, pending}
 use Rattle.inst_board.specs.Laws.{KnowsOpening}
-use Rattle.inst_board.specs.Learning.{Learns, KnowTheSame}
+use Rattle.inst_board.specs.Learning.{Learns}
 use Rattle.inst_journal.specs.declared.event.Event.{Event}
 use Rattle.inst_journal.specs.declared.event.Event.TheVariants.{Funded, Defunded, Taken, Forwarded, Booked, Fetched, Opened as OpenedEvent}
 use Rattle.inst_journal.specs.declared.handle.Handled.{Handled}
@@ -90,15 +88,6 @@ all_enter s who J (Investigate id) at = either (is_taken id J) _ _ (standing_ent
 all_enter s who J (Fetch max) at = handed_enters (take max (unread J))
 all_enter s who J Position at = refl
 all_enter s who J (Statement skip count) at = refl
-
-pub learns_after : {B : Type 0} (margin : ℕ) (knows : B → Fact → Type 0) (a b c : B) (k : Place) (t : Terms) (d : ℕ) → KnowTheSame knows a b → Learns margin knows b k (pending t d) c → Learns margin knows a k (pending t d) c
-learns_after margin knows a b c k t d same l = record {
-  lawful = l.lawful;
-  agrees = λ x h. l.agrees x ((same (about k x)).1 h);
-  kept = λ f h. l.kept f ((same f).1 h);
-  shown = l.shown;
-  only = λ f h. ⊎_elim (λ old. inl ((same f).0 old)) (λ new. inr new) (l.only f h);
-}
 
 pub next_index : (who : ℕ) (J : List Event) → length (live_taken who J) ≡ live_submissions who J
 next_index who J = length-filter (takes_live who (carried J)) J
@@ -213,17 +202,6 @@ module _ {B : Type 0} (settings : B → HubSettings) (knows : B → Fact → Typ
       (handled_kept book.settings book.who book.events ask.command ask.at None fits) answered.2 was))
       (λ refused. subst (λ (x : Book). IsLawfulBoard settings knows has_role c x) (sym refused.1) (subst (λ (x : B). IsLawfulBoard settings knows has_role x book) (sym refused.2) was))
       e
-
--- what is kept of a command fits
-pub entered_fits : (s : HubSettings) (who : ℕ) (J : List Event) (command : Command) (at : ℕ) (r : Result Handled Fault) (h : Handled) (e : Event) → command_fits s command ≡ true
-    → IsUnlessMemory r (handle s who J command at None) → r ≡ Ok h → h.kept ≡ Some e → Fits s who J e
-entered_fits s who J command at r h e fits answered ok kept = ⊎_elim
-    (λ refused. let no : ⊥ = cc in absurd no)
-    (λ same.
-    let K : kept_events (handle s who J command at None) ≡ e ∷ [] = ap kept_events (sym same ∙ ok) ∙ ap kept_event kept in
-    let all = subst (λ (l : List Event). FitAfter s who J l) K (handled_kept s who J command at None fits) in
-    all.0)
-    answered
 
 -- the next place isn't opened yet
 pub next_unused : {B : Type 0} (settings : B → HubSettings) (knows : B → Fact → Type 0) (has_role : B → ℕ → Type 0) (b : B) (book : Book) → IsLawfulBoard settings knows has_role b book

@@ -1,9 +1,8 @@
 -- What one more event does to the live transfers of a history and to what is booked.
 use Rattle.std.proofs.Common.{◌≡◌, ℕ, zero, suc, ◌<◌, Bool, true, false, cond, List, [], ◌∷◌, ◌++◌, length, inl, inr, ◌⊎◌, ⊎_elim, refl, sym, ap, ◌∙◌, subst, arith, Option, Some, None, is_none, append-nil}
-use Rattle.std.specs.Prelude.{slice_get, Contains, Result, Ok, Err, OnOk, OnErr}
+use Rattle.std.specs.Prelude.{slice_get, Contains}
 use Rattle.std.specs.List.{filter, cons_option}
 use Rattle.std.proofs.lemmas.List.Elements.{filter-append, filter_map-append, Contains-append_right}
-use Rattle.inst_settings.specs.Settings.{HubSettings}
 use Rattle.inst_command.specs.declared.entry.Entry.{Entry}
 use Rattle.inst_command.specs.declared.outcome.Outcome.{Outcome}
 use Rattle.inst_journal.specs.declared.event.Event.{Event}
@@ -11,11 +10,9 @@ use Rattle.inst_journal.specs.declared.event.Event.TheVariants.{Forwarded, Booke
 use Rattle.inst_journal.specs.Booked.{booked, books, or_else}
 use Rattle.inst_journal.specs.Opened.{is_opening, carried, is_live, takes_live, live_taken}
 use Rattle.inst_journal.specs.Reply.{inbox, entry_of}
-use Rattle.inst_journal.specs.Sound.{Fits, IsSound}
 use Rattle.inst_journal.proofs.Booking.{books_itself}
 use Rattle.inst_journal.proofs.Carrying.{carried_push}
 use Rattle.inst_journal.proofs.Pushing.{first_some_push}
-use Rattle.inst_journal.proofs.Soundness.{sound_push}
 use Rattle.inst_slot.specs.Book.{live_inbox}
 
 pub snoc_cases : {A : Type 0} (xs : List A) (x b : A) (p : ℕ) → slice_get (xs ++ x ∷ []) p ≡ Some b → (slice_get xs p ≡ Some b) ⊎ ((p ≡ length xs) × (x ≡ b))
@@ -58,9 +55,6 @@ live_taken_still who J e other here = live_taken_push who J e false other here �
 pub live_push : (from : ℕ) (id : List ℕ) (J : List Event) (e : Event) → is_opening e ≡ false → is_live from id (J ++ e ∷ []) ≡ is_live from id J
 live_push from id J e other = ap (λ (C : List Event). is_none (booked from id C)) (carried_push J e other)
 
-is_live_entry : List Event → Entry → Bool
-is_live_entry J entry = is_live entry.from entry.id J
-
 -- the live transfers that were forwarded
 pub live_inbox_push : (J : List Event) (e : Event) → is_opening e ≡ false → live_inbox (J ++ e ∷ []) ≡ filter (λ entry. is_live entry.from entry.id J) (inbox J ++ cons_option (entry_of e) [])
 live_inbox_push J e other =
@@ -98,9 +92,3 @@ booked_cases from id J e o is = go (booked from id J) refl
     go : (b : Option Outcome) → booked from id J ≡ b → (booked from id J ≡ Some o) ⊎ (books from id e ≡ Some o)
     go None none = inr (ap (λ (x : Option Outcome). or_else x (books from id e)) (sym none) ∙ whole)
     go (Some p) some = inl (let h : Some p ≡ Some o = ap (λ (x : Option Outcome). or_else x (books from id e)) (sym some) ∙ whole in some ∙ h)
-
--- an event that fits, kept or not, leaves the history sound
-pub kept_sound : {E : Type 0} (s : HubSettings) (who : ℕ) (J : List Event) (e : Event) (r : Result (Unit {0}) E) (new : List Event) → IsSound s who J → Fits s who J e
-    → OnOk r (new ≡ J ++ e ∷ []) → OnErr r (new ≡ J) → IsSound s who new
-kept_sound s who J e (Ok u) new sound fits ok err = subst (λ (l : List Event). IsSound s who l) (sym ok) (sound_push s who J e sound fits)
-kept_sound s who J e (Err f) new sound fits ok err = subst (λ (l : List Event). IsSound s who l) (sym err) sound

@@ -1,5 +1,5 @@
 -- What a participant's books have to do with its board is kept as the board is learnt of and the history grows.
-use Rattle.std.proofs.Common.{◌≡◌, ℕ, zero, suc, ◌<◌, ◌==◌, cond, Bool, true, false, List, [], ◌∷◌, ◌++◌, length, inl, inr, ◌⊎◌, ⊎_elim, refl, sym, ap, ◌∙◌, subst, arith, Option, Some, None}
+use Rattle.std.proofs.Common.{◌≡◌, ℕ, ◌<◌, ◌==◌, cond, Bool, true, false, List, [], ◌∷◌, ◌++◌, length, inl, inr, ◌⊎◌, ⊎_elim, refl, sym, ap, ◌∙◌, subst, arith, Option, Some, None}
 use Rattle.std.specs.Prelude.{slice_get, Contains}
 use Rattle.std.proofs.lemmas.List.Elements.{Contains-append_right}
 use Rattle.std.proofs.lemmas.Bool.{and_parts, eqb-true}
@@ -26,10 +26,6 @@ use Rattle.inst_slot.specs.declared.arrival.Arrival.{Arrival}
 use Rattle.inst_slot.specs.Book.{Book, place_at, terms_to, live_inbox, index_of, arrived_at}
 use Rattle.inst_slot.specs.LawfulBoard.{LiesAt, KnowsEnd, IsLawfulBoard}
 use Rattle.inst_slot.proofs.Growing.{slice_get_left, live_taken_still, live_push, live_inbox_still}
-
-only_one : {A : Type 0} (a b : A) → Contains (a ∷ []) b → a ≡ b
-only_one a b (zero, below, is) = is
-only_one a b (suc i, below, is) = absurd (omega arith)
 
 -- the first arrival that has the place of this transfer
 index_step : (from : ℕ) (id : List ℕ) (x : Arrival) (index : ℕ) (b : Bool) → same_transfer from id x.entry.from x.entry.id ≡ b → cond b x.index None ≡ Some index → (same_transfer from id x.entry.from x.entry.id ≡ true) × (x.index ≡ Some index)

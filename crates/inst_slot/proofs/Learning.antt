@@ -23,7 +23,7 @@ use Rattle.inst_journal.specs.Opened.{carried, takes_live, live_taken, is_live}
 use Rattle.inst_journal.specs.Reply.{inbox, entry_of}
 use Rattle.inst_journal.specs.Sound.{Fits, BookedFits}
 use Rattle.inst_slot.specs.declared.arrival.Arrival.{Arrival}
-use Rattle.inst_slot.specs.Book.{Book, place_at, terms_to, arrived_at, is_at, live_inbox}
+use Rattle.inst_slot.specs.Book.{Book, place_at, terms_to, arrived_at, is_at}
 use Rattle.inst_slot.specs.LawfulBoard.{IsTakenAt, LiesAt, IsLawfulBoard}
 use Rattle.inst_slot.specs.Telling.{is_party, lesson, with_event}
 use Rattle.inst_slot.proofs.Growing.{slice_get_at, filtered}
@@ -118,15 +118,6 @@ in_map : (A : List Arrival) (x : Arrival) → Contains A x → Contains (map (λ
 in_map [] x (i, below, is) = absurd (omega arith)
 in_map (y ∷ A) x (zero, below, is) = (zero, omega arith, ap (λ (z : Arrival). z.entry) is)
 in_map (y ∷ A) x (suc i, below, is) = Contains-append_right (y.entry ∷ []) (map (λ (z : Arrival). z.entry) A) x.entry (in_map A x (i, omega arith, is))
-
--- what lies at a place that was found was forwarded
-pub arrived_forwarded : (J : List Event) (A : List Arrival) (from : ℕ) (id : List ℕ) (index : ℕ) → map (λ x. x.entry) A ≡ live_inbox J → arrived_at from id A ≡ Some index → is_forwarded from id J ≡ true
-arrived_forwarded J A from id index arrived at =
-    let x = arrival_at from id index A at in
-    let i = in_filter (λ (entry : Entry). is_live entry.from entry.id J) (inbox J) x.arrival.entry
-    (subst (λ (l : List Entry). Contains l x.arrival.entry) arrived (in_map A x.arrival x.there)) in
-    let f = entry_forwarded J x.arrival.entry i.0 in
-    subst (λ (i : List ℕ). is_forwarded from i J ≡ true) x.id_is (subst (λ (p : ℕ). is_forwarded p x.arrival.entry.id J ≡ true) x.from_is f)
 
 module _ {B : Type 0} (settings : B → HubSettings) (knows : B → Fact → Type 0) (has_role : B → ℕ → Type 0) where
   -- an arrival was forwarded, and is live

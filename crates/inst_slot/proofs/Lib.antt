@@ -4,7 +4,6 @@ pub mod Looking
 pub mod Learning
 pub mod Delivering
 pub mod Deciding
-pub mod Handling
 pub mod Settling
 pub mod Entering
 pub mod Refusing

@@ -174,23 +174,9 @@ module _ {B : Type 0} (settings : B → HubSettings) (knows : B → Fact → Typ
     (stays_settings : (a b : B) → stays a b → settings b ≡ settings a) (stays_roles : (a b : B) (p : ℕ) → stays a b → has_role a p ↔ has_role b p)
     (seldom : (b : B) (k : Place) (t : Terms) (o : Outcome) → knows b (about k (HasTerms t)) → has_role b t.to → stood b k o → knows b (about k (Decided o)) ⊎ (o ≡ TimedOut))
     (stays_on : (a b c : B) → stays a b → stays b c → stays a c) where
-  pub opened_none : (first : B) (s : HubSettings) (who : ℕ) → stays first first → MayOpenAgain settings knows has_role first s who → OpenedSoFar settings knows has_role stays first first s who []
-  opened_none first s who still may = record {
-    places = record {
-      known = λ f. (λ kn. inl kn, λ e. ⊎_elim (λ kn. kn) (λ o. let h = o.there in let no : ⊥ = cc in absurd no) e);
-      agrees = λ index id to cents stamp there a kn. let no : ⊥ = cc in absurd no;
-    };
-    same_holder = still;
-    truly = may.truly;
-    others = λ book ne was. was;
-  }
-
   module _ (first b : B) (s : HubSettings) (who : ℕ) (taken : List Event) (may : MayOpenAgain settings knows has_role first s who) (o : OpenedSoFar settings knows has_role stays first b s who taken) where
     pub its_settings : settings b ≡ s
     its_settings = stays_settings first b o.same_holder ∙ may.same_settings
-
-    pub its_role : has_role b who
-    its_role = (stays_roles first b who o.same_holder).0 may.role
 
     -- the next place isn't opened yet
     pub next_unopened : (index : ℕ) → index ≡ length taken → ¬ knows b (about (place_at who index) IsOpened)

@@ -83,10 +83,6 @@ pub own_taken : (who : ℕ) (J : List Event) (i : ℕ) → slice_get (own_ids wh
 own_taken who J i = own_taken_in who (carried J) J i
 
 -- what is found at an index, by the identifiers
-pub none_there : (book : Book) (ids : List (List ℕ)) (i : ℕ) → ids ≡ own_ids book.who book.events → slice_get ids i ≡ None → unbooked_at book i ≡ None
-none_there book ids i same none =
-    ap (if_unbooked book) (sym (own_taken book.who book.events i) ∙ ap (λ (l : List (List ℕ)). slice_get l i) (sym same) ∙ none)
-
 pub one_there : (book : Book) (ids : List (List ℕ)) (i : ℕ) (id : List ℕ) (o : Option Outcome) (b : Bool) → ids ≡ own_ids book.who book.events → slice_get ids i ≡ Some id → o ≡ booked book.who id book.events → is_some o ≡ b
     → unbooked_at book i ≡ cond b None (Some id)
 one_there book ids i id o b same there known here =

@@ -1,5 +1,5 @@
 -- What is refused leaves the books and what the board's holder knows as they were.
-use Rattle.std.proofs.Common.{◌≡◌, ◌≢◌, ℕ, List, [], ◌∷◌, ◌++◌, append-nil, ⊎_elim, refl, sym, ap, ◌∙◌, subst, Option, Some, None}
+use Rattle.std.proofs.Common.{◌≡◌, ◌≢◌, ℕ, List, [], ◌++◌, append-nil, ⊎_elim, refl, sym, ap, ◌∙◌, subst, Option, Some, None}
 use Rattle.std.specs.Prelude.{Result, Ok, Err, IfErr, OnErr}
 use Rattle.inst_base.specs.declared.fault.Fault.{Fault}
 use Rattle.inst_base.specs.declared.fault.Fault.TheVariants.{Memory}
@@ -21,7 +21,7 @@ use Rattle.inst_journal.specs.declared.handle.Handled.{Handled}
 use Rattle.inst_journal.specs.Reply.{told, kept_event, kept_events}
 use Rattle.inst_slot.specs.Book.{Book}
 use Rattle.inst_slot.specs.LawfulBoard.{LiesAt, IsLawfulBoard}
-use Rattle.inst_slot.specs.Asking.{request, Finds, handle_ask, book_after, Opens, Enters, Settles}
+use Rattle.inst_slot.specs.Asking.{request, Finds, handle_ask, book_after, Settles}
 use Rattle.inst_slot.specs.Telling.{booking}
 use Rattle.inst_slot.proofs.Keeping.{with_events, lying}
 use Rattle.inst_slot.proofs.Deciding.{asked}
@@ -43,23 +43,6 @@ none_booked from id None e = refl
 none_booked from id (Some o) e = let no : ⊥ = cc in absurd no
 
 module _ {B : Type 0} (settings : B → HubSettings) (knows : B → Fact → Type 0) (has_role : B → ℕ → Type 0) (margin : ℕ) (b c : B) (book : Book) where
-  pub enters_nothing : (ask : Ask) (result : Result Reply Fault) (new : Book) (fault : Fault) → Enters margin knows b book ask result c new → result ≡ Err fault → new ≡ book
-  enters_nothing ask result new fault e is = ⊎_elim
-      (λ answered. answered.1 ∙ as_it_was book ask None fault (sym answered.0 ∙ is))
-      (λ refused. refused.1) e
-
-  same_board : (K : List Event) → K ≡ [] → Opens margin knows book K b c → c ≡ b
-  same_board [] e opens = opens
-  same_board (x ∷ K) e opens = let no : ⊥ = cc in absurd no
-
-  know_itself : c ≡ b → KnowTheSame knows b c
-  know_itself e = λ f. (λ kn. subst (λ (x : B). knows x f) e kn, λ kn. subst (λ (x : B). knows x f) (sym e) kn)
-
-  pub enters_unknown : (ask : Ask) (result : Result Reply Fault) (new : Book) (fault : Fault) → Enters margin knows b book ask result c new → result ≡ Err fault → KnowTheSame knows b c
-  enters_unknown ask result new fault e is = ⊎_elim
-      (λ answered. know_itself (same_board (kept_events (handle_ask book ask None)) (nothing_kept (handle_ask book ask None) fault (sym answered.0 ∙ is)) answered.2))
-      (λ refused. know_itself refused.2) e
-
   module _ (stood : B → Place → Outcome → Type 0) (stays : B → B → Type 0) (was : IsLawfulBoard settings knows has_role b book) where
     pub settles_nothing : (ask : Ask) (k : Place × Wish) (result : Result Reply Fault) (new : Book) (fault : Fault) → Settles margin knows has_role stood stays b book ask k.0 k.1 result c new → result ≡ Err fault → new ≡ book
     settles_nothing ask k result new fault e is = ⊎_elim

@@ -1,7 +1,6 @@
 -- What a decision of a place keeps of what the books have to do with the board.
-use Rattle.std.proofs.Common.{◌≡◌, ℕ, Bool, false, cond, List, ◌++◌, append-nil, inl, ⊎_elim, refl, sym, ap, ◌∙◌, subst, Option, Some, None, is_none, is_some}
+use Rattle.std.proofs.Common.{◌≡◌, ℕ, Bool, cond, List, ◌++◌, append-nil, inl, ⊎_elim, refl, sym, ap, ◌∙◌, subst, Option, Some, None, is_none}
 use Rattle.std.specs.Prelude.{slice_get, Result, ◌↔◌}
-use Rattle.std.proofs.lemmas.Bool.{false≢true}
 use Rattle.std.specs.declared.alloc.AllocError.{AllocError}
 use Rattle.inst_base.specs.declared.fault.Fault.{Fault}
 use Rattle.inst_settings.specs.Settings.{HubSettings}
@@ -24,10 +23,6 @@ use Rattle.inst_slot.specs.Telling.{booking, with_event, taken_id, taken_by, if_
 use Rattle.inst_slot.proofs.Keeping.{with_events}
 use Rattle.inst_slot.proofs.Looking.{looked_on, decided, undecided}
 use Rattle.inst_slot.proofs.Deciding.{asked}
-
-pub none_if : {A : Type 0} (o : Option A) → is_some o ≡ false → o ≡ None
-none_if None e = refl
-none_if (Some x) e = absurd (false≢true (sym e))
 
 -- the own transfer at an index, with nothing booked
 pub record IsUnbooked (book : Book) (index : ℕ) (id : List ℕ) : Type 0 where

@@ -11,7 +11,6 @@ use Rattle.std.proofs.lemmas.Bool.Decides.{nat_tests}
 use Rattle.std.proofs.lemmas.Cmp.{ranked}
 use Rattle.std.proofs.lemmas.List.{map-append, length-map}
 use Rattle.std.proofs.lemmas.List.Sorted.{IsNonDecreasingBy-from_default}
-use Rattle.std.proofs.lemmas.List.Sums.{sum_by-cons}
 use Rattle.std.proofs.lemmas.Map.Made.{is_some-lookup}
 use Rattle.std.proofs.lemmas.Option.{slice_get-get_or, slice_get_within, get_or_from_slice_get}
 use Rattle.inst_settings.specs.Settings.{same_text}
@@ -35,7 +34,7 @@ use Rattle.inst_slot.specs.declared.arrivals.Spot.{Spot}
 use Rattle.inst_slot.specs.inner.Answering.{beside, over}
 use Rattle.inst_slot.specs.Arrived.{unbooked_place, NoneUnbooked}
 use Rattle.inst_slot.specs.Book.{Book, arrived_at, placed}
-use Rattle.inst_slot.specs.Opening.{is_of, is_unfound}
+use Rattle.inst_slot.specs.Opening.{is_of}
 use Rattle.inst_slot.specs.Spots.{rows_of, no_entry, arrival_of, arrivals_of, positions_of, AreSpots}
 use Rattle.inst_slot.specs.inner.Spots.{FindsSpot, IsSpotAt}
 use Rattle.inst_slot.proofs.Arrived.{none_counted, counted_once, none_arrived, arrived_there}
@@ -237,17 +236,6 @@ module _ (es : List (Key × Transfer)) (rows : List Entry) (S : List Spot) (same
 -- what was found stands in the rows of the history
 pub found_row : (who : ℕ) (J : List Event) (h : Held) (f : Found) → IsRight who J (state_in h) → IsFound h f → slice_get (rows_of who J) f.position ≡ Some (row_in ((f.from, f.id), f.transfer))
 found_row who J h f right found = ap (λ (rows : List Entry). slice_get rows f.position) (sym right.rows) ∙ row_there h.entries f.position ((f.from, f.id), f.transfer) found.row
-
--- how many places aren't found
-pub unfound_spots : (rows : List Entry) (S : List Spot) → count_by (λ (s : Spot). is_none s.index) S ≡ count_by is_unfound (arrivals_of rows S)
-unfound_spots rows [] = refl
-unfound_spots rows (s ∷ S) =
-    omega (
-      arith,
-      sum_by-cons (λ (x : Spot). cond {A = ℕ} (is_none x.index) 1 0) s S,
-      sum_by-cons (λ (x : Arrival). cond {A = ℕ} (is_unfound x) 1 0) (arrival_of rows s) (arrivals_of rows S),
-      unfound_spots rows S,
-    )
 
 -- a spot whose index was written
 pub arrivals_set : (rows : List Entry) (S : List Spot) (i : ℕ) (s : Spot) → arrivals_of rows (set S i s) ≡ set (arrivals_of rows S) i (arrival_of rows s)

@@ -1,5 +1,5 @@
 -- What the walk knows at each front of the history.
-use Rattle.std.proofs.Common.{◌≡◌, ℕ, zero, suc, ◌+◌, ◌*◌, ◌<◌, ◌≤◌, false, cond, List, [], ◌∷◌, ◌++◌, length, take, drop, get_or, Some, None, count_by, refl, sym, ap, subst, ◌∙◌, arith, take-append-drop, drop-cons, add-one}
+use Rattle.std.proofs.Common.{◌≡◌, ℕ, ◌+◌, ◌*◌, ◌<◌, ◌≤◌, false, cond, List, [], ◌∷◌, ◌++◌, length, take, drop, get_or, Some, None, count_by, refl, sym, ap, subst, ◌∙◌, arith, take-append-drop, drop-cons, add-one}
 use Rattle.std.proofs.lemmas.List.{take_more}
 use Rattle.std.proofs.Math.Nat.{mul-le-mul}
 use Rattle.indexmap.specs.IndexMap.{IndexMap}
@@ -13,7 +13,6 @@ use Rattle.inst_journal.specs.declared.event.Event.TheVariants.{Funded, Defunded
 use Rattle.inst_journal.specs.Lines.{raised}
 use Rattle.inst_journal.specs.Opened.{is_opening}
 use Rattle.inst_journal.specs.Sound.{Fits, FitAfter, IsSound}
-use Rattle.inst_journal.specs.Statement.{statement_part}
 use Rattle.inst_journal.proofs.Counting.{count_push}
 use Rattle.inst_journal.proofs.Walking.{may_have_line, lines_few, rest_fits, sound_front}
 use Rattle.inst_statement.specs.declared.movement.Movement.{Movement}
@@ -142,14 +141,3 @@ module _ {S : Type 0} {taken after_taken : IndexMap (List ℕ) (ℕ × ℕ) S} {
         (line_anew p.settings p.who (take i J) before after p.sound (subst (Fits p.settings p.who (take i J)) opened p.fits) none at stands.lines);
     bounded = bounded_still (take i J) x after.position (omega (arith, at, stands.bounded));
   })
-
--- at the end it is the part of the statement
-pub ends : {S : Type 0} {taken : IndexMap (List ℕ) (ℕ × ℕ) S} {forwarded : IndexMap (ℕ × List ℕ) ℕ S} (J : List Event) (i skip count : ℕ) (stated : Stated) → length J ≤ i → Stands (take i J) taken forwarded stated → take count (drop skip stated.lines) ≡ statement_part J skip count
-ends J i skip count stated le stands =
-    ap (λ L. take count (drop skip L)) stands.lines.are_lines ∙ ap (λ F. statement_part F skip count) (take_all J i le)
-  where
-    take_all : (J : List Event) (i : ℕ) → length J ≤ i → take i J ≡ J
-    take_all [] zero le = refl
-    take_all [] (suc i) le = refl
-    take_all (x ∷ J) zero le = absurd (omega (arith, le))
-    take_all (x ∷ J) (suc i) le = ap (λ K. x ∷ K) (take_all J i (omega (arith, le)))

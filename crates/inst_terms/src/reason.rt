@@ -1,5 +1,5 @@
 //! A reason as a number below 36^4: its four characters in base 36, the first highest.
-ghost use Rattle.std.specs.Prelude.{◌≡◌, ◌<◌, ◌≤◌, ℕ, List, length, get_or, Some, IsTrue, ◌↔◌};
+ghost use Rattle.std.specs.Prelude.{◌≡◌, ◌<◌, ℕ, List, Some, IsTrue, ◌↔◌};
 ghost use Rattle.inst_base.specs.Text.{is_reason, is_code_character};
 ghost use Rattle.inst_terms.specs.Reason.{digit_of, reason_number};
 ghost use Rattle.inst_terms.specs.inner.Reason.{character_of};

@@ -136,11 +136,6 @@ id_there ks [] i p key e there = absurd (true≢false (sym (ap is_some e)))
 id_there ks (x ∷ ps) zero p key e there = let same : x ≡ p = cc in ap (λ (y : ℕ). Some (id_in (slice_get ks y))) same ∙ ap (λ (o : Option Key). Some (id_in o)) there
 id_there ks (x ∷ ps) (suc i) p key e there = id_there ks ps i p key e there
 
-pub none_at : (ks : List Key) (ps : List ℕ) (i : ℕ) → slice_get ps i ≡ None → slice_get (ids_at ks ps) i ≡ None
-none_at ks [] i e = refl
-none_at ks (x ∷ ps) zero e = absurd (true≢false (ap is_some e))
-none_at ks (x ∷ ps) (suc i) e = none_at ks ps i e
-
 pub within_at : (n : ℕ) (ps : List ℕ) (i p : ℕ) → AreWithin n ps → slice_get ps i ≡ Some p → p < n
 within_at n [] i p within e = absurd (true≢false (sym (ap is_some e)))
 within_at n (x ∷ ps) zero p within e = let same : x ≡ p = cc in omega (arith, within.0, same)

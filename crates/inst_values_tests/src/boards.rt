@@ -1,11 +1,9 @@
 //! The plain board: each wish about a deadline, and what a look shows then.
 ghost use Rattle.std.specs.Prelude.{◌≡◌, IfOk};
 ghost use Rattle.inst_settings.specs.Settings.{participants};
-ghost use Rattle.inst_board.specs.declared.place.Place.{Place};
-ghost use Rattle.inst_board.specs.declared.plain.Kept.TheVariants.{Unused as KeptUnused};
 ghost use Rattle.inst_board.specs.declared.about.About.TheVariants.{Opened};
-ghost use Rattle.inst_board.specs.Standing.{IsPlace, about};
-ghost use Rattle.inst_board.specs.Plain.{kept_at, plain_knows};
+ghost use Rattle.inst_board.specs.Standing.{about};
+ghost use Rattle.inst_board.specs.Plain.{plain_knows};
 
 use crate::comparing::{same, same_at};
 use inst_base::{Cents, Code, Fault, Ident, Moment, Reason, mention};

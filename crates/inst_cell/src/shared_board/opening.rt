@@ -1,5 +1,5 @@
 //! How the words of a hub are made, with a seat for each of its slots, and one for the sight of each teller.
-ghost use Rattle.std.specs.Prelude.{◌≡◌, ◌⊎◌, ◌↔◌, Err, length, IfOk, IfErr};
+ghost use Rattle.std.specs.Prelude.{◌≡◌, ◌⊎◌, ◌↔◌, Err, IfOk, IfErr};
 ghost use Rattle.inst_cell.specs.View.{first_view, with_role, without_role, told};
 ghost use Rattle.inst_board.specs.declared.about.Fact.{Fact};
 ghost use Rattle.inst_cell.specs.Held.{settings_of, view_of, knows, AtOneTable};

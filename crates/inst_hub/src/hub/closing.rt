@@ -1,12 +1,12 @@
 //! How a hub is taken apart when it closes.
-ghost use Rattle.std.specs.Prelude.{◌≡◌, ℕ, ◌<◌, ◌≤◌, ◌+◌, [], List, map, length, slice_get, Some, IfOk, IfErr, vec_len, vec_capacity};
+ghost use Rattle.std.specs.Prelude.{◌≡◌, ℕ, ◌<◌, ◌≤◌, [], List, map, length, slice_get, Some, IfOk, IfErr, vec_capacity};
 ghost use mathlib.Core.List.{IsPrefix};
 ghost use Rattle.inst_board.specs.declared.about.Fact.{Fact};
 ghost use Rattle.inst_cell.specs.Held.{knows};
 ghost use Rattle.inst_journal.specs.declared.event.Event.{Event};
 ghost use Rattle.inst_model.specs.Opening.{Opening, IsOpening};
 ghost use Rattle.inst_row.specs.Row.{row_id, key_of, size};
-ghost use Rattle.inst_row.specs.Seated.{IsOn, HasAll, HasSeen, GoesOn};
+ghost use Rattle.inst_row.specs.Seated.{IsOn, HasAll, HasSeen};
 ghost use Rattle.inst_parts.specs.Apart.{IsPartsOf, histories_of, board_of, hub_of};
 ghost use Rattle.inst_hub.specs.declared.teller.Teller.{Teller};
 ghost use Rattle.inst_hub.specs.Calls.{AreOf, knows_of};

@@ -2,8 +2,7 @@
 ghost use Rattle.std.specs.Prelude.{◌≡◌, ◌⊎◌, ◌↔◌, [], Err, IfOk, IfErr, length, ◌<◌};
 ghost use Rattle.atomic_table.specs.Seated.{TableId};
 ghost use Rattle.inst_settings.specs.Settings.{participants};
-ghost use Rattle.inst_cell.specs.Held.{settings_of};
-ghost use Rattle.inst_cell.specs.Opening.{MayOpen, IsOpened, AreAdmitted};
+ghost use Rattle.inst_cell.specs.Opening.{MayOpen, IsOpened};
 ghost use Rattle.inst_row.specs.Row.{row_id, key_of, size};
 ghost use Rattle.inst_row.specs.Seated.{IsOn, HasAll, view_of};
 ghost use Rattle.inst_model.specs.Opening.{First};

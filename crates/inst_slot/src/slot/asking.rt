@@ -1,23 +1,21 @@
 //! What a participant asks of its slot.
-ghost use Rattle.std.specs.Prelude.{◌≡◌, ◌≢◌, IfErr, [], ◌∷◌, true, false, is_some, IfOk, OnErr, OnOk, Some, None, position};
+ghost use Rattle.std.specs.Prelude.{◌≡◌, ◌≢◌, IfErr, [], ◌∷◌, true, false, is_some, IfOk, OnErr, OnOk, Some, None};
 ghost use Rattle.inst_base.specs.Fault.{IsUnlessMemory};
 ghost use Rattle.inst_settings.specs.Settings.{is_participant};
 ghost use Rattle.inst_command.specs.Ask.{ask_fits};
 ghost use Rattle.inst_board.specs.Learning.{KnowTheSame};
-ghost use Rattle.inst_journal.specs.Booked.{takes, booked};
-ghost use Rattle.inst_journal.specs.Opened.{is_opening, live_taken};
-ghost use Rattle.inst_journal.specs.Sound.{IsSound, Fits, FitAfter};
+ghost use Rattle.inst_journal.specs.Opened.{is_opening};
+ghost use Rattle.inst_journal.specs.Sound.{Fits, FitAfter};
 ghost use Rattle.inst_journal.specs.Reply.{copies, kept_event};
-ghost use Rattle.inst_slot.specs.Book.{arrived_at};
 ghost use Rattle.inst_slot.specs.LawfulBoard.{IsLawfulBoard, KeepsOthers, AllAreAdopted};
-ghost use Rattle.inst_slot.specs.Asking.{wish_for, request, decides, AsksAdopted, handle_ask, Opens, Enters, Settles, Applies};
+ghost use Rattle.inst_slot.specs.Asking.{request, decides, AsksAdopted, handle_ask, Opens, Enters, Applies};
 ghost use Rattle.inst_slot.specs.Telling.{with_event};
 
 use super::Slot;
 use crate::answering::{request_of, settle};
-use inst_base::{Fault, Ident, Moment};
-use inst_board::{Board, Place, Wish};
-use inst_command::{Ask, Command, Outcome, Reply};
+use inst_base::{Fault, Moment};
+use inst_board::Board;
+use inst_command::{Ask, Outcome, Reply};
 use inst_journal::{Event, Handled};
 use inst_terms::Terms;
 use std::alloc::AllocError;

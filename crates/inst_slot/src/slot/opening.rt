@@ -1,6 +1,5 @@
 //! A slot that opens again from its books, and finds the places of what was forwarded to it before.
-ghost use Rattle.std.specs.Prelude.{◌≡◌, ◌≤◌, ◌<◌, ◌++◌, ◌∷◌, [], true, map, count_by, IfOk, OnErr, IsTrue};
-ghost use Rattle.std.specs.List.{list_any};
+ghost use Rattle.std.specs.Prelude.{◌≡◌, ◌<◌, true, IfOk, OnErr, IsTrue};
 ghost use Rattle.inst_base.specs.Moment.{is_moment};
 ghost use Rattle.inst_base.specs.TimeLimit.{deadline_of};
 ghost use Rattle.inst_settings.specs.Settings.{is_participant};
@@ -11,9 +10,9 @@ ghost use Rattle.inst_board.specs.Learning.{Looks, Learns, KnowsTruly};
 ghost use Rattle.inst_board.specs.Standing.{IsPlace, about, pending};
 ghost use Rattle.inst_journal.specs.Opened.{openings, carried, live_taken};
 ghost use Rattle.inst_journal.specs.Sound.{IsSound};
-ghost use Rattle.inst_slot.specs.Book.{place_at, live_inbox};
+ghost use Rattle.inst_slot.specs.Book.{place_at};
 ghost use Rattle.inst_slot.specs.LawfulBoard.{IsLawfulBoard, KeepsOthers, AllAreAdopted};
-ghost use Rattle.inst_slot.specs.Opening.{opened_again, MayOpenAgain, OpensPlaces, is_of, awaits, found_at, finds_carried, with_found, unfound};
+ghost use Rattle.inst_slot.specs.Opening.{opened_again, MayOpenAgain, OpensPlaces, finds_carried, with_found, unfound};
 
 use super::Slot;
 use crate::arrivals::{carried_arrivals, find_at};

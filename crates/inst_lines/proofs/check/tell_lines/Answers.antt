@@ -1,4 +1,4 @@
-use Rattle.std.proofs.Common.{rules, ◌≡◌, ◌≢◌, ◌<◌, [], ℕ, List, length}
+use Rattle.std.proofs.Common.{rules, ◌<◌, length}
 use Rattle.std.proofs.lemmas.List.{take_rest}
 use Rattle.std.proofs.lemmas.Result.{on_ok_weaker}
 use Rattle.inst_lines.proofs.Checking.{told-line, told-last}

@@ -1,5 +1,5 @@
-use Rattle.std.proofs.Common.{◌≡◌, ◌∙◌, ⊎_elim, Option, None, Some, codes}
-use Rattle.clap.specs.Words.{found_of, one_of, rows_of}
+use Rattle.std.proofs.Common.{◌∙◌, ⊎_elim}
+use Rattle.clap.specs.Words.{found_of}
 use Rattle.clap.proofs.WalkLemmas.{one_text-rows}
 use Rattle.inst_options.proofs.options.flag.Goals as goal
 

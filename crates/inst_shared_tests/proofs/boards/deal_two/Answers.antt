@@ -1,5 +1,5 @@
 use Rattle.std.proofs.Common.{◌≡◌, ◌<◌, ◌∙◌, ℕ, true, sym, subst, ap, arith, refl}
-use Rattle.inst_settings.specs.Settings.{HubSettings, participants, is_participant}
+use Rattle.inst_settings.specs.Settings.{participants, is_participant}
 use Rattle.inst_board.specs.declared.about.About.TheVariants.{Opened}
 use Rattle.inst_board.specs.Standing.{IsPlace, about}
 use Rattle.inst_cell.specs.Held.{settings_of, has_role}
