@@ -5,6 +5,7 @@ ghost use Rattle.inst_world.specs.NextOpening.{CanOpenFrom};
 ghost use Rattle.std.specs.Io.KnownBytes.{IsAtEnd};
 ghost use Rattle.inst_main.specs.Program.{IsUnkept};
 ghost use Rattle.inst_logged.specs.Refused.{IsRefused};
+ghost use Rattle.inst_logged.specs.Logged.{IsUnbegun};
 
 use crate::ending::Ending;
 use crate::logs::Logs;
@@ -137,6 +138,23 @@ fn carry<L: Logs, D: Disk + Drop>(
     ensures err { IfErr result (IsUnkept (Unit {0})) }
 {
     let mut hub = LoggedHub::of_log(alloc, mode, settings, disk).map_err(ending_of)?;
+    close(logs, alloc, mode, &mut hub, to)
+}
+
+/// Closes the hub, and makes the log of this name with its books.
+fn close<L: Logs, D: Disk + Drop>(
+    logs: &L,
+    alloc: Global,
+    mode: Mode,
+    hub: &mut LoggedHub<D>,
+    to: &str,
+) -> Result<(), Ending>
+    requires unbegun { IsUnbegun hub.old.header.items hub.old.intake }
+    requires usable { IsTrue (D.Disk.is_usable hub.old.recorder.log.disk) }
+    requires known { IsTrue (D.Disk.is_clean hub.old.recorder.log.disk)
+        → Only (D.Disk.seen hub.old.recorder.log.disk) (D.Disk.may_leave hub.old.recorder.log.disk) }
+    ensures err { IfErr result (IsUnkept (Unit {0})) }
+{
     match hub.close(alloc).map_err(ending_of)? {
         Some(books) => begin(alloc, mode, hub.settings(), &books, logs.open(to)?),
         None => Err(Ending::Log(LogFault::LastOpening)),
@@ -157,6 +175,17 @@ fn begin<D: Disk + Drop>(
     ensures err { IfErr result (IsUnkept (Unit {0})) }
 {
     let mut hub = LoggedHub::new_from(alloc, mode, settings, journals, disk)?;
+    run_nothing(alloc, &mut hub)
+}
+
+/// A run of no lines: it writes the beginning of the hub's log.
+fn run_nothing<D: Disk + Drop>(alloc: Global, hub: &mut LoggedHub<D>) -> Result<(), Ending>
+    requires unbegun { IsUnbegun hub.old.header.items hub.old.intake }
+    requires usable { IsTrue (D.Disk.is_usable hub.old.recorder.log.disk) }
+    requires known { IsTrue (D.Disk.is_clean hub.old.recorder.log.disk)
+        → Only (D.Disk.seen hub.old.recorder.log.disk) (D.Disk.may_leave hub.old.recorder.log.disk) }
+    ensures err { IfErr result (IsUnkept (Unit {0})) }
+{
     let mut nothing: &[u8] = b"";
     hub.run(alloc, None, &mut nothing, &mut Vec::new(alloc))
         .map_err(ending_of)
