@@ -96,10 +96,6 @@ found_is_kept book (Statement skip count) at o decided = absurd (false≢true de
 
 module _ (s : HubSettings) (O : Opening) (opening : IsOpening s O) (L : List Step) (steps : IsInterleaving s L) (b : Contents) (board : IsBoardOf s O L b) where
   module _ (ask : AskValue) (book : Book) (member : IsMember s b ask.who book) (events : book.events ≡ history s O L ask.who) where
-    -- what the ask finds in the model
-    abbrev pub model_finds : Option Outcome
-    model_finds = found (outcome s O (Ask ask ∷ L)) ask.who (history s O L ask.who) ask.command
-
     -- what it is answered in the model, and what is kept of it
     abbrev pub model_handles : Result Handled Fault
     model_handles = handle s ask.who (history s O L ask.who) ask.command ask.at (found (outcome s O (Ask ask ∷ L)) ask.who (history s O L ask.who) ask.command)

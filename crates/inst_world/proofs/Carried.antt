@@ -27,8 +27,8 @@ use Rattle.inst_model.proofs.Transfers.{as_transfer, live_place}
 use Rattle.inst_slot.specs.declared.arrival.Arrival.{Arrival}
 use Rattle.inst_slot.specs.Book.{Book, place_at, terms_to}
 use Rattle.inst_slot.proofs.Growing.{slice_get_at}
-use Rattle.inst_world.specs.HasRun.{Hub, settings_of, events_of, journal_of, StandsWith, StandsFor, IsBoardOf, terms_of, IsHub, HasRun}
-use Rattle.inst_world.specs.NextOpening.{books_again, AreOpenedAgain, IsCarryingHub, HaveFoundBefore, OnlyFinds}
+use Rattle.inst_world.specs.HasRun.{World, settings_of, events_of, journal_of, StandsWith, StandsFor, IsBoardOf, terms_of, IsWorld, HasRun}
+use Rattle.inst_world.specs.inner.NextOpening.{books_again, AreOpenedAgain, IsCarryingWorld, HaveFoundBefore, OnlyFinds}
 use Rattle.inst_world.proofs.Exactly.{same_for}
 use Rattle.inst_world.proofs.Reopening.{again_length, again_at, board_opened, begins_undecided}
 
@@ -88,8 +88,8 @@ module _ (s : HubSettings) (J : ℕ → List Event) (can : BooksCanOpen s J) whe
       let at = live_place x.from (J x.from ++ Opened ∷ []) somewhere.0 y somewhere.1 sent.3 in
       record { place = at.0; transfer = y; there = at.1; terms_are = refl; deadline_is = sent.2 }
 
-  module _ (first : Hub) (opened : AreOpenedAgain s J (participants s) first) (hub : Hub) (finds : OnlyFinds first hub) (carrying : IsCarryingHub hub) where
-    same : settings_of hub ≡ s
+  module _ (first : World) (opened : AreOpenedAgain s J (participants s) first) (world : World) (finds : OnlyFinds first world) (carrying : IsCarryingWorld world) where
+    same : settings_of world ≡ s
     same = finds.settings_are ∙ opened.settings_are
 
     begins_so : (p : ℕ) → p < participants s → journal_of first p ≡ J p ++ Opened ∷ []
@@ -99,25 +99,25 @@ module _ (s : HubSettings) (J : ℕ → List Event) (can : BooksCanOpen s J) whe
         let at = again_at s J (participants s) p found.0 found.1 in
         ap (λ (xs : List Book). events_of (slice_get xs p)) opened.books_are ∙ ap events_of found.1 ∙ ap (λ (b : Book). b.events) at.1
 
-    events_are : (p : ℕ) (book : Book) → slice_get hub.books p ≡ Some book → book.events ≡ J p ++ Opened ∷ []
+    events_are : (p : ℕ) (book : Book) → slice_get world.books p ≡ Some book → book.events ≡ J p ++ Opened ∷ []
     events_are p book there =
-        let below : p < participants s = omega (arith, slice_get_within hub.books p book there, carrying.one_each, ap participants same) in
+        let below : p < participants s = omega (arith, slice_get_within world.books p book there, carrying.one_each, ap participants same) in
         ap events_of (sym there) ∙ finds.histories p ∙ begins_so p below
 
-    board_is : IsBoardOf s (FromBooks J) [] hub.board
+    board_is : IsBoardOf s (FromBooks J) [] world.board
     board_is p place =
         let k : Place = place_at p place in
-        same_for s (outcome s (FromBooks J) [] p) (at_place p (J p ++ Opened ∷ []) place) (standing_at first.board k) (standing_at hub.board k) (finds.board_says k) (board_opened s J can first opened p place)
+        same_for s (outcome s (FromBooks J) [] p) (at_place p (J p ++ Opened ∷ []) place) (standing_at first.board k) (standing_at world.board k) (finds.board_says k) (board_opened s J can first opened p place)
 
-    pub has_run_none : HasRun (FromBooks J) [] hub
+    pub has_run_none : HasRun (FromBooks J) [] world
     has_run_none =
-        let at : HubSettings → Type 0 = λ t. BooksCanOpen t J × IsBoardOf t (FromBooks J) [] hub.board in
+        let at : HubSettings → Type 0 = λ t. BooksCanOpen t J × IsBoardOf t (FromBooks J) [] world.board in
         let here : at s = (can, board_is) in
-        let r : at (settings_of hub) = subst at (sym same) here in
+        let r : at (settings_of world) = subst at (sym same) here in
         record { opening = r.0; steps = tt; histories = events_are; board = r.1 }
 
-    module _ (found : HaveFoundBefore (participants s) 0 hub) where
-      all_found : (p : ℕ) (book : Book) → slice_get hub.books p ≡ Some book → (x : Arrival) → Contains book.arrivals x → is_some x.index ≡ true
+    module _ (found : HaveFoundBefore (participants s) 0 world) where
+      all_found : (p : ℕ) (book : Book) → slice_get world.books p ≡ Some book → (x : Arrival) → Contains book.arrivals x → is_some x.index ≡ true
       all_found p book there x has =
           let e : Entry = x.entry in
           let lawful = (carrying.member p book there).lawful in
@@ -125,20 +125,20 @@ module _ (s : HubSettings) (J : ℕ → List Event) (can : BooksCanOpen s J) whe
           let events : book.events ≡ J p ++ Opened ∷ [] = events_are p book there in
           let at : LivesAt s J p e = lives_at p e (subst (λ (l : List Event). Contains l (Forwarded e.from e.id e.cents e.deadline)) events (forwarded_so book.events e came.0)) (ap (is_live e.from e.id) (sym events) ∙ came.1) in
           let k : Place = place_at e.from at.place in
-          let undecided : StandsWith (terms_of at.transfer) (deadline s at.transfer) (outcome s (FromBooks J) [] e.from at.transfer.id) (standing_at hub.board k) =
-          subst (λ (X : Option Transfer). StandsFor s (outcome s (FromBooks J) [] e.from) X (standing_at hub.board k)) at.there (board_is e.from at.place) in
-          let stands : standing_at hub.board k ≡ pending (terms_of at.transfer) (deadline s at.transfer) =
-          subst (λ (o : Option Outcome). StandsWith (terms_of at.transfer) (deadline s at.transfer) o (standing_at hub.board k)) (begins_undecided s J can e.from at.place at.transfer at.there) undecided in
+          let undecided : StandsWith (terms_of at.transfer) (deadline s at.transfer) (outcome s (FromBooks J) [] e.from at.transfer.id) (standing_at world.board k) =
+          subst (λ (X : Option Transfer). StandsFor s (outcome s (FromBooks J) [] e.from) X (standing_at world.board k)) at.there (board_is e.from at.place) in
+          let stands : standing_at world.board k ≡ pending (terms_of at.transfer) (deadline s at.transfer) =
+          subst (λ (o : Option Outcome). StandsWith (terms_of at.transfer) (deadline s at.transfer) o (standing_at world.board k)) (begins_undecided s J can e.from at.place at.transfer at.there) undecided in
           let due : pending (terms_of at.transfer) (deadline s at.transfer) ≡ pending (terms_to p e.cents e.id) e.deadline = λ j. pending (at.terms_are j) (at.deadline_is j) in
-          let is : standing_at hub.board k ≡ pending (terms_to p e.cents e.id) e.deadline = stands ∙ due in
-          let known : plain_knows hub.board (about k IsOpened) = subst (λ (q : Standing). Says q IsOpened) (sym is) tt in
-          let place : IsTrue (is_place (settings_of hub) k) = known_is_place hub.board k IsOpened known in
-          let parts = and_parts (nat_lt e.from (participants (settings_of hub))) (nat_lt at.place (settings_of hub).places) place in
-          let owner : e.from < participants s = omega (arith, ltb-true e.from (participants (settings_of hub)) parts.0, ap participants same) in
+          let is : standing_at world.board k ≡ pending (terms_to p e.cents e.id) e.deadline = stands ∙ due in
+          let known : plain_knows world.board (about k IsOpened) = subst (λ (q : Standing). Says q IsOpened) (sym is) tt in
+          let place : IsTrue (is_place (settings_of world) k) = known_is_place world.board k IsOpened known in
+          let parts = and_parts (nat_lt e.from (participants (settings_of world))) (nat_lt at.place (settings_of world).places) place in
+          let owner : e.from < participants s = omega (arith, ltb-true e.from (participants (settings_of world)) parts.0, ap participants same) in
           found p book there x has at.place (inl owner) is
 
-      pub is_hub_again : IsHub hub
-      is_hub_again = record {
+      pub is_world_again : IsWorld world
+      is_world_again = record {
         one_each = carrying.one_each;
         member = λ p book there.
             let m = carrying.member p book there in

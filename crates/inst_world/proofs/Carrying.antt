@@ -19,17 +19,17 @@ use Rattle.inst_slot.specs.Book.{Book, place_at, terms_to}
 use Rattle.inst_slot.specs.LawfulBoard.{IsLawfulBoard, KeepsOthers}
 use Rattle.inst_slot.specs.Opening.{is_of, is_unfound, awaits, found_at, with_found}
 use Rattle.inst_model.proofs.Basics.{same_transfer_refl}
-use Rattle.inst_world.specs.HasRun.{Hub, settings_of, events_of}
-use Rattle.inst_world.specs.NextOpening.{IsCarrying, IsCarryingHub, StandsBefore, HaveFoundBefore, OnlyFinds}
+use Rattle.inst_world.specs.HasRun.{World, settings_of, events_of}
+use Rattle.inst_world.specs.inner.NextOpening.{IsCarrying, IsCarryingWorld, StandsBefore, HaveFoundBefore, OnlyFinds}
 use Rattle.inst_world.proofs.Exactly.{IsTheSame, say_pending, same_through, looked}
-use Rattle.inst_world.proofs.Hubs.{get_set, get_set_other, set_cases}
+use Rattle.inst_world.proofs.Worlds.{get_set, get_set_other, set_cases}
 use Rattle.inst_world.proofs.Telling.{board_looked}
 
 -- nothing happened
-pub finds_none : (hub : Hub) → OnlyFinds hub hub
-finds_none hub = record { settings_are = refl; histories = λ p. refl; board_says = λ k a. (λ h. h, λ h. h) }
+pub finds_none : (world : World) → OnlyFinds world world
+finds_none world = record { settings_are = refl; histories = λ p. refl; board_says = λ k a. (λ h. h, λ h. h) }
 
-pub finds_on : (one two three : Hub) → OnlyFinds one two → OnlyFinds two three → OnlyFinds one three
+pub finds_on : (one two three : World) → OnlyFinds one two → OnlyFinds two three → OnlyFinds one three
 finds_on one two three first second = record {
   settings_are = second.settings_are ∙ first.settings_are;
   histories = λ p. second.histories p ∙ first.histories p;
@@ -84,20 +84,20 @@ module _ (k : Place) (t : Terms) (d : ℕ) (x : Arrival) where
           ap (λ (b : Bool). is_some (cond b (record { entry = x.entry; index = Some k.index }) x).index) all
 
 -- nothing is pending at the place
-pub passes_by : (hub : Hub) (c : Contents) (k : Place) → c ≡ hub.board → ((t : Terms) (d : ℕ) → standing_at hub.board k ≡ pending t d → ⊥) → HaveFoundBefore k.owner k.index hub
-    → HaveFoundBefore k.owner (k.index + 1) (record { books = hub.books; board = c })
-passes_by hub c k same none found p book there x has i before is =
-    let stands : standing_at hub.board (place_at x.entry.from i) ≡ pending (terms_to p x.entry.cents x.entry.id) x.entry.deadline = ap (λ (b : Contents). standing_at b (place_at x.entry.from i)) (sym same) ∙ is in
+pub passes_by : (world : World) (c : Contents) (k : Place) → c ≡ world.board → ((t : Terms) (d : ℕ) → standing_at world.board k ≡ pending t d → ⊥) → HaveFoundBefore k.owner k.index world
+    → HaveFoundBefore k.owner (k.index + 1) (record { books = world.books; board = c })
+passes_by world c k same none found p book there x has i before is =
+    let stands : standing_at world.board (place_at x.entry.from i) ≡ pending (terms_to p x.entry.cents x.entry.id) x.entry.deadline = ap (λ (b : Contents). standing_at b (place_at x.entry.from i)) (sym same) ∙ is in
     elim (place_further k.owner k.index (place_at x.entry.from i) before) [
       | inl earlier ↦ found p book there x has i earlier stands
-      | inr here ↦ absurd (none (terms_to p x.entry.cents x.entry.id) x.entry.deadline (ap (standing_at hub.board) (sym here) ∙ stands))
+      | inr here ↦ absurd (none (terms_to p x.entry.cents x.entry.id) x.entry.deadline (ap (standing_at world.board) (sym here) ∙ stands))
     ]
 
 -- the beneficiary finds what is pending at the place
-module _ (books : List Book) (b c : Contents) (k : Place) (t : Terms) (d i : ℕ) (slot new : Book) (hub : IsCarryingHub (record { books = books; board = b })) (here : standing_at b k ≡ pending t d)
+module _ (books : List Book) (b c : Contents) (k : Place) (t : Terms) (d i : ℕ) (slot new : Book) (world : IsCarryingWorld (record { books = books; board = b })) (here : standing_at b k ≡ pending t d)
     (below : i < length books) (number : i ≡ t.to) (there : slice_get books t.to ≡ Some slot) (same : IsTheSame b c) (is : new ≡ with_found slot k (Pending t d)) where
   who_is : slot.who ≡ t.to
-  who_is = (hub.member t.to slot there).who_is
+  who_is = (world.member t.to slot there).who_is
 
   new_is : new ≡ record slot { arrivals = map (found_at k t d) slot.arrivals }
   new_is = is ∙ ap (λ (x : Bool). cond x (record slot { arrivals = map (found_at k t d) slot.arrivals }) slot) (eq-eqb t.to slot.who (sym who_is))
@@ -145,24 +145,24 @@ module _ (books : List Book) (b c : Contents) (k : Place) (t : Terms) (d i : ℕ
       ]
 
   pub now_carrying : c.settings ≡ b.settings → IsLawfulBoard (λ (x : Contents). x.settings) plain_knows (λ x q. Unit {0}) c new → KeepsOthers (λ (x : Contents). x.settings) plain_knows (λ x q. Unit {0}) b slot.who c
-      → IsCarryingHub (record { books = set books i new; board = c })
+      → IsCarryingWorld (record { books = set books i new; board = c })
   now_carrying stays lawful others = record {
-    one_each = length-set books i new ∙ hub.one_each ∙ ap participants (sym stays);
+    one_each = length-set books i new ∙ world.one_each ∙ ap participants (sym stays);
     member = λ p book at. elim (set_cases books i p new book below at) [
       | inl own ↦ subst (λ (x : Book). IsCarrying c.settings c p x) (sym own.1) (record {
-        settings_are = ap (λ (x : Book). x.settings) new_is ∙ (hub.member t.to slot there).settings_are ∙ sym stays;
+        settings_are = ap (λ (x : Book). x.settings) new_is ∙ (world.member t.to slot there).settings_are ∙ sym stays;
         who_is = ap (λ (x : Book). x.who) new_is ∙ who_is ∙ sym number ∙ sym own.0;
         lawful = lawful;
       })
       | inr other ↦
-          let m = hub.member p book other.1 in
+          let m = world.member p book other.1 in
           record {
             settings_are = m.settings_are ∙ sym stays;
             who_is = m.who_is;
             lawful = others book (λ e. other.0 (sym m.who_is ∙ e ∙ who_is ∙ sym number)) m.lawful;
           }
     ];
-    addressed = λ j u e stands. ap (λ (s : HubSettings). is_participant s u.to) stays ∙ hub.addressed j u e (was_pending j u e stands);
+    addressed = λ j u e stands. ap (λ (s : HubSettings). is_participant s u.to) stays ∙ world.addressed j u e (was_pending j u e stands);
   }
 
   pub now_finds : c.settings ≡ b.settings → OnlyFinds (record { books = books; board = b }) (record { books = set books i new; board = c })
@@ -189,19 +189,19 @@ pub record IsHeld (books : List Book) (t : Terms) (i : ℕ) (slot : Book) : Type
   pub number : i ≡ t.to
   pub there : slice_get books t.to ≡ Some slot
 
-pub is_held : (books : List Book) (b : Contents) (k : Place) (t : Terms) (d i : ℕ) (slot : Book) → IsCarryingHub (record { books = books; board = b }) → standing_at b k ≡ pending t d → i ≡ t.to → slot ≡ get_or books i slot → IsHeld books t i slot
-is_held books b k t d i slot hub here number is =
-    let below : i < length books = omega (arith, ltb-true t.to (participants b.settings) (hub.addressed k t d here), hub.one_each) in
+pub is_held : (books : List Book) (b : Contents) (k : Place) (t : Terms) (d i : ℕ) (slot : Book) → IsCarryingWorld (record { books = books; board = b }) → standing_at b k ≡ pending t d → i ≡ t.to → slot ≡ get_or books i slot → IsHeld books t i slot
+is_held books b k t d i slot world here number is =
+    let below : i < length books = omega (arith, ltb-true t.to (participants b.settings) (world.addressed k t d here), world.one_each) in
     record {
       below = below;
       number = number;
       there = ap (slice_get books) (sym number) ∙ slice_get-get_or books i slot below ∙ ap (λ (x : Book). Some x) (sym is);
     }
 
-module _ (books : List Book) (b m c : Contents) (k : Place) (t : Terms) (d i : ℕ) (slot new : Book) (look : Look) (hub : IsCarryingHub (record { books = books; board = b })) (still : m ≡ b)
+module _ (books : List Book) (b m c : Contents) (k : Place) (t : Terms) (d i : ℕ) (slot new : Book) (look : Look) (world : IsCarryingWorld (record { books = books; board = b })) (still : m ≡ b)
     (shown : Pending t d ≡ look_of (standing_at b k)) (number : i ≡ t.to) (held : slot ≡ get_or books i slot) where
-  carries : IsCarryingHub (record { books = books; board = m })
-  carries = subst (λ (x : Contents). IsCarryingHub (record { books = books; board = x })) (sym still) hub
+  carries : IsCarryingWorld (record { books = books; board = m })
+  carries = subst (λ (x : Contents). IsCarryingWorld (record { books = books; board = x })) (sym still) world
 
   pends : standing_at m k ≡ pending t d
   pends = ap (λ (x : Contents). standing_at x k) still ∙ pending_look (standing_at b k) t d (sym shown)
@@ -225,7 +225,7 @@ module _ (books : List Book) (b m c : Contents) (k : Place) (t : Terms) (d i : �
         (subst (λ (x : Contents). HaveFoundBefore k.owner k.index (record { books = books; board = x })) (sym still) found)
 
     pub adopted_carrying : c.settings ≡ m.settings → IsLawfulBoard (λ (x : Contents). x.settings) plain_knows (λ x q. Unit {0}) c new → KeepsOthers (λ (x : Contents). x.settings) plain_knows (λ x q. Unit {0}) m slot.who c
-        → IsCarryingHub (record { books = set books i new; board = c })
+        → IsCarryingWorld (record { books = set books i new; board = c })
     adopted_carrying stays lawful others = now_carrying books m c k t d i slot new carries pends its.below number its.there same finds stays lawful others
 
     pub adopted_finds : c.settings ≡ m.settings → OnlyFinds (record { books = books; board = b }) (record { books = set books i new; board = c })
@@ -234,18 +234,18 @@ module _ (books : List Book) (b m c : Contents) (k : Place) (t : Terms) (d i : �
         (now_finds books m c k t d i slot new carries pends its.below number its.there same finds stays)
 
 -- each place of the originator stands before the next one's
-pub owner_done : (hub : Hub) (owner places : ℕ) → places ≡ (settings_of hub).places → HaveFoundBefore owner places hub → HaveFoundBefore (owner + 1) 0 hub
-owner_done hub owner places all found p book there x has i before is = found p book there x has i (within before) is
+pub owner_done : (world : World) (owner places : ℕ) → places ≡ (settings_of world).places → HaveFoundBefore owner places world → HaveFoundBefore (owner + 1) 0 world
+owner_done world owner places all found p book there x has i before is = found p book there x has i (within before) is
   where
     k : Place
     k = place_at x.entry.from i
 
     index_below : k.index < places
     index_below =
-        let opened : plain_knows hub.board (about k Opened) = subst (λ (q : Standing). Says q Opened) (sym is) tt in
-        let has_it : IsTrue (is_place (settings_of hub) k) = known_is_place hub.board k Opened opened in
-        let parts = and_parts (nat_lt k.owner (participants (settings_of hub))) (nat_lt k.index (settings_of hub).places) has_it in
-        omega (arith, ltb-true k.index (settings_of hub).places parts.1, all)
+        let opened : plain_knows world.board (about k Opened) = subst (λ (q : Standing). Says q Opened) (sym is) tt in
+        let has_it : IsTrue (is_place (settings_of world) k) = known_is_place world.board k Opened opened in
+        let parts = and_parts (nat_lt k.owner (participants (settings_of world))) (nat_lt k.index (settings_of world).places) has_it in
+        omega (arith, ltb-true k.index (settings_of world).places parts.1, all)
 
     within : StandsBefore (owner + 1) 0 k → StandsBefore owner places k
     within (inr same) = absurd (omega (arith, same.1))
@@ -254,6 +254,6 @@ owner_done hub owner places all found p book there x has i before is = found p b
       | inr other ↦ inl (below k.owner owner less other)
     ]
 
-pub none_before : (hub : Hub) → HaveFoundBefore 0 0 hub
-none_before hub p book there x has i (inl less) is = absurd (omega (arith, less))
-none_before hub p book there x has i (inr same) is = absurd (omega (arith, same.1))
+pub none_before : (world : World) → HaveFoundBefore 0 0 world
+none_before world p book there x has i (inl less) is = absurd (omega (arith, less))
+none_before world p book there x has i (inr same) is = absurd (omega (arith, same.1))

@@ -10,23 +10,23 @@ use Rattle.inst_model.specs.Interleaving.{IsInterleaving}
 use Rattle.inst_model.specs.Opening.{Opening, IsOpening}
 use Rattle.inst_model.proofs.Closed.{closing_closes}
 use Rattle.inst_model.proofs.Rounds.{there_is_a_closing}
-use Rattle.inst_world.specs.HasRun.{Hub, HasRun, settings_of}
+use Rattle.inst_world.specs.HasRun.{World, HasRun, settings_of}
 use Rattle.inst_world.specs.NextOpening.{AreJournalsOf, CanOpenFrom, HasClosed, books_of}
 use Rattle.inst_world.proofs.Journals.{by_number, few_can_open}
 
 -- the journals are those of a world whatever it has run
-abbrev pub AreItsJournals : Hub → List History → Type 0
-AreItsJournals hub journals = (O : Opening) (L : List Step) → HasRun O L hub → AreJournalsOf (settings_of hub) (history (settings_of hub) O L) journals
+abbrev pub AreItsJournals : World → List History → Type 0
+AreItsJournals world journals = (O : Opening) (L : List Step) → HasRun O L world → AreJournalsOf (settings_of world) (history (settings_of world) O L) journals
 
-pub closed_can : (hub : Hub) (journals : List History) → HasClosed hub → AreItsJournals hub journals → ((p : ℕ) → openings (books_of journals p) < 500)
-    → CanOpenFrom (settings_of hub) journals
-closed_can hub journals (O, L, steps, run) are few =
-    let s : HubSettings = settings_of hub in
+pub closed_can : (world : World) (journals : List History) → HasClosed world → AreItsJournals world journals → ((p : ℕ) → openings (books_of journals p) < 500)
+    → CanOpenFrom (settings_of world) journals
+closed_can world journals (O, L, steps, run) are few =
+    let s : HubSettings = settings_of world in
     few_can_open s (history s O (closing s ++ L)) journals (closing_closes s O run.opening L (closing s) steps (there_is_a_closing s)) (are O (closing s ++ L) run) few
 
 -- where the books were opened from seldom enough their copies were
-pub few_copied : (s : HubSettings) (hub : Hub) (journals : List History) (O : Opening) (L : List Step) → settings_of hub ≡ s → IsOpening s O → IsInterleaving s L
-    → HasRun O (closing s ++ L) hub → AreItsJournals hub journals → ((p : ℕ) → openings (history s O (closing s ++ L) p) < 500) → (p : ℕ) → openings (books_of journals p) < 500
-few_copied s hub journals O L same opened steps run are few p =
+pub few_copied : (s : HubSettings) (world : World) (journals : List History) (O : Opening) (L : List Step) → settings_of world ≡ s → IsOpening s O → IsInterleaving s L
+    → HasRun O (closing s ++ L) world → AreItsJournals world journals → ((p : ℕ) → openings (history s O (closing s ++ L) p) < 500) → (p : ℕ) → openings (books_of journals p) < 500
+few_copied s world journals O L same opened steps run are few p =
     by_number s (history s O (closing s ++ L)) journals (closing_closes s O opened L (closing s) steps (there_is_a_closing s))
     (subst (λ (t : HubSettings). AreJournalsOf t (history t O (closing s ++ L)) journals) same (are O (closing s ++ L) run)) (λ K. openings K < 500) p (few p) (omega arith)

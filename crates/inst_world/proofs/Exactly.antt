@@ -104,9 +104,6 @@ module _ (margin : ℕ) (m c : Contents) (k : Place) (wish : Wish) (at : ℕ) (f
             (say_final (standing_at c k) t d z is.0 (subst (λ (x : Standing). SayTheSame (standing_at c k) x) ends exact.1.here)),
       )
 
-elsewhere_of : (b c : Contents) (k : Place) (p : Standing) → Stands b k p c → IsTheSameElsewhere b k c
-elsewhere_of b c k p s j other = s.elsewhere j other
-
 -- a look shows what is there, and leaves all as it is
 pub looked : (margin : ℕ) (b c : Contents) (k : Place) (look : Look) → Looks margin plain_knows (λ _ _. Unit {0}) plain_stood b k look c
     → (look ≡ look_of (standing_at b k)) × Stands b k (standing_at b k) c

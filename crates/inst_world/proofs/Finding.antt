@@ -9,7 +9,6 @@ use Rattle.inst_command.specs.declared.step.Step.{Step}
 use Rattle.inst_board.specs.declared.look.Look.{Look}
 use Rattle.inst_board.specs.declared.look.Look.TheVariants.{Unused, Pending, Decided}
 use Rattle.inst_board.specs.declared.place.Place.{Place}
-use Rattle.inst_board.specs.declared.plain.Kept.TheVariants.{Unused as Nothing}
 use Rattle.inst_board.specs.Plain.{Contents, standing_at, standing_of}
 use Rattle.inst_board.proofs.Places.{kept_outside}
 use Rattle.inst_board.specs.Standing.{Standing, look_of, is_place}
@@ -21,7 +20,7 @@ use Rattle.inst_model.specs.Opening.{Opening}
 use Rattle.inst_model.specs.Transfer.{Transfer, transfers, live_transfers, at_place, deadline}
 use Rattle.inst_model.specs.Hub.{history}
 use Rattle.inst_model.proofs.Together.{together}
-use Rattle.inst_world.specs.HasRun.{Hub, settings_of, StandsWith, StandsFor, HasRun, HasRunSomething, terms_of}
+use Rattle.inst_world.specs.HasRun.{World, settings_of, StandsWith, StandsFor, HasRun, HasRunSomething, terms_of}
 use Rattle.inst_world.proofs.Numbering.{names, all_named}
 use Rattle.inst_journal.specs.Booked.{takes}
 use Rattle.inst_model.proofs.Basics.{same_text_refl, same_text-true}
@@ -130,12 +129,12 @@ to_participant s who J k x sound there =
     (all_of_filter (λ (y : Transfer). is_participant s y.to) (λ (y : Transfer). is_live who y.id J) (transfers J) (transfers_named s J (all_named s who J sound))) there
 
 -- the beneficiary that is found at a place of a hub that has run something
-pub found_participant : (hub : Hub) (p k : ℕ) (found : Option ℕ) → HasRunSomething hub
-    → ((O : Opening) (L : List Step) → HasRun O L hub → found ≡ option_map (λ (x : Transfer). x.to) (at_place p (history (settings_of hub) O L p) k))
-    → IfSome found (λ to. is_participant (settings_of hub) to ≡ true)
-found_participant hub p k None was is = tt
-found_participant hub p k (Some to) was is =
-    let s : HubSettings = settings_of hub in
+pub found_participant : (world : World) (p k : ℕ) (found : Option ℕ) → HasRunSomething world
+    → ((O : Opening) (L : List Step) → HasRun O L world → found ≡ option_map (λ (x : Transfer). x.to) (at_place p (history (settings_of world) O L p) k))
+    → IfSome found (λ to. is_participant (settings_of world) to ≡ true)
+found_participant world p k None was is = tt
+found_participant world p k (Some to) was is =
+    let s : HubSettings = settings_of world in
     let x = some_of (at_place p (history s was.0 was.1 p) k) to (is was.0 was.1 was.2) in
     ap (is_participant s) (sym x.2) ∙ to_participant s p (history s was.0 was.1 p) k x.0 ((together s was.0 was.2.opening was.1 was.2.steps).sound p) x.1
 

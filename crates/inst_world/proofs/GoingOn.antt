@@ -13,11 +13,12 @@ use Rattle.inst_model.specs.Interleaving.{IsInterleaving}
 use Rattle.inst_model.specs.Transfer.{at_place}
 use Rattle.inst_model.specs.Hub.{outcome, history}
 use Rattle.inst_slot.specs.Book.{Book, place_at}
-use Rattle.inst_world.specs.HasRun.{Hub, settings_of, IsBoardOf, HasRun, HasRunSomething, Runs, IsOfModel, IsAsBefore}
+use Rattle.inst_world.specs.HasRun.{World, settings_of, IsBoardOf, HasRun, HasRunSomething, Runs, IsOfModel, IsAsBefore}
+use Rattle.inst_world.specs.inner.Stepping.{RunsOrNeedsMemory}
 use Rattle.inst_world.proofs.Exactly.{same_for}
 
 -- a hub that is as it was has run what it had
-pub still_has_run : (old new : Hub) → IsAsBefore old new → (O : Opening) (L : List Step) → HasRun O L old → HasRun O L new
+pub still_has_run : (old new : World) → IsAsBefore old new → (O : Opening) (L : List Step) → HasRun O L old → HasRun O L new
 still_has_run old new same O L was =
     let at : HubSettings → Type 0 = λ s. IsOpening s O × IsInterleaving s L × ((p : ℕ) (book : Book) → slice_get new.books p ≡ Some book → book.events ≡ history s O L p) × IsBoardOf s O L new.board in
     let here : at (settings_of old) = (
@@ -33,12 +34,12 @@ still_has_run old new same O L was =
     record { opening = r.0; steps = r.1; histories = r.2; board = r.3 }
 
 -- it has run something in any case
-pub goes_on : (old new : Hub) (step : Step) (result : Result Answer AllocError) → HasRunSomething old → IfOk result (λ answer. Runs old step answer new) → OnErr result (IsAsBefore old new) → HasRunSomething new
-goes_on old new step (Ok answer) was ran refused = (was.0, step ∷ was.1, (ran was.0 was.1 was.2).1)
-goes_on old new step (Err fault) was ran refused = (was.0, was.1, still_has_run old new refused was.0 was.1 was.2)
+pub goes_on : {A : Type 0} (told : A → Answer) (old new : World) (step : Step) (result : Result A AllocError) → HasRunSomething old → RunsOrNeedsMemory told old step result new → HasRunSomething new
+goes_on told old new step (Ok x) was ran = (was.0, step ∷ was.1, (ran.ok was.0 was.1 was.2).1)
+goes_on told old new step (Err fault) was ran = (was.0, was.1, still_has_run old new ran.err was.0 was.1 was.2)
 
 -- and what it answers is the model's
-pub of_model : (old new : Hub) (step : Step) (result : Result Answer AllocError) → HasRunSomething old → IsSettings (settings_of old) → IfOk result (λ answer. Runs old step answer new)
+pub of_model : (old new : World) (step : Step) (result : Result Answer AllocError) → HasRunSomething old → IsSettings (settings_of old) → IfOk result (λ answer. Runs old step answer new)
     → IfOk result (IsOfModel (settings_of old) step)
 of_model old new step (Ok answer) was lawful ran = record {
   lawful = lawful;
@@ -50,6 +51,6 @@ of_model old new step (Ok answer) was lawful ran = record {
 }
 of_model old new step (Err fault) was lawful ran = tt
 
-pub unrun : (old new : Hub) (result : Result Answer AllocError) → OnErr result (IsAsBefore old new) → OnErr result ((O : Opening) (L : List Step) → HasRun O L old → HasRun O L new)
+pub unrun : (old new : World) (result : Result Answer AllocError) → OnErr result (IsAsBefore old new) → OnErr result ((O : Opening) (L : List Step) → HasRun O L old → HasRun O L new)
 unrun old new (Ok answer) refused = tt
 unrun old new (Err fault) refused = still_has_run old new refused

@@ -108,10 +108,3 @@ all_few journals n most so p = elim (cases_Bool (nat_lt p n)) [
   | inl below ↦ so p (ltb-true p n below)
   | inr past ↦ subst (λ (J : List Event). openings J < 500) (sym (ap kept_by (slice_get_past journals p (omega (arith, ltb-false p n past, most))))) (omega arith)
 ]
-
--- this one was
-pub not_few : (journals : List History) (n : ℕ) (journal : History) → n < length journals → journal ≡ get_or journals n journal → 500 ≤ openings journal.events
-    → ¬ ((p : ℕ) → openings (books_of journals p) < 500)
-not_few journals n journal below here many few =
-    let found : slice_get journals n ≡ Some journal = slice_get-get_or journals n journal below ∙ ap (λ (j : History). Some j) (sym here) in
-    omega (arith, many, subst (λ (J : List Event). openings J < 500) (ap kept_by found) (few n))

@@ -8,11 +8,12 @@ pub mod Expiring
 pub mod Asking
 pub mod Wanting
 pub mod Applying
-pub mod Hubs
+pub mod Worlds
 pub mod Opening
 pub mod Running
 pub mod Promising
 pub mod GoingOn
+pub mod Acting
 pub mod Carrying
 pub mod Reopening
 pub mod Carried

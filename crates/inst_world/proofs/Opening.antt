@@ -12,8 +12,17 @@ use Rattle.inst_model.specs.Opening.Opening.{First}
 use Rattle.inst_slot.specs.declared.arrival.Arrival.{Arrival}
 use Rattle.inst_slot.specs.Book.{Book}
 use Rattle.inst_slot.proofs.Growing.{snoc_cases}
-use Rattle.inst_world.specs.HasRun.{IsMember, IsHub, HasRun, new_book, new_books}
+use Rattle.inst_world.specs.HasRun.{IsMember, IsWorld, HasRun}
 use Rattle.inst_slot.proofs.Adopting.{begins}
+
+-- the book of a participant of a hub that opens for the first time
+abbrev pub new_book : HubSettings → ℕ → Book
+new_book s who = record { settings = s; who = who; events = []; arrivals = [] }
+
+-- the books of the first n participants
+abbrev pub new_books : HubSettings → ℕ → List Book
+new_books s zero = []
+new_books s (suc n) = new_books s n ++ new_book s n ∷ []
 
 same_book : (book other : Book) → book.settings ≡ other.settings → book.who ≡ other.who → book.events ≡ other.events → book.arrivals ≡ other.arrivals → book ≡ other
 same_book book other s w e a = λ i. record { settings = s i; who = w i; events = e i; arrivals = a i }
@@ -53,8 +62,8 @@ module _ (b : Contents) (unused : (place : Place) → kept_at b place ≡ Unused
       nowhere : (x : Arrival) → Contains [] x → ⊥
       nowhere x (i, below, is) = absurd (omega arith)
 
-  pub new_hub : (books : List Book) → books ≡ new_books b.settings (participants b.settings) → IsHub (record { books = books; board = b })
-  new_hub books are = record {
+  pub new_world : (books : List Book) → books ≡ new_books b.settings (participants b.settings) → IsWorld (record { books = books; board = b })
+  new_world books are = record {
     one_each = ap (λ (xs : List Book). length xs) are ∙ new_length b.settings (participants b.settings);
     member = λ p book there.
         subst (λ (x : Book). IsMember b.settings b p x) (sym (new_at b.settings (participants b.settings) p book (ap (λ (xs : List Book). slice_get xs p) (sym are) ∙ there))) (new_member p);

@@ -46,7 +46,7 @@ use Rattle.inst_model.proofs.Stepping.{replies_are_in_the_trace}
 use Rattle.inst_model.proofs.Totals.{sum_below_same, sum_below_zero}
 use Rattle.inst_slot.proofs.Growing.{snoc_cases}
 use Rattle.inst_slot.specs.Book.{Book}
-use Rattle.inst_world.specs.HasRun.{Hub, settings_of, HasRun, IsHub, events_of, journal_of}
+use Rattle.inst_world.specs.HasRun.{World, settings_of, HasRun, IsWorld, events_of, journal_of}
 use Rattle.inst_world.specs.Headline.{Run, run_of, IsRun, SeesTheSame, GotTheSame, IsIsolated, HasOneOutcome, SettlesOnce, AddsUp, BooksOfFit, IsLocal, KeepsTheHeadline}
 
 module _ (s : HubSettings) (run : Run) (is : IsRun s run) where
@@ -289,26 +289,26 @@ keeps_the_headline s run is = record {
 }
 
 -- the hub has a book for each participant, and for nobody else
-module _ (s : HubSettings) (O : Opening) (steps : List Step) (hub : Hub) (answers : List Answer) (same : settings_of hub ≡ s) (whole : IsHub hub) where
-  number : length hub.books ≡ participants s
+module _ (s : HubSettings) (O : Opening) (steps : List Step) (world : World) (answers : List Answer) (same : settings_of world ≡ s) (whole : IsWorld world) where
+  number : length world.books ≡ participants s
   number = whole.one_each ∙ ap participants same
 
-  there_is : (p : ℕ) → is_participant s p ≡ true → (book : Book) × (slice_get hub.books p ≡ Some book)
+  there_is : (p : ℕ) → is_participant s p ≡ true → (book : Book) × (slice_get world.books p ≡ Some book)
   there_is p one =
-      let below : p < length hub.books = omega (arith, ltb-true p (participants s) one, number) in
-      elim ((slice_get_cases hub.books p).1) [
+      let below : p < length world.books = omega (arith, ltb-true p (participants s) one, number) in
+      elim ((slice_get_cases world.books p).1) [
         | inl found ↦ (found.0, found.2)
         | inr past ↦ absurd (omega (arith, past, below))
       ]
 
   -- what it returns after the steps is a run
-  pub is_run : HasRun O (reverse steps) hub → answers ≡ trace s O (reverse steps) → IsRun s (run_of O steps (journal_of hub) answers)
+  pub is_run : HasRun O (reverse steps) world → answers ≡ trace s O (reverse steps) → IsRun s (run_of O steps (journal_of world) answers)
   is_run ran answered = record {
     opens = subst (λ (t : HubSettings). IsOpening t O) same ran.opening;
     fits = subst (λ (t : HubSettings). IsInterleaving t (reverse steps)) same ran.steps;
     journals_are = λ p one.
         let found = there_is p one in
         ap events_of found.1 ∙ ran.histories p found.0 found.1 ∙ ap (λ (t : HubSettings). history t O (reverse steps) p) same;
-    nobody_else = λ p none. ap events_of (slice_get_past hub.books p (omega (arith, ltb-false p (participants s) none, number)));
+    nobody_else = λ p none. ap events_of (slice_get_past world.books p (omega (arith, ltb-false p (participants s) none, number)));
     answers_are = answered;
   }

@@ -32,8 +32,9 @@ use Rattle.inst_slot.specs.LawfulBoard.{IsLawfulBoard, KeepsOthers}
 use Rattle.inst_slot.specs.Opening.{opened_again, MayOpenAgain, IsOfOpening, OpensPlaces}
 use Rattle.inst_slot.proofs.Growing.{snoc_cases}
 use Rattle.inst_slot.proofs.Opening.{may_open_first, others_may_open}
-use Rattle.inst_world.specs.HasRun.{Hub, settings_of, StandsWith, StandsFor, IsBoardOf, terms_of}
-use Rattle.inst_world.specs.NextOpening.{kept_by, books_of, books_again, IsOpenedBelow, AreOpenedAgain, IsCarryingHub}
+use Rattle.inst_world.specs.HasRun.{World, settings_of, StandsWith, StandsFor, IsBoardOf, terms_of}
+use Rattle.inst_world.specs.NextOpening.{kept_by, books_of}
+use Rattle.inst_world.specs.inner.NextOpening.{books_again, IsOpenedBelow, AreOpenedAgain, IsCarryingWorld}
 use Rattle.inst_world.proofs.Carrying.{below as less}
 use Rattle.inst_world.proofs.Exactly.{same_for}
 use Rattle.inst_world.proofs.Opening.{nothing_known}
@@ -188,15 +189,15 @@ module _ (s : HubSettings) (J : ℕ → List Event) where
     pub begun_known : (board : Contents) → IsBoardOf s (FromBooks J) [] board → (f : Fact) → plain_knows board f ↔ IsOpenedBelow s J (participants s) f
     begun_known board is f = begun_at board f.place.owner f.place.index f.about (at_place f.place.owner (J f.place.owner ++ Opened ∷ []) f.place.index) refl (is f.place.owner f.place.index)
 
-    module _ (hub : Hub) (opened : AreOpenedAgain s J (participants s) hub) where
-      stands_at : (p place : ℕ) (X : Option Transfer) → at_place p (J p ++ Opened ∷ []) place ≡ X → StandsFor s (outcome s (FromBooks J) [] p) X (standing_at hub.board (place_at p place))
+    module _ (world : World) (opened : AreOpenedAgain s J (participants s) world) where
+      stands_at : (p place : ℕ) (X : Option Transfer) → at_place p (J p ++ Opened ∷ []) place ≡ X → StandsFor s (outcome s (FromBooks J) [] p) X (standing_at world.board (place_at p place))
       stands_at p place None none =
-          same_for s (outcome s (FromBooks J) [] p) None unused (standing_at hub.board (place_at p place))
+          same_for s (outcome s (FromBooks J) [] p) None unused (standing_at world.board (place_at p place))
           (λ a. (λ says. let o = opened_is (participants s) p place a ((opened.known (about (place_at p place) a)).0 says) in let e : None ≡ Some o.transfer = sym none ∙ o.there in let no : ⊥ = cc in absurd no, λ says. absurd says))
           refl
       stands_at p place (Some x) some =
           let number : is_participant s p ≡ true = of_a_participant s (FromBooks J) can [] tt p place x some in
-          stands_pending s (outcome s (FromBooks J) [] p) x (standing_at hub.board (place_at p place)) (begins_undecided p place x some)
+          stands_pending s (outcome s (FromBooks J) [] p) x (standing_at world.board (place_at p place)) (begins_undecided p place x some)
           (λ a. (
             λ says.
                 let o = opened_is (participants s) p place a ((opened.known (about (place_at p place) a)).0 says) in
@@ -204,15 +205,15 @@ module _ (s : HubSettings) (J : ℕ → List Event) where
             λ says. (opened.known (about (place_at p place) a)).1 (is_opened (participants s) p place x a (ltb-true p (participants s) number) some says),
           ))
 
-      pub board_opened : IsBoardOf s (FromBooks J) [] hub.board
+      pub board_opened : IsBoardOf s (FromBooks J) [] world.board
       board_opened p place = stands_at p place (at_place p (J p ++ Opened ∷ []) place) refl
 
-      addressed_at : (k : Place) (t : Terms) (d : ℕ) (X : Option Transfer) → at_place k.owner (J k.owner ++ Opened ∷ []) k.index ≡ X → StandsFor s (outcome s (FromBooks J) [] k.owner) X (standing_at hub.board k)
-          → standing_at hub.board k ≡ pending t d → is_participant s t.to ≡ true
+      addressed_at : (k : Place) (t : Terms) (d : ℕ) (X : Option Transfer) → at_place k.owner (J k.owner ++ Opened ∷ []) k.index ≡ X → StandsFor s (outcome s (FromBooks J) [] k.owner) X (standing_at world.board k)
+          → standing_at world.board k ≡ pending t d → is_participant s t.to ≡ true
       addressed_at k t d None none stands is = let e : unused ≡ pending t d = sym stands ∙ is in let no : ⊥ = cc in absurd no
       addressed_at k t d (Some x) some stands is =
-          let pends : standing_at hub.board k ≡ pending (terms_of x) (deadline s x) =
-          subst (λ (o : Option Outcome). StandsWith (terms_of x) (deadline s x) o (standing_at hub.board k)) (begins_undecided k.owner k.index x some) stands in
+          let pends : standing_at world.board k ≡ pending (terms_of x) (deadline s x) =
+          subst (λ (o : Option Outcome). StandsWith (terms_of x) (deadline s x) o (standing_at world.board k)) (begins_undecided k.owner k.index x some) stands in
           let e : pending t d ≡ pending (terms_of x) (deadline s x) = sym is ∙ pends in
           let same : t ≡ terms_of x = cc in
           let taken = place_there k.owner (J k.owner ++ Opened ∷ []) k.index x some in
@@ -220,9 +221,9 @@ module _ (s : HubSettings) (J : ℕ → List Event) where
           Each_at (λ (y : Transfer). y.to < length s.codes) (transfers (J k.owner ++ Opened ∷ [])) taken.0 x (each_to_participant s k.owner (J k.owner ++ Opened ∷ []) (beginning_sound s (FromBooks J) can k.owner)) taken.1 in
           ap (λ (u : Terms). is_participant s u.to) same ∙ lt-ltb x.to (participants s) below
 
-      pub carrying : IsCarryingHub hub
+      pub carrying : IsCarryingWorld world
       carrying =
-          let t : HubSettings = settings_of hub in
+          let t : HubSettings = settings_of world in
           record {
             one_each = ap length opened.books_are ∙ again_length s J (participants s) ∙ ap participants (sym opened.settings_are);
             member = λ p book there.
@@ -230,7 +231,7 @@ module _ (s : HubSettings) (J : ℕ → List Event) where
                 record {
                   settings_are = ap (λ (x : Book). x.settings) at.1 ∙ sym opened.settings_are;
                   who_is = ap (λ (x : Book). x.who) at.1;
-                  lawful = subst (λ (x : Book). IsLawfulBoard (λ (d : Contents). d.settings) plain_knows (λ d q. Unit {0}) hub.board x) (sym at.1) (opened.lawful p at.0);
+                  lawful = subst (λ (x : Book). IsLawfulBoard (λ (d : Contents). d.settings) plain_knows (λ d q. Unit {0}) world.board x) (sym at.1) (opened.lawful p at.0);
                 };
             addressed = λ k u d is. ap (λ (v : HubSettings). is_participant v u.to) opened.settings_are
                 ∙ addressed_at k u d (at_place k.owner (J k.owner ++ Opened ∷ []) k.index) refl (board_opened k.owner k.index) is;

@@ -6,7 +6,7 @@ use Rattle.inst_command.specs.declared.reply.Answer.{Answer}
 use Rattle.inst_command.specs.declared.step.Step.{Step}
 use Rattle.inst_model.specs.Opening.{Opening}
 use Rattle.inst_model.specs.Trace.{answer, trace}
-use Rattle.inst_world.specs.HasRun.{Hub, settings_of, HasRun, Runs}
+use Rattle.inst_world.specs.HasRun.{World, settings_of, HasRun, Runs}
 
 one_more : (steps : List Step) (k : ℕ) (step : Step) → k < length steps → step ≡ get_or steps k step → reverse (take (k + 1) steps) ≡ step ∷ reverse (take k steps)
 one_more steps k step below is =
@@ -14,10 +14,10 @@ one_more steps k step below is =
     ∙ reverse-append (take k steps) (step ∷ [])
 
 -- from the start the hub has run these steps, with these answers
-abbrev pub HasRunFrom : HubSettings → Hub → List Step → Hub → List Answer → Type 0
-HasRunFrom s start L hub answers = (O : Opening) → HasRun O [] start → HasRun O L hub × (answers ≡ trace s O L)
+abbrev pub HasRunFrom : HubSettings → World → List Step → World → List Answer → Type 0
+HasRunFrom s start L world answers = (O : Opening) → HasRun O [] start → HasRun O L world × (answers ≡ trace s O L)
 
-pub runs_on : (s : HubSettings) (start old new : Hub) (steps : List Step) (k : ℕ) (step : Step) (answers pushed : List Answer) (answered : Answer) → k < length steps → step ≡ get_or steps k step
+pub runs_on : (s : HubSettings) (start old new : World) (steps : List Step) (k : ℕ) (step : Step) (answers pushed : List Answer) (answered : Answer) → k < length steps → step ≡ get_or steps k step
     → settings_of old ≡ s → Runs old step answered new → pushed ≡ answers ++ answered ∷ []
     → HasRunFrom s start (reverse (take k steps)) old answers → HasRunFrom s start (reverse (take (k + 1) steps)) new pushed
 runs_on s start old new steps k step answers pushed answered below is same runs push was =

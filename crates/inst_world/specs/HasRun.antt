@@ -1,17 +1,12 @@
--- What a world of slots over one board has run: a list of steps since an opening. Its histories are the model's, and its
--- board has, at each place, the live transfer that the model has there with its outcome, and nothing else. That one
--- thread holds all slots is this hub's own choice.
-use Rattle.std.specs.Prelude.{◌≡◌, ◌⊎◌, ℕ, zero, suc, ◌<◌, true, List, [], ◌∷◌, ◌++◌, length, slice_get, Option, Some, None, Result, Ok, Err, alloc_error}
-use Rattle.std.specs.declared.alloc.AllocError.{AllocError}
-use Rattle.inst_base.specs.declared.fault.Fault.{Fault}
-use Rattle.inst_base.specs.declared.fault.Fault.TheVariants.{Memory}
+-- What a world of slots over one board has run: a list of steps since an opening. Its histories are the model's, and
+-- its board has, at each place, the live transfer that the model has there with its outcome, and nothing else. That
+-- one thread holds all slots is this hub's own choice.
+use Rattle.std.specs.Prelude.{◌≡◌, ◌⊎◌, ℕ, ◌<◌, true, List, [], ◌∷◌, length, slice_get, Option, Some, None}
 use Rattle.inst_settings.specs.Settings.{HubSettings, participants}
 use Rattle.inst_settings.specs.Lawful.{IsSettings}
 use Rattle.inst_command.specs.declared.outcome.Outcome.{Outcome}
 use Rattle.inst_command.specs.declared.reply.Answer.{Answer}
 use Rattle.inst_command.specs.declared.reply.Answer.TheVariants.{New}
-use Rattle.inst_command.specs.declared.reply.Reply.{Reply}
-use Rattle.inst_command.specs.declared.reply.Reply.TheVariants.{Refused}
 use Rattle.inst_command.specs.declared.step.Step.{Step}
 use Rattle.inst_command.specs.declared.step.Step.TheVariants.{Ask, Deliver, Learn, Expire}
 use Rattle.inst_journal.specs.declared.event.Event.{Event}
@@ -30,7 +25,7 @@ use Rattle.inst_slot.specs.Book.{Book, place_at, terms_to}
 use Rattle.inst_slot.specs.LawfulBoard.{IsLawfulBoard, AllAreAdopted}
 
 -- what a contract sees of a world: the books of its participants by their numbers, and its board
-pub record Hub : Type 0 where
+pub record World : Type 0 where
   pub books : List Book
   pub board : Contents
 
@@ -40,11 +35,11 @@ events_of None = []
 events_of (Some book) = book.events
 
 -- the journal of a participant
-abbrev pub journal_of : Hub → ℕ → List Event
-journal_of hub p = events_of (slice_get hub.books p)
+abbrev pub journal_of : World → ℕ → List Event
+journal_of world p = events_of (slice_get world.books p)
 
-abbrev pub settings_of : Hub → HubSettings
-settings_of hub = hub.board.settings
+abbrev pub settings_of : World → HubSettings
+settings_of world = world.board.settings
 
 -- the books of the participant p over this board; each live transfer that came to it has its place
 pub record IsMember (s : HubSettings) (board : Contents) (p : ℕ) (book : Book) : Type 0 where
@@ -54,9 +49,9 @@ pub record IsMember (s : HubSettings) (board : Contents) (p : ℕ) (book : Book)
   pub adopted : AllAreAdopted book
 
 -- one book for each participant, over one board
-pub record IsHub (hub : Hub) : Type 0 where
-  pub one_each : length hub.books ≡ participants (settings_of hub)
-  pub member : (p : ℕ) (book : Book) → slice_get hub.books p ≡ Some book → IsMember (settings_of hub) hub.board p book
+pub record IsWorld (world : World) : Type 0 where
+  pub one_each : length world.books ≡ participants (settings_of world)
+  pub member : (p : ℕ) (book : Book) → slice_get world.books p ≡ Some book → IsMember (settings_of world) world.board p book
 
 -- a place of a transfer with these terms and this deadline stands with this outcome, if any, whenever it was decided
 abbrev pub StandsWith : Terms → ℕ → Option Outcome → Standing → Type 0
@@ -79,23 +74,23 @@ IsBoardOf s O L board = (p place : ℕ) →
 -- The world has run these steps since this opening
 -- histories: each book is the participant's history
 -- board: and the board has the outcomes
-pub record HasRun (O : Opening) (L : List Step) (hub : Hub) : Type 0 where
-  pub opening : IsOpening (settings_of hub) O
-  pub steps : IsInterleaving (settings_of hub) L
-  pub histories : (p : ℕ) (book : Book) → slice_get hub.books p ≡ Some book → book.events ≡ history (settings_of hub) O L p
-  pub board : IsBoardOf (settings_of hub) O L hub.board
+pub record HasRun (O : Opening) (L : List Step) (world : World) : Type 0 where
+  pub opening : IsOpening (settings_of world) O
+  pub steps : IsInterleaving (settings_of world) L
+  pub histories : (p : ℕ) (book : Book) → slice_get world.books p ≡ Some book → book.events ≡ history (settings_of world) O L p
+  pub board : IsBoardOf (settings_of world) O L world.board
 
 -- the world has run some steps since some opening
-abbrev pub HasRunSomething : Hub → Type 0
-HasRunSomething hub = (O : Opening) × (L : List Step) × HasRun O L hub
+abbrev pub HasRunSomething : World → Type 0
+HasRunSomething world = (O : Opening) × (L : List Step) × HasRun O L world
 
 -- from the first world to the second the step was run, whatever was run before, and answered as the model answers it
-abbrev pub Runs : Hub → Step → Answer → Hub → Type 0
+abbrev pub Runs : World → Step → Answer → World → Type 0
 Runs old step answered new = (O : Opening) (L : List Step) → HasRun O L old →
     (answered ≡ answer (settings_of old) O L step) × HasRun O (step ∷ L) new
 
--- The step needs memory where these have been run: an ask that keeps an event, or whose reply is a copy of unread entries
--- or of lines; and each other step that finds something new, which it keeps. No refused ask does, and no repeat
+-- The step needs memory where these have been run: an ask that keeps an event, or whose reply is a copy of unread
+-- entries or of lines; and each other step that finds something new, which it keeps. No refused ask does, and no repeat
 abbrev pub NeedsMemory : HubSettings → Opening → List Step → Step → Type 0
 NeedsMemory s O L (Ask ask) = (copies (history s O L ask.who) ask.command ≡ true)
     ⊎ (length (history s O L ask.who) < length (history s O (Ask ask ∷ L) ask.who))
@@ -104,8 +99,8 @@ NeedsMemory s O L (Learn who from place) = answer s O L (Learn who from place) �
 NeedsMemory s O L (Expire who place at) = answer s O L (Expire who place at) ≡ New true
 
 -- the step needs memory at this world, whatever was run before
-abbrev pub TakesMemory : Hub → Step → Type 0
-TakesMemory hub step = (O : Opening) (L : List Step) → HasRun O L hub → NeedsMemory (settings_of hub) O L step
+abbrev pub TakesMemory : World → Step → Type 0
+TakesMemory world step = (O : Opening) (L : List Step) → HasRun O L world → NeedsMemory (settings_of world) O L step
 
 -- the answer is the model's, at a hub with these settings that has run some steps since some opening
 pub record IsOfModel (s : HubSettings) (step : Step) (answered : Answer) : Type 0 where
@@ -117,22 +112,7 @@ pub record IsOfModel (s : HubSettings) (step : Step) (answered : Answer) : Type 
   pub answer_is : answered ≡ answer s opening steps step
 
 -- the second world is as the first: the same books, and the board says the same of each place
-pub record IsAsBefore (old new : Hub) : Type 0 where
+pub record IsAsBefore (old new : World) : Type 0 where
   pub settings_are : settings_of new ≡ settings_of old
   pub books_are : new.books ≡ old.books
   pub board_says : (place : Place) → SayTheSame (standing_at new.board place) (standing_at old.board place)
-
--- the book of a participant of a hub that opens for the first time
-abbrev pub new_book : HubSettings → ℕ → Book
-new_book s who = record { settings = s; who = who; events = []; arrivals = [] }
-
--- the books of the first n participants
-abbrev pub new_books : HubSettings → ℕ → List Book
-new_books s zero = []
-new_books s (suc n) = new_books s n ++ new_book s n ∷ []
-
--- what is answered, with each refusal but Memory as a reply
-abbrev pub refusals_told : Result Reply Fault → Result Reply AllocError
-refusals_told (Ok reply) = Ok reply
-refusals_told (Err Memory) = Err alloc_error
-refusals_told (Err fault) = Ok (Refused fault)

@@ -1,3 +1,6 @@
+-- Public contracts cite these.
 pub mod HasRun
 pub mod Headline
 pub mod NextOpening
+-- Only inner functions and proofs cite these.
+pub mod inner

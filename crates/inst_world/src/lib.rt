@@ -2,7 +2,6 @@
 #![tactic(auto)]
 
 pub mod laws;
-mod slots;
 mod trace;
 mod two_runs;
 mod world;

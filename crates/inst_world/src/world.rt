@@ -1,4 +1,4 @@
-ghost use Rattle.std.specs.Prelude.{◌≡◌, ℕ, true, List, [], ◌∷◌, reverse, option_map, Some, None, IfOk, OnErr, IfSome};
+ghost use Rattle.std.specs.Prelude.{◌≡◌, ℕ, true, List, [], reverse, option_map, Some, None, IfOk, OnErr, IfSome};
 ghost use Rattle.inst_settings.specs.Settings.{is_participant};
 ghost use Rattle.inst_settings.specs.Lawful.{IsSettings};
 ghost use Rattle.inst_command.specs.Step.{step_fits};
@@ -10,13 +10,13 @@ ghost use Rattle.inst_model.specs.Transfer.{Transfer, at_place, deadline};
 ghost use Rattle.inst_command.specs.declared.step.Step.{Step};
 ghost use Rattle.inst_model.specs.Hub.{history, outcome};
 ghost use Rattle.inst_slot.specs.Book.{place_at};
-ghost use Rattle.inst_world.specs.HasRun.{IsHub, HasRun, Runs, IsOfModel, IsAsBefore, TakesMemory, journal_of};
+ghost use Rattle.inst_world.specs.HasRun.{IsWorld, HasRun, Runs, IsOfModel, IsAsBefore, TakesMemory, journal_of};
 ghost use Rattle.inst_world.specs.Headline.{run_of, KeepsTheHeadline};
 
 mod closing;
 mod next_opening;
+mod stepping;
 
-use crate::slots;
 use crate::trace::Trace;
 pub use closing::{MOST_OPENINGS, may_open, openings};
 use inst_base::{Ident, Moment};
@@ -45,13 +45,13 @@ pub struct World {
 impl Model for World {
     ghost use Rattle.std.specs.Prelude.{◌≡◌};
     ghost use Rattle.inst_settings.specs.Lawful.{IsSettings};
-    ghost use Rattle.inst_world.specs.HasRun.{Hub, IsHub, HasRunSomething};
+    ghost use Rattle.inst_world.specs.HasRun.{World as TheWorld, IsWorld, HasRunSomething};
 
-    ghost Value = { Hub };
+    ghost Value = { TheWorld };
 
     ghost view = { λ world. record { books = world.slots.items; board = world.board } };
 
-    ghost invariant = { λ world. IsHub (record { books = world.slots.items; board = world.board })
+    ghost invariant = { λ world. IsWorld (record { books = world.slots.items; board = world.board })
         × (world.board.settings ≡ world.settings)
         × IsSettings world.board.settings
         × HasRunSomething (record { books = world.slots.items; board = world.board }) };
@@ -64,7 +64,10 @@ impl World {
     {
         let settings = settings.copy()?;
         let board = PlainBoard::new(alloc, &settings)?;
-        let slots = slots::open(alloc, &settings)?;
+        let mut slots = Vec::new(alloc);
+        for who in 0..settings.participants() {
+            slots.push(Slot::open(alloc, &settings, who as u8)?)?;
+        }
         Ok(World {
             settings,
             slots,
@@ -93,7 +96,7 @@ impl World {
     /// The slots of the participants, by number. The board is dropped.
     pub fn into_slots(self) -> Vec<Slot>
         ensures slots { result.items ≡ self.books }
-        ensures hub { IsHub self }
+        ensures hub { IsWorld self }
     {
         let World { slots, .. } = self;
         slots
@@ -110,7 +113,9 @@ impl World {
         ensures unrun { OnErr result ((O : Opening) (L : List Step) → HasRun O L self.old → HasRun O L self.new) }
         ensures settings { self.new.board.settings ≡ self.old.board.settings }
     {
-        slots::step(&mut self.slots, &mut self.board, step)
+        // The invariant is known only where a field is used.
+        let _ = &self.settings;
+        self.run_by_slot(step)
     }
 
     /// The beneficiary of the transfer at the place, if one was taken there.

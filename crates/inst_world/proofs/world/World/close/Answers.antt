@@ -4,7 +4,7 @@ use Rattle.inst_settings.specs.Settings.{HubSettings, participants}
 use Rattle.inst_command.specs.declared.step.Step.{Step}
 use Rattle.inst_model.specs.Closing.{of_originators, of_participants, closing}
 use Rattle.inst_model.specs.Interleaving.{IsInterleaving}
-use Rattle.inst_world.specs.HasRun.{Hub, HasRun, HasRunSomething}
+use Rattle.inst_world.specs.HasRun.{World, HasRun, HasRunSomething}
 use Rattle.inst_world.proofs.world.World.close.Goals as goal
 
 pub returns-clause-closed : goal.returns-clause-closed
@@ -13,7 +13,7 @@ returns-clause-closed c =
     let s : HubSettings = c.args.self.now.board.settings in
     let run = subst HasRunSomething c.self.view_is c.self.invariant.3 in
     let end : l.who ≡ c.participants-participants.result = omega arith in
-    let all : l.who ≡ participants s = end ∙ c.participants-participants.ensures.value ∙ ap participants (sym c.self.invariant.1) ∙ ap (λ (h : Hub). participants h.board.settings) c.self.view_is in
+    let all : l.who ≡ participants s = end ∙ c.participants-participants.ensures.value ∙ ap participants (sym c.self.invariant.1) ∙ ap (λ (h : World). participants h.board.settings) c.self.view_is in
     let ran = subst (λ n. HasRun run.0 (of_participants (participants s) s.places n ++ run.1) l.self) all (l.invariant.ran run.0 run.1 run.2) in
     let steps = subst (λ (t : HubSettings). IsInterleaving t run.1) (sym l.invariant.settings) run.2.steps in
     (run.0, run.1, steps, subst (λ (t : HubSettings). HasRun run.0 (closing t ++ run.1) l.self) (sym l.invariant.settings) ran)

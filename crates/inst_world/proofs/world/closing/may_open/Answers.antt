@@ -1,5 +1,5 @@
-use Rattle.std.proofs.Common.{◌≡◌, ◌<◌, ℕ, arith, length, get_or, ap, ◌∙◌, subst, List}
-use Rattle.inst_world.proofs.Journals.{one_more_few, all_few, not_few}
+use Rattle.std.proofs.Common.{◌<◌, ℕ, subst}
+use Rattle.inst_world.proofs.Journals.{one_more_few, all_few}
 use Rattle.inst_world.proofs.world.closing.may_open.Goals as goal
 
 pub loop-journal-preserved : goal.loop-journal-preserved

@@ -5,14 +5,17 @@ use Rattle.inst_journal.specs.Opened.{openings}
 use Rattle.inst_journal.specs.Sound.{IsSound}
 use Rattle.inst_slot.specs.Book.{Book}
 use Rattle.inst_slot.specs.Opening.{opened_again}
-use Rattle.inst_world.specs.NextOpening.{books_of, AreOpenedAgain}
-use Rattle.inst_world.proofs.Reopening.{book_at, none_opened, next_opened}
-use Rattle.inst_world.proofs.world.next_opening.open_slots.Goals as goal
+use Rattle.inst_world.specs.HasRun.{World}
+use Rattle.inst_world.specs.NextOpening.{books_of}
+use Rattle.inst_world.specs.inner.NextOpening.{AreOpenedAgain}
+use Rattle.inst_world.proofs.Reopening.{book_at, none_opened, next_opened, carrying}
+use Rattle.inst_world.proofs.world.next_opening.Reopened.open.Goals as goal
 
 pub loop-who-init : goal.loop-who-init
 loop-who-init c =
-    subst (λ (xs : List Book). AreOpenedAgain c.args.settings.now (books_of c.args.journals.now) 0 (record { books = xs; board = c.args.board.now })) (sym c.new-slots.ensures.items)
-    (none_opened c.args.settings.now (books_of c.args.journals.now) c.args.board.now c.requires.settings c.requires.unused)
+    let u = c.in_ok-board.ensures.unused in
+    subst (λ (xs : List Book). AreOpenedAgain c.args.settings.now (books_of c.args.journals.now) 0 (record { books = xs; board = c.in_ok-board.board })) (sym c.new-slots.ensures.items)
+    (none_opened c.args.settings.now (books_of c.args.journals.now) c.in_ok-board.board u.0 u.1)
 
 pub open_from-requires-clause-board : goal.open_from-requires-clause-board
 open_from-requires-clause-board c = c.loop-who.invariant.next c.loop-who.who (omega arith)
@@ -39,9 +42,15 @@ loop-who-preserved c =
     next_opened c.args.settings.now (books_of c.args.journals.now) c.loop-who.who c.loop-who.slots.items c.push.new.self.items c.loop-who.board c.open_from.new.board c.in_ok-open_from.field-0
     c.loop-who.invariant c.in_ok-push.ensures.items is f.opens f.lawful e.others e.stays
 
+pub invariant_of-result : goal.invariant_of-result
+invariant_of-result c =
+    let opened : World = record { books = c.loop-who.slots.items; board = c.loop-who.board } in
+    let all : c.loop-who.who ≡ participants c.args.settings.now = omega arith in
+    carrying c.args.settings.now (books_of c.args.journals.now) c.requires.journals.books opened
+    (subst (λ n. AreOpenedAgain c.args.settings.now (books_of c.args.journals.now) n opened) all c.loop-who.invariant)
+
 pub returns : goal.returns
 returns c =
+    let opened : World = record { books = c.loop-who.slots.items; board = c.loop-who.board } in
     let all : c.loop-who.who ≡ participants c.args.settings.now = omega arith in
-    record {
-      ok = subst (λ n. AreOpenedAgain c.args.settings.now (books_of c.args.journals.now) n (record { books = c.loop-who.slots.items; board = c.loop-who.board })) all c.loop-who.invariant;
-    }
+    record { ok = subst (λ n. AreOpenedAgain c.args.settings.now (books_of c.args.journals.now) n opened) all c.loop-who.invariant }

@@ -1,0 +1,41 @@
+use Rattle.std.proofs.Common.{◌≡◌, sym, ◌∙◌, ap}
+use Rattle.inst_command.specs.Ask.{ask_fits}
+use Rattle.inst_world.specs.HasRun.{World}
+use Rattle.inst_slot.proofs.Adopting.{asks_adopted}
+use Rattle.inst_world.proofs.Worlds.{leads_to, acted}
+use Rattle.inst_world.proofs.Acting.{still_kept, asker, asked}
+use Rattle.inst_world.proofs.world.World.ask.Goals as goal
+
+pub apply-requires-clause-lawful : goal.apply-requires-clause-lawful
+apply-requires-clause-lawful c =
+    let l = leads_to _ _ _ _ _ c.self.invariant.0 c.self.view_is (asker c.args.self.now.board.settings c.args.ask.now c.requires.fits) c.from.ensures c.index_mut.ensures.value in
+    l.member.lawful
+
+pub apply-requires-clause-own : goal.apply-requires-clause-own
+apply-requires-clause-own c =
+    let l = leads_to _ _ _ _ _ c.self.invariant.0 c.self.view_is (asker c.args.self.now.board.settings c.args.ask.now c.requires.fits) c.from.ensures c.index_mut.ensures.value in
+    sym l.member.who_is
+
+pub apply-requires-clause-fits : goal.apply-requires-clause-fits
+apply-requires-clause-fits c =
+    let l = leads_to _ _ _ _ _ c.self.invariant.0 c.self.view_is (asker c.args.self.now.board.settings c.args.ask.now c.requires.fits) c.from.ensures c.index_mut.ensures.value in
+    ap (λ s. ask_fits s c.args.ask.now) l.member.settings_are ∙ ap (λ (w : World). ask_fits w.board.settings c.args.ask.now) c.self.view_is ∙ c.requires.fits
+
+pub apply-requires-clause-adopted : goal.apply-requires-clause-adopted
+apply-requires-clause-adopted c =
+    let l = leads_to _ _ _ _ _ c.self.invariant.0 c.self.view_is (asker c.args.self.now.board.settings c.args.ask.now c.requires.fits) c.from.ensures c.index_mut.ensures.value in
+    asks_adopted (λ b. b.settings) _ (λ b q. Unit {0}) c.self.inside.board c.index_mut.result.now c.args.ask.now.command l.member.lawful l.member.adopted
+
+pub invariant_of-self : goal.invariant_of-self
+invariant_of-self c =
+    let l = leads_to _ _ _ _ _ c.self.invariant.0 c.self.view_is (asker c.args.self.now.board.settings c.args.ask.now c.requires.fits) c.from.ensures c.index_mut.ensures.value in
+    let e = c.apply.ensures in
+    still_kept _ _ _ _ _ _ _ c.self.invariant c.self.view_is
+    (acted _ _ _ _ _ _ _ c.self.invariant.0 l e.stays e.lawful e.others e.same e.adopted)
+    (asked _ _ _ _ _ _ _ c.self.view_is e.stays c.args.ask.now c.apply.result c.refusals_told.result (λ a d. d.settings ≡ a.settings) l c.requires.fits e.decides e.applies c.refusals_told.ensures)
+
+pub returns : goal.returns
+returns c =
+    let l = leads_to _ _ _ _ _ c.self.invariant.0 c.self.view_is (asker c.args.self.now.board.settings c.args.ask.now c.requires.fits) c.from.ensures c.index_mut.ensures.value in
+    let e = c.apply.ensures in
+    asked _ _ _ _ _ _ _ c.self.view_is e.stays c.args.ask.now c.apply.result c.refusals_told.result (λ a d. d.settings ≡ a.settings) l c.requires.fits e.decides e.applies c.refusals_told.ensures

@@ -1,0 +1,2 @@
+pub mod NextOpening
+pub mod Stepping

@@ -1,0 +1,90 @@
+//! How a hub in one thread runs a step: by the slot of its participant.
+ghost use Rattle.std.specs.Prelude.{◌≡◌, true};
+ghost use Rattle.inst_settings.specs.Settings.{is_participant};
+ghost use Rattle.inst_command.specs.Ask.{ask_fits};
+ghost use Rattle.inst_command.specs.Step.{step_fits};
+ghost use Rattle.inst_command.specs.declared.reply.Answer.{Answer};
+ghost use Rattle.inst_command.specs.declared.step.Step.{Step};
+ghost use Rattle.inst_world.specs.inner.Stepping.{RunsOrNeedsMemory, refusals_told};
+
+use super::World;
+use inst_base::{Fault, Moment};
+use inst_board::Place;
+use inst_command::{Answer, Ask, Reply, Step};
+use std::alloc::AllocError;
+
+impl World {
+    /// Runs one step, by the slot of its participant.
+    pub(super) fn run_by_slot(&mut self, step: &Step) -> Result<Answer, AllocError>
+        requires fits { step_fits self.old.board.settings step.now ≡ true }
+        ensures { RunsOrNeedsMemory (λ answer. answer) self.old step.now result self.new }
+    {
+        match step {
+            Step::Ask(asked) => Ok(Answer::Reply(self.ask(asked)?)),
+            Step::Deliver { from, index, to } => {
+                let place = Place {
+                    owner: *from,
+                    index: *index,
+                };
+                Ok(Answer::New(self.deliver(place, *to)?))
+            }
+            Step::Learn { who, from, index } => {
+                let place = Place {
+                    owner: *from,
+                    index: *index,
+                };
+                Ok(Answer::New(self.learn(*who, place)?))
+            }
+            Step::Expire { who, index, at } => Ok(Answer::New(self.expire(*who, *index, *at)?)),
+        }
+    }
+
+    /// What is pending at the place comes to the participant `to`: whether it is new to it.
+    fn deliver(&mut self, place: Place, to: u8) -> Result<bool, AllocError>
+        requires participants { (is_participant self.old.board.settings place.owner ≡ true)
+            × (is_participant self.old.board.settings to ≡ true) }
+        ensures { RunsOrNeedsMemory (λ is_new. Answer.New is_new) self.old
+            (Step.Deliver place.owner place.index to) result self.new }
+    {
+        self.slots[usize::from(to)].deliver(&mut self.board, place)
+    }
+
+    /// The participant `who` learns of the place: whether it books its outcome anew.
+    fn learn(&mut self, who: u8, place: Place) -> Result<bool, AllocError>
+        requires participants { (is_participant self.old.board.settings who ≡ true)
+            × (is_participant self.old.board.settings place.owner ≡ true) }
+        ensures { RunsOrNeedsMemory (λ is_new. Answer.New is_new) self.old
+            (Step.Learn who place.owner place.index) result self.new }
+    {
+        self.slots[usize::from(who)].learn(&mut self.board, place)
+    }
+
+    /// The transfer at this index of the participant's may expire: whether it books its outcome anew.
+    fn expire(&mut self, who: u8, index: u16, at: Moment) -> Result<bool, AllocError>
+        requires participant { is_participant self.old.board.settings who ≡ true }
+        ensures { RunsOrNeedsMemory (λ is_new. Answer.New is_new) self.old
+            (Step.Expire who index at) result self.new }
+    {
+        self.slots[usize::from(who)].expire(&mut self.board, index, at)
+    }
+
+    /// Answers an ask by the slot of its participant, a refusal as a reply.
+    fn ask(&mut self, ask: &Ask) -> Result<Reply, AllocError>
+        requires fits { ask_fits self.old.board.settings ask.now ≡ true }
+        ensures { RunsOrNeedsMemory (λ reply. Answer.Reply reply) self.old
+            (Step.Ask ask.now) result self.new }
+    {
+        refusals_told(self.slots[usize::from(ask.who)].apply(&mut self.board, ask))
+    }
+}
+
+/// What is answered, with each refusal but `Memory` as a reply.
+fn refusals_told(answer: Result<Reply, Fault>) -> Result<Reply, AllocError>
+    ensures { result ≡ refusals_told answer }
+{
+    match answer {
+        Ok(reply) => Ok(reply),
+        Err(Fault::Memory) => Err(AllocError),
+        Err(fault) => Ok(Reply::Refused(fault)),
+    }
+}
