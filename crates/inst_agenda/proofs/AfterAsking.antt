@@ -14,7 +14,7 @@ use Rattle.inst_model.specs.Trace.{answer}
 use Rattle.inst_model.specs.Transfer.{Transfer, at_place}
 use Rattle.inst_agenda.specs.Agenda.{Agenda, is_entry, waits, is_next}
 use Rattle.inst_agenda.specs.inner.Agenda.{Notes}
-use Rattle.inst_world.specs.HasRun.{Hub, settings_of, HasRun, Runs}
+use Rattle.inst_world.specs.HasRun.{World, settings_of, HasRun, Runs}
 use Rattle.inst_agenda.specs.inner.Naming.{named_by}
 use Rattle.inst_agenda.specs.Watching.{IsLeft, IsAgendaOf, Watches}
 use Rattle.inst_agenda.specs.inner.Watching.{NotesSome, NotesNamed}
@@ -25,7 +25,7 @@ use Rattle.inst_agenda.proofs.Quiet.{no_longer_is_same, all_stay, quiet_outcome}
 use Rattle.inst_agenda.proofs.Settled.{rests_stays, unnamed_rests, unnamed_stood}
 
 -- the place where a transfer with this name lies was noted
-pub named_some : (hub : Hub) (named : Option (ℕ × List ℕ)) (a b : Agenda) (place : Place) → is_participant (settings_of hub) place.owner ≡ true → Notes a b place
+pub named_some : (hub : World) (named : Option (ℕ × List ℕ)) (a b : Agenda) (place : Place) → is_participant (settings_of hub) place.owner ≡ true → Notes a b place
     → ((O : Opening) (L : List Step) → HasRun O L hub → (p k : ℕ) (x : Transfer) → at_place p (history (settings_of hub) O L p) k ≡ Some x → named ≡ Some (p, x.id) → Some place ≡ Some (place_at p k))
     → NotesNamed hub named a b
 named_some hub named a b place participant notes lies =
@@ -42,7 +42,7 @@ named_some hub named a b place participant notes lies =
           ap (λ (q : Place). is_next b q.owner q.index) (sym same) ∙ noted_here a b place notes;
     }
 
-pub watches_ask : (hub middle : Hub) (a b : Agenda) (ask : AskValue) (told : Answer) → Runs hub (Ask ask) told middle → settings_of middle ≡ settings_of hub
+pub watches_ask : (hub middle : World) (a b : Agenda) (ask : AskValue) (told : Answer) → Runs hub (Ask ask) told middle → settings_of middle ≡ settings_of hub
     → NotesNamed middle (named_by ask.who ask.command) a b → (O : Opening) (L : List Step) → Watches O L hub a
     → (told ≡ answer (settings_of hub) O L (Ask ask)) × Watches O (Ask ask ∷ L) middle b
 watches_ask hub middle a b ask told runs same notes O L watches =
@@ -79,7 +79,7 @@ watches_ask hub middle a b ask told runs same notes O L watches =
     }
 
 -- after an ask of which its asker keeps nothing there is no more to do than before
-pub watches_quiet : (hub middle : Hub) (a : Agenda) (ask : AskValue) (told : Answer) (n : ℕ) → Runs hub (Ask ask) told middle → settings_of middle ≡ settings_of hub
+pub watches_quiet : (hub middle : World) (a : Agenda) (ask : AskValue) (told : Answer) (n : ℕ) → Runs hub (Ask ask) told middle → settings_of middle ≡ settings_of hub
     → ((O : Opening) (L : List Step) → HasRun O L hub → length (history (settings_of hub) O L ask.who) ≡ n)
     → ((O : Opening) (L : List Step) → HasRun O L middle → length (history (settings_of middle) O L ask.who) ≤ n)
     → (O : Opening) (L : List Step) → Watches O L hub a

@@ -12,7 +12,7 @@ use Rattle.inst_model.specs.Hub.{outcome, history}
 use Rattle.inst_agenda.specs.Agenda.{Agenda, waits, is_entry}
 use Rattle.inst_agenda.specs.inner.Agenda.{Waits}
 use Rattle.inst_agenda.specs.FollowUps.{of_transfer}
-use Rattle.inst_world.specs.HasRun.{Hub, settings_of, HasRun}
+use Rattle.inst_world.specs.HasRun.{World, settings_of, HasRun}
 use Rattle.inst_agenda.specs.inner.Watching.{GoesOver}
 use Rattle.inst_agenda.proofs.Settled.{live_same_after_follow_up}
 
@@ -20,7 +20,7 @@ addressed : (X : Option Transfer) (x : Transfer) (to : ℕ) → Some to ≡ opti
 addressed X x to found is = ap (λ (o : Option ℕ). elim o as (λ _. ℕ) [ None ↦ to | Some n ↦ n ]) (found ∙ ap (λ (Y : Option Transfer). option_map (λ (y : Transfer). y.to) Y) is)
 
 -- its steps were run, and where it is pending it waits
-goes : (O : Opening) (L : List Step) (at : ℕ) (place : Place) (hub middle new : Hub) (a b : Agenda) (to : ℕ) → settings_of middle ≡ settings_of hub → new ≡ middle
+goes : (O : Opening) (L : List Step) (at : ℕ) (place : Place) (hub middle new : World) (a b : Agenda) (to : ℕ) → settings_of middle ≡ settings_of hub → new ≡ middle
     → Some to ≡ option_map (λ (x : Transfer). x.to) (at_place place.owner (history (settings_of hub) O L place.owner) place.index)
     → HasRun O (reverse (of_transfer at place.owner place.index to) ++ L) middle
     → ((M : List Step) → HasRun O M middle → (x : Transfer) → at_place place.owner (history (settings_of hub) O M place.owner) place.index ≡ Some x
@@ -35,14 +35,14 @@ goes O L at place hub middle new a b to settings same found ran pending still fr
     λ x there. subst (λ (n : ℕ). HasRun O (F n) middle) (addressed (at_place place.owner (history s O L place.owner) place.index) x to found there) ran in
     record {
       none = λ none. let clash : Some to ≡ None = found ∙ ap (λ (Y : Option Transfer). option_map (λ (y : Transfer). y.to) Y) none in let no : ⊥ = cc in absurd no;
-      some = λ x there. subst (λ (h : Hub). HasRun O (F x.to) h) (sym same) (ran_to x there);
+      some = λ x there. subst (λ (h : World). HasRun O (F x.to) h) (sym same) (ran_to x there);
       waits_for = λ x there none. pending (F x.to) (ran_to x there) x (live_same_after_follow_up s O L at place.owner place.index x.to place.owner place.index ∙ there) none;
       waits_still = still;
       waits_from = from;
     }
 
 -- it waits for its deadline
-pub goes_waiting : (O : Opening) (L : List Step) (at : ℕ) (place : Place) (hub middle new : Hub) (a b : Agenda) (to d : ℕ) → settings_of middle ≡ settings_of hub → new ≡ middle
+pub goes_waiting : (O : Opening) (L : List Step) (at : ℕ) (place : Place) (hub middle new : World) (a b : Agenda) (to d : ℕ) → settings_of middle ≡ settings_of hub → new ≡ middle
     → Some to ≡ option_map (λ (x : Transfer). x.to) (at_place place.owner (history (settings_of hub) O L place.owner) place.index)
     → HasRun O (reverse (of_transfer at place.owner place.index to) ++ L) middle
     → ((M : List Step) → HasRun O M middle → (x : Transfer) → at_place place.owner (history (settings_of middle) O M place.owner) place.index ≡ Some x
@@ -74,7 +74,7 @@ goes_waiting O L at place hub middle new a b to d settings same found ran until 
     index_is m p k now = grind (arith, nat_tests, now)
 
 -- it isn't pending any more
-pub goes_decided : (O : Opening) (L : List Step) (at : ℕ) (place : Place) (hub middle new : Hub) (a : Agenda) (to : ℕ) → settings_of middle ≡ settings_of hub → new ≡ middle
+pub goes_decided : (O : Opening) (L : List Step) (at : ℕ) (place : Place) (hub middle new : World) (a : Agenda) (to : ℕ) → settings_of middle ≡ settings_of hub → new ≡ middle
     → Some to ≡ option_map (λ (x : Transfer). x.to) (at_place place.owner (history (settings_of hub) O L place.owner) place.index)
     → HasRun O (reverse (of_transfer at place.owner place.index to) ++ L) middle
     → ((M : List Step) → HasRun O M middle → (x : Transfer) → at_place place.owner (history (settings_of middle) O M place.owner) place.index ≡ Some x

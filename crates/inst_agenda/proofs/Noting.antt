@@ -9,7 +9,7 @@ use Rattle.inst_model.specs.Hub.{history}
 use Rattle.inst_model.specs.Transfer.{Transfer, at_place}
 use Rattle.inst_agenda.specs.Agenda.{Agenda, is_place, is_next}
 use Rattle.inst_agenda.specs.inner.Agenda.{Notes}
-use Rattle.inst_world.specs.HasRun.{Hub, settings_of, HasRun}
+use Rattle.inst_world.specs.HasRun.{World, settings_of, HasRun}
 use Rattle.inst_agenda.specs.inner.Watching.{NotesSome}
 
 -- one place more was noted
@@ -40,21 +40,21 @@ noted_here a b place notes = notes.next_are place.owner place.index ∙ or_true 
     or_true false is = is
 
 -- all that are live before this place were noted
-abbrev pub NotedBelow : Hub → Agenda → ℕ → ℕ → Type 0
+abbrev pub NotedBelow : World → Agenda → ℕ → ℕ → Type 0
 NotedBelow hub agenda owner index = (O : Opening) (L : List Step) → HasRun O L hub → (k : ℕ) (x : Transfer) →
     k < index → at_place owner (history (settings_of hub) O L owner) k ≡ Some x → is_next agenda owner k ≡ true
 
-abbrev pub NotedAll : Hub → Agenda → ℕ → Type 0
+abbrev pub NotedAll : World → Agenda → ℕ → Type 0
 NotedAll hub agenda owner = (O : Opening) (L : List Step) → HasRun O L hub → (k : ℕ) (x : Transfer) →
     at_place owner (history (settings_of hub) O L owner) k ≡ Some x → is_next agenda owner k ≡ true
 
 -- the transfers of the first participants are gone over next, and nothing waits
-pub record NotedOwners (hub : Hub) (agenda : Agenda) (n : ℕ) : Type 0 where
+pub record NotedOwners (hub : World) (agenda : Agenda) (n : ℕ) : Type 0 where
   pub waiting_is : agenda.waiting ≡ []
   pub named : (p k : ℕ) → is_next agenda p k ≡ true → p < n
   pub noted : (p : ℕ) → p < n → NotedAll hub agenda p
 
-pub noted_owner_more : (hub : Hub) (a b : Agenda) (owner : ℕ) → NotedOwners hub a owner → NotesSome a b owner → NotedAll hub b owner → NotedOwners hub b (owner + 1)
+pub noted_owner_more : (hub : World) (a b : Agenda) (owner : ℕ) → NotedOwners hub a owner → NotesSome a b owner → NotedAll hub b owner → NotedOwners hub b (owner + 1)
 noted_owner_more hub a b owner before some all = record {
   waiting_is = some.waiting_is ∙ before.waiting_is;
   named = λ p k it. elim (some.next_from p k it) [

@@ -39,7 +39,7 @@ use Rattle.inst_model.proofs.Together.{together}
 use Rattle.inst_model.proofs.Transfers.{place_found, transfer_kept}
 use Rattle.inst_agenda.specs.FollowUps.{of_transfer}
 use Rattle.inst_agenda.specs.inner.Naming.{named_by}
-use Rattle.inst_world.specs.HasRun.{Hub, settings_of, HasRun}
+use Rattle.inst_world.specs.HasRun.{World, settings_of, HasRun}
 use Rattle.inst_agenda.specs.Resting.{RestsWith, Rests}
 use Rattle.inst_world.proofs.Asking.{unwanted}
 use Rattle.inst_world.proofs.Boarding.{board_stays}
@@ -282,7 +282,7 @@ module _ (s : HubSettings) (O : Opening) (L : List Step) (at p place : ℕ) (x :
       ∙ tells_nothing (outcome s O (Expire p place at ∷ L)) p p (history s O L p) x (λ z is party. told_already p (inl refl) z (sym (expiry_decides_none found p x.id) ∙ is) party))
 
 -- a step that leaves all histories and outcomes leaves a hub that has run
-pub idle_runs : (O : Opening) (step : Step) (L : List Step) (hub : Hub) → step_fits (settings_of hub) step ≡ true
+pub idle_runs : (O : Opening) (step : Step) (L : List Step) (hub : World) → step_fits (settings_of hub) step ≡ true
     → ((q : ℕ) → history (settings_of hub) O (step ∷ L) q ≡ history (settings_of hub) O L q)
     → ((q : ℕ) (id : List ℕ) → outcome (settings_of hub) O (step ∷ L) q id ≡ outcome (settings_of hub) O L q id)
     → HasRun O L hub → HasRun O (step ∷ L) hub
@@ -295,12 +295,12 @@ idle_runs O step L hub fits histories outcomes run = record {
 }
 
 -- a hub that has run these steps, and nothing is left to do of the transfer at a place
-record RunsAtRest (hub : Hub) (O : Opening) (at p place : ℕ) (x : Transfer) (L : List Step) : Type 0 where
+record RunsAtRest (hub : World) (O : Opening) (at p place : ℕ) (x : Transfer) (L : List Step) : Type 0 where
   run : HasRun O L hub
   there : at_place p (history (settings_of hub) O L p) place ≡ Some x
   rests : Rests (settings_of hub) O L at p x
 
-module _ (hub : Hub) (O : Opening) (at p place : ℕ) (x : Transfer) (is_one : is_participant (settings_of hub) p ≡ true) (L : List Step) (r : RunsAtRest hub O at p place x L) where
+module _ (hub : World) (O : Opening) (at p place : ℕ) (x : Transfer) (is_one : is_participant (settings_of hub) p ≡ true) (L : List Step) (r : RunsAtRest hub O at p place x L) where
   goes_on : (step : Step) → step_fits (settings_of hub) step ≡ true
       → ((q : ℕ) → history (settings_of hub) O (step ∷ L) q ≡ history (settings_of hub) O L q)
       → ((q : ℕ) (id : List ℕ) → outcome (settings_of hub) O (step ∷ L) q id ≡ outcome (settings_of hub) O L q id)
@@ -336,7 +336,7 @@ module _ (hub : Hub) (O : Opening) (at p place : ℕ) (x : Transfer) (is_one : i
       (expiry_decides_none (settings_of hub) O L at p place x r.there r.rests found)
 
 -- a hub has run what follows up a transfer of which nothing is left to do
-pub rests_runs : (O : Opening) (L : List Step) (hub : Hub) (at p place : ℕ) (x : Transfer) → HasRun O L hub → at_place p (history (settings_of hub) O L p) place ≡ Some x
+pub rests_runs : (O : Opening) (L : List Step) (hub : World) (at p place : ℕ) (x : Transfer) → HasRun O L hub → at_place p (history (settings_of hub) O L p) place ≡ Some x
     → is_participant (settings_of hub) p ≡ true → Rests (settings_of hub) O L at p x → HasRun O (reverse (of_transfer at p place x.to) ++ L) hub
 rests_runs O L hub at p place x run there is_one rests =
     let before : RunsAtRest hub O at p place x L = record { run = run; there = there; rests = rests } in

@@ -15,7 +15,7 @@ use Rattle.inst_model.specs.Hub.{outcome, history}
 use Rattle.inst_agenda.specs.Agenda.{Agenda, waits, is_next, is_place, is_entry}
 use Rattle.inst_agenda.specs.inner.Agenda.{comes_before, NothingIsDue, Moves, TakesNext}
 use Rattle.inst_agenda.specs.FollowUps.{of_transfer, followed_up}
-use Rattle.inst_world.specs.HasRun.{Hub, settings_of, HasRun}
+use Rattle.inst_world.specs.HasRun.{World, settings_of, HasRun}
 use Rattle.inst_agenda.specs.Resting.{Rests}
 use Rattle.inst_agenda.specs.Watching.{IsLeft, IsAgendaOf, Watches}
 use Rattle.inst_agenda.specs.inner.Watching.{GoesOver}
@@ -31,19 +31,19 @@ record HasRunAs (s : HubSettings) (O : Opening) (M : List Step) : Type 0 where
   opening : IsOpening s O
   steps : IsInterleaving s M
 
-run_as : (s : HubSettings) (O : Opening) (M : List Step) (hub : Hub) → settings_of hub ≡ s → HasRun O M hub → HasRunAs s O M
+run_as : (s : HubSettings) (O : Opening) (M : List Step) (hub : World) → settings_of hub ≡ s → HasRun O M hub → HasRunAs s O M
 run_as s O M hub same ran = record { opening = subst (λ (t : HubSettings). IsOpening t O) same ran.opening; steps = subst (λ (t : HubSettings). IsInterleaving t M) same ran.steps }
 
 -- `Watches`, of a hub with these settings
-pub record WatchesAs (s : HubSettings) (O : Opening) (M : List Step) (hub : Hub) (agenda : Agenda) : Type 0 where
+pub record WatchesAs (s : HubSettings) (O : Opening) (M : List Step) (hub : World) (agenda : Agenda) : Type 0 where
   pub settings_are : settings_of hub ≡ s
   pub ran : HasRun O M hub
   pub is_agenda : IsAgendaOf s O M agenda
 
-pub watches_as : (s : HubSettings) (O : Opening) (M : List Step) (hub : Hub) (agenda : Agenda) → settings_of hub ≡ s → Watches O M hub agenda → WatchesAs s O M hub agenda
+pub watches_as : (s : HubSettings) (O : Opening) (M : List Step) (hub : World) (agenda : Agenda) → settings_of hub ≡ s → Watches O M hub agenda → WatchesAs s O M hub agenda
 watches_as s O M hub agenda same w = record { settings_are = same; ran = w.ran; is_agenda = subst (λ (t : HubSettings). IsAgendaOf t O M agenda) same w.is_agenda }
 
-pub watches_still : (s : HubSettings) (O : Opening) (M : List Step) (hub : Hub) (agenda : Agenda) → WatchesAs s O M hub agenda → Watches O M hub agenda
+pub watches_still : (s : HubSettings) (O : Opening) (M : List Step) (hub : World) (agenda : Agenda) → WatchesAs s O M hub agenda → Watches O M hub agenda
 watches_still s O M hub agenda w = record { ran = w.ran; is_agenda = subst (λ (t : HubSettings). IsAgendaOf t O M agenda) (sym w.settings_are) w.is_agenda }
 
 -- another place, or this one
@@ -77,7 +77,7 @@ agenda_after s O M at o i to a b ran agenda next waiting others own = record {
 }
 
 -- a place that is left is skipped
-pub skipped : (s : HubSettings) (O : Opening) (L : List Step) (at o i : ℕ) (hub : Hub) (a : Agenda) → is_participant s o ≡ true → IsLeft a at o i
+pub skipped : (s : HubSettings) (O : Opening) (L : List Step) (at o i : ℕ) (hub : World) (a : Agenda) → is_participant s o ≡ true → IsLeft a at o i
     → WatchesAs s O (reach s O L at o i) hub a → WatchesAs s O (reach s O L at o (i + 1)) hub a
 skipped s O L at o i hub a participant left w = go (at_place o (history s O M o) i) refl
   where
@@ -101,7 +101,7 @@ skipped s O L at o i hub a participant left w = go (at_place o (history s O M o)
         (record { settings_are = w.settings_are; ran = ran; is_agenda = agenda })
 
 -- so are some places of an originator
-skipped_more : (s : HubSettings) (O : Opening) (L : List Step) (at o i d : ℕ) (hub : Hub) (a : Agenda) → is_participant s o ≡ true → ((k : ℕ) → i ≤ k → k < i + d → IsLeft a at o k)
+skipped_more : (s : HubSettings) (O : Opening) (L : List Step) (at o i d : ℕ) (hub : World) (a : Agenda) → is_participant s o ≡ true → ((k : ℕ) → i ≤ k → k < i + d → IsLeft a at o k)
     → WatchesAs s O (reach s O L at o i) hub a → WatchesAs s O (reach s O L at o (i + d)) hub a
 skipped_more s O L at o i zero hub a participant left w = let same : i ≡ i + 0 = omega arith in subst (λ (n : ℕ). WatchesAs s O (reach s O L at o n) hub a) same w
 skipped_more s O L at o i (suc d) hub a participant left w =
@@ -111,7 +111,7 @@ skipped_more s O L at o i (suc d) hub a participant left w =
     (skipped_more s O L at o i d hub a participant (λ k from below. left k from (omega (arith, below))) w))
 
 -- and all that an originator has left
-skipped_rest : (s : HubSettings) (O : Opening) (L : List Step) (at o i : ℕ) (hub : Hub) (a : Agenda) → is_participant s o ≡ true → ((k : ℕ) → i ≤ k → IsLeft a at o k)
+skipped_rest : (s : HubSettings) (O : Opening) (L : List Step) (at o i : ℕ) (hub : World) (a : Agenda) → is_participant s o ≡ true → ((k : ℕ) → i ≤ k → IsLeft a at o k)
     → WatchesAs s O (reach s O L at o i) hub a → WatchesAs s O (reach s O L at (o + 1) 0) hub a
 skipped_rest s O L at o i hub a participant left w =
     let G : List Step = gone_over_originators s O L at o in
@@ -121,7 +121,7 @@ skipped_rest s O L at o i hub a participant left w =
     (skipped_more s O L at o i n hub a participant (λ k from below. left k from) w)
 
 -- and some originators
-skipped_originators : (s : HubSettings) (O : Opening) (L : List Step) (at o d : ℕ) (hub : Hub) (a : Agenda) → o + d ≤ participants s → ((p k : ℕ) → o ≤ p → p < o + d → IsLeft a at p k)
+skipped_originators : (s : HubSettings) (O : Opening) (L : List Step) (at o d : ℕ) (hub : World) (a : Agenda) → o + d ≤ participants s → ((p k : ℕ) → o ≤ p → p < o + d → IsLeft a at p k)
     → WatchesAs s O (reach s O L at o 0) hub a → WatchesAs s O (reach s O L at (o + d) 0) hub a
 skipped_originators s O L at o zero hub a within left w = let same : o ≡ o + 0 = omega arith in subst (λ (n : ℕ). WatchesAs s O (reach s O L at n 0) hub a) same w
 skipped_originators s O L at o (suc d) hub a within left w =
@@ -134,7 +134,7 @@ skipped_originators s O L at o (suc d) hub a within left w =
 -- within: it stands at a participant's place, or hasn't begun
 -- ahead: all that is next lies ahead
 -- none_due: whatever is due lies behind
-pub record IsGoing (s : HubSettings) (O : Opening) (L : List Step) (at : ℕ) (hub : Hub) (a : Agenda) : Type 0 where
+pub record IsGoing (s : HubSettings) (O : Opening) (L : List Step) (at : ℕ) (hub : World) (a : Agenda) : Type 0 where
   pub owner : ℕ
   pub index : ℕ
   pub within : (is_participant s owner ≡ true) ⊎ ((owner ≡ 0) × (index ≡ 0))
@@ -143,7 +143,7 @@ pub record IsGoing (s : HubSettings) (O : Opening) (L : List Step) (at : ℕ) (h
   pub none_due : (m p k : ℕ) → waits a m p k ≡ true → (comes_before (p, k) (owner, index) ≡ true) ⊎ (at < m)
 
 -- it has not begun
-pub going_at_first : (s : HubSettings) (O : Opening) (L : List Step) (at : ℕ) (hub : Hub) (a b : Agenda) → settings_of hub ≡ s → Moves a b → NothingIsDue b at → Watches O L hub a → IsGoing s O L at hub b
+pub going_at_first : (s : HubSettings) (O : Opening) (L : List Step) (at : ℕ) (hub : World) (a b : Agenda) → settings_of hub ≡ s → Moves a b → NothingIsDue b at → Watches O L hub a → IsGoing s O L at hub b
 going_at_first s O L at hub a b same moves none w =
     let before : WatchesAs s O L hub a = watches_as s O L hub a same w in
     let agenda : IsAgendaOf s O L b = record {
@@ -209,7 +209,7 @@ first_is_next a b place takes = ap (λ (n : List (ℕ × ℕ)). list_any (is_pla
     here = grind (arith, nat_tests)
 
 -- a run skips to the first of the next
-skips_to : (s : HubSettings) (O : Opening) (L : List Step) (at : ℕ) (hub : Hub) (a b : Agenda) (place : Place) → TakesNext a b place → IsGoing s O L at hub a
+skips_to : (s : HubSettings) (O : Opening) (L : List Step) (at : ℕ) (hub : World) (a b : Agenda) (place : Place) → TakesNext a b place → IsGoing s O L at hub a
     → WatchesAs s O (reach s O L at place.owner place.index) hub a
 skips_to s O L at hub a b place takes g = elim (cases_eq g.owner place.owner) [
   | inl same ↦
@@ -264,7 +264,7 @@ skips_to s O L at hub a b place takes g = elim (cases_eq g.owner place.owner) [
     before_owner p k below = grind (arith, nat_tests, below)
 
 -- and behind the last of the next it skips to the end
-pub skips_to_the_end : (s : HubSettings) (O : Opening) (L : List Step) (at : ℕ) (hub : Hub) (a : Agenda) → a.next ≡ [] → IsGoing s O L at hub a → Watches O (followed_up s O L at) hub a
+pub skips_to_the_end : (s : HubSettings) (O : Opening) (L : List Step) (at : ℕ) (hub : World) (a : Agenda) → a.next ≡ [] → IsGoing s O L at hub a → Watches O (followed_up s O L at) hub a
 skips_to_the_end s O L at hub a none g =
     subst (λ (N : List Step). Watches O N hub a) (gone_nowhere s O (gone_over_originators s O L at (participants s)) at (participants s))
     (watches_still s O (reach s O L at (participants s) 0) hub a (elim g.within [
@@ -300,7 +300,7 @@ skips_to_the_end s O L at hub a none g =
     at_first p k owner index = grind (arith, nat_tests, owner, index)
 
 -- the first of the next was gone over
-pub goes_on : (s : HubSettings) (O : Opening) (L : List Step) (at : ℕ) (hub new : Hub) (a b c : Agenda) (place : Place) → TakesNext a b place → settings_of new ≡ settings_of hub → c.next ≡ b.next
+pub goes_on : (s : HubSettings) (O : Opening) (L : List Step) (at : ℕ) (hub new : World) (a b c : Agenda) (place : Place) → TakesNext a b place → settings_of new ≡ settings_of hub → c.next ≡ b.next
     → ((M : List Step) → HasRun O M hub → GoesOver O M at place hub new b c) → IsGoing s O L at hub a → IsGoing s O L at new c
 goes_on s O L at hub new a b c place takes same next goes g = record {
   owner = place.owner;

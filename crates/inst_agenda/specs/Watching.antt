@@ -7,7 +7,7 @@ use Rattle.inst_model.specs.Opening.{Opening}
 use Rattle.inst_model.specs.Transfer.{Transfer, at_place}
 use Rattle.inst_model.specs.Hub.{history}
 use Rattle.inst_agenda.specs.Agenda.{Agenda, waits, is_next}
-use Rattle.inst_world.specs.HasRun.{Hub, settings_of, HasRun}
+use Rattle.inst_world.specs.HasRun.{World, settings_of, HasRun}
 use Rattle.inst_agenda.specs.Resting.{Rests}
 
 -- the place is none of the next, and waits for no moment up to this reading
@@ -24,6 +24,6 @@ pub record IsAgendaOf (s : HubSettings) (O : Opening) (L : List Step) (agenda : 
       (at : ℕ) → IsLeft agenda at p place → Rests s O L at p x
 
 -- the hub has run these steps since this opening, and the agenda says what is left to do
-pub record Watches (O : Opening) (L : List Step) (hub : Hub) (agenda : Agenda) : Type 0 where
+pub record Watches (O : Opening) (L : List Step) (hub : World) (agenda : Agenda) : Type 0 where
   pub ran : HasRun O L hub
   pub is_agenda : IsAgendaOf (settings_of hub) O L agenda

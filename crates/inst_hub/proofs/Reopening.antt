@@ -26,8 +26,8 @@ use Rattle.inst_cell.specs.Held.{settings_of, table_of, knows, has_role, Stays, 
 use Rattle.inst_cell.specs.declared.sight.Sight.{Sight}
 use Rattle.inst_cell.specs.Opening.{MayOpen, IsWhole, IsDealt, AreDealt, IsAdmitted, AreAdmitted}
 use Rattle.inst_cell.proofs.Opening.{whole_role}
-use Rattle.inst_world.specs.HasRun.{Hub as World, IsHub, HasRun, IsBoardOf}
-use Rattle.inst_world.specs.NextOpening.{IsOpenedBelow}
+use Rattle.inst_world.specs.HasRun.{World, IsWorld, HasRun, IsBoardOf}
+use Rattle.inst_world.specs.inner.NextOpening.{IsOpenedBelow}
 use Rattle.inst_world.proofs.Carrying.{below as less}
 use Rattle.inst_world.proofs.Reopening.{begun_known}
 use Rattle.inst_participant.specs.declared.participant.Participant.{Participant}
@@ -144,13 +144,13 @@ one_less x y xs xs_left ys ys_left s t e =
     omega (arith, a, b, e)
 
 -- the slots of a world that begins are carried over an opening
-pub slots_carried : (s : HubSettings) (books : ℕ → List Event) (world : World) → world.board.settings ≡ s → IsHub world → HasRun (FromBooks books) [] world → AreCarried s books world.books
+pub slots_carried : (s : HubSettings) (books : ℕ → List Event) (world : World) → world.board.settings ≡ s → IsWorld world → HasRun (FromBooks books) [] world → AreCarried s books world.books
 slots_carried s books world same hub ran = record {
   enough = hub.one_each ∙ ap participants same;
   each = λ p book there. let m = hub.member p book there in record { settings_are = m.settings_are ∙ same; who_is = m.who_is; events_are = ran.histories p book there };
 }
 
-module _ (s : HubSettings) (books : ℕ → List Event) (can : BooksCanOpen s books) (world : World) (same : world.board.settings ≡ s) (hub : IsHub world) (ran : HasRun (FromBooks books) [] world)
+module _ (s : HubSettings) (books : ℕ → List Event) (can : BooksCanOpen s books) (world : World) (same : world.board.settings ≡ s) (hub : IsWorld world) (ran : HasRun (FromBooks books) [] world)
     (first whole : SharedBoard) (stays : Stays first whole) (begun : settings_of first ≡ s) (known : (f : Fact) → knows whole f ↔ IsOpenedBelow s books (participants s) f) where
   stands : IsBoardOf s (FromBooks books) [] world.board
   stands = subst (λ (t : HubSettings). IsBoardOf t (FromBooks books) [] world.board) same ran.board

@@ -11,7 +11,7 @@ use Rattle.inst_model.specs.Hub.{history}
 use Rattle.inst_model.specs.Interleaving.{IsInterleaving}
 use Rattle.inst_model.specs.Opening.{IsOpening}
 use Rattle.inst_model.specs.Trace.{trace}
-use Rattle.inst_world.specs.HasRun.{Hub, settings_of, HasRun}
+use Rattle.inst_world.specs.HasRun.{World, settings_of, HasRun}
 use Rattle.inst_world.specs.Headline.{IsRun}
 use Rattle.inst_world.proofs.Promising.{keeps_the_headline}
 use Rattle.inst_agenda.specs.declared.runner.Runner.{Runner}
@@ -22,7 +22,7 @@ use Rattle.inst_lines.specs.Answering.{Past, Keeps, opened, answering, after_lin
 use Rattle.inst_lines.specs.Headline.{run_through, LinesKeepTheHeadline}
 
 -- what a hub has gone through is a run
-run_behind : (past : Past) (hub : Hub) → settings_of hub ≡ past.settings → HasRun past.opening past.steps hub → IsRun past.settings (run_through past)
+run_behind : (past : Past) (hub : World) → settings_of hub ≡ past.settings → HasRun past.opening past.steps hub → IsRun past.settings (run_through past)
 run_behind past hub same ran =
     let twice : reverse (reverse past.steps) ≡ past.steps = reverse-reverse past.steps in
     record {

@@ -22,7 +22,7 @@ use Rattle.inst_lines.specs.declared.mode.Mode.TheVariants.{Run, Play}
 use Rattle.inst_agenda.specs.declared.runner.Runner.{Runner}
 use Rattle.inst_lines.specs.Answers.{Answerer}
 use Rattle.inst_agenda.specs.FollowUps.{followed_up}
-use Rattle.inst_world.specs.HasRun.{Hub, settings_of, HasRun}
+use Rattle.inst_world.specs.HasRun.{World, settings_of, HasRun}
 use Rattle.inst_agenda.specs.Watching.{Watches}
 
 -- what a hub has gone through: how it was opened, and all steps since, the newest in front
@@ -36,7 +36,7 @@ abbrev pub opened : HubSettings → Past
 opened s = record { settings = s; opening = First; steps = [] }
 
 -- the world has gone through this
-pub record IsPastOf (past : Past) (hub : Hub) : Type 0 where
+pub record IsPastOf (past : Past) (hub : World) : Type 0 where
   pub settings_are : settings_of hub ≡ past.settings
   pub ran : HasRun past.opening past.steps hub
 

@@ -4,7 +4,7 @@ use Rattle.inst_settings.specs.Settings.{HubSettings}
 use Rattle.inst_command.specs.declared.step.Step.{Step}
 use Rattle.inst_journal.specs.History.{History}
 use Rattle.inst_model.specs.Opening.{Opening}
-use Rattle.inst_world.specs.HasRun.{Hub, HasRun, settings_of}
+use Rattle.inst_world.specs.HasRun.{World, HasRun, settings_of}
 use Rattle.inst_world.specs.NextOpening.{opening_from, AreCarried, CanOpenFrom}
 use Rattle.inst_agenda.specs.declared.runner.Runner.{Runner}
 use Rattle.inst_agenda.specs.Watching.{Watches}
@@ -16,7 +16,7 @@ use Rattle.inst_logged.specs.Header.{header_from}
 use Rattle.inst_logged.specs.Logged.{HasBegun}
 use Rattle.inst_logged.specs.declared.line_answers.LineAnswers.{LineAnswers}
 
-pub keeps_again : (mode : Mode) (s : HubSettings) (journals : List History) (world : Hub) (runner : Runner) → world.board.settings ≡ s → HasRun (opening_from journals) [] world
+pub keeps_again : (mode : Mode) (s : HubSettings) (journals : List History) (world : World) (runner : Runner) → world.board.settings ≡ s → HasRun (opening_from journals) [] world
     → runner.world ≡ world → ((O : Opening) (L : List Step) → HasRun O L world → Watches O L runner.world runner.agenda) → Keeps mode (opened_from s journals) runner
 keeps_again Run s journals world runner settings run same watches =
     record { settings_are = ap settings_of same ∙ settings; watches = watches (opening_from journals) [] run }

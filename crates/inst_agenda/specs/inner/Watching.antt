@@ -8,7 +8,7 @@ use Rattle.inst_model.specs.Transfer.{Transfer, at_place, deadline}
 use Rattle.inst_model.specs.Hub.{history, outcome}
 use Rattle.inst_agenda.specs.Agenda.{Agenda, waits, is_next}
 use Rattle.inst_agenda.specs.FollowUps.{of_transfer}
-use Rattle.inst_world.specs.HasRun.{Hub, settings_of, HasRun}
+use Rattle.inst_world.specs.HasRun.{World, settings_of, HasRun}
 
 -- places of this originator are gone over next, and nothing else changed
 pub record NotesSome (old new : Agenda) (from : ℕ) : Type 0 where
@@ -17,7 +17,7 @@ pub record NotesSome (old new : Agenda) (from : ℕ) : Type 0 where
   pub next_from : (p place : ℕ) → is_next new p place ≡ true → (is_next old p place ≡ true) ⊎ (p ≡ from)
 
 -- the live transfer that is named, if any, is gone over next, and nothing else changed but for places of participants
-pub record NotesNamed (hub : Hub) (named : Option (ℕ × List ℕ)) (old new : Agenda) : Type 0 where
+pub record NotesNamed (hub : World) (named : Option (ℕ × List ℕ)) (old new : Agenda) : Type 0 where
   pub waiting_is : new.waiting ≡ old.waiting
   pub next_still : (p place : ℕ) → is_next old p place ≡ true → is_next new p place ≡ true
   pub next_from : (p place : ℕ) → is_next new p place ≡ true →
@@ -29,7 +29,7 @@ pub record NotesNamed (hub : Hub) (named : Option (ℕ × List ℕ)) (old new : 
 -- none, some: so the hub has run its steps
 -- waits_for: where it is pending then, it waits for its deadline
 -- waits_still, waits_from: nothing else waits
-pub record GoesOver (O : Opening) (L : List Step) (at : ℕ) (place : Place) (hub new_hub : Hub) (old new : Agenda) : Type 0 where
+pub record GoesOver (O : Opening) (L : List Step) (at : ℕ) (place : Place) (hub new_hub : World) (old new : Agenda) : Type 0 where
   pub none : at_place place.owner (history (settings_of hub) O L place.owner) place.index ≡ None → HasRun O L new_hub
   pub some : (x : Transfer) → at_place place.owner (history (settings_of hub) O L place.owner) place.index ≡ Some x →
       HasRun O (reverse (of_transfer at place.owner place.index x.to) ++ L) new_hub

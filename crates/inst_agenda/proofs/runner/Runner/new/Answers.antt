@@ -1,5 +1,5 @@
 use Rattle.std.proofs.Common.{◌∙◌, subst}
-use Rattle.inst_world.specs.HasRun.{Hub}
+use Rattle.inst_world.specs.HasRun.{World}
 use Rattle.inst_agenda.proofs.Noting.{NotedAll, noted_owner_more}
 use Rattle.inst_agenda.proofs.runner.Runner.new.Goals as goal
 
@@ -12,5 +12,5 @@ loop-owner-preserved c =
     record {
       world = noted.world ∙ before.world;
       noted = noted_owner_more c.args.world c.loop-owner.runner.agenda after owner before.noted noted.notes
-          (subst (λ (hub : Hub). NotedAll hub after owner) before.world noted.noted);
+          (subst (λ (hub : World). NotedAll hub after owner) before.world noted.noted);
     }

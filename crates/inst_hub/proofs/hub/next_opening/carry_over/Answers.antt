@@ -6,7 +6,8 @@ use Rattle.inst_slot.specs.Book.{Book}
 use Rattle.inst_cell.specs.Held.{knows}
 use Rattle.inst_cell.specs.Opening.{IsWhole}
 use Rattle.inst_cell.proofs.Opening.{whole_still}
-use Rattle.inst_world.specs.NextOpening.{books_of, IsOpenedBelow}
+use Rattle.inst_world.specs.NextOpening.{books_of}
+use Rattle.inst_world.specs.inner.NextOpening.{IsOpenedBelow}
 use Rattle.inst_participant.specs.declared.participant.Participant.{Participant}
 use Rattle.inst_hub.specs.inner.Opening.{AreBehind}
 use Rattle.inst_hub.specs.NextOpening.{histories_from}
