@@ -1,6 +1,6 @@
 -- The command line of the program. Its words are this hub's own choice.
-use Rattle.std.specs.Prelude.{◌-◌, ◌^◌, ℕ, true, List, ◌∷◌, [], Some, codes}
-use Rattle.clap.specs.Words.{App, Rule, new_app, new_rule, with_rule, with_subcommand}
+use Rattle.std.specs.Prelude.{◌-◌, ◌^◌, ℕ, true, List, ◌∷◌, [], ◌++◌, Some, codes}
+use Rattle.clap.specs.Words.{App, Rule, Shape, new_app, new_rule, with_rule, with_subcommand}
 use Rattle.clap.specs.Simple.{on_top}
 use Rattle.clap.specs.declared.builder.action.ArgAction.TheVariants.{Set, SetTrue}
 use Rattle.clap.specs.declared.builder.value_parser.ValueParser.TheVariants.{Unsigned}
@@ -33,70 +33,65 @@ told_rule = record (new_rule (codes "told")) { long = Some (codes "told"); actio
 abbrev pub summary_rule : Rule
 summary_rule = record (new_rule (codes "summary")) { long = Some (codes "summary"); action = Some SetTrue }
 
--- the options of what a participant has room for
-abbrev pub with_room : App → App
-with_room app = with_rule (with_rule app
-    (number_rule (codes "places") (codes "256")))
-    (number_rule (codes "fundings") (codes "256"))
+-- the number or the name of a fault, which the subcommand `explain` must name
+abbrev pub fault_rule : Rule
+fault_rule = record (new_rule (codes "fault")) { required = true; action = Some Set; value_names = 1 }
 
--- the options of time
-abbrev pub with_times : App → App
-with_times app = with_rule (with_rule (with_rule app
-    (number_rule (codes "limit") (codes "10000")))
-    (number_rule (codes "margin") (codes "0")))
-    (number_rule (codes "ahead") (codes "1000"))
+-- the settings of a hub: its participants, what each has room for, its times, the largest amount, the first moment
+abbrev pub hub_rules : List Rule
+hub_rules =
+    participants_rule
+    ∷ number_rule (codes "places") (codes "256")
+    ∷ number_rule (codes "fundings") (codes "256")
+    ∷ number_rule (codes "limit") (codes "10000")
+    ∷ number_rule (codes "margin") (codes "0")
+    ∷ number_rule (codes "ahead") (codes "1000")
+    ∷ number_rule (codes "ceiling") (codes "99999999999")
+    ∷ number_rule (codes "base") (codes "0")
+    ∷ []
 
--- the options of the largest amount and the first moment
-abbrev pub with_bounds : App → App
-with_bounds app = with_rule (with_rule app
-    (number_rule (codes "ceiling") (codes "99999999999")))
-    (number_rule (codes "base") (codes "0"))
+-- what else a run has: its log, and a summary
+abbrev pub run_rules : List Rule
+run_rules = log_rule ∷ told_rule ∷ summary_rule ∷ []
 
--- a subcommand of this name, with the options of a hub
-abbrev pub hub_command : List ℕ → App
-hub_command name = with_bounds (with_times (with_room (with_rule (new_app name) participants_rule)))
+-- what else a drill has: how many transfers and openings
+abbrev pub drill_rules : List Rule
+drill_rules = number_rule (codes "transfers") (codes "200") ∷ number_rule (codes "openings") (codes "1") ∷ []
+
+-- the two logs that the subcommand `next` names
+abbrev pub next_rules : List Rule
+next_rules = named_rule (codes "log") ∷ named_rule (codes "to") ∷ []
+
+-- with these options, in their order
+abbrev pub with_rules : App → List Rule → App
+with_rules app [] = app
+with_rules app (rule ∷ more) = with_rules (with_rule app rule) more
+
+-- a subcommand of this name, with these options
+abbrev pub subcommand : List ℕ → List Rule → Shape
+subcommand name rules = (with_rules (new_app name) rules).top
+
+-- all subcommands, in their order
+abbrev pub subcommands : List Shape
+subcommands =
+    subcommand (codes "run") (hub_rules ++ run_rules)
+    ∷ subcommand (codes "play") (hub_rules ++ run_rules)
+    ∷ subcommand (codes "check") hub_rules
+    ∷ subcommand (codes "drill") (hub_rules ++ drill_rules)
+    ∷ subcommand (codes "log") (file_rule ∷ [])
+    ∷ subcommand (codes "next") next_rules
+    ∷ subcommand (codes "explain") (fault_rule ∷ [])
+    ∷ []
+
+-- with these subcommands
+abbrev pub with_subcommands : App → List Shape → App
+with_subcommands app [] = app
+with_subcommands app (sub ∷ more) = with_subcommands (with_subcommand app sub) more
 
 -- the program without its subcommands, of which it needs one; it tells its version
 abbrev pub bare_command_line : App
 bare_command_line = on_top (λ top. record top { has_version = true; subcommand_required = true }) (new_app (codes "inst_main"))
 
--- the subcommand `drill`: the options of a hub, and how many transfers and openings
-abbrev pub drill_command : App
-drill_command =
-    with_rule (with_rule (hub_command (codes "drill"))
-    (number_rule (codes "transfers") (codes "200")))
-    (number_rule (codes "openings") (codes "1"))
-
--- a subcommand that answers lines: the options of a hub, those of its log, and a summary
-abbrev pub run_command : List ℕ → App
-run_command name = with_rule (with_rule (with_rule (hub_command name) log_rule) told_rule) summary_rule
-
--- the subcommands that read lines: `run` and `play`, with the same options, and `check`, with those of a hub
-abbrev pub with_runs : App → App
-with_runs app =
-    with_subcommand (with_subcommand (with_subcommand app (run_command (codes "run")).top) (run_command (codes "play")).top)
-    (hub_command (codes "check")).top
-
--- the subcommand `log`
-abbrev pub log_command : App
-log_command = with_rule (new_app (codes "log")) file_rule
-
--- the subcommand `next`
-abbrev pub next_command : App
-next_command = with_rule (with_rule (new_app (codes "next")) (named_rule (codes "log"))) (named_rule (codes "to"))
-
--- the subcommands `log` and `next`, which read nothing
-abbrev pub with_logs : App → App
-with_logs app = with_subcommand (with_subcommand app log_command.top) next_command.top
-
--- the number or the name of a fault, which the subcommand `explain` must name
-abbrev pub fault_rule : Rule
-fault_rule = record (new_rule (codes "fault")) { required = true; action = Some Set; value_names = 1 }
-
--- the subcommand `explain`
-abbrev pub explain_command : App
-explain_command = with_rule (new_app (codes "explain")) fault_rule
-
--- the whole command line: `run`, `play` and `check`, `drill`, `log` and `next`, `explain`
+-- the whole command line
 abbrev pub command_line : App
-command_line = with_subcommand (with_logs (with_subcommand (with_runs bare_command_line) drill_command.top)) explain_command.top
+command_line = with_subcommands bare_command_line subcommands

@@ -1,3 +1,4 @@
 pub mod CommandLine
+pub mod Table
 pub mod Options
 pub mod Asking

@@ -7,6 +7,7 @@ mod command_line;
 mod error;
 mod options;
 pub mod rows;
+mod table;
 mod texts;
 mod wish;
 mod words;
