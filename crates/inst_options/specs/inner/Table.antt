@@ -34,6 +34,7 @@ parser_of Word = None
 parser_of OfText = None
 parser_of Number = Some (Unsigned 0 (2 ^ 64 - 1))
 
+-- what `clap` reads of an option
 abbrev pub rule_of_choice : Choice → Rule
 rule_of_choice choice = record (new_rule choice.name.now) {
   long = long_of choice.kind choice.name.now;

@@ -1,14 +1,72 @@
-use Rattle.std.proofs.Common.{rules, ◌≡◌, true, false, codes}
+use Rattle.std.proofs.Common.{◌≡◌, ◌⊎◌, ◌∙◌, true, false, codes, inl, inr, sym}
 use Rattle.clap.specs.Words.{found_of, rows_of}
 use Rattle.inst_settings.specs.Settings.{same_text}
-use Rattle.inst_options.proofs.Refused.{numberless}
+use Rattle.inst_options.specs.Options.{AskForNone, ChooseNone, SpeaksOfALog}
+use Rattle.inst_options.proofs.Refused.{none_of_all, numberless, passed_more, passed_on}
 use Rattle.inst_options.proofs.options.hub_wish.Goals as goal
+
+pub returns-in_err-settings-clause-fault : goal.returns-in_err-settings-clause-fault
+returns-in_err-settings-clause-fault c =
+    let name = c.args.name.now in
+    let rows = rows_of (found_of c.args.options.now) in
+    passed_more (AskForNone name rows ⊎ SpeaksOfALog name rows) (ChooseNone rows) c.from_residual.result c.in_err-settings.field-0.0 c.from_residual.ensures.1
+    (λ none. inl (none_of_all name rows none)) c.in_err-settings.ensures.fault
+
+pub returns-in_err-log-clause-fault : goal.returns-in_err-log-clause-fault
+returns-in_err-log-clause-fault c =
+    let name = c.args.name.now in
+    let rows = rows_of (found_of c.args.options.now) in
+    passed_on (AskForNone name rows ⊎ SpeaksOfALog name rows) c.from_residual-in_err-log.result c.in_err-log.field-0.0 c.from_residual-in_err-log.ensures.1
+    c.in_err-log.ensures.fault (inr (inr (inr c.in_err-log.ensures.none.1)))
+
+pub returns-in_err-log-2-clause-fault : goal.returns-in_err-log-2-clause-fault
+returns-in_err-log-2-clause-fault c =
+    let name = c.args.name.now in
+    let rows = rows_of (found_of c.args.options.now) in
+    passed_on (AskForNone name rows ⊎ SpeaksOfALog name rows) c.from_residual-in_err-log-2.result c.in_err-log-2.field-0.0 c.from_residual-in_err-log-2.ensures.1
+    c.in_err-log-2.ensures.fault (inr (inr (inr c.in_err-log-2.ensures.none.1)))
 
 pub returns-in_err-transfers-clause-fault : goal.returns-in_err-transfers-clause-fault
 returns-in_err-transfers-clause-fault c =
     let name = c.args.name.now in
     let rows = rows_of (found_of c.args.options.now) in
-    let other : same_text name (codes "play") ≡ false = search rules in
-    let drill : same_text name (codes "drill") ≡ true = search rules in
+    let other : same_text name (codes "play") ≡ false = sym c.eq.ensures ∙ c.if-eq.false in
+    let drill : same_text name (codes "drill") ≡ true = sym c.eq-2.ensures ∙ c.if-eq-2.true in
     numberless name rows c.from_residual-in_err-transfers.result c.in_err-transfers.field-0.0 other drill c.from_residual-in_err-transfers.ensures.1
     c.in_err-transfers.ensures.none c.in_err-transfers.ensures.fault
+
+pub returns-then-eq-clause-wish : goal.returns-then-eq-clause-wish
+returns-then-eq-clause-wish c =
+    let settings = c.in_ok-settings.ensures in (
+      settings.lawful,
+      sym c.eq.ensures ∙ c.if-eq.true,
+      settings.chosen,
+      c.in_ok-log.ensures.log,
+      c.flag.ensures,
+    )
+
+pub returns-then-eq-2-clause-wish : goal.returns-then-eq-2-clause-wish
+returns-then-eq-2-clause-wish c =
+    let settings = c.in_ok-settings.ensures in (
+      settings.lawful,
+      (sym c.eq.ensures ∙ c.if-eq.false, sym c.eq-2.ensures ∙ c.if-eq-2.true, c.in_ok-transfers.ensures.drill),
+      settings.chosen,
+    )
+
+pub returns-then-eq-3-clause-wish : goal.returns-then-eq-3-clause-wish
+returns-then-eq-3-clause-wish c =
+    let settings = c.in_ok-settings.ensures in (
+      settings.lawful,
+      (sym c.eq.ensures ∙ c.if-eq.false, sym c.eq-2.ensures ∙ c.if-eq-2.false, sym c.eq-3.ensures ∙ c.if-eq-3.true),
+      settings.chosen,
+    )
+
+pub returns-clause-wish : goal.returns-clause-wish
+returns-clause-wish c =
+    let settings = c.in_ok-settings.ensures in (
+      settings.lawful,
+      (sym c.eq.ensures ∙ c.if-eq.false, sym c.eq-2.ensures ∙ c.if-eq-2.false, sym c.eq-3.ensures ∙ c.if-eq-3.false),
+      settings.chosen,
+      c.in_ok-log-2.ensures.log,
+      c.flag-2.ensures,
+    )

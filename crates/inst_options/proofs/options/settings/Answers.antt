@@ -1,4 +1,4 @@
-use Rattle.std.proofs.Common.{rules, ◌≡◌, ◌^◌, ◌∙◌, Some, ap, codes, sym, subst}
+use Rattle.std.proofs.Common.{◌≡◌, ◌^◌, ◌∙◌, Some, ap, codes, sym, subst}
 use Rattle.std.proofs.lemmas.Result.{IfOk-weaker}
 use Rattle.clap.specs.Words.{first_of, found_of, rows_of}
 use Rattle.inst_options.specs.Options.{Gives, Chooses}
@@ -18,14 +18,14 @@ settings_of c =
 chosen : (c : goal.After-check) → Chooses (rows_of (found_of c.args.options.now)) (settings_of c)
 chosen c =
     let rows = rows_of (found_of c.args.options.now) in
-    let text : first_of (codes "participants") rows ≡ Some c.in_ok-participants.participants.now = search rules in
-    let places : Gives rows (codes "places") c.in_ok-places.places = search rules in
-    let fundings : Gives rows (codes "fundings") c.in_ok-fundings.fundings = search rules in
-    let limit : Gives rows (codes "limit") c.in_ok-limit.limit = search rules in
-    let margin : Gives rows (codes "margin") c.in_ok-margin.margin = search rules in
-    let ahead : Gives rows (codes "ahead") c.in_ok-ahead.ahead = search rules in
-    let ceiling : Gives rows (codes "ceiling") c.in_ok-ceiling.ceiling = search rules in
-    let base : Gives rows (codes "base") c.in_ok-base.base = search rules in record {
+    let text : first_of (codes "participants") rows ≡ Some c.in_ok-participants.participants.now = c.in_ok-participants.ensures.text in
+    let places : Gives rows (codes "places") c.in_ok-places.places = c.in_ok-places.ensures.number in
+    let fundings : Gives rows (codes "fundings") c.in_ok-fundings.fundings = c.in_ok-fundings.ensures.number in
+    let limit : Gives rows (codes "limit") c.in_ok-limit.limit = c.in_ok-limit.ensures.number in
+    let margin : Gives rows (codes "margin") c.in_ok-margin.margin = c.in_ok-margin.ensures.number in
+    let ahead : Gives rows (codes "ahead") c.in_ok-ahead.ahead = c.in_ok-ahead.ensures.number in
+    let ceiling : Gives rows (codes "ceiling") c.in_ok-ceiling.ceiling = c.in_ok-ceiling.ensures.number in
+    let base : Gives rows (codes "base") c.in_ok-base.base = c.in_ok-base.ensures.number in record {
       participants = (_, text, c.in_ok-codes.ensures.codes ∙ ap parts_of c.as_bytes.ensures.value);
       places = places;
       fundings = fundings;
@@ -44,49 +44,49 @@ returns-clause-chosen c =
 pub returns-in_err-places-clause-fault : goal.returns-in_err-places-clause-fault
 returns-in_err-places-clause-fault c =
     let rows = rows_of (found_of c.args.options.now) in
-    let none : GivesNoneBelow (2 ^ 16) rows (codes "places") = search rules in
+    let none : GivesNoneBelow (2 ^ 16) rows (codes "places") = c.in_err-places.ensures.none in
     passed_on (ChooseNone rows) c.from_residual-in_err-places.result c.in_err-places.field-0.0 c.from_residual-in_err-places.ensures.1
     c.in_err-places.ensures.fault (no_places rows none)
 
 pub returns-in_err-fundings-clause-fault : goal.returns-in_err-fundings-clause-fault
 returns-in_err-fundings-clause-fault c =
     let rows = rows_of (found_of c.args.options.now) in
-    let none : GivesNoneBelow (2 ^ 16) rows (codes "fundings") = search rules in
+    let none : GivesNoneBelow (2 ^ 16) rows (codes "fundings") = c.in_err-fundings.ensures.none in
     passed_on (ChooseNone rows) c.from_residual-in_err-fundings.result c.in_err-fundings.field-0.0 c.from_residual-in_err-fundings.ensures.1
     c.in_err-fundings.ensures.fault (no_fundings rows none)
 
 pub returns-in_err-limit-clause-fault : goal.returns-in_err-limit-clause-fault
 returns-in_err-limit-clause-fault c =
     let rows = rows_of (found_of c.args.options.now) in
-    let none : GivesNoneBelow (2 ^ 32) rows (codes "limit") = search rules in
+    let none : GivesNoneBelow (2 ^ 32) rows (codes "limit") = c.in_err-limit.ensures.none in
     passed_on (ChooseNone rows) c.from_residual-in_err-limit.result c.in_err-limit.field-0.0 c.from_residual-in_err-limit.ensures.1
     c.in_err-limit.ensures.fault (no_limit rows none)
 
 pub returns-in_err-margin-clause-fault : goal.returns-in_err-margin-clause-fault
 returns-in_err-margin-clause-fault c =
     let rows = rows_of (found_of c.args.options.now) in
-    let none : GivesNoneBelow (2 ^ 32) rows (codes "margin") = search rules in
+    let none : GivesNoneBelow (2 ^ 32) rows (codes "margin") = c.in_err-margin.ensures.none in
     passed_on (ChooseNone rows) c.from_residual-in_err-margin.result c.in_err-margin.field-0.0 c.from_residual-in_err-margin.ensures.1
     c.in_err-margin.ensures.fault (no_margin rows none)
 
 pub returns-in_err-ahead-clause-fault : goal.returns-in_err-ahead-clause-fault
 returns-in_err-ahead-clause-fault c =
     let rows = rows_of (found_of c.args.options.now) in
-    let none : GivesNoneBelow (2 ^ 32) rows (codes "ahead") = search rules in
+    let none : GivesNoneBelow (2 ^ 32) rows (codes "ahead") = c.in_err-ahead.ensures.none in
     passed_on (ChooseNone rows) c.from_residual-in_err-ahead.result c.in_err-ahead.field-0.0 c.from_residual-in_err-ahead.ensures.1
     c.in_err-ahead.ensures.fault (no_ahead rows none)
 
 pub returns-in_err-ceiling-clause-fault : goal.returns-in_err-ceiling-clause-fault
 returns-in_err-ceiling-clause-fault c =
     let rows = rows_of (found_of c.args.options.now) in
-    let none : GivesNoneBelow (2 ^ 64) rows (codes "ceiling") = search rules in
+    let none : GivesNoneBelow (2 ^ 64) rows (codes "ceiling") = c.in_err-ceiling.ensures.none in
     passed_on (ChooseNone rows) c.from_residual-in_err-ceiling.result c.in_err-ceiling.field-0.0 c.from_residual-in_err-ceiling.ensures.1
     c.in_err-ceiling.ensures.fault (no_ceiling rows none)
 
 pub returns-in_err-base-clause-fault : goal.returns-in_err-base-clause-fault
 returns-in_err-base-clause-fault c =
     let rows = rows_of (found_of c.args.options.now) in
-    let none : GivesNoneBelow (2 ^ 64) rows (codes "base") = search rules in
+    let none : GivesNoneBelow (2 ^ 64) rows (codes "base") = c.in_err-base.ensures.none in
     passed_on (ChooseNone rows) c.from_residual-in_err-base.result c.in_err-base.field-0.0 c.from_residual-in_err-base.ensures.1
     c.in_err-base.ensures.fault (no_base rows none)
 
