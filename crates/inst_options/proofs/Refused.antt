@@ -107,6 +107,15 @@ pub refused_by : {A : Type 0} (P Q : Type 0) (r : Result A Fault) → IsOkUnless
 refused_by P Q (Ok x) bad weaker q = tt
 refused_by P Q (Err e) bad weaker q = inr (bad, weaker q)
 
+pub passed_more : {A : Type 0} (P Q : Type 0) (r : Result A Fault) (fault : Fault) → IsErrAnd r (λ e. e ≡ fault) → (Q → P) → IsRefusal Q fault → IfErr r (IsRefusal P)
+passed_more P Q (Ok x) fault is weaker q = tt
+passed_more P Q (Err e) fault is weaker (inl memory) = inl (is ∙ memory)
+passed_more P Q (Err e) fault is weaker (inr bad) = inr (is ∙ bad.0, weaker bad.1)
+
+-- options that choose no settings do so for each task
+pub none_of_all : (name : List ℕ) (rows : List Row) → ChooseNone rows → AskForNone name rows
+none_of_all name rows none task s is chosen good = none s chosen good.0
+
 -- a number of a drill that is too large for its type is too large for any hub
 no_transfers : (name : List ℕ) (rows : List Row) → same_text name (codes "play") ≡ false → same_text name (codes "drill") ≡ true →
     GivesNoneBelow (2 ^ 16) rows (codes "transfers") → AskForNone name rows

@@ -1,7 +1,8 @@
 use Rattle.std.proofs.Common.{◌≡◌, ◌⊎◌, ◌∙◌, true, false, codes, inl, inr, sym}
 use Rattle.clap.specs.Words.{found_of, rows_of}
 use Rattle.inst_settings.specs.Settings.{same_text}
-use Rattle.inst_options.specs.Options.{AskForNone, ChooseNone, SpeaksOfALog}
+use Rattle.inst_options.specs.Options.{SpeaksOfALog}
+use Rattle.inst_options.specs.inner.Options.{AskForNone, ChooseNone}
 use Rattle.inst_options.proofs.Refused.{none_of_all, numberless, passed_more, passed_on}
 use Rattle.inst_options.proofs.options.hub_wish.Goals as goal
 
