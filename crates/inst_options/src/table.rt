@@ -19,7 +19,8 @@ pub(crate) struct Subcommand {
     pub(crate) groups: &'static [Group],
 }
 
-/// Options that stand together in each subcommand that has them.
+/// Options that stand together in each subcommand that has them. A row names its groups and doesn't hold their lists:
+/// one constant with all lists in all rows is too large to be checked.
 #[derive(Clone, Copy)]
 pub(crate) enum Group {
     /// The settings of a hub.
@@ -92,7 +93,7 @@ impl Kind {
     }
 }
 
-/// The table of all subcommands.
+/// The table of all subcommands. What goes over it calls this, so that the constant stands in no proof about commands.
 pub(crate) fn subcommands() -> &'static [Subcommand]
     ensures { with_rows bare_command_line result.now ≡ command_line }
 {

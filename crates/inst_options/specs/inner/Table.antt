@@ -5,7 +5,8 @@ use Rattle.clap.specs.declared.builder.action.ArgAction.{ArgAction}
 use Rattle.clap.specs.declared.builder.action.ArgAction.TheVariants.{Set, SetTrue}
 use Rattle.clap.specs.declared.builder.value_parser.ValueParser.{ValueParser}
 use Rattle.clap.specs.declared.builder.value_parser.ValueParser.TheVariants.{Unsigned}
-use Rattle.inst_options.specs.CommandLine.{drill_rules, fault_rule, file_rule, hub_rules, next_rules, run_rules, with_rules}
+use Rattle.inst_options.specs.CommandLine.{drill_rules, fault_rule, file_rule, hub_rules, next_rules, run_rules}
+use Rattle.inst_options.specs.CommandLine.{with_rules}
 use Rattle.inst_options.specs.declared.table.Choice.{Choice}
 use Rattle.inst_options.specs.declared.table.Group.{Group}
 use Rattle.inst_options.specs.declared.table.Group.TheVariants.{Hub, Run, Drill, Log, Next, Explain}

@@ -10,22 +10,27 @@ pub returns-in_err-settings-clause-fault : goal.returns-in_err-settings-clause-f
 returns-in_err-settings-clause-fault c =
     let name = c.args.name.now in
     let rows = rows_of (found_of c.args.options.now) in
-    passed_more (AskForNone name rows ⊎ SpeaksOfALog name rows) (ChooseNone rows) c.from_residual.result c.in_err-settings.field-0.0 c.from_residual.ensures.1
-    (λ none. inl (none_of_all name rows none)) c.in_err-settings.ensures.fault
+    let told = c.from_residual in
+    passed_more (AskForNone name rows ⊎ SpeaksOfALog name rows) (ChooseNone rows) told.result c.in_err-settings.field-0.0
+    told.ensures.1 (λ none. inl (none_of_all name rows none)) c.in_err-settings.ensures.fault
 
 pub returns-in_err-log-clause-fault : goal.returns-in_err-log-clause-fault
 returns-in_err-log-clause-fault c =
     let name = c.args.name.now in
     let rows = rows_of (found_of c.args.options.now) in
-    passed_on (AskForNone name rows ⊎ SpeaksOfALog name rows) c.from_residual-in_err-log.result c.in_err-log.field-0.0 c.from_residual-in_err-log.ensures.1
-    c.in_err-log.ensures.fault (inr (inr (inr c.in_err-log.ensures.none.1)))
+    let told = c.from_residual-in_err-log in
+    let log = c.in_err-log.ensures in
+    passed_on (AskForNone name rows ⊎ SpeaksOfALog name rows) told.result c.in_err-log.field-0.0 told.ensures.1
+    log.fault (inr (inr (inr log.none.1)))
 
 pub returns-in_err-log-2-clause-fault : goal.returns-in_err-log-2-clause-fault
 returns-in_err-log-2-clause-fault c =
     let name = c.args.name.now in
     let rows = rows_of (found_of c.args.options.now) in
-    passed_on (AskForNone name rows ⊎ SpeaksOfALog name rows) c.from_residual-in_err-log-2.result c.in_err-log-2.field-0.0 c.from_residual-in_err-log-2.ensures.1
-    c.in_err-log-2.ensures.fault (inr (inr (inr c.in_err-log-2.ensures.none.1)))
+    let told = c.from_residual-in_err-log-2 in
+    let log = c.in_err-log-2.ensures in
+    passed_on (AskForNone name rows ⊎ SpeaksOfALog name rows) told.result c.in_err-log-2.field-0.0 told.ensures.1
+    log.fault (inr (inr (inr log.none.1)))
 
 pub returns-in_err-transfers-clause-fault : goal.returns-in_err-transfers-clause-fault
 returns-in_err-transfers-clause-fault c =
@@ -33,8 +38,9 @@ returns-in_err-transfers-clause-fault c =
     let rows = rows_of (found_of c.args.options.now) in
     let other : same_text name (codes "play") ≡ false = sym c.eq.ensures ∙ c.if-eq.false in
     let drill : same_text name (codes "drill") ≡ true = sym c.eq-2.ensures ∙ c.if-eq-2.true in
-    numberless name rows c.from_residual-in_err-transfers.result c.in_err-transfers.field-0.0 other drill c.from_residual-in_err-transfers.ensures.1
-    c.in_err-transfers.ensures.none c.in_err-transfers.ensures.fault
+    let told = c.from_residual-in_err-transfers in
+    let numbers = c.in_err-transfers.ensures in
+    numberless name rows told.result c.in_err-transfers.field-0.0 other drill told.ensures.1 numbers.none numbers.fault
 
 pub returns-then-eq-clause-wish : goal.returns-then-eq-clause-wish
 returns-then-eq-clause-wish c =
