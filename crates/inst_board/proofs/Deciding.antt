@@ -7,7 +7,7 @@ use Rattle.inst_board.specs.declared.place.Place.{Place}
 use Rattle.inst_board.specs.declared.wish.Wish.{Wish}
 use Rattle.inst_board.specs.declared.about.About.TheVariants.{Decided, DecidedAt}
 use Rattle.inst_board.specs.declared.about.Fact.{Fact}
-use Rattle.inst_board.specs.Standing.{Standing, unused, pending, final, Says, about}
+use Rattle.inst_board.specs.Standing.{Standing, unused, pending, decided, Says, about}
 use Rattle.inst_board.specs.Learning.{Learns, Answers}
 use Rattle.inst_board.specs.Laws.{KnowsMore, DecidedOnce, EachDecisionIsOfItsReading, OnlyOwnReadingsAreLearnt}
 
@@ -16,7 +16,7 @@ module _ (margin : ℕ) where
   pub answers_known : (stood : Outcome → Type 0) (wish : Wish) (t : ℕ) (p : Standing) (found : Option Outcome) (o : Outcome) → Says p (Decided o) → Answers margin stood wish t p found → found ≡ Some o
   answers_known stood wish t unused found o says h = absurd says
   answers_known stood wish t (pending ts d) found o says h = absurd says
-  answers_known stood wish t (final ts d p at) found o says h = h.0 ∙ ap Some (sym says)
+  answers_known stood wish t (decided ts d p at) found o says h = h.0 ∙ ap Some (sym says)
 
   module _ {B : Type 0} (knows : B → Fact → Type 0) where
     abbrev Known : B → Place → Option Outcome → Type 0
@@ -26,7 +26,7 @@ module _ (margin : ℕ) where
     pub answered : (b c : B) (k : Place) (stood : Outcome → Type 0) (wish : Wish) (t : ℕ) (p : Standing) (found : Option Outcome) → Learns margin knows b k p c → Answers margin stood wish t p found → Known c k found
     answered b c k stood wish t unused found l h = absurd h
     answered b c k stood wish t (pending ts d) found l h = subst (λ (f : Option Outcome). Known c k f) (sym h.0) tt
-    answered b c k stood wish t (final ts d o at) found l h = subst (λ (f : Option Outcome). Known c k f) (sym h.0) (l.shown (Decided o) refl)
+    answered b c k stood wish t (decided ts d o at) found l h = subst (λ (f : Option Outcome). Known c k f) (sym h.0) (l.shown (Decided o) refl)
 
     pub again : (c d : B) (k : Place) (stood : Outcome → Type 0) (wish : Wish) (t : ℕ) (q : Standing) (found found' : Option Outcome) → Learns margin knows c k q d → Answers margin stood wish t q found'
         → Known c k found → IfSome found (λ o. found' ≡ Some o)
@@ -44,16 +44,16 @@ module _ (margin : ℕ) where
 
     of_reading : (b c : B) (k : Place) (stood : Outcome → Type 0) (wish : Wish) (at : ℕ) (o : Outcome) (p : Standing)
         → Learns margin knows b k p c → Answers margin stood wish at p (Some o) → stood o ⊎ knows c (about k (DecidedAt at))
-        → stood o ⊎ (((t : Terms) × (d : ℕ) × Learns margin knows b k (final t d o at) c) × knows c (about k (DecidedAt at)))
-    of_reading b c k stood wish at o unused l h decided = absurd h
-    of_reading b c k stood wish at o (pending t d) l h decided = let no : ⊥ = let e : Some o ≡ None = h.0 in cc in absurd no
-    of_reading b c k stood wish at o (final t d q m) l h decided =
+        → stood o ⊎ (((t : Terms) × (d : ℕ) × Learns margin knows b k (decided t d o at) c) × knows c (about k (DecidedAt at)))
+    of_reading b c k stood wish at o unused l h told = absurd h
+    of_reading b c k stood wish at o (pending t d) l h told = let no : ⊥ = let e : Some o ≡ None = h.0 in cc in absurd no
+    of_reading b c k stood wish at o (decided t d q m) l h told =
         let same : o ≡ q = let e : Some o ≡ Some q = h.0 in cc in
         elim h.1 [
           | inl was ↦ inl (subst stood (sym same) was)
           | inr new ↦
-              let stands : final t d q m ≡ final t d o at = ap (λ (x : Outcome). final t d x m) (sym same) ∙ ap (λ (n : ℕ). final t d o n) new.1 in
-              elim decided [
+              let stands : decided t d q m ≡ decided t d o at = ap (λ (x : Outcome). decided t d x m) (sym same) ∙ ap (λ (n : ℕ). decided t d o n) new.1 in
+              elim told [
                 | inl was ↦ inl was
                 | inr known ↦ inr ((t, d, subst (λ (x : Standing). Learns margin knows b k x c) stands l), known)
               ]

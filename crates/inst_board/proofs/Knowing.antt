@@ -8,12 +8,12 @@ use Rattle.inst_terms.specs.declared.terms.Terms.{Terms}
 use Rattle.inst_board.specs.declared.place.Place.{Place}
 use Rattle.inst_board.specs.declared.wish.Wish.{Wish}
 use Rattle.inst_board.specs.declared.wish.Wish.TheVariants.{Accept, Reject}
-use Rattle.inst_board.specs.declared.look.Look.TheVariants.{Pending, Decided as Ended}
+use Rattle.inst_board.specs.declared.look.Look.TheVariants.{Pending, Decided as DecidedLook}
 use Rattle.inst_board.specs.declared.about.About.{About}
 use Rattle.inst_board.specs.declared.about.About.TheVariants.{Opened, HasTerms, Due, Decided}
 use Rattle.inst_board.specs.declared.about.Fact.{Fact}
 use Rattle.inst_board.specs.declared.about.Fact.{Fact}
-use Rattle.inst_board.specs.Standing.{Standing, unused, pending, final, IsLawful, Says, look_of, about}
+use Rattle.inst_board.specs.Standing.{Standing, unused, pending, decided, IsLawful, Says, look_of, about}
 use Rattle.inst_board.specs.Learning.{Learns, KnowsTruly, Answers}
 use Rattle.inst_board.specs.Wish.{wanted}
 use Rattle.inst_board.specs.Laws.{KnowsOpening, OnlyTheBeneficiaryAnswers, OwnOpeningsAreKnown, OwnAnswersAreKnown, OwnAnswersStand, WhatIsKnownStaysTrue}
@@ -24,25 +24,25 @@ module _ (margin : ℕ) where
   pub one_terms : (p : Standing) (t s : Terms) → Says p (HasTerms t) → Says p (HasTerms s) → t ≡ s
   one_terms unused t s h g = absurd h
   one_terms (pending u d) t s h g = h ∙ sym g
-  one_terms (final u d o at) t s h g = h ∙ sym g
+  one_terms (decided u d o at) t s h g = h ∙ sym g
 
   -- what a pending look says of a place
   pub pending_look : (p : Standing) (t : Terms) (d : ℕ) → Pending t d ≡ look_of p → p ≡ pending t d
   pending_look unused t d e = let no : ⊥ = cc in absurd no
   pending_look (pending s f) t d e = cc
-  pending_look (final s f o at) t d e = let no : ⊥ = cc in absurd no
+  pending_look (decided s f o at) t d e = let no : ⊥ = cc in absurd no
 
   -- what the look of a decided place says of it
-  pub record IsEnded (p : Standing) (t : Terms) (o : Outcome) : Type 0 where
+  pub record IsDecidedLook (p : Standing) (t : Terms) (o : Outcome) : Type 0 where
     pub opened : Says p Opened
     pub terms : Says p (HasTerms t)
     pub due : (d : ℕ) × Says p (Due d)
     pub decided : Says p (Decided o)
 
-  pub ended_look : (p : Standing) (t : Terms) (o : Outcome) → Ended t o ≡ look_of p → IsEnded p t o
-  ended_look unused t o e = let no : ⊥ = cc in absurd no
-  ended_look (pending s d) t o e = let no : ⊥ = cc in absurd no
-  ended_look (final s d q at) t o e =
+  pub decided_look : (p : Standing) (t : Terms) (o : Outcome) → DecidedLook t o ≡ look_of p → IsDecidedLook p t o
+  decided_look unused t o e = let no : ⊥ = cc in absurd no
+  decided_look (pending s d) t o e = let no : ⊥ = cc in absurd no
+  decided_look (decided s d q at) t o e =
       let same_terms : t ≡ s = cc in let same_outcome : o ≡ q = cc in
       record { opened = tt; terms = same_terms; due = (d, refl); decided = same_outcome }
 
@@ -66,21 +66,21 @@ module _ (margin : ℕ) where
           let says : (a : About) → Says (pending t deadline) a → Says h.standing a = λ a x. subst (λ (p : Standing). Says p a) (sym is) x in
           record { opened = h.own role Opened tt (says Opened tt); terms = h.own role (HasTerms t) tt (says (HasTerms t) refl); due = h.own role (Due deadline) tt (says (Due deadline) refl) },
       λ o h.
-          let is = ended_look h.standing t o h.look_is in
+          let is = decided_look h.standing t o h.look_is in
           (is.due.0, record { opened = h.own role Opened tt is.opened; terms = h.own role (HasTerms t) tt is.terms; due = h.own role (Due is.due.0) tt is.due.1 }),
     )
 
     pub own_answers : OwnAnswersAreKnown margin knows has_role stood
     own_answers b c k t role = (
-      λ h. let is = ended_look h.standing t Accepted h.look_is in let knew = h.answered t is.terms role Accepted tt is.decided in record { terms = knew.0; decided = knew.1 },
-      λ r h. let is = ended_look h.standing t (Rejected r) h.look_is in let knew = h.answered t is.terms role (Rejected r) tt is.decided in record { terms = knew.0; decided = knew.1 },
+      λ h. let is = decided_look h.standing t Accepted h.look_is in let knew = h.answered t is.terms role Accepted tt is.decided in record { terms = knew.0; decided = knew.1 },
+      λ r h. let is = decided_look h.standing t (Rejected r) h.look_is in let knew = h.answered t is.terms role (Rejected r) tt is.decided in record { terms = knew.0; decided = knew.1 },
     )
 
   -- a deadline that a lawful standing says is at least 1
   lawful_due : (p : Standing) (d : ℕ) → IsLawful margin p → Says p (Due d) → 1 ≤ d
   lawful_due unused d h says = absurd says
   lawful_due (pending t e) d h says = subst (λ (x : ℕ). 1 ≤ x) (sym says) h
-  lawful_due (final t e o at) d h says = subst (λ (x : ℕ). 1 ≤ x) (sym says) h.0
+  lawful_due (decided t e o at) d h says = subst (λ (x : ℕ). 1 ≤ x) (sym says) h.0
 
   module _ {B : Type 0} (knows : B → Fact → Type 0) where
     pub learning_truly : (b c : B) (k : Place) (p : Standing) → Learns margin knows b k p c → ((j : Place) → KnowsTruly margin knows b j) → (j : Place) → KnowsTruly margin knows c j
@@ -107,7 +107,7 @@ module _ (margin : ℕ) where
         let due : d ≡ e = l.agrees (Due d) opening.due in
         let no : None ≡ Some want = sym h.1 ∙ ap (λ (x : ℕ). wanted margin wish x at) (sym due) ∙ wants in
         let never : ⊥ = cc in absurd never
-    stands b c k t d at found wish want wants opening role none (final s e o m) l h =
+    stands b c k t d at found wish want wants opening role none (decided s e o m) l h =
         let due : d ≡ e = l.agrees (Due d) opening.due in
         elim h.1 [
           | inl was ↦ elim (seldom b k t o opening.terms role was) [

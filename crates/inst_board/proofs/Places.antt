@@ -11,7 +11,7 @@ use Rattle.inst_terms.specs.declared.word.Word.{Word}
 use Rattle.inst_terms.specs.declared.word.Word.TheVariants.{Unused as UnusedWord}
 use Rattle.inst_board.specs.declared.place.Place.{Place}
 use Rattle.inst_board.specs.declared.plain.Kept.{Kept}
-use Rattle.inst_board.specs.declared.plain.Kept.TheVariants.{Unused, Written, Pending, Final}
+use Rattle.inst_board.specs.declared.plain.Kept.TheVariants.{Unused, Written, Pending, Decided}
 use Rattle.inst_board.specs.Standing.{is_place, IsPlace, IsLawful, word_of}
 use Rattle.inst_board.specs.Plain.{Contents, number_of, rank_of, kept_at, standing_of, terms_of, HaveTerms, IsContents, Becomes}
 use Rattle.inst_board.specs.inner.Plain.{Puts, PutsTerms}
@@ -114,7 +114,7 @@ pub opened_terms : (v : Kept) (w : Word) → w ≡ word_of (standing_of v) → w
 opened_terms Unused w is opened = absurd (opened is)
 opened_terms (Written t) w is opened = (t, refl)
 opened_terms (Pending t d) w is opened = (t, refl)
-opened_terms (Final t d o at) w is opened = (t, refl)
+opened_terms (Decided t d o at) w is opened = (t, refl)
 
 -- terms are kept of none but the places that the settings have
 pub written_is_place : (b : Contents) (k : Place) (t : Terms) → terms_of (kept_at b k) ≡ Some t → IsPlace b.settings k

@@ -6,17 +6,17 @@ use Rattle.inst_settings.specs.Settings.{is_participant, HubSettings, participan
 use Rattle.inst_command.specs.declared.outcome.Outcome.{Outcome}
 use Rattle.inst_command.specs.declared.outcome.Outcome.TheVariants.{Accepted, Rejected, TimedOut}
 use Rattle.inst_terms.specs.declared.terms.Terms.{Terms}
-use Rattle.inst_terms.specs.declared.word.Word.TheVariants.{Pending as PendingWord, Final as FinalWord}
+use Rattle.inst_terms.specs.declared.word.Word.TheVariants.{Pending as PendingWord, Decided as DecidedWord}
 use Rattle.inst_terms.specs.WordLaw.{InTime, IsLawful as AreLawful}
 use Rattle.inst_board.specs.declared.place.Place.{Place}
 use Rattle.inst_board.specs.declared.wish.Wish.{Wish}
 use Rattle.inst_board.specs.declared.wish.Wish.TheVariants.{Accept, Reject, Expire}
 use Rattle.inst_board.specs.declared.look.Look.{Look}
-use Rattle.inst_board.specs.declared.look.Look.TheVariants.{Unused, Pending, Decided as Ended}
+use Rattle.inst_board.specs.declared.look.Look.TheVariants.{Unused, Pending, Decided as DecidedLook}
 use Rattle.inst_board.specs.declared.about.About.{About}
 use Rattle.inst_board.specs.declared.about.About.TheVariants.{Opened, HasTerms, Due, Decided, DecidedAt}
 use Rattle.inst_board.specs.declared.about.Fact.{Fact}
-use Rattle.inst_board.specs.Standing.{Standing, pending, final, IsPlace, IsLawful, Says, Shows, look_of, about}
+use Rattle.inst_board.specs.Standing.{Standing, pending, decided, IsPlace, IsLawful, Says, Shows, look_of, about}
 use Rattle.inst_board.specs.Wish.{wanted}
 use Rattle.inst_board.specs.Learning.{Learns, KnowsTruly, KnowTheSame, MayDecide, Looks, Decides}
 use Rattle.inst_board.specs.Plain.{Contents, number_of, rank_of, standing_at, plain_knows, plain_stood, after, outcome_of}
@@ -82,16 +82,16 @@ abbrev pub ALookIsKnown : {B : Type 0} → ℕ → (B → Fact → Type 0) → (
     Type 0
 ALookIsKnown {B} margin knows has_role stood = (b c : B) (k : Place) (t : Terms) →
     ((deadline : ℕ) → Looks margin knows has_role stood b k (Pending t deadline) c → KnowsOpening knows c k t deadline) ×
-    ((o : Outcome) → Looks margin knows has_role stood b k (Ended t o) c → knows c (about k Opened) ×
+    ((o : Outcome) → Looks margin knows has_role stood b k (DecidedLook t o) c → knows c (about k Opened) ×
     KnowsOutcome knows c k t o)
 
 -- a look is at least what is known
 pub record ShowsWhatIsKnown {B : Type 0} (knows : B → Fact → Type 0) (b : B) (k : Place) (look : Look) : Type 0 where
   pub opened : knows b (about k Opened) → look ≢ Unused
   pub terms : (t : Terms) → knows b (about k (HasTerms t)) → ((d : ℕ) × (look ≡ Pending t d)) ⊎
-      ((o : Outcome) × (look ≡ Ended t o))
+      ((o : Outcome) × (look ≡ DecidedLook t o))
   pub due : (t : Terms) (d e : ℕ) → knows b (about k (Due d)) → look ≡ Pending t e → e ≡ d
-  pub decided : (o : Outcome) → knows b (about k (Decided o)) → (t : Terms) × (look ≡ Ended t o)
+  pub decided : (o : Outcome) → knows b (about k (Decided o)) → (t : Terms) × (look ≡ DecidedLook t o)
 
 abbrev pub ALookShowsWhatIsKnown : {B : Type 0} → ℕ → (B → Fact → Type 0) → (B → ℕ → Type 0) →
     (B → Place → Outcome → Type 0) → Type 0
@@ -103,14 +103,14 @@ abbrev pub OwnOpeningsAreKnown : {B : Type 0} → ℕ → (B → Fact → Type 0
     (B → Place → Outcome → Type 0) → Type 0
 OwnOpeningsAreKnown {B} margin knows has_role stood = (b c : B) (k : Place) (t : Terms) → has_role b k.owner →
     ((deadline : ℕ) → Looks margin knows has_role stood b k (Pending t deadline) c → KnowsOpening knows b k t deadline) ×
-    ((o : Outcome) → Looks margin knows has_role stood b k (Ended t o) c → (deadline : ℕ) × KnowsOpening knows b k t deadline)
+    ((o : Outcome) → Looks margin knows has_role stood b k (DecidedLook t o) c → (deadline : ℕ) × KnowsOpening knows b k t deadline)
 
 -- the beneficiary's holder learns no answer by a look: what is accepted or rejected it knew so, and that it is its own
 abbrev pub OwnAnswersAreKnown : {B : Type 0} → ℕ → (B → Fact → Type 0) → (B → ℕ → Type 0) → (B → Place → Outcome → Type 0) →
     Type 0
 OwnAnswersAreKnown {B} margin knows has_role stood = (b c : B) (k : Place) (t : Terms) → has_role b t.to →
-    (Looks margin knows has_role stood b k (Ended t Accepted) c → KnowsOutcome knows b k t Accepted) ×
-    ((reason : List ℕ) → Looks margin knows has_role stood b k (Ended t (Rejected reason)) c →
+    (Looks margin knows has_role stood b k (DecidedLook t Accepted) c → KnowsOutcome knows b k t Accepted) ×
+    ((reason : List ℕ) → Looks margin knows has_role stood b k (DecidedLook t (Rejected reason)) c →
     KnowsOutcome knows b k t (Rejected reason))
 
 -- a decision answers what was known, and what it answers is known
@@ -155,7 +155,7 @@ EachDecisionIsInTime {B} margin knows stood = (b c : B) (k : Place) (wish : Wish
 abbrev pub EachDecisionIsOfItsReading : {B : Type 0} → ℕ → (B → Fact → Type 0) → (B → Place → Outcome → Type 0) → Type 0
 EachDecisionIsOfItsReading {B} margin knows stood = (b c : B) (k : Place) (wish : Wish) (at : ℕ) (o : Outcome) →
     Decides margin knows stood b k wish at (Some o) c →
-    stood b k o ⊎ (((t : Terms) × (deadline : ℕ) × Learns margin knows b k (final t deadline o at) c) × knows c (about k (DecidedAt at)))
+    stood b k o ⊎ (((t : Terms) × (deadline : ℕ) × Learns margin knows b k (decided t deadline o at) c) × knows c (about k (DecidedAt at)))
 
 -- by a look a holder learns no reading at which the place was decided, and by a decision none but its own
 abbrev pub OnlyOwnReadingsAreLearnt : {B : Type 0} → ℕ → (B → Fact → Type 0) → (B → ℕ → Type 0) → (B → Place → Outcome → Type 0) → Type 0
@@ -191,13 +191,13 @@ WhatIsKnownStaysTrue {B} margin knows = (b : B) → StaysTrue margin knows b
 abbrev pub StandingsFollowTheWordLaw : Type 0
 StandingsFollowTheWordLaw = (margin : ℕ) (t : Terms) (deadline : ℕ) →
     (IsLawful margin (pending t deadline) ↔ AreLawful margin (PendingWord deadline ∷ [])) ×
-    ((o : Outcome) (moment : ℕ) → IsLawful margin (final t deadline o moment) ↔ AreLawful margin (PendingWord deadline ∷ FinalWord o moment ∷ []))
+    ((o : Outcome) (moment : ℕ) → IsLawful margin (decided t deadline o moment) ↔ AreLawful margin (PendingWord deadline ∷ DecidedWord o moment ∷ []))
 
 -- what a place shows is true of it; a decided one shows the same whatever its deadline was, since its word has none
 pub record ShowsItsWords : Type 0 where
   pub truly : (p : Standing) (a : About) → Shows p a → Says p a
   pub no_deadline : (t : Terms) (d e : ℕ) (o : Outcome) (moment : ℕ) (a : About) →
-      Shows (final t d o moment) a → Shows (final t e o moment) a
+      Shows (decided t d o moment) a → Shows (decided t e o moment) a
 
 -- the settings have so many places of each participant
 abbrev pub WhichPlacesThereAre : Type 0
@@ -245,4 +245,4 @@ PlainOpensExactly = (b c : Contents) (k : Place) (t : Terms) (deadline : ℕ) �
 abbrev pub WhatIsDecidedIsInTime : Type 0
 WhatIsDecidedIsInTime = (margin : ℕ) (wish : Wish) (at : ℕ) (t : Terms) (deadline : ℕ) →
     ((after margin wish at (pending t deadline) ≡ pending t deadline) × StaysPending margin wish deadline at) ⊎
-    ((o : Outcome) × (after margin wish at (pending t deadline) ≡ final t deadline o at) × InTime margin o deadline at)
+    ((o : Outcome) × (after margin wish at (pending t deadline) ≡ decided t deadline o at) × InTime margin o deadline at)

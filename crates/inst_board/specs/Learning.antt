@@ -12,7 +12,7 @@ use Rattle.inst_board.specs.declared.look.Look.{Look}
 use Rattle.inst_board.specs.declared.about.About.{About}
 use Rattle.inst_board.specs.declared.about.About.TheVariants.{Opened, HasTerms, Due, Decided, DecidedAt}
 use Rattle.inst_board.specs.declared.about.Fact.{Fact}
-use Rattle.inst_board.specs.Standing.{Standing, unused, pending, final, IsLawful, Says, Shows, look_of, about}
+use Rattle.inst_board.specs.Standing.{Standing, unused, pending, decided, IsLawful, Says, Shows, look_of, about}
 use Rattle.inst_board.specs.Wish.{wanted}
 
 -- From the holder b to the holder c the place k was read, and it stands as p
@@ -96,7 +96,7 @@ pub record MayDecide {B : Type 0} (knows : B → Fact → Type 0) (has_role : B 
 abbrev pub Answers : ℕ → (Outcome → Type 0) → Wish → ℕ → Standing → Option Outcome → Type 0
 Answers margin stood wish at unused found = ⊥
 Answers margin stood wish at (pending terms deadline) found = (found ≡ None) × (wanted margin wish deadline at ≡ None)
-Answers margin stood wish at (final terms deadline outcome moment) found = (found ≡ Some outcome) ×
+Answers margin stood wish at (decided terms deadline outcome moment) found = (found ≡ Some outcome) ×
     (stood outcome ⊎ ((wanted margin wish deadline at ≡ Some outcome) × (moment ≡ at)))
 
 -- `found` is an answer that a decision of the place k allows, for this wish and reading, from the holder b to the holder c

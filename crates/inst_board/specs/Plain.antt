@@ -10,8 +10,8 @@ use Rattle.inst_board.specs.declared.about.About.{About}
 use Rattle.inst_board.specs.declared.about.About.TheVariants.{Decided}
 use Rattle.inst_board.specs.declared.about.Fact.{Fact}
 use Rattle.inst_board.specs.declared.plain.Kept.{Kept}
-use Rattle.inst_board.specs.declared.plain.Kept.TheVariants.{Unused, Written, Pending, Final}
-use Rattle.inst_board.specs.Standing.{Standing, unused, pending, final, is_place, IsPlace, IsLawful, Says, about}
+use Rattle.inst_board.specs.declared.plain.Kept.TheVariants.{Unused, Written, Pending, Decided as DecidedKept}
+use Rattle.inst_board.specs.Standing.{Standing, unused, pending, decided, is_place, IsPlace, IsLawful, Says, about}
 use Rattle.inst_board.specs.Wish.{wanted}
 
 -- settings: those of the hub
@@ -37,7 +37,7 @@ abbrev pub standing_of : Kept → Standing
 standing_of Unused = unused
 standing_of (Written terms) = unused
 standing_of (Pending terms deadline) = pending terms deadline
-standing_of (Final terms deadline outcome at) = final terms deadline outcome at
+standing_of (DecidedKept terms deadline outcome at) = decided terms deadline outcome at
 
 -- what each place is
 abbrev pub standing_at : Contents → Place → Standing
@@ -71,15 +71,15 @@ abbrev pub after : ℕ → Wish → ℕ → Standing → Standing
 after margin wish at unused = unused
 after margin wish at (pending terms deadline) = elim (wanted margin wish deadline at) [
   | None ↦ pending terms deadline
-  | Some outcome ↦ final terms deadline outcome at
+  | Some outcome ↦ decided terms deadline outcome at
 ]
-after margin wish at (final terms deadline outcome moment) = final terms deadline outcome moment
+after margin wish at (decided terms deadline outcome moment) = decided terms deadline outcome moment
 
 -- the outcome that stands
 abbrev pub outcome_of : Standing → Option Outcome
 outcome_of unused = None
 outcome_of (pending terms deadline) = None
-outcome_of (final terms deadline outcome at) = Some outcome
+outcome_of (decided terms deadline outcome at) = Some outcome
 
 -- no value is kept of more places than there are, and each is lawful
 pub record IsContents (board : Contents) : Type 0 where
@@ -91,7 +91,7 @@ abbrev pub terms_of : Kept → Option Terms
 terms_of Unused = None
 terms_of (Written terms) = Some terms
 terms_of (Pending terms deadline) = Some terms
-terms_of (Final terms deadline outcome at) = Some terms
+terms_of (DecidedKept terms deadline outcome at) = Some terms
 
 -- the terms that are kept of each place lie at its rank
 abbrev pub HaveTerms : List Kept → List Terms → Type 0

@@ -1,18 +1,18 @@
 -- What a place is at a moment, and what is true of it: unused, pending with the terms and the deadline of its transfer,
--- or final. A transfer is pending, accepted, rejected or timed out as in the rulebook (EPC004-16, chapter 4:
+-- or decided. A transfer is pending, accepted, rejected or timed out as in the rulebook (EPC004-16, chapter 4:
 -- processing flow); places are this hub's own choice.
 use Rattle.std.specs.Prelude.{◌≡◌, ℕ, ◌≤◌, IsTrue, Bool, ◌&&◌, nat_lt}
 use Rattle.inst_command.specs.declared.outcome.Outcome.{Outcome}
 use Rattle.inst_settings.specs.Settings.{HubSettings, participants}
 use Rattle.inst_terms.specs.declared.terms.Terms.{Terms}
 use Rattle.inst_terms.specs.declared.word.Word.{Word}
-use Rattle.inst_terms.specs.declared.word.Word.TheVariants.{Unused as UnusedWord, Pending as PendingWord, Final as FinalWord}
+use Rattle.inst_terms.specs.declared.word.Word.TheVariants.{Unused as UnusedWord, Pending as PendingWord, Decided as DecidedWord}
 use Rattle.inst_terms.specs.WordLaw.{InTime}
 use Rattle.inst_board.specs.declared.place.Place.{Place}
 use Rattle.inst_board.specs.declared.glance.Glance.{Glance}
 use Rattle.inst_board.specs.declared.glance.Glance.TheVariants.{Unused as UnusedGlance, Pending as PendingGlance, Decided as DecidedGlance}
 use Rattle.inst_board.specs.declared.look.Look.{Look}
-use Rattle.inst_board.specs.declared.look.Look.TheVariants.{Unused, Pending, Decided as Ended}
+use Rattle.inst_board.specs.declared.look.Look.TheVariants.{Unused, Pending, Decided as DecidedLook}
 use Rattle.inst_board.specs.declared.about.About.{About}
 use Rattle.inst_board.specs.declared.about.About.TheVariants.{Opened, HasTerms, Due, Decided, DecidedAt}
 use Rattle.inst_board.specs.declared.about.Fact.{Fact}
@@ -29,13 +29,13 @@ pub data Standing : Type 0 where
   -- the terms and the deadline
   pending : Terms → ℕ → Standing
   -- the terms, the deadline, the outcome and the deciding moment
-  final : Terms → ℕ → Outcome → ℕ → Standing
+  decided : Terms → ℕ → Outcome → ℕ → Standing
 
 -- what a place may be: a deadline is at least 1, an outcome is in time, with this margin for acceptances
 abbrev pub IsLawful : ℕ → Standing → Type 0
 IsLawful margin unused = Unit {0}
 IsLawful margin (pending terms deadline) = 1 ≤ deadline
-IsLawful margin (final terms deadline outcome at) = (1 ≤ deadline) × InTime margin outcome deadline at
+IsLawful margin (decided terms deadline outcome at) = (1 ≤ deadline) × InTime margin outcome deadline at
 
 -- what is true of a place
 abbrev pub Says : Standing → About → Type 0
@@ -45,40 +45,40 @@ Says (pending terms deadline) (HasTerms others) = others ≡ terms
 Says (pending terms deadline) (Due other) = other ≡ deadline
 Says (pending terms deadline) (Decided other) = ⊥
 Says (pending terms deadline) (DecidedAt other) = ⊥
-Says (final terms deadline outcome at) Opened = Unit {0}
-Says (final terms deadline outcome at) (HasTerms others) = others ≡ terms
-Says (final terms deadline outcome at) (Due other) = other ≡ deadline
-Says (final terms deadline outcome at) (Decided other) = other ≡ outcome
-Says (final terms deadline outcome at) (DecidedAt other) = other ≡ at
+Says (decided terms deadline outcome at) Opened = Unit {0}
+Says (decided terms deadline outcome at) (HasTerms others) = others ≡ terms
+Says (decided terms deadline outcome at) (Due other) = other ≡ deadline
+Says (decided terms deadline outcome at) (Decided other) = other ≡ outcome
+Says (decided terms deadline outcome at) (DecidedAt other) = other ≡ at
 
--- what one who reads the place's words learns of that: a final word does not show the deadline, and at which reading a
+-- what one who reads the place's words learns of that: a decided word does not show the deadline, and at which reading a
 -- transfer was decided only who decides it learns
 abbrev pub Shows : Standing → About → Type 0
 Shows unused about = ⊥
 Shows (pending terms deadline) about = Says (pending terms deadline) about
-Shows (final terms deadline outcome at) Opened = Unit {0}
-Shows (final terms deadline outcome at) (HasTerms others) = others ≡ terms
-Shows (final terms deadline outcome at) (Due other) = ⊥
-Shows (final terms deadline outcome at) (Decided other) = other ≡ outcome
-Shows (final terms deadline outcome at) (DecidedAt other) = ⊥
+Shows (decided terms deadline outcome at) Opened = Unit {0}
+Shows (decided terms deadline outcome at) (HasTerms others) = others ≡ terms
+Shows (decided terms deadline outcome at) (Due other) = ⊥
+Shows (decided terms deadline outcome at) (Decided other) = other ≡ outcome
+Shows (decided terms deadline outcome at) (DecidedAt other) = ⊥
 
 -- the outcome word of a place
 abbrev pub word_of : Standing → Word
 word_of unused = UnusedWord
 word_of (pending terms deadline) = PendingWord deadline
-word_of (final terms deadline outcome at) = FinalWord outcome at
+word_of (decided terms deadline outcome at) = DecidedWord outcome at
 
 -- the look of a place
 abbrev pub look_of : Standing → Look
 look_of unused = Unused
 look_of (pending terms deadline) = Pending terms deadline
-look_of (final terms deadline outcome at) = Ended terms outcome
+look_of (decided terms deadline outcome at) = DecidedLook terms outcome
 
 -- what a look shows without the terms
 abbrev pub glance_of : Look → Glance
 glance_of Unused = UnusedGlance
 glance_of (Pending terms deadline) = PendingGlance deadline
-glance_of (Ended terms outcome) = DecidedGlance outcome
+glance_of (DecidedLook terms outcome) = DecidedGlance outcome
 
 abbrev pub about : Place → About → Fact
 about place what = record { place = place; about = what }

@@ -73,12 +73,12 @@ fn word_of(kept: &Kept) -> Word
             let _ = deadline.past_base();
             Word::Pending(*deadline)
         }
-        Kept::Final(_, _, outcome, at) => {
+        Kept::Decided(_, _, outcome, at) => {
             if let Outcome::Rejected(reason) = outcome {
                 let _ = reason.text();
             }
             let _ = at.past_base();
-            Word::Final(*outcome, *at)
+            Word::Decided(*outcome, *at)
         }
     }
 }

@@ -23,7 +23,7 @@ pub enum Kept {
     /// The terms and the deadline.
     Pending(Terms, Moment),
     /// The terms, the deadline, the outcome and the reading at which it was decided.
-    Final(Terms, Moment, Outcome, Moment),
+    Decided(Terms, Moment, Outcome, Moment),
 }
 
 /// A board that one holder has alone, with all roles. It knows all that is true of the places. Each call
@@ -130,7 +130,7 @@ impl PlainBoard {
         match self.word(place) {
             Word::Unused => Look::Unused,
             Word::Pending(deadline) => Look::Pending(self.terms(place), deadline),
-            Word::Final(outcome, _) => Look::Decided(self.terms(place), outcome),
+            Word::Decided(outcome, _) => Look::Decided(self.terms(place), outcome),
         }
     }
 
@@ -208,9 +208,9 @@ fn put_terms(all: &mut Vec<Terms>, rank: usize, terms: &Terms)
 /// What is kept of a decided place.
 #[inline(always)]
 fn ended(terms: Terms, deadline: Moment, outcome: &Outcome, at: Moment) -> Kept
-    ensures { result ≡ Kept.Final terms deadline outcome.now at }
+    ensures { result ≡ Kept.Decided terms deadline outcome.now at }
 {
-    Kept::Final(terms, deadline, *outcome, at)
+    Kept::Decided(terms, deadline, *outcome, at)
 }
 
 impl Board for PlainBoard {

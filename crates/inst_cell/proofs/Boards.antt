@@ -8,7 +8,7 @@ use Rattle.inst_command.specs.declared.outcome.Outcome.TheVariants.{Accepted, Re
 use Rattle.inst_settings.specs.Settings.{HubSettings}
 use Rattle.inst_terms.specs.declared.terms.Terms.{Terms}
 use Rattle.inst_terms.specs.declared.word.Word.{Word}
-use Rattle.inst_terms.specs.declared.word.Word.TheVariants.{Unused, Pending, Final}
+use Rattle.inst_terms.specs.declared.word.Word.TheVariants.{Unused, Pending, Decided as DecidedWord}
 use Rattle.inst_terms.specs.Word.{IsWord, number, outcome_number}
 use Rattle.inst_terms.proofs.Apart.{words_apart}
 use Rattle.inst_board.specs.declared.place.Place.{Place}
@@ -20,7 +20,7 @@ use Rattle.inst_board.specs.declared.look.Look.TheVariants.{Unused as LookUnused
 use Rattle.inst_board.specs.declared.about.About.{About}
 use Rattle.inst_board.specs.declared.about.About.TheVariants.{Opened, HasTerms, Due, Decided, DecidedAt}
 use Rattle.inst_board.specs.declared.about.Fact.{Fact}
-use Rattle.inst_board.specs.Standing.{Standing, unused, pending, final, IsPlace, IsLawful, Says, Shows as WordsShow, word_of, look_of, glance_of, about}
+use Rattle.inst_board.specs.Standing.{Standing, unused, pending, decided, IsPlace, IsLawful, Says, Shows as WordsShow, word_of, look_of, glance_of, about}
 use Rattle.inst_board.specs.Learning.{Learns, Looks, Answers, IsAnswer, IsParty}
 use Rattle.inst_board.specs.Wish.{wanted}
 use Rattle.inst_board.specs.Plain.{number_of}
@@ -48,7 +48,7 @@ same_number s j k hj hk e =
 pub lawful_of : (margin : ℕ) (p : Standing) → IsShowable margin p → IsLawful margin p
 lawful_of margin unused h = tt
 lawful_of margin (pending t d) h = h.1.0
-lawful_of margin (final t d o m) h = (h.1, h.2)
+lawful_of margin (decided t d o m) h = (h.1, h.2)
 
 -- what a place shows is seen
 shows_seen : (p : Standing) (a : About) → WordsShow p a → IsSeen a
@@ -58,7 +58,7 @@ shows_seen p (Due d) h = tt
 shows_seen p (Decided o) h = tt
 shows_seen unused (DecidedAt n) h = absurd h
 shows_seen (pending t d) (DecidedAt n) h = absurd h
-shows_seen (final t d o m) (DecidedAt n) h = absurd h
+shows_seen (decided t d o m) (DecidedAt n) h = absurd h
 
 -- knowledge is of the settings and the view
 pub knows_as : (s z : HubSettings) (v w : View) (f : Fact) → z ≡ s → w ≡ v → knows_at s v f → knows_at z w f
@@ -164,80 +164,80 @@ seen_only k v w n s = s.learns ∙ ap (λ (x : Bool). learnt v k s.standing x) (
 pub look_unused : (p : Standing) (w : Word) → w ≡ word_of p → w ≡ Unused → LookUnused ≡ look_of p
 look_unused unused w e f = refl
 look_unused (pending t d) w e f = cc
-look_unused (final t d o m) w e f = cc
+look_unused (decided t d o m) w e f = cc
 
 pub look_pending : (p : Standing) (w : Word) (t : Terms) (d : ℕ) → w ≡ word_of p → w ≡ Pending d → ((u : Terms) → Says p (HasTerms u) → t ≡ u) → LookPending t d ≡ look_of p
 look_pending unused w t d e f h = cc
 look_pending (pending u c) w t d e f h = let x : d ≡ c = cc in let y : t ≡ u = h u refl in cc
-look_pending (final u c o m) w t d e f h = cc
+look_pending (decided u c o m) w t d e f h = cc
 
-pub look_decided : (p : Standing) (w : Word) (t : Terms) (o : Outcome) (m : ℕ) → w ≡ word_of p → w ≡ Final o m → ((u : Terms) → Says p (HasTerms u) → t ≡ u) → LookDecided t o ≡ look_of p
+pub look_decided : (p : Standing) (w : Word) (t : Terms) (o : Outcome) (m : ℕ) → w ≡ word_of p → w ≡ DecidedWord o m → ((u : Terms) → Says p (HasTerms u) → t ≡ u) → LookDecided t o ≡ look_of p
 look_decided unused w t o m e f h = cc
 look_decided (pending u c) w t o m e f h = cc
-look_decided (final u c z n) w t o m e f h = let x : o ≡ z = cc in let y : t ≡ u = h u refl in cc
+look_decided (decided u c z n) w t o m e f h = let x : o ≡ z = cc in let y : t ≡ u = h u refl in cc
 
 -- a glance shows what a look shows, without the terms
 pub glance_unused : (p : Standing) (w : Word) → w ≡ word_of p → w ≡ Unused → GlanceUnused ≡ glance_of (look_of p)
 glance_unused unused w e f = refl
 glance_unused (pending t d) w e f = cc
-glance_unused (final t d o m) w e f = cc
+glance_unused (decided t d o m) w e f = cc
 
 pub glance_pending : (p : Standing) (w : Word) (d : ℕ) → w ≡ word_of p → w ≡ Pending d → GlancePending d ≡ glance_of (look_of p)
 glance_pending unused w d e f = cc
 glance_pending (pending u c) w d e f = let x : d ≡ c = cc in cc
-glance_pending (final u c o m) w d e f = cc
+glance_pending (decided u c o m) w d e f = cc
 
-pub glance_decided : (p : Standing) (w : Word) (o : Outcome) (m : ℕ) → w ≡ word_of p → w ≡ Final o m → GlanceDecided o ≡ glance_of (look_of p)
+pub glance_decided : (p : Standing) (w : Word) (o : Outcome) (m : ℕ) → w ≡ word_of p → w ≡ DecidedWord o m → GlanceDecided o ≡ glance_of (look_of p)
 glance_decided unused w o m e f = cc
 glance_decided (pending u c) w o m e f = cc
-glance_decided (final u c z n) w o m e f = let x : o ≡ z = cc in cc
+glance_decided (decided u c z n) w o m e f = let x : o ≡ z = cc in cc
 
 pub terms_of : (p : Standing) (w : Word) → w ≡ word_of p → w ≢ Unused → (t : Terms) × Says p (HasTerms t)
 terms_of unused w e ne = absurd (ne e)
 terms_of (pending t d) w e ne = (t, refl)
-terms_of (final t d o m) w e ne = (t, refl)
+terms_of (decided t d o m) w e ne = (t, refl)
 
 pub pending_not_unused : (w : Word) (d : ℕ) → w ≡ Pending d → w ≢ Unused
 pending_not_unused w d e f = cc
 
-pub final_not_unused : (w : Word) (o : Outcome) (m : ℕ) → w ≡ Final o m → w ≢ Unused
-final_not_unused w o m e f = cc
+pub decided_not_unused : (w : Word) (o : Outcome) (m : ℕ) → w ≡ DecidedWord o m → w ≢ Unused
+decided_not_unused w o m e f = cc
 
 pub opened_not_unused : (p : Standing) (w : Word) → Says p Opened → w ≡ word_of p → w ≡ Unused → ⊥
 opened_not_unused unused w h e f = h
 opened_not_unused (pending t d) w h e f = cc
-opened_not_unused (final t d o m) w h e f = cc
+opened_not_unused (decided t d o m) w h e f = cc
 
 pub due_of : (p : Standing) (w : Word) (d : ℕ) → w ≡ word_of p → w ≡ Pending d → Says p (Due d)
 due_of unused w d e f = let no : ⊥ = cc in absurd no
 due_of (pending t c) w d e f = cc
-due_of (final t c o m) w d e f = let no : ⊥ = cc in absurd no
+due_of (decided t c o m) w d e f = let no : ⊥ = cc in absurd no
 
 pub not_decided : (p : Standing) (w : Word) (d : ℕ) (o : Outcome) → w ≡ word_of p → w ≡ Pending d → Says p (Decided o) → ⊥
 not_decided unused w d o e f h = h
 not_decided (pending t c) w d o e f h = h
-not_decided (final t c z m) w d o e f h = cc
+not_decided (decided t c z m) w d o e f h = cc
 
-pub answers_final : (margin : ℕ) (stood : Outcome → Type 0) (wish : Wish) (at : ℕ) (p : Standing) (w : Word) (o : Outcome) (m : ℕ) → w ≡ word_of p → w ≡ Final o m → ((z : Outcome) → Says p (Decided z) → stood z) → Answers margin stood wish at p (Some o)
-answers_final margin stood wish at unused w o m e f h = let no : ⊥ = cc in absurd no
-answers_final margin stood wish at (pending t d) w o m e f h = let no : ⊥ = cc in absurd no
-answers_final margin stood wish at (final t d z n) w o m e f h = (let x : o ≡ z = cc in ap Some x, inl (h z refl))
+pub answers_decided : (margin : ℕ) (stood : Outcome → Type 0) (wish : Wish) (at : ℕ) (p : Standing) (w : Word) (o : Outcome) (m : ℕ) → w ≡ word_of p → w ≡ DecidedWord o m → ((z : Outcome) → Says p (Decided z) → stood z) → Answers margin stood wish at p (Some o)
+answers_decided margin stood wish at unused w o m e f h = let no : ⊥ = cc in absurd no
+answers_decided margin stood wish at (pending t d) w o m e f h = let no : ⊥ = cc in absurd no
+answers_decided margin stood wish at (decided t d z n) w o m e f h = (let x : o ≡ z = cc in ap Some x, inl (h z refl))
 
 pub answers_pending : (margin : ℕ) (stood : Outcome → Type 0) (wish : Wish) (at : ℕ) (p : Standing) (w : Word) (d : ℕ) → w ≡ word_of p → w ≡ Pending d → wanted margin wish d at ≡ None → Answers margin stood wish at p None
 answers_pending margin stood wish at unused w d e f none = let no : ⊥ = cc in absurd no
 answers_pending margin stood wish at (pending t c) w d e f none = let x : d ≡ c = cc in (refl, subst (λ (y : ℕ). wanted margin wish y at ≡ None) x none)
-answers_pending margin stood wish at (final t c o m) w d e f none = let no : ⊥ = cc in absurd no
+answers_pending margin stood wish at (decided t c o m) w d e f none = let no : ⊥ = cc in absurd no
 
 -- the answer of an exchange: it took effect, or found what stood before
-pub answers_settled : (margin : ℕ) (stood : Outcome → Type 0) (wish : Wish) (at : ℕ) (p : Standing) (w : Word) (d : ℕ) (want o : Outcome) (m n : ℕ) → w ≡ word_of p → w ≡ Final o m → n ≡ encode p → IsShowable margin p → IsWord (Final want at)
+pub answers_settled : (margin : ℕ) (stood : Outcome → Type 0) (wish : Wish) (at : ℕ) (p : Standing) (w : Word) (d : ℕ) (want o : Outcome) (m n : ℕ) → w ≡ word_of p → w ≡ DecidedWord o m → n ≡ encode p → IsShowable margin p → IsWord (DecidedWord want at)
     → Says p (Due d) → wanted margin wish d at ≡ Some want → (n ≡ outcome_number want at) ⊎ ((z : Outcome) → Says p (Decided z) → stood z) → Answers margin stood wish at p (Some o)
 answers_settled margin stood wish at unused w d want o m n e f is can word due wants before = let no : ⊥ = cc in absurd no
 answers_settled margin stood wish at (pending t c) w d want o m n e f is can word due wants before = let no : ⊥ = cc in absurd no
-answers_settled margin stood wish at (final t c z l) w d want o m n e f is can word due wants before = let x : o ≡ z = cc in (
+answers_settled margin stood wish at (decided t c z l) w d want o m n e f is can word due wants before = let x : o ≡ z = cc in (
   ap Some x,
   ⊎_elim
       (λ own.
-      let same : Final z l ≡ Final want at = words_apart (Final z l) (Final want at) can.3 word (sym is ∙ own) in
+      let same : DecidedWord z l ≡ DecidedWord want at = words_apart (DecidedWord z l) (DecidedWord want at) can.3 word (sym is ∙ own) in
       let z_is : z ≡ want = cc in
       let l_is : l ≡ at = cc in
       inr (subst (λ (y : ℕ). wanted margin wish y at ≡ Some z) due (wants ∙ ap Some (sym z_is)), l_is))
@@ -246,27 +246,27 @@ answers_settled margin stood wish at (final t c z l) w d want o m n e f is can w
 )
 
 -- an outcome that is read is the place's
-pub decided_of : (p : Standing) (w : Word) (o z : Outcome) (m : ℕ) → w ≡ word_of p → w ≡ Final o m → Some o ≡ Some z → Says p (Decided z)
+pub decided_of : (p : Standing) (w : Word) (o z : Outcome) (m : ℕ) → w ≡ word_of p → w ≡ DecidedWord o m → Some o ≡ Some z → Says p (Decided z)
 decided_of unused w o z m e f is = let no : ⊥ = cc in absurd no
 decided_of (pending t d) w o z m e f is = let no : ⊥ = cc in absurd no
-decided_of (final t d q n) w o z m e f is = cc
+decided_of (decided t d q n) w o z m e f is = cc
 
 -- an exchange that took effect is of its own reading
-pub moment_own : (margin : ℕ) (p : Standing) (w : Word) (o want : Outcome) (m at n : ℕ) → w ≡ word_of p → w ≡ Final o m → n ≡ encode p → IsShowable margin p → IsWord (Final want at) → n ≡ outcome_number want at → Says p (DecidedAt at)
+pub moment_own : (margin : ℕ) (p : Standing) (w : Word) (o want : Outcome) (m at n : ℕ) → w ≡ word_of p → w ≡ DecidedWord o m → n ≡ encode p → IsShowable margin p → IsWord (DecidedWord want at) → n ≡ outcome_number want at → Says p (DecidedAt at)
 moment_own margin unused w o want m at n e f is can word own = let no : ⊥ = cc in absurd no
 moment_own margin (pending t d) w o want m at n e f is can word own = let no : ⊥ = cc in absurd no
-moment_own margin (final t d z l) w o want m at n e f is can word own =
-    let same : Final z l ≡ Final want at = words_apart (Final z l) (Final want at) can.3 word (sym is ∙ own) in cc
+moment_own margin (decided t d z l) w o want m at n e f is can word own =
+    let same : DecidedWord z l ≡ DecidedWord want at = words_apart (DecidedWord z l) (DecidedWord want at) can.3 word (sym is ∙ own) in cc
 
 pub same_reading : (p : Standing) (m n : ℕ) → Says p (DecidedAt m) → Says p (DecidedAt n) → m ≡ n
 same_reading unused m n h g = absurd h
 same_reading (pending t d) m n h g = absurd h
-same_reading (final t d o x) m n h g = h ∙ sym g
+same_reading (decided t d o x) m n h g = h ∙ sym g
 
-pub settled : (p : Standing) (w : Word) (d n : ℕ) → Says p (Due d) → w ≡ word_of p → n ≡ encode p → n ≢ number d 0 0 → (o : Outcome) × (m : ℕ) × (w ≡ Final o m)
+pub settled : (p : Standing) (w : Word) (d n : ℕ) → Says p (Due d) → w ≡ word_of p → n ≡ encode p → n ≢ number d 0 0 → (o : Outcome) × (m : ℕ) × (w ≡ DecidedWord o m)
 settled unused w d n says e is moved = absurd says
 settled (pending t c) w d n says e is moved = absurd (moved (is ∙ ap (λ (x : ℕ). number x 0 0) (sym says)))
-settled (final t c o m) w d n says e is moved = (o, m, e)
+settled (decided t c o m) w d n says e is moved = (o, m, e)
 
 -- who may answer has the beneficiary's role
 pub answers_party : (margin : ℕ) (has : ℕ → Type 0) (wish : Wish) (k : Place) (t : Terms) (d at : ℕ) (o : Outcome) → wanted margin wish d at ≡ Some o → IsParty has wish k t → IsAnswer o → has t.to
@@ -321,4 +321,4 @@ wants_at m n wish d at o e h = subst (λ (x : ℕ). wanted x wish d at ≡ o) e 
 pub opened_too : (p : Standing) (a : About) → Says p a → Says p Opened
 opened_too unused a h = h
 opened_too (pending t d) a h = tt
-opened_too (final t d o m) a h = tt
+opened_too (decided t d o m) a h = tt

@@ -8,7 +8,7 @@ use Rattle.inst_command.specs.declared.outcome.Outcome.{Outcome}
 use Rattle.inst_terms.specs.declared.terms.Terms.{Terms}
 use Rattle.inst_board.specs.declared.about.About.{About}
 use Rattle.inst_board.specs.declared.about.About.TheVariants.{Opened, HasTerms, Due, Decided, DecidedAt}
-use Rattle.inst_board.specs.Standing.{Standing, unused, pending, final, Says}
+use Rattle.inst_board.specs.Standing.{Standing, unused, pending, decided, Says}
 use Rattle.inst_cell.specs.declared.view.Known.{Known}
 use Rattle.inst_cell.specs.declared.view.View.{View}
 use Rattle.inst_cell.specs.View.{known, all_of, first_of, terms_in, due_in, outcome_in, moment_in, standing_with, known_standing, KnowsOne}
@@ -115,22 +115,22 @@ standing_moment t d (Some o) (Some m) n e = let is : n ≡ m = cc in is
 same_terms : (p : Standing) (t u : Terms) → Says p (HasTerms t) → Says p (HasTerms u) → t ≡ u
 same_terms unused t u h g = absurd h
 same_terms (pending x d) t u h g = h ∙ sym g
-same_terms (final x d o m) t u h g = h ∙ sym g
+same_terms (decided x d o m) t u h g = h ∙ sym g
 
 same_due : (p : Standing) (d e : ℕ) → Says p (Due d) → Says p (Due e) → d ≡ e
 same_due unused d e h g = absurd h
 same_due (pending t x) d e h g = h ∙ sym g
-same_due (final t x o m) d e h g = h ∙ sym g
+same_due (decided t x o m) d e h g = h ∙ sym g
 
 pub same_decided : (p : Standing) (o z : Outcome) → Says p (Decided o) → Says p (Decided z) → o ≡ z
 same_decided unused o z h g = absurd h
 same_decided (pending t d) o z h g = absurd h
-same_decided (final t d x m) o z h g = h ∙ sym g
+same_decided (decided t d x m) o z h g = h ∙ sym g
 
 same_moment : (p : Standing) (m n : ℕ) → Says p (DecidedAt m) → Says p (DecidedAt n) → m ≡ n
 same_moment unused m n h g = absurd h
 same_moment (pending t d) m n h g = absurd h
-same_moment (final t d o x) m n h g = h ∙ sym g
+same_moment (decided t d o x) m n h g = h ∙ sym g
 
 module _ (v : View) (k : ℕ) (p : Standing) (honest : (a : About) → Contains (all_of v) (known k a) → Says p a) where
   abbrev T : Terms

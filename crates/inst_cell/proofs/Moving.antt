@@ -14,7 +14,7 @@ use Rattle.inst_command.specs.declared.outcome.Outcome.{Outcome}
 use Rattle.inst_command.specs.declared.outcome.Outcome.TheVariants.{Accepted, Rejected, TimedOut}
 use Rattle.inst_settings.specs.Settings.{HubSettings, participants}
 use Rattle.inst_terms.specs.declared.terms.Terms.{Terms}
-use Rattle.inst_terms.specs.declared.word.Word.TheVariants.{Pending, Final}
+use Rattle.inst_terms.specs.declared.word.Word.TheVariants.{Pending, Decided as DecidedWord}
 use Rattle.inst_terms.specs.Terms.{IsTerms, words_of}
 use Rattle.inst_terms.specs.Word.{IsWord, number, outcome_number}
 use Rattle.inst_terms.specs.WordLaw.{InTime}
@@ -22,7 +22,7 @@ use Rattle.inst_terms.specs.Reason.{reason_number}
 use Rattle.inst_terms.proofs.Apart.{terms_apart}
 use Rattle.inst_board.specs.declared.about.About.{About}
 use Rattle.inst_board.specs.declared.about.About.TheVariants.{Opened, HasTerms, Due, Decided, DecidedAt}
-use Rattle.inst_board.specs.Standing.{Standing, unused, pending, final, Says}
+use Rattle.inst_board.specs.Standing.{Standing, unused, pending, decided, Says}
 use Rattle.inst_board.specs.Learning.{IsOfOpening, IsAnswer}
 use Rattle.inst_cell.specs.declared.view.Known.{Known}
 use Rattle.inst_cell.specs.declared.view.View.{View}
@@ -44,7 +44,7 @@ same_word l i h = set_again l i (get_or l i 0) (found_at l i h)
 not_opened : (p : Standing) → ¬ Says p Opened → (a : About) → Says p a → ⊥
 not_opened unused not a h = h
 not_opened (pending t d) not a h = not tt
-not_opened (final t d o m) not a h = not tt
+not_opened (decided t d o m) not a h = not tt
 
 no_rejected : (m r d : ℕ) → (m * 2 ^ 21 + r) * 4 + 2 ≡ (d * 2 ^ 21 + 0) * 4 + 0 → ⊥
 no_rejected m r d e = omega arith
@@ -61,16 +61,16 @@ same_pending t u d e a b = ap (λ (x : Terms). pending x d) a ∙ ap (λ (x : �
 pub still_pending : (p : Standing) (t : Terms) (d : ℕ) → Says p (HasTerms t) → Says p (Due d) → encode p ≡ number d 0 0 → p ≡ pending t d
 still_pending unused t d has due e = absurd has
 still_pending (pending u c) t d has due e = same_pending u t c d (sym has) (sym due)
-still_pending (final u c o m) t d has due e = absurd (no_pending o m d e)
+still_pending (decided u c o m) t d has due e = absurd (no_pending o m d e)
 
-stays_true : (t : Terms) (d m : ℕ) (o : Outcome) (a : About) → Says (pending t d) a → Says (final t d o m) a
+stays_true : (t : Terms) (d m : ℕ) (o : Outcome) (a : About) → Says (pending t d) a → Says (decided t d o m) a
 stays_true t d m o Opened h = tt
 stays_true t d m o (HasTerms u) h = h
 stays_true t d m o (Due e) h = h
 stays_true t d m o (Decided p) h = absurd h
 stays_true t d m o (DecidedAt n) h = absurd h
 
-same_opening : (t : Terms) (d m : ℕ) (o : Outcome) (a : About) → IsOfOpening a → Says (final t d o m) a → Says (pending t d) a
+same_opening : (t : Terms) (d m : ℕ) (o : Outcome) (a : About) → IsOfOpening a → Says (decided t d o m) a → Says (pending t d) a
 same_opening t d m o Opened of h = tt
 same_opening t d m o (HasTerms u) of h = h
 same_opening t d m o (Due e) of h = h
@@ -80,12 +80,12 @@ same_opening t d m o (DecidedAt n) of h = absurd of
 has_terms : (margin : ℕ) (p : Standing) (t : Terms) → Says p (HasTerms t) → IsShowable margin p → IsTerms t
 has_terms margin unused t says h = absurd says
 has_terms margin (pending u d) t says h = subst IsTerms (sym says) h.0
-has_terms margin (final u d o m) t says h = subst IsTerms (sym says) h.0
+has_terms margin (decided u d o m) t says h = subst IsTerms (sym says) h.0
 
 -- accepted and rejected are the answers of who has the role; timed out is nobody's
 replies : (t : Terms) (d : ℕ) (o : Outcome) (m : ℕ) (roles : List ℕ) (p : Standing) → p ≡ pending t d → (IsAnswer o → 0 < count t.to roles)
-    → ((z : Outcome) → IsAnswer z → Says (final t d o m) (Decided z) → Says p (Decided z) × ((u : Terms) → Says (final t d o m) (HasTerms u) → Says p (HasTerms u)))
-    ⊎ ((u : Terms) → Says (final t d o m) (HasTerms u) → 0 < count u.to roles)
+    → ((z : Outcome) → IsAnswer z → Says (decided t d o m) (Decided z) → Says p (Decided z) × ((u : Terms) → Says (decided t d o m) (HasTerms u) → Says p (HasTerms u)))
+    ⊎ ((u : Terms) → Says (decided t d o m) (HasTerms u) → 0 < count u.to roles)
 replies t d Accepted m roles p is role = inr (λ u has. subst (λ (x : Terms). 0 < count x.to roles) (sym has) (role tt))
 replies t d (Rejected z) m roles p is role = inr (λ u has. subst (λ (x : Terms). 0 < count x.to roles) (sym has) (role tt))
 replies t d TimedOut m roles p is role = inl (λ z ans says. absurd (subst IsAnswer says ans))
@@ -245,7 +245,7 @@ module _ (s : HubSettings) where
         )
 
     -- who answers has the role of the beneficiary; anyone may find a place timed out
-    pub allows_decides : (t : Terms) (d old new : ℕ) (o : Outcome) (m : ℕ) → old ≡ number d 0 0 → new ≡ outcome_number o m → IsWord (Final o m) → InTime s.margin o d m
+    pub allows_decides : (t : Terms) (d old new : ℕ) (o : Outcome) (m : ℕ) → old ≡ number d 0 0 → new ≡ outcome_number o m → IsWord (DecidedWord o m) → InTime s.margin o d m
         → Contains (all_of me.0) (known k (Due d)) → Contains (all_of me.0) (known k (HasTerms t)) → (IsAnswer o → 0 < count t.to me.0.roles)
         → (0 < count (k / s.places) me.0.roles) ⊎ (0 < count t.to me.0.roles)
         → Allows (IsKept s) slots id me (k * 6 + 5) (λ n. either (eqb n old) new n) (decides (step slots (k * 6 + 5) old new none) me)
@@ -255,7 +255,7 @@ module _ (s : HubSettings) where
         let has' : Says (r.world k) (HasTerms t) = r.honest id me.0 at (known k (HasTerms t)) has in
         let here : r.world k ≡ pending t d = still_pending (r.world k) t d has' due' (sym (r.shown k within) ∙ (hit ∙ is)) in
         let could : IsShowable s.margin (pending t d) = subst (IsShowable s.margin) here (r.showable k) in
-        let q : Standing = final t d o m in
+        let q : Standing = decided t d o m in
         let can : IsShowable s.margin q = (could.0, could.1.0, in_time, word) in
         let w : View = learnt me.0 k q true in
         let e = eq-eqb x old hit in

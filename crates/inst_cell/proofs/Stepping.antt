@@ -14,7 +14,7 @@ use Rattle.inst_terms.specs.declared.terms.Terms.{Terms}
 use Rattle.inst_terms.specs.Terms.{words_of}
 use Rattle.inst_board.specs.declared.about.About.{About}
 use Rattle.inst_board.specs.declared.about.About.TheVariants.{Opened, HasTerms, Due, Decided, DecidedAt}
-use Rattle.inst_board.specs.Standing.{Standing, unused, pending, final, Says}
+use Rattle.inst_board.specs.Standing.{Standing, unused, pending, decided, Says}
 use Rattle.inst_board.specs.Learning.{IsOfOpening, IsAnswer}
 use Rattle.inst_cell.specs.declared.view.Known.{Known}
 use Rattle.inst_cell.specs.declared.view.View.{View}
@@ -63,13 +63,13 @@ read_true k (pending t d) mine f (zero, b, e) = true_at k (pending t d) Opened f
 read_true k (pending t d) mine f (suc zero, b, e) = true_at k (pending t d) (HasTerms t) f refl e
 read_true k (pending t d) mine f (suc (suc zero), b, e) = true_at k (pending t d) (Due d) f refl e
 read_true k (pending t d) mine f (suc (suc (suc i)), b, e) = absurd (omega arith)
-read_true k (final t d o m) mine f (zero, b, e) = true_at k (final t d o m) Opened f tt e
-read_true k (final t d o m) mine f (suc zero, b, e) = true_at k (final t d o m) (HasTerms t) f refl e
-read_true k (final t d o m) mine f (suc (suc zero), b, e) = true_at k (final t d o m) (Due d) f refl e
-read_true k (final t d o m) mine f (suc (suc (suc zero)), b, e) = true_at k (final t d o m) (Decided o) f refl e
-read_true k (final t d o m) true f (suc (suc (suc (suc zero))), b, e) = true_at k (final t d o m) (DecidedAt m) f refl e
-read_true k (final t d o m) true f (suc (suc (suc (suc (suc i)))), b, e) = absurd (omega arith)
-read_true k (final t d o m) false f (suc (suc (suc (suc i))), b, e) = absurd (omega arith)
+read_true k (decided t d o m) mine f (zero, b, e) = true_at k (decided t d o m) Opened f tt e
+read_true k (decided t d o m) mine f (suc zero, b, e) = true_at k (decided t d o m) (HasTerms t) f refl e
+read_true k (decided t d o m) mine f (suc (suc zero), b, e) = true_at k (decided t d o m) (Due d) f refl e
+read_true k (decided t d o m) mine f (suc (suc (suc zero)), b, e) = true_at k (decided t d o m) (Decided o) f refl e
+read_true k (decided t d o m) true f (suc (suc (suc (suc zero))), b, e) = true_at k (decided t d o m) (DecidedAt m) f refl e
+read_true k (decided t d o m) true f (suc (suc (suc (suc (suc i)))), b, e) = absurd (omega arith)
+read_true k (decided t d o m) false f (suc (suc (suc (suc i))), b, e) = absurd (omega arith)
 
 -- what each step learns that sees it: all but at which reading a place was decided
 abbrev pub IsSeen : About → Type 0
@@ -94,18 +94,18 @@ read_all k (pending t d) mine (HasTerms u) seen h = (1, omega arith, ap (λ (x :
 read_all k (pending t d) mine (Due e) seen h = (2, omega arith, ap (λ (x : ℕ). known k (Due x)) (sym h))
 read_all k (pending t d) mine (Decided o) seen h = absurd h
 read_all k (pending t d) mine (DecidedAt n) seen h = absurd h
-read_all k (final t d p m) mine Opened seen h = (0, omega arith, refl)
-read_all k (final t d p m) mine (HasTerms u) seen h = (1, omega arith, ap (λ (x : Terms). known k (HasTerms x)) (sym h))
-read_all k (final t d p m) mine (Due e) seen h = (2, omega arith, ap (λ (x : ℕ). known k (Due x)) (sym h))
-read_all k (final t d p m) mine (Decided o) seen h = (3, omega arith, ap (λ (x : Outcome). known k (Decided x)) (sym h))
-read_all k (final t d p m) mine (DecidedAt n) seen h = absurd seen
+read_all k (decided t d p m) mine Opened seen h = (0, omega arith, refl)
+read_all k (decided t d p m) mine (HasTerms u) seen h = (1, omega arith, ap (λ (x : Terms). known k (HasTerms x)) (sym h))
+read_all k (decided t d p m) mine (Due e) seen h = (2, omega arith, ap (λ (x : ℕ). known k (Due x)) (sym h))
+read_all k (decided t d p m) mine (Decided o) seen h = (3, omega arith, ap (λ (x : Outcome). known k (Decided x)) (sym h))
+read_all k (decided t d p m) mine (DecidedAt n) seen h = absurd seen
 
 -- who decided a place knows at which reading
 pub read_moment : (k : ℕ) (q : Standing) (mine : Bool) (n : ℕ) → mine ≡ true → Says q (DecidedAt n) → Contains (facts_of k q mine) (known k (DecidedAt n))
 read_moment k unused mine n own h = absurd h
 read_moment k (pending t d) mine n own h = absurd h
-read_moment k (final t d o m) mine n own h =
-    subst (λ (x : Bool). Contains (facts_of k (final t d o m) x) (known k (DecidedAt n))) (sym own) (4, omega arith, ap (λ (x : ℕ). known k (DecidedAt x)) (sym h))
+read_moment k (decided t d o m) mine n own h =
+    subst (λ (x : Bool). Contains (facts_of k (decided t d o m) x) (known k (DecidedAt n))) (sym own) (4, omega arith, ap (λ (x : ℕ). known k (DecidedAt x)) (sym h))
 
 abbrev tells_moment : About → Bool
 tells_moment Opened = false
@@ -124,11 +124,11 @@ moment_unread k j (pending t d) n (zero, b, e) = another_fact j k n Opened refl 
 moment_unread k j (pending t d) n (suc zero, b, e) = another_fact j k n (HasTerms t) refl e
 moment_unread k j (pending t d) n (suc (suc zero), b, e) = another_fact j k n (Due d) refl e
 moment_unread k j (pending t d) n (suc (suc (suc i)), b, e) = absurd (omega arith)
-moment_unread k j (final t d o m) n (zero, b, e) = another_fact j k n Opened refl e
-moment_unread k j (final t d o m) n (suc zero, b, e) = another_fact j k n (HasTerms t) refl e
-moment_unread k j (final t d o m) n (suc (suc zero), b, e) = another_fact j k n (Due d) refl e
-moment_unread k j (final t d o m) n (suc (suc (suc zero)), b, e) = another_fact j k n (Decided o) refl e
-moment_unread k j (final t d o m) n (suc (suc (suc (suc i))), b, e) = absurd (omega arith)
+moment_unread k j (decided t d o m) n (zero, b, e) = another_fact j k n Opened refl e
+moment_unread k j (decided t d o m) n (suc zero, b, e) = another_fact j k n (HasTerms t) refl e
+moment_unread k j (decided t d o m) n (suc (suc zero), b, e) = another_fact j k n (Due d) refl e
+moment_unread k j (decided t d o m) n (suc (suc (suc zero)), b, e) = another_fact j k n (Decided o) refl e
+moment_unread k j (decided t d o m) n (suc (suc (suc (suc i))), b, e) = absurd (omega arith)
 
 pub all_left : (v : View) (k : ℕ) (q : Standing) (mine : Bool) (f : Known) → Contains (all_of v) f → Contains (all_of (learnt v k q mine)) f
 all_left v k q mine f c = ⊎_elim
@@ -223,7 +223,7 @@ module _ (s : HubSettings) (words : List ℕ) (views : List View) (r : Keeps s w
       opened_of : (p : Standing) (a : About) → Says p a → Says p Opened
       opened_of unused a h = h
       opened_of (pending t d) a h = tt
-      opened_of (final t d o m) a h = tt
+      opened_of (decided t d o m) a h = tt
 
   -- the outcome word of the place k changes, or is read
   module _ (k : ℕ) (within : k < total s) (q : Standing) (mine : Bool) (showable : IsShowable s.margin q) (follows : (a : About) → Says (r.world k) a → Says q a)

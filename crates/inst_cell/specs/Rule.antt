@@ -1,5 +1,5 @@
 -- What holds of the words of all places and of what all seats know, between any two steps of any number of threads: an
--- outcome word goes from unused to pending, then once to final, in time, and stays; the terms words of an opened place
+-- outcome word goes from unused to pending, then once to decided, in time, and stays; the terms words of an opened place
 -- stay; what a seat knows is true of the words. How transfers are accepted, rejected and timed out is the rulebook's
 -- (EPC004-16, chapter 4: processing flow); the words, the roles and the seats are this hub's own choice.
 use Rattle.std.specs.Prelude.{◌≡◌, ◌⊎◌, ℕ, ◌+◌, ◌*◌, ◌/◌, ◌<◌, ◌≤◌, List, [], ◌∷◌, length, slice_index, Contains, Some}
@@ -10,13 +10,13 @@ use Rattle.inst_command.specs.declared.outcome.Outcome.{Outcome}
 use Rattle.inst_command.specs.declared.outcome.Outcome.TheVariants.{TimedOut}
 use Rattle.inst_settings.specs.Settings.{HubSettings, participants}
 use Rattle.inst_terms.specs.declared.terms.Terms.{Terms}
-use Rattle.inst_terms.specs.declared.word.Word.TheVariants.{Pending, Final}
+use Rattle.inst_terms.specs.declared.word.Word.TheVariants.{Pending, Decided as DecidedWord}
 use Rattle.inst_terms.specs.Terms.{IsTerms, words_of}
 use Rattle.inst_terms.specs.Word.{IsWord, number_of}
 use Rattle.inst_terms.specs.WordLaw.{InTime}
 use Rattle.inst_board.specs.declared.about.About.{About}
 use Rattle.inst_board.specs.declared.about.About.TheVariants.{Opened, HasTerms, Decided, DecidedAt}
-use Rattle.inst_board.specs.Standing.{Standing, unused, pending, final, Says, word_of}
+use Rattle.inst_board.specs.Standing.{Standing, unused, pending, decided, Says, word_of}
 use Rattle.inst_board.specs.Learning.{IsOfOpening, IsAnswer}
 use Rattle.inst_cell.specs.declared.view.Known.{Known}
 use Rattle.inst_cell.specs.declared.view.View.{View}
@@ -30,8 +30,8 @@ encode p = number_of (word_of p)
 abbrev pub IsShowable : ℕ → Standing → Type 0
 IsShowable margin unused = Unit {0}
 IsShowable margin (pending terms deadline) = IsTerms terms × IsWord (Pending deadline)
-IsShowable margin (final terms deadline outcome at) =
-    IsTerms terms × (1 ≤ deadline) × InTime margin outcome deadline at × IsWord (Final outcome at)
+IsShowable margin (decided terms deadline outcome at) =
+    IsTerms terms × (1 ≤ deadline) × InTime margin outcome deadline at × IsWord (DecidedWord outcome at)
 
 -- how often all seats have the role of p
 abbrev pub held : ℕ → List View → ℕ

@@ -4,7 +4,7 @@ use Rattle.std.specs.Prelude.{◌≡◌}
 use Rattle.inst_command.specs.declared.outcome.State.{State}
 use Rattle.inst_command.specs.declared.outcome.State.TheVariants.{Unused, Pending, Decided}
 use Rattle.inst_board.specs.declared.place.Place.{Place}
-use Rattle.inst_board.specs.Standing.{Standing, unused, pending, final}
+use Rattle.inst_board.specs.Standing.{Standing, unused, pending, decided}
 use Rattle.inst_board.specs.Learning.{Learns}
 use Rattle.inst_board.specs.declared.about.Fact.{Fact}
 use Rattle.inst_cell.specs.declared.shared_board.SharedBoard.{SharedBoard}
@@ -21,7 +21,7 @@ sees t f = knows (board_of t) f
 abbrev pub state_of : Standing → State
 state_of unused = Unused
 state_of (pending terms deadline) = Pending
-state_of (final terms deadline outcome at) = Decided outcome
+state_of (decided terms deadline outcome at) = Decided outcome
 
 -- what the teller learns of the place as it peeks, and what it answers of that
 abbrev pub Peeks : Sight → Place → State → Sight → Type 0

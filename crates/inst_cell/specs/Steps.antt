@@ -89,7 +89,7 @@ abbrev pub opens : Step (Unit {0}) → Sat → ℕ → Sat → Type 0
 opens st m n m' = ((k : ℕ) (t : Terms) (d : ℕ) → st.word ≡ k * 6 + 5 → IsTerms t → HasNoted m.0 k t → n ≡ number_of (Pending d) →
     (m'.0 ≡ learnt m.0 k (pending t d) false) × KnowsOne m'.0 × ((a : About) → ¬ Contains (all_of m.0) (known k a))) × (m'.1 ≡ m.1)
 
--- an exchange of the pending word for a final one
+-- an exchange of the pending word for a decided one
 abbrev pub decides : Step (Unit {0}) → Sat → ℕ → Sat → Type 0
 decides st m n m' = ((k : ℕ) → st.word ≡ k * 6 + 5 →
     Shows (n ≡ st.first) k m.0 (either (n == st.first) st.second n) m'.0) × (m'.1 ≡ m.1)

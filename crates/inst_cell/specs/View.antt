@@ -11,7 +11,7 @@ use Rattle.inst_terms.specs.declared.terms.Terms.{Terms}
 use Rattle.inst_terms.specs.Terms.{words_of}
 use Rattle.inst_board.specs.declared.about.About.{About}
 use Rattle.inst_board.specs.declared.about.About.TheVariants.{Opened, HasTerms, Due, Decided, DecidedAt}
-use Rattle.inst_board.specs.Standing.{Standing, unused, pending, final, Says}
+use Rattle.inst_board.specs.Standing.{Standing, unused, pending, decided, Says}
 use Rattle.inst_cell.specs.declared.view.Known.{Known}
 use Rattle.inst_cell.specs.declared.view.View.{View}
 
@@ -41,7 +41,7 @@ HasNoted v k t = (i : ℕ) → i < 5 → note v.notes (k * 6 + i) ≡ Some (slic
 abbrev pub facts_of : ℕ → Standing → Bool → List Known
 facts_of k unused mine = []
 facts_of k (pending terms deadline) mine = known k Opened ∷ known k (HasTerms terms) ∷ known k (Due deadline) ∷ []
-facts_of k (final terms deadline outcome at) mine = known k Opened ∷ known k (HasTerms terms) ∷ known k (Due deadline)
+facts_of k (decided terms deadline outcome at) mine = known k Opened ∷ known k (HasTerms terms) ∷ known k (Due deadline)
     ∷ known k (Decided outcome) ∷ cond mine (known k (DecidedAt at) ∷ []) []
 
 -- the first thing of a kind that is known of a place
@@ -80,8 +80,8 @@ moment_in (DecidedAt moment) = Some moment
 -- a place with these terms, this deadline, and this outcome and deciding moment, if it has one
 abbrev pub standing_with : Terms → ℕ → Option Outcome → Option ℕ → Standing
 standing_with terms deadline None None = pending terms deadline
-standing_with terms deadline None (Some moment) = final terms deadline TimedOut moment
-standing_with terms deadline (Some outcome) moment = final terms deadline outcome (unwrap_or moment 0)
+standing_with terms deadline None (Some moment) = decided terms deadline TimedOut moment
+standing_with terms deadline (Some outcome) moment = decided terms deadline outcome (unwrap_or moment 0)
 
 -- how the place stands, as far as it is known: what isn't known may be anything
 abbrev pub known_standing : View → ℕ → Standing
@@ -99,11 +99,11 @@ says_one (pending terms deadline) (HasTerms others) = Prim.hlevel props
 says_one (pending terms deadline) (Due other) = Prim.hlevel props
 says_one (pending terms deadline) (Decided other) = Prim.hlevel props
 says_one (pending terms deadline) (DecidedAt other) = Prim.hlevel props
-says_one (final terms deadline outcome at) Opened = Prim.hlevel props
-says_one (final terms deadline outcome at) (HasTerms others) = Prim.hlevel props
-says_one (final terms deadline outcome at) (Due other) = Prim.hlevel props
-says_one (final terms deadline outcome at) (Decided other) = Prim.hlevel props
-says_one (final terms deadline outcome at) (DecidedAt other) = Prim.hlevel props
+says_one (decided terms deadline outcome at) Opened = Prim.hlevel props
+says_one (decided terms deadline outcome at) (HasTerms others) = Prim.hlevel props
+says_one (decided terms deadline outcome at) (Due other) = Prim.hlevel props
+says_one (decided terms deadline outcome at) (Decided other) = Prim.hlevel props
+says_one (decided terms deadline outcome at) (DecidedAt other) = Prim.hlevel props
 
 -- it is one fact, however it is shown
 pub knows_one_once : (v : View) → IsProp (KnowsOne v)

@@ -21,7 +21,7 @@ pub(crate) fn pending_word(deadline: Moment) -> u64
 }
 
 /// The outcome word of a place that was decided at the reading `at`.
-pub(crate) fn final_word(outcome: &Outcome, at: Moment) -> u64
+pub(crate) fn decided_word(outcome: &Outcome, at: Moment) -> u64
     ensures value { result ≡ outcome_number outcome.now at }
     ensures word { IsOutcome outcome.now × IsTrue (is_moment at) }
 {
@@ -29,7 +29,7 @@ pub(crate) fn final_word(outcome: &Outcome, at: Moment) -> u64
         let _ = reason.text();
     }
     let _ = at.past_base();
-    pack_outcome(&Word::Final(*outcome, at))
+    pack_outcome(&Word::Decided(*outcome, at))
 }
 
 /// What the outcome word of a place says.

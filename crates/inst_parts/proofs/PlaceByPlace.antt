@@ -15,7 +15,7 @@ use Rattle.inst_board.specs.declared.look.Look.TheVariants.{Pending as LookPendi
 use Rattle.inst_board.specs.declared.about.About.{About}
 use Rattle.inst_board.specs.declared.about.About.TheVariants.{Opened, HasTerms, Due, Decided, DecidedAt}
 use Rattle.inst_board.specs.declared.about.Fact.{Fact}
-use Rattle.inst_board.specs.Standing.{Standing, unused, pending, final, Says, Shows, look_of, about, IsPlace}
+use Rattle.inst_board.specs.Standing.{Standing, unused, pending, decided, Says, Shows, look_of, about, IsPlace}
 use Rattle.inst_board.specs.Learning.{Looks, KnowTheSame}
 use Rattle.inst_journal.specs.declared.event.Event.{Event}
 use Rattle.inst_journal.specs.declared.event.Event.TheVariants.{Taken, Forwarded, Booked}
@@ -133,21 +133,21 @@ less : (i n : ℕ) → i < n + 1 → i ≢ n → i < n
 less i n below other = omega (arith, below, other)
 
 -- what a standing says
-record Final (p : Standing) (o : Outcome) : Type 0 where
+record IsDecided (p : Standing) (o : Outcome) : Type 0 where
   pub terms : Terms
   pub deadline : ℕ
   pub moment : ℕ
-  pub is : p ≡ final terms deadline o moment
+  pub is : p ≡ decided terms deadline o moment
 
-final_of : (p : Standing) (o : Outcome) → Says p (Decided o) → Final p o
-final_of unused o says = absurd says
-final_of (pending t d) o says = absurd says
-final_of (final t d z m) o says = record { terms = t; deadline = d; moment = m; is = ap (λ (y : Outcome). final t d y m) (sym says) }
+decided_of : (p : Standing) (o : Outcome) → Says p (Decided o) → IsDecided p o
+decided_of unused o says = absurd says
+decided_of (pending t d) o says = absurd says
+decided_of (decided t d z m) o says = record { terms = t; deadline = d; moment = m; is = ap (λ (y : Outcome). decided t d y m) (sym says) }
 
 no_end : (p : Standing) (t : Terms) (d : ℕ) (o : Outcome) → look_of p ≡ LookPending t d → Says p (Decided o) → ⊥
 no_end unused t d o e says = says
 no_end (pending u x) t d o e says = says
-no_end (final u x z m) t d o e says = cc
+no_end (decided u x z m) t d o e says = cc
 
 module _ {B : Type 0} (settings : B → HubSettings) (knows : B → Fact → Type 0) (has_role : B → ℕ → Type 0) (margin : ℕ) (stood : B → Place → Outcome → Type 0) (stays : B → B → Type 0)
     (stays_settings : (a b : B) → stays a b → settings b ≡ settings a) (stays_roles : (a b : B) (p : ℕ) → stays a b → has_role a p ↔ has_role b p)
@@ -181,7 +181,7 @@ module _ {B : Type 0} (settings : B → HubSettings) (knows : B → Fact → Typ
     said (HasTerms t) says kn = looks.own (all.role k.owner owner) (HasTerms t) tt says
     said (Due d) says kn = looks.own (all.role k.owner owner) (Due d) tt says
     said (Decided o) says kn =
-        let f = final_of looks.standing o says in
+        let f = decided_of looks.standing o says in
         let opened : Says looks.standing Opened = subst (λ (q : Standing). Says q Opened) (sym f.is) tt in
         let has : Says looks.standing (HasTerms f.terms) = subst (λ (q : Standing). Says q (HasTerms f.terms)) (sym f.is) refl in
         let kn_opened = looks.own (all.role k.owner owner) Opened tt opened in
@@ -312,7 +312,7 @@ module _ {B : Type 0} (settings : B → HubSettings) (knows : B → Fact → Typ
       learnt_booked y r keeps = ⊎_elim
           (λ done. if_ok r (λ id o lies kn.
           let s = looks.standing in
-          let f = final_of s o (looks.learns.agrees (Decided o) kn) in
+          let f = decided_of s o (looks.learns.agrees (Decided o) kn) in
           let l = lying settings knows has_role b x k.owner id k.index lawful lies in
           let t_is : l.terms ≡ f.terms = subst (λ (p : Standing). Says p (HasTerms l.terms)) f.is (looks.learns.agrees (HasTerms l.terms) l.known.terms) in
           let look_is : look ≡ LookDecided f.terms o = looks.look_is ∙ ap look_of f.is in
@@ -361,7 +361,7 @@ module _ {B : Type 0} (settings : B → HubSettings) (knows : B → Fact → Typ
           go (pending u d) is =
               let same : t ≡ u = subst (λ (p : Standing). Says p (HasTerms t)) (sym is) (looks.learns.agrees (HasTerms t) kn_terms) in
               inl (come_with t u d (looks.look_is ∙ ap look_of (sym is)) same mine_too)
-          go (final u d o m) is =
+          go (decided u d o m) is =
               let shown : knows c (about k (Decided o)) = looks.learns.shown (Decided o) (subst (λ (p : Standing). ShowsEnd p o) is refl) in
               inr (o, (nothing_new (about k (Decided o))).0 shown)
             where

@@ -11,7 +11,7 @@ use Rattle.inst_board.specs.declared.wish.Wish.TheVariants.{Accept, Reject, Expi
 use Rattle.inst_board.specs.declared.look.Look.{Look}
 use Rattle.inst_board.specs.declared.look.Look.TheVariants.{Pending, Decided}
 use Rattle.inst_board.specs.declared.about.About.TheVariants.{HasTerms}
-use Rattle.inst_board.specs.Standing.{Standing, unused, pending, final, IsPlace, Shows, look_of}
+use Rattle.inst_board.specs.Standing.{Standing, unused, pending, decided, IsPlace, Shows, look_of}
 use Rattle.inst_board.specs.Learning.{IsParty}
 
 pub one_last : {A : Type 0} (xs ys : List A) (a : A) → xs ≡ ys ++ a ∷ [] → length xs ≡ 2 → slice_get xs 1 ≡ Some a
@@ -41,12 +41,12 @@ second_is s p = ap (λ (n : ℕ). nat_lt 1 n) p
 pub pending_look : (p : Standing) (l : Look) (t : Terms) (d : ℕ) → l ≡ look_of p → l ≡ Pending t d → pending t d ≡ p
 pending_look unused l t d e f = let no : ⊥ = cc in absurd no
 pending_look (pending u c) l t d e f = let x : t ≡ u = cc in let y : d ≡ c = cc in ap (λ (z : Terms). pending z d) x ∙ ap (λ (z : ℕ). pending u z) y
-pending_look (final u c o m) l t d e f = let no : ⊥ = cc in absurd no
+pending_look (decided u c o m) l t d e f = let no : ⊥ = cc in absurd no
 
 pub ended_terms : (p : Standing) (l : Look) (t : Terms) (o : Outcome) → l ≡ look_of p → l ≡ Decided t o → Shows p (HasTerms t)
 ended_terms unused l t o e f = let no : ⊥ = cc in absurd no
 ended_terms (pending u c) l t o e f = let no : ⊥ = cc in absurd no
-ended_terms (final u c z m) l t o e f = let x : t ≡ u = cc in x
+ended_terms (decided u c z m) l t o e f = let x : t ≡ u = cc in x
 
 pub party_to : (has : ℕ → Type 0) (wish : Wish) (k : Place) (t : Terms) → has t.to → IsParty has wish k t
 party_to has Accept k t h = h

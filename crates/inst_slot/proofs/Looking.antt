@@ -9,7 +9,7 @@ use Rattle.inst_board.specs.declared.look.Look.{Look}
 use Rattle.inst_board.specs.declared.look.Look.TheVariants.{Pending as LookPending, Decided as LookDecided}
 use Rattle.inst_board.specs.declared.about.About.TheVariants.{Opened, HasTerms, Due, Decided}
 use Rattle.inst_board.specs.declared.about.Fact.{Fact}
-use Rattle.inst_board.specs.Standing.{Standing, unused, pending, final, Says, about, look_of}
+use Rattle.inst_board.specs.Standing.{Standing, unused, pending, decided, Says, about, look_of}
 use Rattle.inst_board.specs.Laws.{KnowsOpening}
 use Rattle.inst_board.specs.Learning.{Learns, Looks, Decides, Answers}
 use Rattle.inst_journal.specs.declared.event.Event.{Event}
@@ -60,7 +60,7 @@ module _ {B : Type 0} (settings : B → HubSettings) (knows : B → Fact → Typ
       pend : (p : Standing) → Learns margin knows b k p c → LookPending t d ≡ look_of p → KnowsOpening knows c k t d
       pend unused l f = let no : ⊥ = cc in absurd no
       pend (pending u e) l f = let x : t ≡ u = cc in let y : d ≡ e = cc in record { opened = l.shown Opened tt; terms = l.shown (HasTerms t) x; due = l.shown (Due d) y }
-      pend (final u e o m) l f = let no : ⊥ = cc in absurd no
+      pend (decided u e o m) l f = let no : ⊥ = cc in absurd no
 
     -- what was known of a place that is seen pending
     pub saw_same : (t : Terms) (d : ℕ) → look ≡ LookPending t d → (u : Terms) → knows b (about k (HasTerms u)) → u ≡ t
@@ -68,7 +68,7 @@ module _ {B : Type 0} (settings : B → HubSettings) (knows : B → Fact → Typ
       pend : (p : Standing) → LookPending t d ≡ look_of p → Says p (HasTerms u) → u ≡ t
       pend unused f g = absurd g
       pend (pending v e) f g = let x : t ≡ v = cc in g ∙ sym x
-      pend (final v e o m) f g = let no : ⊥ = cc in absurd no
+      pend (decided v e o m) f g = let no : ⊥ = cc in absurd no
 
     -- a pending place of the participant's own was opened by it
     pub saw_own_pending : (t : Terms) (d : ℕ) → look ≡ LookPending t d → has_role b k.owner → knows b (about k Opened)
@@ -76,28 +76,28 @@ module _ {B : Type 0} (settings : B → HubSettings) (knows : B → Fact → Typ
       at : (p : Standing) → LookPending t d ≡ look_of p → Says p Opened
       at unused f = let no : ⊥ = cc in absurd no
       at (pending u e) f = tt
-      at (final u e z m) f = let no : ⊥ = cc in absurd no
+      at (decided u e z m) f = let no : ⊥ = cc in absurd no
 
     pub saw_own : (t : Terms) (o : Outcome) → look ≡ LookDecided t o → has_role b k.owner → knows b (about k Opened)
     saw_own t o e role = h.own role Opened tt (dec h.standing (sym e ∙ h.look_is)) where
       dec : (p : Standing) → LookDecided t o ≡ look_of p → Says p Opened
       dec unused f = let no : ⊥ = cc in absurd no
       dec (pending u e) f = let no : ⊥ = cc in absurd no
-      dec (final u e z m) f = tt
+      dec (decided u e z m) f = tt
 
     pub saw_decided : (t : Terms) (o : Outcome) → look ≡ LookDecided t o → knows c (about k (Decided o))
     saw_decided t o e = dec h.standing h.learns (sym e ∙ h.look_is) where
       dec : (p : Standing) → Learns margin knows b k p c → LookDecided t o ≡ look_of p → knows c (about k (Decided o))
       dec unused l f = let no : ⊥ = cc in absurd no
       dec (pending u e) l f = let no : ⊥ = cc in absurd no
-      dec (final u e z m) l f = let x : o ≡ z = cc in l.shown (Decided o) x
+      dec (decided u e z m) l f = let x : o ≡ z = cc in l.shown (Decided o) x
 
     pub saw_decided_same : (t : Terms) (o : Outcome) → look ≡ LookDecided t o → (u : Terms) → knows b (about k (HasTerms u)) → u ≡ t
     saw_decided_same t o e u kn = dec h.standing (sym e ∙ h.look_is) (h.learns.agrees (HasTerms u) kn) where
       dec : (p : Standing) → LookDecided t o ≡ look_of p → Says p (HasTerms u) → u ≡ t
       dec unused f g = absurd g
       dec (pending v e) f g = let no : ⊥ = cc in absurd no
-      dec (final v e z m) f g = let x : t ≡ v = cc in g ∙ sym x
+      dec (decided v e z m) f g = let x : t ≡ v = cc in g ∙ sym x
 
     -- a look that books what it shows
     pub looked_booking : (book : Book) (id : List ℕ) (t : Terms) (z : Outcome) → settings c ≡ settings b → margin ≡ (settings b).margin → (has_role b book.who → has_role c book.who)
@@ -116,17 +116,17 @@ module _ {B : Type 0} (settings : B → HubSettings) (knows : B → Fact → Typ
         → knows c (about (place_at from index) (Decided o)) × Says p (Decided o)
     ended unused o l a e = absurd a
     ended (pending t d) o l a e = let f = a.0 in let no : ⊥ = cc in absurd no
-    ended (final t d z m) o l a e = let f = a.0 in let x : o ≡ z = cc in (l.shown (Decided o) x, x)
+    ended (decided t d z m) o l a e = let f = a.0 in let x : o ≡ z = cc in (l.shown (Decided o) x, x)
 
     unended : (p : Standing) (o : Outcome) → Answers margin (stood b (place_at from index)) wish at p found → found ≡ None → Says p (Decided o) → ⊥
     unended unused o a e says = says
     unended (pending t d) o a e says = says
-    unended (final t d z m) o a e says = let f = a.0 in let no : ⊥ = cc in no
+    unended (decided t d z m) o a e says = let f = a.0 in let no : ⊥ = cc in no
 
-    pub decided : (book : Book) (id : List ℕ) (o : Outcome) → settings c ≡ settings b → margin ≡ (settings b).margin → (has_role b book.who → has_role c book.who)
+    pub decided_here : (book : Book) (id : List ℕ) (o : Outcome) → settings c ≡ settings b → margin ≡ (settings b).margin → (has_role b book.who → has_role c book.who)
         → LiesAt book from id index → booked from id book.events ≡ None → found ≡ Some o
         → IsLawfulBoard settings knows has_role b book → IsLawfulBoard settings knows has_role c (with_events book (book.events ++ Booked from id o ∷ []))
-    decided book id o same_settings fits role lies none e was =
+    decided_here book id o same_settings fits role lies none e was =
         let lain = lying settings knows has_role b book from id index was lies in
         let end = ended h.standing o h.learns h.answers e in
         moved settings knows has_role b c book (book.events ++ Booked from id o ∷ []) same_settings (learnt_truly settings knows has_role margin b c (place_at from index) h.standing h.learns book fits was) role h.learns.kept

@@ -16,7 +16,7 @@ use Rattle.inst_board.specs.declared.wish.Wish.TheVariants.{Accept, Reject, Expi
 use Rattle.inst_board.specs.declared.look.Look.{Look}
 use Rattle.inst_board.specs.declared.about.About.TheVariants.{Opened, HasTerms, Due, Decided}
 use Rattle.inst_board.specs.declared.about.Fact.{Fact}
-use Rattle.inst_board.specs.Standing.{Standing, unused, pending, final, Says, about}
+use Rattle.inst_board.specs.Standing.{Standing, unused, pending, decided, Says, about}
 use Rattle.inst_board.specs.Learning.{Learns, Looks, Decides, IsParty, Answers, IsAnswer, MayDecide}
 use Rattle.inst_board.specs.Wish.{wanted}
 use Rattle.inst_journal.specs.declared.event.Event.{Event}
@@ -48,7 +48,7 @@ module _ {B : Type 0} (settings : B → HubSettings) (knows : B → Fact → Typ
       → Says p (HasTerms t) → Says p (Decided o) → knows m (about k (HasTerms t)) × knows m (about k (Decided o))
   old_answer m c k wish at found may who mine unused l answers other ne role t o to answer says ended = absurd says
   old_answer m c k wish at found may who mine (pending u d) l answers other ne role t o to answer says ended = absurd ended
-  old_answer m c k wish at found may who mine (final u d z n) l answers other ne role t o to answer says ended =
+  old_answer m c k wish at found may who mine (decided u d z n) l answers other ne role t o to answer says ended =
       let same : may.terms ≡ t = l.agrees (HasTerms may.terms) may.has_terms ∙ sym says in
       let told = subst (λ (x : Terms). knows m (about k (HasTerms x))) same may.has_terms in (
         told,

@@ -13,7 +13,7 @@ use Rattle.inst_board.specs.declared.wish.Wish.{Wish}
 use Rattle.inst_board.specs.declared.about.About.{About}
 use Rattle.inst_board.specs.declared.about.About.TheVariants.{Opened, HasTerms, Due, Decided, DecidedAt}
 use Rattle.inst_board.specs.declared.about.Fact.{Fact}
-use Rattle.inst_board.specs.Standing.{Standing, unused, pending, final, Says, about}
+use Rattle.inst_board.specs.Standing.{Standing, unused, pending, decided, Says, about}
 use Rattle.inst_board.specs.Laws.{KnowsOpening}
 use Rattle.inst_board.specs.Learning.{KnowTheSame, Answers}
 use Rattle.inst_journal.specs.declared.event.Event.{Event}
@@ -62,7 +62,7 @@ module _ {B : Type 0} (settings : B → HubSettings) (knows : B → Fact → Typ
     pending_known k t d (pending u e) kn agrees o wish at m answers none (Due v) says = subst (λ (x : ℕ). knows b (about k (Due x))) (agrees (Due d) kn.due ∙ sym says) kn.due
     pending_known k t d (pending u e) kn agrees o wish at m answers none (Decided v) says = absurd says
     pending_known k t d (pending u e) kn agrees o wish at m answers none (DecidedAt v) says = absurd says
-    pending_known k t d (final u e z n) kn agrees o wish at m answers none a says = let f = answers.0 in let no : ⊥ = cc in absurd no
+    pending_known k t d (decided u e z n) kn agrees o wish at m answers none a says = let f = answers.0 in let no : ⊥ = cc in absurd no
 
     finds_unknown : (k : Place) (id : List ℕ) (wish : Wish) (at : ℕ) (found : Option Outcome) → LiesAt book k.owner id k.index → Finds margin knows has_role stood stays b k wish at found c → found ≡ None → KnowTheSame knows b c
     finds_unknown k id wish at found lies f none =

@@ -21,7 +21,7 @@ use Rattle.inst_slot.specs.LawfulBoard.{IsTakenAt, LiesAt, IsLawfulBoard}
 use Rattle.inst_slot.specs.Asking.{request, Finds, OnlyLooks, handle_ask, book_after, Settles}
 use Rattle.inst_slot.specs.Telling.{booking, with_event, taken_id, taken_by, if_unbooked, unbooked_at, ExpiresFor}
 use Rattle.inst_slot.proofs.Keeping.{with_events}
-use Rattle.inst_slot.proofs.Looking.{looked_on, decided, undecided}
+use Rattle.inst_slot.proofs.Looking.{looked_on, decided_here, undecided}
 use Rattle.inst_slot.proofs.Deciding.{asked}
 
 -- the own transfer at an index, with nothing booked
@@ -74,7 +74,7 @@ module _ {B : Type 0} (settings : B → HubSettings) (knows : B → Fact → Typ
       go : (o : Option Outcome) → found ≡ o → (f : Finds margin knows has_role stood stays b k wish at found c) → IsLawfulBoard settings knows has_role f.between book
           → settings c ≡ settings f.between → margin ≡ (settings f.between).margin → (has_role f.between book.who → has_role c book.who) → IsLawfulBoard settings knows has_role c (with_event book (booking k.owner id o))
       go None is f seen same margins role = undecided settings knows has_role margin stood f.between c k.owner k.index wish at found f.decides book id same margins role lies is seen
-      go (Some o) is f seen same margins role = decided settings knows has_role margin stood f.between c k.owner k.index wish at found f.decides book id o same margins role lies none is seen
+      go (Some o) is f seen same margins role = decided_here settings knows has_role margin stood f.between c k.owner k.index wish at found f.decides book id o same margins role lies none is seen
 
   only_looked : (k : Place) (wish : Wish) (at : ℕ) → OnlyLooks margin knows has_role stood b k wish at c → IsLawfulBoard settings knows has_role c book
   only_looked k wish at l = looked_on settings knows has_role margin stood b c k l.look l.looks book (stays_settings b c same_holder) fits (λ r. (stays_roles b c book.who same_holder).0 r) was

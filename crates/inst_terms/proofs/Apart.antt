@@ -7,7 +7,7 @@ use Rattle.inst_base.specs.Text.{is_identifier, is_reason}
 use Rattle.inst_command.specs.declared.outcome.Outcome.TheVariants.{Accepted, Rejected, TimedOut}
 use Rattle.inst_terms.specs.declared.terms.Terms.{Terms}
 use Rattle.inst_terms.specs.declared.word.Word.{Word}
-use Rattle.inst_terms.specs.declared.word.Word.TheVariants.{Unused, Pending, Final}
+use Rattle.inst_terms.specs.declared.word.Word.TheVariants.{Unused, Pending, Decided}
 use Rattle.inst_terms.specs.Identifier.{identifier_words}
 use Rattle.inst_terms.specs.inner.Identifier.{digit}
 use Rattle.inst_terms.specs.Reason.{reason_number}
@@ -53,30 +53,30 @@ same_reason r s hr hs same = sym (four_characters r hr).again ∙ ap characters 
 pub words_apart : (v w : Word) → IsWord v → IsWord w → number_of v ≡ number_of w → v ≡ w
 words_apart Unused Unused hv hw same = refl
 words_apart Unused (Pending e) hv hw same = let h = hw.0 in absurd (omega arith)
-words_apart Unused (Final Accepted u) hv hw same = absurd (omega arith)
-words_apart Unused (Final (Rejected s) u) hv hw same = absurd (omega arith)
-words_apart Unused (Final TimedOut u) hv hw same = absurd (omega arith)
+words_apart Unused (Decided Accepted u) hv hw same = absurd (omega arith)
+words_apart Unused (Decided (Rejected s) u) hv hw same = absurd (omega arith)
+words_apart Unused (Decided TimedOut u) hv hw same = absurd (omega arith)
 words_apart (Pending d) Unused hv hw same = let h = hv.0 in absurd (omega arith)
 words_apart (Pending d) (Pending e) hv hw same = ap Pending (omega arith)
-words_apart (Pending d) (Final Accepted u) hv hw same = absurd (omega arith)
-words_apart (Pending d) (Final (Rejected s) u) hv hw same = absurd (omega arith)
-words_apart (Pending d) (Final TimedOut u) hv hw same = absurd (omega arith)
-words_apart (Final Accepted t) Unused hv hw same = absurd (omega arith)
-words_apart (Final Accepted t) (Pending e) hv hw same = absurd (omega arith)
-words_apart (Final Accepted t) (Final Accepted u) hv hw same = ap (λ (x : ℕ). Final Accepted x) (omega arith)
-words_apart (Final Accepted t) (Final (Rejected s) u) hv hw same = absurd (omega arith)
-words_apart (Final Accepted t) (Final TimedOut u) hv hw same = absurd (omega arith)
-words_apart (Final (Rejected r) t) Unused hv hw same = absurd (omega arith)
-words_apart (Final (Rejected r) t) (Pending e) hv hw same = absurd (omega arith)
-words_apart (Final (Rejected r) t) (Final Accepted u) hv hw same = absurd (omega arith)
-words_apart (Final (Rejected r) t) (Final (Rejected s) u) hv hw same =
+words_apart (Pending d) (Decided Accepted u) hv hw same = absurd (omega arith)
+words_apart (Pending d) (Decided (Rejected s) u) hv hw same = absurd (omega arith)
+words_apart (Pending d) (Decided TimedOut u) hv hw same = absurd (omega arith)
+words_apart (Decided Accepted t) Unused hv hw same = absurd (omega arith)
+words_apart (Decided Accepted t) (Pending e) hv hw same = absurd (omega arith)
+words_apart (Decided Accepted t) (Decided Accepted u) hv hw same = ap (λ (x : ℕ). Decided Accepted x) (omega arith)
+words_apart (Decided Accepted t) (Decided (Rejected s) u) hv hw same = absurd (omega arith)
+words_apart (Decided Accepted t) (Decided TimedOut u) hv hw same = absurd (omega arith)
+words_apart (Decided (Rejected r) t) Unused hv hw same = absurd (omega arith)
+words_apart (Decided (Rejected r) t) (Pending e) hv hw same = absurd (omega arith)
+words_apart (Decided (Rejected r) t) (Decided Accepted u) hv hw same = absurd (omega arith)
+words_apart (Decided (Rejected r) t) (Decided (Rejected s) u) hv hw same =
     let br = (four_characters r hv.0).below in let bs = (four_characters s hw.0).below in
     let moment : t ≡ u = omega arith in
     let number : reason_number r ≡ reason_number s = omega arith in
     let reason = same_reason r s hv.0 hw.0 number in cc
-words_apart (Final (Rejected r) t) (Final TimedOut u) hv hw same = absurd (omega arith)
-words_apart (Final TimedOut t) Unused hv hw same = absurd (omega arith)
-words_apart (Final TimedOut t) (Pending e) hv hw same = absurd (omega arith)
-words_apart (Final TimedOut t) (Final Accepted u) hv hw same = absurd (omega arith)
-words_apart (Final TimedOut t) (Final (Rejected s) u) hv hw same = absurd (omega arith)
-words_apart (Final TimedOut t) (Final TimedOut u) hv hw same = ap (λ (x : ℕ). Final TimedOut x) (omega arith)
+words_apart (Decided (Rejected r) t) (Decided TimedOut u) hv hw same = absurd (omega arith)
+words_apart (Decided TimedOut t) Unused hv hw same = absurd (omega arith)
+words_apart (Decided TimedOut t) (Pending e) hv hw same = absurd (omega arith)
+words_apart (Decided TimedOut t) (Decided Accepted u) hv hw same = absurd (omega arith)
+words_apart (Decided TimedOut t) (Decided (Rejected s) u) hv hw same = absurd (omega arith)
+words_apart (Decided TimedOut t) (Decided TimedOut u) hv hw same = ap (λ (x : ℕ). Decided TimedOut x) (omega arith)

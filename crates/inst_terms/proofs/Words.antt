@@ -8,7 +8,7 @@ use Rattle.inst_base.specs.Moment.{is_moment, moment_of}
 use Rattle.inst_base.specs.Text.{is_reason}
 use Rattle.inst_command.specs.declared.outcome.Outcome.TheVariants.{Accepted, Rejected, TimedOut}
 use Rattle.inst_terms.specs.declared.word.Word.{Word}
-use Rattle.inst_terms.specs.declared.word.Word.TheVariants.{Unused, Pending, Final}
+use Rattle.inst_terms.specs.declared.word.Word.TheVariants.{Unused, Pending, Decided}
 use Rattle.inst_terms.specs.Reason.{reason_number}
 use Rattle.inst_terms.specs.Word.{IsWord, number_of}
 use Rattle.inst_terms.proofs.Reasons.{four_characters}
@@ -16,7 +16,7 @@ use Rattle.inst_terms.proofs.Reasons.{four_characters}
 pub record IsRejection (word : ℕ) (read : Word) : Type 0 where
   pub reason : List ℕ
   pub moment : ℕ
-  pub is : read ≡ Final (Rejected reason) moment
+  pub is : read ≡ Decided (Rejected reason) moment
   pub form : IsTrue (is_reason reason)
   pub reason_is : reason_number reason ≡ word / 4 % 2097152
   pub moment_is : moment ≡ word / 4 / 2097152
@@ -24,11 +24,11 @@ pub record IsRejection (word : ℕ) (read : Word) : Type 0 where
 pub rejection : (word : ℕ) (read : Word) → IsWord read → number_of read ≡ word → word % 4 ≡ 2 → IsRejection word read
 rejection word Unused h is kind = absurd (omega arith)
 rejection word (Pending d) h is kind = absurd (omega arith)
-rejection word (Final Accepted t) h is kind = absurd (omega arith)
-rejection word (Final (Rejected r) t) h is kind =
+rejection word (Decided Accepted t) h is kind = absurd (omega arith)
+rejection word (Decided (Rejected r) t) h is kind =
     let below = (four_characters r h.0).below in
     record { reason = r; moment = t; is = refl; form = h.0; reason_is = omega arith; moment_is = omega arith }
-rejection word (Final TimedOut t) h is kind = absurd (omega arith)
+rejection word (Decided TimedOut t) h is kind = absurd (omega arith)
 
 pub moment_found : (x at : ℕ) → Some at ≡ result_ok (moment_of 0 x) → (at ≡ x) × IsTrue (is_moment at)
 moment_found x at = elim (nat_le 0 x && is_moment (x - 0)) as (λ b. ((nat_le 0 x && is_moment (x - 0)) ≡ b) → Some at ≡ result_ok (if b then Ok (x - 0) else Err BadMoment) → (at ≡ x) × IsTrue (is_moment at)) [
@@ -46,5 +46,5 @@ found_once o a b one two = cc
 pub rejection_number : (word moment reason : ℕ) → moment ≡ word / 4 / 2097152 → reason ≡ word / 4 % 2097152 → word % 4 ≡ 2 → (moment * 2097152 + reason) * 4 + 2 ≡ word
 rejection_number word moment reason a b kind = omega arith
 
-pub same_rejection : (reason r : List ℕ) (at t : ℕ) (read : Word) → at ≡ t → reason ≡ r → read ≡ Final (Rejected r) t → Some (Final (Rejected reason) at) ≡ Some read
+pub same_rejection : (reason r : List ℕ) (at t : ℕ) (read : Word) → at ≡ t → reason ≡ r → read ≡ Decided (Rejected r) t → Some (Decided (Rejected reason) at) ≡ Some read
 same_rejection reason r at t read moment same is = cc

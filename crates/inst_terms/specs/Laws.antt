@@ -7,7 +7,7 @@ use Rattle.inst_command.specs.declared.outcome.State.{State}
 use Rattle.inst_command.specs.declared.outcome.State.TheVariants.{Unused as SeenUnused, Pending as SeenPending, Decided}
 use Rattle.inst_terms.specs.declared.terms.Terms.{Terms}
 use Rattle.inst_terms.specs.declared.word.Word.{Word}
-use Rattle.inst_terms.specs.declared.word.Word.TheVariants.{Unused, Pending, Final}
+use Rattle.inst_terms.specs.declared.word.Word.TheVariants.{Unused, Pending, Decided as DecidedWord}
 use Rattle.inst_terms.specs.Terms.{IsTerms, words_of}
 use Rattle.inst_terms.specs.Word.{IsWord, number_of}
 use Rattle.inst_terms.specs.WordLaw.{InTime, IsLawful, seen, IsAtLeast}
@@ -18,10 +18,10 @@ DifferentTermsHaveDifferentWords = (a b : Terms) → IsTerms a → IsTerms b →
 abbrev pub DifferentWordsHaveDifferentNumbers : Type 0
 DifferentWordsHaveDifferentNumbers = (v w : Word) → IsWord v → IsWord w → number_of v ≡ number_of w → v ≡ w
 
--- a place has one final word at most
-abbrev pub OneFinalWord : Type 0
-OneFinalWord = (margin : ℕ) (words : List Word) → IsLawful margin words → (i j : ℕ) (o p : Outcome) (t u : ℕ) →
-    slice_get words i ≡ Some (Final o t) → slice_get words j ≡ Some (Final p u) → Final o t ≡ Final p u
+-- a place has one decided word at most
+abbrev pub OneDecidedWord : Type 0
+OneDecidedWord = (margin : ℕ) (words : List Word) → IsLawful margin words → (i j : ℕ) (o p : Outcome) (t u : ℕ) →
+    slice_get words i ≡ Some (DecidedWord o t) → slice_get words j ≡ Some (DecidedWord p u) → DecidedWord o t ≡ DecidedWord p u
 
 -- a place has one deadline, for as long as it is pending
 abbrev pub OneDeadline : Type 0
@@ -33,10 +33,10 @@ abbrev pub NothingSeenGoesBack : Type 0
 NothingSeenGoesBack = (margin : ℕ) (words : List Word) → IsLawful margin words → (i j : ℕ) → i ≤ j → (v w : Word) →
     slice_get words i ≡ Some v → slice_get words j ≡ Some w → IsAtLeast (seen w) (seen v)
 
--- before a final word stood the pending one, and by its deadline the outcome is in time
+-- before a decided word stood the pending one, and by its deadline the outcome is in time
 abbrev pub EachOutcomeIsInTime : Type 0
 EachOutcomeIsInTime = (margin : ℕ) (words : List Word) → IsLawful margin words → (i : ℕ) (o : Outcome) (t : ℕ) →
-    slice_get words i ≡ Some (Final o t) →
+    slice_get words i ≡ Some (DecidedWord o t) →
     (j : ℕ) × (d : ℕ) × (j < i) × (slice_get words j ≡ Some (Pending d)) × (1 ≤ d) × InTime margin o d t
 
 -- what is in time: an acceptance before the deadline by more than the margin, a rejection before the deadline, a time-out
@@ -52,7 +52,7 @@ WhatIsInTime = (margin deadline moment : ℕ) → TellsInTime margin deadline mo
 -- each outcome that is in time may be a place's, and stay so
 abbrev pub EachOutcomeInTimeMayStand : Type 0
 EachOutcomeInTimeMayStand = (margin : ℕ) (o : Outcome) (deadline moment : ℕ) → 1 ≤ deadline → InTime margin o deadline moment →
-    IsLawful margin (Unused ∷ Pending deadline ∷ Pending deadline ∷ Final o moment ∷ Final o moment ∷ [])
+    IsLawful margin (Unused ∷ Pending deadline ∷ Pending deadline ∷ DecidedWord o moment ∷ DecidedWord o moment ∷ [])
 
 -- what is at least what was seen: after nothing anything, after a pending place it or an outcome, and after an outcome
 -- that one
@@ -61,11 +61,11 @@ pub record GoesOnFrom (later : State) : Type 0 where
   pub pending : IsAtLeast later SeenPending ↔ (later ≢ SeenUnused)
   pub decided : (o : Outcome) → IsAtLeast later (Decided o) ↔ (later ≡ Decided o)
 
--- a pending word shows that, and a final one its outcome
+-- a pending word shows that, and a decided one its outcome
 pub record WordsShow : Type 0 where
   pub unused : seen Unused ≡ SeenUnused
   pub pending : (deadline : ℕ) → seen (Pending deadline) ≡ SeenPending
-  pub final : (o : Outcome) (moment : ℕ) → seen (Final o moment) ≡ Decided o
+  pub decided : (o : Outcome) (moment : ℕ) → seen (DecidedWord o moment) ≡ Decided o
 
 abbrev pub WhatIsSeen : Type 0
 WhatIsSeen = WordsShow × ((later : State) → GoesOnFrom later)

@@ -2,7 +2,7 @@
 use Rattle.std.specs.Prelude.{◌≡◌, ℕ, List, [], ◌∷◌, codes}
 use Rattle.inst_command.specs.declared.outcome.Outcome.TheVariants.{Accepted, Rejected, TimedOut}
 use Rattle.inst_terms.specs.declared.terms.Terms.{Terms}
-use Rattle.inst_terms.specs.declared.word.Word.TheVariants.{Unused, Pending, Final}
+use Rattle.inst_terms.specs.declared.word.Word.TheVariants.{Unused, Pending, Decided}
 use Rattle.inst_terms.specs.Terms.{words_of}
 use Rattle.inst_terms.specs.Word.{number_of}
 
@@ -19,9 +19,9 @@ pub record OutcomeWords : Type 0 where
   pub unused : number_of Unused ≡ 0
   pub pending : number_of (Pending 11000) ≡ 92274688000
   pub last : number_of (Pending 2199023255551) ≡ 18446744073701163008
-  pub accepted : number_of (Final Accepted 10999) ≡ 92266299393
-  pub rejected : number_of (Final (Rejected (codes "AC04")) 2000) ≡ 16779144466
-  pub timed_out : number_of (Final TimedOut 11000) ≡ 92274688003
+  pub accepted : number_of (Decided Accepted 10999) ≡ 92266299393
+  pub rejected : number_of (Decided (Rejected (codes "AC04")) 2000) ≡ 16779144466
+  pub timed_out : number_of (Decided TimedOut 11000) ≡ 92274688003
 
 abbrev pub WordsOfTheFormat : Type 0
 WordsOfTheFormat = TermsWords × OutcomeWords

@@ -7,7 +7,7 @@ use Rattle.inst_base.specs.Text.{is_reason}
 use Rattle.inst_command.specs.declared.outcome.Outcome.{Outcome}
 use Rattle.inst_command.specs.declared.outcome.Outcome.TheVariants.{Accepted, Rejected, TimedOut}
 use Rattle.inst_terms.specs.declared.word.Word.{Word}
-use Rattle.inst_terms.specs.declared.word.Word.TheVariants.{Unused, Pending, Final}
+use Rattle.inst_terms.specs.declared.word.Word.TheVariants.{Unused, Pending, Decided}
 use Rattle.inst_terms.specs.Reason.{reason_number}
 
 -- the room of a reason
@@ -32,7 +32,7 @@ outcome_number TimedOut moment = number moment 0 3
 abbrev pub number_of : Word → ℕ
 number_of Unused = 0
 number_of (Pending deadline) = number deadline 0 0
-number_of (Final outcome moment) = outcome_number outcome moment
+number_of (Decided outcome moment) = outcome_number outcome moment
 
 -- an outcome whose reason, if it has one, is one
 abbrev pub IsOutcome : Outcome → Type 0
@@ -44,4 +44,4 @@ IsOutcome TimedOut = Unit {0}
 abbrev pub IsWord : Word → Type 0
 IsWord Unused = Unit {0}
 IsWord (Pending deadline) = (1 ≤ deadline) × IsTrue (is_moment deadline)
-IsWord (Final outcome moment) = IsOutcome outcome × IsTrue (is_moment moment)
+IsWord (Decided outcome moment) = IsOutcome outcome × IsTrue (is_moment moment)

@@ -1,4 +1,4 @@
--- How the outcome word of a place may change: from unused to pending once, then once to a final word, which stays. A
+-- How the outcome word of a place may change: from unused to pending once, then once to a decided word, which stays. A
 -- transfer is accepted or rejected before its deadline and timed out from it on, as in the rulebook
 -- (EPC004-16, chapter 4: time cycle); the margin for acceptances, and that one word decides, are this hub's own choices.
 use Rattle.std.specs.Prelude.{◌≡◌, ◌⊎◌, ℕ, ◌≤◌, List, [], ◌∷◌, IsTrue}
@@ -8,7 +8,7 @@ use Rattle.inst_command.specs.declared.outcome.Outcome.TheVariants.{Accepted, Re
 use Rattle.inst_command.specs.declared.outcome.State.{State}
 use Rattle.inst_command.specs.declared.outcome.State.TheVariants.{Unused as SeenUnused, Pending as SeenPending, Decided}
 use Rattle.inst_terms.specs.declared.word.Word.{Word}
-use Rattle.inst_terms.specs.declared.word.Word.TheVariants.{Unused, Pending, Final}
+use Rattle.inst_terms.specs.declared.word.Word.TheVariants.{Unused, Pending, Decided as DecidedWord}
 
 -- the outcome of a transfer with this deadline, decided at the moment, is in time, with this margin for acceptances
 abbrev pub InTime : ℕ → Outcome → ℕ → ℕ → Type 0
@@ -20,11 +20,11 @@ InTime margin TimedOut deadline moment = IsTrue (is_due deadline moment)
 abbrev pub Moves : ℕ → Word → Word → Type 0
 Moves margin Unused Unused = ⊥
 Moves margin Unused (Pending deadline) = 1 ≤ deadline
-Moves margin Unused (Final outcome moment) = ⊥
+Moves margin Unused (DecidedWord outcome moment) = ⊥
 Moves margin (Pending deadline) Unused = ⊥
 Moves margin (Pending deadline) (Pending other) = ⊥
-Moves margin (Pending deadline) (Final outcome moment) = InTime margin outcome deadline moment
-Moves margin (Final outcome moment) word = ⊥
+Moves margin (Pending deadline) (DecidedWord outcome moment) = InTime margin outcome deadline moment
+Moves margin (DecidedWord outcome moment) word = ⊥
 
 -- the words that a place has one after another, after the word `before`: each is the one before it, or moves from it
 abbrev pub Follow : ℕ → Word → List Word → Type 0
@@ -39,7 +39,7 @@ IsLawful margin words = Follow margin Unused words
 abbrev pub seen : Word → State
 seen Unused = SeenUnused
 seen (Pending deadline) = SeenPending
-seen (Final outcome moment) = Decided outcome
+seen (DecidedWord outcome moment) = Decided outcome
 
 -- what is seen later is at least what was seen before
 abbrev pub IsAtLeast : State → State → Type 0

@@ -1,7 +1,7 @@
 //! The laws of a place's words. Each is a function without a body whose contract is the law, so that
 //! the check proves it.
 ghost use Rattle.inst_terms.specs.Laws.{DifferentTermsHaveDifferentWords, DifferentWordsHaveDifferentNumbers};
-ghost use Rattle.inst_terms.specs.Laws.{OneFinalWord, OneDeadline, NothingSeenGoesBack, EachOutcomeIsInTime, WhatIsInTime};
+ghost use Rattle.inst_terms.specs.Laws.{OneDecidedWord, OneDeadline, NothingSeenGoesBack, EachOutcomeIsInTime, WhatIsInTime};
 ghost use Rattle.inst_terms.specs.Laws.{EachOutcomeInTimeMayStand, WhatIsSeen};
 ghost use Rattle.inst_terms.specs.Rows.{WordsOfTheFormat};
 
@@ -15,9 +15,9 @@ pub fn different_words_have_different_numbers()
     ensures { DifferentWordsHaveDifferentNumbers }
 {}
 
-/// Over all its words a place has one final word at most.
-pub fn one_final_word()
-    ensures { OneFinalWord }
+/// Over all its words a place has one decided word at most.
+pub fn one_decided_word()
+    ensures { OneDecidedWord }
 {}
 
 /// The deadline of a place never changes.

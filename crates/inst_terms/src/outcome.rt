@@ -30,7 +30,7 @@ pub fn pack_outcome(word: &Word) -> u64
     match word {
         Word::Unused => 0,
         Word::Pending(deadline) => number(deadline.past_base(), 0, PENDING),
-        Word::Final(outcome, at) => {
+        Word::Decided(outcome, at) => {
             let at = at.past_base();
             match outcome {
                 Outcome::Accepted => number(at, 0, ACCEPTED),
@@ -54,14 +54,14 @@ pub fn read_outcome(word: u64) -> Option<Word>
     let at = Moment::new(0, word / KINDS / REASON_ROOM).ok()?;
     if kind == REJECTED {
         let reason = read_reason(reason)?;
-        return Some(Word::Final(Outcome::Rejected(reason), at));
+        return Some(Word::Decided(Outcome::Rejected(reason), at));
     }
     if reason != 0 {
         return None;
     }
     match kind {
-        ACCEPTED => Some(Word::Final(Outcome::Accepted, at)),
-        TIMED_OUT => Some(Word::Final(Outcome::TimedOut, at)),
+        ACCEPTED => Some(Word::Decided(Outcome::Accepted, at)),
+        TIMED_OUT => Some(Word::Decided(Outcome::TimedOut, at)),
         _ => Some(Word::Pending(at)),
     }
 }

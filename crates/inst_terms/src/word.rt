@@ -9,5 +9,5 @@ pub enum Word {
     /// The transfer is pending until its deadline.
     Pending(Moment),
     /// The transfer was decided, at that reading.
-    Final(Outcome, Moment),
+    Decided(Outcome, Moment),
 }

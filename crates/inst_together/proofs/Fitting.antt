@@ -13,7 +13,7 @@ use Rattle.inst_terms.specs.declared.terms.Terms.{Terms}
 use Rattle.inst_board.specs.declared.place.Place.{Place}
 use Rattle.inst_board.specs.declared.about.About.TheVariants.{Opened, HasTerms, Due, Decided}
 use Rattle.inst_board.specs.declared.about.Fact.{Fact}
-use Rattle.inst_board.specs.Standing.{Standing, unused, pending, final, Says, about}
+use Rattle.inst_board.specs.Standing.{Standing, unused, pending, decided, Says, about}
 use Rattle.inst_board.specs.Laws.{KnowsOpening}
 use Rattle.inst_journal.specs.declared.event.Event.{Event}
 use Rattle.inst_journal.specs.declared.event.Event.TheVariants.{Taken, Forwarded, Booked}
@@ -50,7 +50,7 @@ use Rattle.inst_together.proofs.Listing.{got, in_filtered, some_same, none_some,
 same_due : (p : Standing) (d e : ℕ) → Says p (Due d) → Says p (Due e) → d ≡ e
 same_due unused d e h g = absurd h
 same_due (pending t x) d e h g = h ∙ sym g
-same_due (final t x o m) d e h g = h ∙ sym g
+same_due (decided t x o m) d e h g = h ∙ sym g
 
 taken_fits : (s : HubSettings) (who : ℕ) (J : List Event) (id : List ℕ) (to cents stamp : ℕ) → IsSound s who J → Contains J (Taken id to cents stamp) → (to < participants s) × (to ≢ who)
 taken_fits s who J id to cents stamp sound (i, below, is) =

@@ -10,7 +10,7 @@ use Rattle.inst_board.specs.declared.place.Place.{Place}
 use Rattle.inst_board.specs.declared.about.About.TheVariants.{Opened}
 use Rattle.inst_board.specs.declared.look.Look.{Look}
 use Rattle.inst_board.specs.declared.look.Look.TheVariants.{Pending}
-use Rattle.inst_board.specs.Standing.{Standing, unused, pending, final, Says, look_of, about, is_place}
+use Rattle.inst_board.specs.Standing.{Standing, unused, pending, decided, Says, look_of, about, is_place}
 use Rattle.inst_board.specs.Learning.{Looks}
 use Rattle.inst_board.specs.Plain.{Contents, standing_at, plain_knows, plain_stood, known_is_place}
 use Rattle.inst_board.specs.Laws.{SayTheSame}
@@ -181,7 +181,7 @@ module _ (books : List Book) (b c : Contents) (k : Place) (t : Terms) (d i : ℕ
 pub pending_look : (p : Standing) (t : Terms) (d : ℕ) → look_of p ≡ Pending t d → p ≡ pending t d
 pending_look unused t d e = let no : ⊥ = cc in absurd no
 pending_look (pending u f) t d e = let terms : u ≡ t = cc in let due : f ≡ d = cc in λ i. pending (terms i) (due i)
-pending_look (final u f o m) t d e = let no : ⊥ = cc in absurd no
+pending_look (decided u f o m) t d e = let no : ⊥ = cc in absurd no
 
 -- the slot to whose participant the transfer is addressed
 pub record IsHeld (books : List Book) (t : Terms) (i : ℕ) (slot : Book) : Type 0 where

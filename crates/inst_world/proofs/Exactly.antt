@@ -7,7 +7,7 @@ use Rattle.inst_board.specs.declared.place.Place.{Place}
 use Rattle.inst_board.specs.declared.look.Look.{Look}
 use Rattle.inst_board.specs.declared.wish.Wish.{Wish}
 use Rattle.inst_board.specs.declared.about.About.TheVariants.{Opened, HasTerms, Due, Decided}
-use Rattle.inst_board.specs.Standing.{Standing, unused, pending, final, Says, about, look_of}
+use Rattle.inst_board.specs.Standing.{Standing, unused, pending, decided, Says, about, look_of}
 use Rattle.inst_board.specs.Wish.{wanted}
 use Rattle.inst_board.specs.Learning.{Looks}
 use Rattle.inst_board.specs.Plain.{Contents, standing_at, plain_knows, plain_stood, after, outcome_of}
@@ -24,26 +24,26 @@ say_pending (pending u e) t d h =
     let terms : t ≡ u = (h (HasTerms t)).1 refl in
     let due : d ≡ e = (h (Due d)).1 refl in
     cc
-say_pending (final u e o m) t d h = absurd ((h (Decided o)).0 refl)
+say_pending (decided u e o m) t d h = absurd ((h (Decided o)).0 refl)
 
-say_final : (p : Standing) (t : Terms) (d : ℕ) (o : Outcome) (m : ℕ) → SayTheSame p (final t d o m) → (n : ℕ) × (p ≡ final t d o n)
-say_final unused t d o m h = absurd ((h Opened).1 tt)
-say_final (pending u e) t d o m h = absurd ((h (Decided o)).1 refl)
-say_final (final u e z n) t d o m h =
+say_decided : (p : Standing) (t : Terms) (d : ℕ) (o : Outcome) (m : ℕ) → SayTheSame p (decided t d o m) → (n : ℕ) × (p ≡ decided t d o n)
+say_decided unused t d o m h = absurd ((h Opened).1 tt)
+say_decided (pending u e) t d o m h = absurd ((h (Decided o)).1 refl)
+say_decided (decided u e z n) t d o m h =
     let terms : t ≡ u = (h (HasTerms t)).1 refl in
     let due : d ≡ e = (h (Due d)).1 refl in
     let outcome : o ≡ z = (h (Decided o)).1 refl in
-    let same : final u e z n ≡ final t d o n = cc in
+    let same : decided u e z n ≡ decided t d o n = cc in
     (n, same)
 
 say_unused : (p : Standing) → SayTheSame p unused → p ≡ unused
 say_unused unused h = refl
 say_unused (pending u e) h = absurd ((h Opened).0 tt)
-say_unused (final u e o m) h = absurd ((h Opened).0 tt)
+say_unused (decided u e o m) h = absurd ((h Opened).0 tt)
 
 pub same_with : (t : Terms) (d : ℕ) (o : Option Outcome) (p q : Standing) → SayTheSame q p → StandsWith t d o p → StandsWith t d o q
 same_with t d None p q same is = say_pending q t d (subst (λ (x : Standing). SayTheSame q x) is same)
-same_with t d (Some o) p q same is = say_final q t d o is.0 (subst (λ (x : Standing). SayTheSame q x) is.1 same)
+same_with t d (Some o) p q same is = say_decided q t d o is.0 (subst (λ (x : Standing). SayTheSame q x) is.1 same)
 
 pub same_for : (s : HubSettings) (outcomes : List ℕ → Option Outcome) (x : Option Transfer) (p q : Standing) → SayTheSame q p → StandsFor s outcomes x p → StandsFor s outcomes x q
 same_for s outcomes None p q same is = say_unused q (subst (λ (x : Standing). SayTheSame q x) is same)
@@ -77,19 +77,19 @@ module _ (margin : ℕ) (m c : Contents) (k : Place) (wish : Wish) (at : ℕ) (f
       → (found ≡ w) × StandsWith t d found (standing_at c k)
   from_pending None want is exact =
       let stays : after margin wish at (standing_at m k) ≡ pending t d =
-      ap (after margin wish at) is ∙ ap (λ (x : Option Outcome). elim x [ None ↦ pending t d | Some o ↦ final t d o at ]) want in
+      ap (after margin wish at) is ∙ ap (λ (x : Option Outcome). elim x [ None ↦ pending t d | Some o ↦ decided t d o at ]) want in
       let none : found ≡ None = exact.0 ∙ ap outcome_of stays in (
         none,
         subst (λ (o : Option Outcome). StandsWith t d o (standing_at c k)) (sym none)
             (say_pending (standing_at c k) t d (subst (λ (x : Standing). SayTheSame (standing_at c k) x) stays exact.1.here)),
       )
   from_pending (Some z) want is exact =
-      let ends : after margin wish at (standing_at m k) ≡ final t d z at =
-      ap (after margin wish at) is ∙ ap (λ (x : Option Outcome). elim x [ None ↦ pending t d | Some o ↦ final t d o at ]) want in
+      let ends : after margin wish at (standing_at m k) ≡ decided t d z at =
+      ap (after margin wish at) is ∙ ap (λ (x : Option Outcome). elim x [ None ↦ pending t d | Some o ↦ decided t d o at ]) want in
       let some : found ≡ Some z = exact.0 ∙ ap outcome_of ends in (
         some,
         subst (λ (o : Option Outcome). StandsWith t d o (standing_at c k)) (sym some)
-            (say_final (standing_at c k) t d z at (subst (λ (x : Standing). SayTheSame (standing_at c k) x) ends exact.1.here)),
+            (say_decided (standing_at c k) t d z at (subst (λ (x : Standing). SayTheSame (standing_at c k) x) ends exact.1.here)),
       )
 
   from_any : (before : Option Outcome) → StandsWith t d before (standing_at m k)
@@ -97,11 +97,11 @@ module _ (margin : ℕ) (m c : Contents) (k : Place) (wish : Wish) (at : ℕ) (f
       → (found ≡ or_else before (wanted margin wish d at)) × StandsWith t d found (standing_at c k)
   from_any None is exact = from_pending (wanted margin wish d at) refl is exact
   from_any (Some z) is exact =
-      let ends : after margin wish at (standing_at m k) ≡ final t d z is.0 = ap (after margin wish at) is.1 in
+      let ends : after margin wish at (standing_at m k) ≡ decided t d z is.0 = ap (after margin wish at) is.1 in
       let some : found ≡ Some z = exact.0 ∙ ap outcome_of ends in (
         some,
         subst (λ (o : Option Outcome). StandsWith t d o (standing_at c k)) (sym some)
-            (say_final (standing_at c k) t d z is.0 (subst (λ (x : Standing). SayTheSame (standing_at c k) x) ends exact.1.here)),
+            (say_decided (standing_at c k) t d z is.0 (subst (λ (x : Standing). SayTheSame (standing_at c k) x) ends exact.1.here)),
       )
 
 -- a look shows what is there, and leaves all as it is

@@ -63,7 +63,7 @@ impl Board for SharedBoard {
                 let terms = self.terms(place);
                 Look::Pending(terms, deadline)
             }
-            Word::Final(outcome, _) => {
+            Word::Decided(outcome, _) => {
                 let terms = self.terms(place);
                 Look::Decided(terms, outcome)
             }
@@ -75,19 +75,19 @@ impl Board for SharedBoard {
         match read_word(word) {
             Word::Unused => Glance::Unused,
             Word::Pending(deadline) => Glance::Pending(deadline),
-            Word::Final(outcome, _) => Glance::Decided(outcome),
+            Word::Decided(outcome, _) => Glance::Decided(outcome),
         }
     }
 
     fn decide(&mut self, place: Place, wish: Wish, at: Moment) -> Option<Outcome> {
         let word = self.load(place);
         match read_word(word) {
-            Word::Final(outcome, _) => Some(outcome),
+            Word::Decided(outcome, _) => Some(outcome),
             Word::Pending(deadline) => {
                 let outcome = wish.outcome(self.margin, deadline, at)?;
                 let word = self.settle(place, deadline, &outcome, at);
                 match read_word(word) {
-                    Word::Final(outcome, _) => Some(outcome),
+                    Word::Decided(outcome, _) => Some(outcome),
                     _ => unreachable!(),
                 }
             }

@@ -16,7 +16,7 @@ ghost use Rattle.inst_cell.specs.Held.{settings_of, view_of, knows, has_role, wr
 
 use super::SharedBoard;
 use crate::steps::{Deciding, Loading, LoadingTerm, Noting, PlaceOpening};
-use crate::words::{final_word, pending_word};
+use crate::words::{decided_word, pending_word};
 use inst_base::Moment;
 use inst_board::Place;
 use inst_command::Outcome;
@@ -119,7 +119,7 @@ impl SharedBoard {
     {
         let word = self.first_word(place) + 5;
         let pending = pending_word(deadline);
-        let decided = final_word(outcome, at);
+        let decided = decided_word(outcome, at);
         let found = self
             .table
             .shared

@@ -7,5 +7,5 @@ use Rattle.inst_board.proofs.plain.PlainBoard.shown.Goals as goal
 pub terms-requires : goal.terms-requires
 terms-requires c = opened_terms (kept_at c.args.self.now c.args.place) c.word.result c.word.ensures.value (λ (e : c.word.result ≡ Unused). let is = c.in-Pending.is in cc)
 
-pub terms-requires-in-Final : goal.terms-requires-in-Final
-terms-requires-in-Final c = opened_terms (kept_at c.args.self.now c.args.place) c.word.result c.word.ensures.value (λ (e : c.word.result ≡ Unused). let is = c.in-Final.is in cc)
+pub terms-requires-in-Decided : goal.terms-requires-in-Decided
+terms-requires-in-Decided c = opened_terms (kept_at c.args.self.now c.args.place) c.word.result c.word.ensures.value (λ (e : c.word.result ≡ Unused). let is = c.in-Decided.is in cc)

@@ -14,7 +14,7 @@ compare_exchange-found-requires c =
     let w = c.requires.terms in (
       search rules,
       search rules,
-      rw (c.deref.ensures, c.first_word-word.ensures.value) (allows_decides s _ _ _ _ (below s c.args.place c.requires.due.0) c.args.self.now.based c.args.self.now.bounded w.0 c.args.deadline _ _ c.args.outcome.now c.args.at c.pending_word-pending.ensures.value c.final_word-decided.ensures.value c.final_word-decided.ensures.word c.requires.in_time c.requires.due.1 w.1.1 w.2
+      rw (c.deref.ensures, c.first_word-word.ensures.value) (allows_decides s _ _ _ _ (below s c.args.place c.requires.due.0) c.args.self.now.based c.args.self.now.bounded w.0 c.args.deadline _ _ c.args.outcome.now c.args.at c.pending_word-pending.ensures.value c.decided_word-decided.ensures.value c.decided_word-decided.ensures.word c.requires.in_time c.requires.due.1 w.1.1 w.2
           (⊎_elim (λ mine. inl (subst (λ (n : ℕ). 0 < count n (roles_of c.args.self.now)) (sym (owner_is s c.args.place c.requires.due.0)) mine)) (λ its. inr its) w.3)),
     )
 
@@ -42,7 +42,7 @@ pub returns-then-found-pending-clause-shows : goal.returns-then-found-pending-cl
 returns-then-found-pending-clause-shows c =
     let k = number_of (settings_of c.args.self.now) c.args.place in
     let s = c.compare_exchange-found.ensures.2.0 k (ap (λ (x : ℕ). x + 5) c.first_word-word.ensures.value) in
-    hit _ _ _ _ _ _ _ c.if-found-pending.true c.final_word-decided.ensures.value s
+    hit _ _ _ _ _ _ _ c.if-found-pending.true c.decided_word-decided.ensures.value s
 
 pub returns-else-found-pending-clause-stays : goal.returns-else-found-pending-clause-stays
 returns-else-found-pending-clause-stays c =

@@ -21,11 +21,11 @@ returns-in-Pending-clause-look c =
     let look = look_of s.standing in
     (look, looks_as c.args.self.now c.args.place c.requires.terms.1.0 s.standing s.agrees c.load-word.new.self l.stays.settings (seen_only _ _ _ _ s) s.showable before.0 before.1 before.2 look refl, glance_pending s.standing _ c.in-Pending.deadline word c.in-Pending.is)
 
-pub returns-in-Final-clause-look : goal.returns-in-Final-clause-look
-returns-in-Final-clause-look c =
+pub returns-in-Decided-clause-look : goal.returns-in-Decided-clause-look
+returns-in-Decided-clause-look c =
     let l = c.load-word.ensures in
     let s = l.shows in
     let before = knew_before _ _ _ _ s in
     let word = c.read_word.ensures _ s.standing s.showable s.is in
     let look = look_of s.standing in
-    (look, looks_as c.args.self.now c.args.place c.requires.terms.1.0 s.standing s.agrees c.load-word.new.self l.stays.settings (seen_only _ _ _ _ s) s.showable before.0 before.1 before.2 look refl, glance_decided s.standing _ c.in-Final.outcome c.in-Final.field-1 word c.in-Final.is)
+    (look, looks_as c.args.self.now c.args.place c.requires.terms.1.0 s.standing s.agrees c.load-word.new.self l.stays.settings (seen_only _ _ _ _ s) s.showable before.0 before.1 before.2 look refl, glance_decided s.standing _ c.in-Decided.outcome c.in-Decided.field-1 word c.in-Decided.is)

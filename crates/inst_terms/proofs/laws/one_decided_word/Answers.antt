@@ -1,0 +1,5 @@
+use Rattle.inst_terms.proofs.Following.{one_decided}
+use Rattle.inst_terms.proofs.laws.one_decided_word.Goals as goal
+
+pub returns : goal.returns
+returns c = one_decided
