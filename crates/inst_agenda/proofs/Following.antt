@@ -25,13 +25,13 @@ all_append P (x ∷ xs) ys first second = (first.0, all_append P xs ys first.1 s
 pub one_on : (xs ys L : List Step) → reverse (xs ++ ys) ++ L ≡ reverse ys ++ (reverse xs ++ L)
 one_on xs ys L = ap (λ (t : List Step). t ++ L) (reverse-append xs ys) ∙ append_assoc (reverse ys) (reverse xs) L
 
-pub of_transfer_no_ask : (at p place to : ℕ) → AllByRecursion NoAsk (of_transfer at p place to)
-of_transfer_no_ask at p place to = (no_ask_deliver p place to, (no_ask_learn p p place, (no_ask_expire p place at, (no_ask_learn to p place, tt))))
+pub of_transfer_no_ask : (at p index to : ℕ) → AllByRecursion NoAsk (of_transfer at p index to)
+of_transfer_no_ask at p index to = (no_ask_deliver p index to, (no_ask_learn p p index, (no_ask_expire p index at, (no_ask_learn to p index, tt))))
 
-of_transfers_no_ask : (at p place : ℕ) (xs : List Transfer) → AllByRecursion NoAsk (of_transfers at p place xs)
-of_transfers_no_ask at p place [] = tt
-of_transfers_no_ask at p place (x ∷ xs) =
-    all_append NoAsk (of_transfer at p place x.to) (of_transfers at p (suc place) xs) (of_transfer_no_ask at p place x.to) (of_transfers_no_ask at p (suc place) xs)
+of_transfers_no_ask : (at p index : ℕ) (xs : List Transfer) → AllByRecursion NoAsk (of_transfers at p index xs)
+of_transfers_no_ask at p index [] = tt
+of_transfers_no_ask at p index (x ∷ xs) =
+    all_append NoAsk (of_transfer at p index x.to) (of_transfers at p (suc index) xs) (of_transfer_no_ask at p index x.to) (of_transfers_no_ask at p (suc index) xs)
 
 of_originators_no_ask : (at : ℕ) (T : ℕ → List Transfer) (n : ℕ) → AllByRecursion NoAsk (of_originators at T n)
 of_originators_no_ask at T zero = tt
@@ -47,17 +47,17 @@ same_after s O (x ∷ xs) L none p =
     ∙ takes_none s O x L none.0 p
 
 -- one transfer more
-of_more : (at p place : ℕ) (T : List Transfer) (x : Transfer) → of_transfers at p place (T ++ x ∷ []) ≡ of_transfers at p place T ++ of_transfer at p (place + length T) x.to
-of_more at p place [] x = ap (λ (n : ℕ). of_transfer at p n x.to) same
+of_more : (at p index : ℕ) (T : List Transfer) (x : Transfer) → of_transfers at p index (T ++ x ∷ []) ≡ of_transfers at p index T ++ of_transfer at p (index + length T) x.to
+of_more at p index [] x = ap (λ (n : ℕ). of_transfer at p n x.to) same
   where
-    same : place ≡ place + 0
+    same : index ≡ index + 0
     same = omega arith
-of_more at p place (y ∷ T) x =
-    ap (λ (t : List Step). of_transfer at p place y.to ++ t) (of_more at p (suc place) T x)
-    ∙ sym (append_assoc (of_transfer at p place y.to) (of_transfers at p (suc place) T) (of_transfer at p (suc place + length T) x.to))
-    ∙ ap (λ (n : ℕ). (of_transfer at p place y.to ++ of_transfers at p (suc place) T) ++ of_transfer at p n x.to) same
+of_more at p index (y ∷ T) x =
+    ap (λ (t : List Step). of_transfer at p index y.to ++ t) (of_more at p (suc index) T x)
+    ∙ sym (append_assoc (of_transfer at p index y.to) (of_transfers at p (suc index) T) (of_transfer at p (suc index + length T) x.to))
+    ∙ ap (λ (n : ℕ). (of_transfer at p index y.to ++ of_transfers at p (suc index) T) ++ of_transfer at p n x.to) same
   where
-    same : suc place + length T ≡ place + length (y ∷ T)
+    same : suc index + length T ≡ index + length (y ∷ T)
     same = omega arith
 
 take_get : (T : List Transfer) (k : ℕ) (x : Transfer) → slice_get T k ≡ Some x → take (suc k) T ≡ take k T ++ x ∷ []

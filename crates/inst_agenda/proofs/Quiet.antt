@@ -79,7 +79,7 @@ module _ (s : HubSettings) (O : Opening) (opening : IsOpening s O) (L : List Ste
         go TimedOut (inr (inl (at, e))) =
             let taken = transfer_taken id (history s O L p) x a.taken in
             known_before (Ask ask) (asks p (Investigate id) at) p id o e (λ there. ((asking_tells s O opening L p at o).investigated id taken there).1) kept
-        go TimedOut (inr (inr (place, at, e, named))) = let no : ⊥ = cc in absurd no
+        go TimedOut (inr (inr (index, at, e, named))) = let no : ⊥ = cc in absurd no
 
     -- what stands after the ask stood before it
     stood : (before after : Option Outcome) → outcome s O L p id ≡ before → outcome s O (Ask ask ∷ L) p id ≡ after → after ≡ before

@@ -63,7 +63,7 @@ module _ (s : HubSettings) (O : Opening) (step : Step) (L : List Step) where
         funds = λ ask reference cents step_is command why. other (Funded reference cents) refl;
         defunds = λ ask reference cents step_is command why cover. other (Defunded reference cents) refl;
         takes = λ ask i to cents stamp step_is command why. other (Taken i to cents stamp) refl;
-        forwards = λ f place x step_is why e. elim (or_cases (is_forwarded from id (history s O L q)) (same_transfer from id f x.id) (sym (list_any_push (forwards from id) (history s O L q) (Forwarded f x.id x.cents (deadline s x))) ∙ e)) [
+        forwards = λ f index x step_is why e. elim (or_cases (is_forwarded from id (history s O L q)) (same_transfer from id f x.id) (sym (list_any_push (forwards from id) (history s O L q) (Forwarded f x.id x.cents (deadline s x))) ∙ e)) [
           | inl old ↦ old
           | inr new ↦
               let same : (f ≡ from) × (x.id ≡ id) = same_transfer-true from id f x.id new in
@@ -127,19 +127,19 @@ before_or_last [] y x false k e = let no : ⊥ = cc in absurd no
 before_or_last (z ∷ xs) y x b zero e = inl e
 before_or_last (z ∷ xs) y x b (suc k) e = before_or_last xs y x b k e
 
-module _ (s : HubSettings) (O : Opening) (L : List Step) (ask : AskValue) (p place : ℕ) (x : Transfer) where
+module _ (s : HubSettings) (O : Opening) (L : List Step) (ask : AskValue) (p index : ℕ) (x : Transfer) where
   stood_alike : (event : Event) → live_transfers p (history s O L p ++ event ∷ []) ≡ live_transfers p (history s O L p)
-      → at_place p (history s O L p ++ event ∷ []) place ≡ Some x → at_place p (history s O L p) place ≡ Some x
-  stood_alike event same e = ap (λ (T : List Transfer). slice_get T place) (sym same) ∙ e
+      → at_place p (history s O L p ++ event ∷ []) index ≡ Some x → at_place p (history s O L p) index ≡ Some x
+  stood_alike event same e = ap (λ (T : List Transfer). slice_get T index) (sym same) ∙ e
 
   -- a submission takes a transfer that it names
   stood_or_named : ask.who ≡ p → named_by ask.who ask.command ≢ Some (p, x.id) → (id : List ℕ) (to cents stamp : ℕ)
       → ask.command ≡ Submit (record { id = id; to = to; cents = cents; stamp = stamp })
-      → at_place p (history s O L p ++ Taken id to cents stamp ∷ []) place ≡ Some x → at_place p (history s O L p) place ≡ Some x
+      → at_place p (history s O L p ++ Taken id to cents stamp ∷ []) index ≡ Some x → at_place p (history s O L p) index ≡ Some x
   stood_or_named asks differs id to cents stamp command e =
       let y : Transfer = record { id = id; to = to; cents = cents; stamp = stamp } in
       let T : List Transfer = live_transfers p (history s O L p) in
-      elim (before_or_last T y x (is_live p id (history s O L p)) place (ap (λ (U : List Transfer). slice_get U place) (sym (live_grown p (history s O L p) (Taken id to cents stamp) refl)) ∙ e)) [
+      elim (before_or_last T y x (is_live p id (history s O L p)) index (ap (λ (U : List Transfer). slice_get U index) (sym (live_grown p (history s O L p) (Taken id to cents stamp) refl)) ∙ e)) [
         | inl stood ↦ stood
         | inr new ↦
             let name : named_by ask.who ask.command ≡ Some (ask.who, id) = ap (named_by ask.who) command in
@@ -148,10 +148,10 @@ module _ (s : HubSettings) (O : Opening) (L : List Step) (ask : AskValue) (p pla
       ]
 
   -- an ask leaves the place of a transfer that it doesn't name
-  pub unnamed_stood : at_place p (history s O (Ask ask ∷ L) p) place ≡ Some x → named_by ask.who ask.command ≢ Some (p, x.id) → at_place p (history s O L p) place ≡ Some x
+  pub unnamed_stood : at_place p (history s O (Ask ask ∷ L) p) index ≡ Some x → named_by ask.who ask.command ≢ Some (p, x.id) → at_place p (history s O L p) index ≡ Some x
   unnamed_stood there differs = elim (cases_eq p ask.who) [
-    | inr other ↦ ap (λ (J : List Event). at_place p J place) (sym (others_stay s O (Ask ask) L p other)) ∙ there
-    | inl same ↦ by_step s O (Ask ask) L p (λ K. at_place p K place ≡ Some x → at_place p (history s O L p) place ≡ Some x) (record {
+    | inr other ↦ ap (λ (J : List Event). at_place p J index) (sym (others_stay s O (Ask ask) L p other)) ∙ there
+    | inl same ↦ by_step s O (Ask ask) L p (λ K. at_place p K index ≡ Some x → at_place p (history s O L p) index ≡ Some x) (record {
       nothing = λ e. e;
       funds = λ a reference cents is command why. stood_alike (Funded reference cents) (live_kept p (history s O L p) (Funded reference cents) refl refl);
       defunds = λ a reference cents is command why cover. stood_alike (Defunded reference cents) (live_kept p (history s O L p) (Defunded reference cents) refl refl);
@@ -222,7 +222,7 @@ unseen_same s O step L nothing q = elim (cases_eq q (actor step)) [
 ]
 
 -- the four steps leave all histories and outcomes, where nothing is left to do
-module _ (s : HubSettings) (O : Opening) (L : List Step) (at p place : ℕ) (x : Transfer) (there : at_place p (history s O L p) place ≡ Some x) (rests : Rests s O L at p x) where
+module _ (s : HubSettings) (O : Opening) (L : List Step) (at p index : ℕ) (x : Transfer) (there : at_place p (history s O L p) index ≡ Some x) (rests : Rests s O L at p x) where
   rests_as : (o : Option Outcome) → outcome s O L p x.id ≡ o → RestsWith s at p x (history s O L p) (history s O L x.to) o
   rests_as o is = subst (λ (u : Option Outcome). RestsWith s at p x (history s O L p) (history s O L x.to) u) is rests
 
@@ -250,36 +250,36 @@ module _ (s : HubSettings) (O : Opening) (L : List Step) (at p place : ℕ) (x :
       ap (λ (o : Option Outcome). ((x.to == x.to) && is_none o) && not (is_forwarded p x.id (history s O L x.to))) is
       ∙ ap (λ (b : Bool). b && not (is_forwarded p x.id (history s O L x.to))) (and-false (x.to == x.to))
 
-  delivery_idle : (q : ℕ) → history s O (Deliver p place x.to ∷ L) q ≡ history s O L q
-  delivery_idle = unseen_same s O (Deliver p place x.to) L
-      (if_own x.to (comes s (outcome s O L) p x.to (history s O L x.to) (at_place p (history s O L p) place))
+  delivery_idle : (q : ℕ) → history s O (Deliver p index x.to ∷ L) q ≡ history s O L q
+  delivery_idle = unseen_same s O (Deliver p index x.to) L
+      (if_own x.to (comes s (outcome s O L) p x.to (history s O L x.to) (at_place p (history s O L p) index))
       ∙ ap (comes s (outcome s O L) p x.to (history s O L x.to)) there
       ∙ cond-false _ (Came p x.id x.cents (deadline s x) ∷ []) [] (comes_no_more (outcome s O L p x.id) refl))
 
-  lesson_idle : (who : ℕ) → (who ≡ p) ⊎ (who ≡ x.to) → (q : ℕ) → history s O (Learn who p place ∷ L) q ≡ history s O L q
-  lesson_idle who side = unseen_same s O (Learn who p place) L
-      (if_own who (tells (outcome s O L) p who (history s O L who) (at_place p (history s O L p) place))
+  lesson_idle : (who : ℕ) → (who ≡ p) ⊎ (who ≡ x.to) → (q : ℕ) → history s O (Learn who p index ∷ L) q ≡ history s O L q
+  lesson_idle who side = unseen_same s O (Learn who p index) L
+      (if_own who (tells (outcome s O L) p who (history s O L who) (at_place p (history s O L p) index))
       ∙ ap (tells (outcome s O L) p who (history s O L who)) there
       ∙ tells_nothing (outcome s O L) p who (history s O L who) x (told_already who side))
 
   -- the expiry decides nothing
-  expiry_decides_none : transfer x.id (history s O L p) ≡ Some x → (q : ℕ) (id : List ℕ) → outcome s O (Expire p place at ∷ L) q id ≡ outcome s O L q id
+  expiry_decides_none : transfer x.id (history s O L p) ≡ Some x → (q : ℕ) (id : List ℕ) → outcome s O (Expire p index at ∷ L) q id ≡ outcome s O L q id
   expiry_decides_none found q id = go (outcome s O L q id) refl
     where
-      go : (o : Option Outcome) → outcome s O L q id ≡ o → outcome s O (Expire p place at ∷ L) q id ≡ outcome s O L q id
-      go (Some z) is = or_else_kept (outcome s O L q id) (taken_wants s (history s O L) (Expire p place at) q id (transfer id (history s O L q))) z is ∙ sym is
-      go None is = unexpired s O p place at L q id (λ y z taken own stands named.
-          let x_is : x ≡ z = same_Some x z (sym there ∙ ap (λ (r : ℕ). at_place r (history s O L r) place) own ∙ stands) in
+      go : (o : Option Outcome) → outcome s O L q id ≡ o → outcome s O (Expire p index at ∷ L) q id ≡ outcome s O L q id
+      go (Some z) is = or_else_kept (outcome s O L q id) (taken_wants s (history s O L) (Expire p index at) q id (transfer id (history s O L q))) z is ∙ sym is
+      go None is = unexpired s O p index at L q id (λ y z taken own stands named.
+          let x_is : x ≡ z = same_Some x z (sym there ∙ ap (λ (r : ℕ). at_place r (history s O L r) index) own ∙ stands) in
           let name : x.id ≡ id = ap (λ (w : Transfer). w.id) x_is ∙ named in
           let y_is : x ≡ y = same_Some x y (sym found ∙ ap (λ (r : ℕ). transfer x.id (history s O L r)) own ∙ ap (λ (i : List ℕ). transfer i (history s O L q)) name ∙ taken) in
           let none : outcome s O L p x.id ≡ None = ap (λ (r : ℕ). outcome s O L r x.id) own ∙ ap (λ (i : List ℕ). outcome s O L q i) name ∙ is in
           ap (λ (w : Transfer). expired (deadline s w) at) (sym y_is) ∙ early (deadline s x) at (rests_as None none).1)
 
-  expiry_idle : transfer x.id (history s O L p) ≡ Some x → (q : ℕ) → history s O (Expire p place at ∷ L) q ≡ history s O L q
-  expiry_idle found = unseen_same s O (Expire p place at) L
-      (if_own p (tells (outcome s O (Expire p place at ∷ L)) p p (history s O L p) (at_place p (history s O L p) place))
-      ∙ ap (tells (outcome s O (Expire p place at ∷ L)) p p (history s O L p)) there
-      ∙ tells_nothing (outcome s O (Expire p place at ∷ L)) p p (history s O L p) x (λ z is party. told_already p (inl refl) z (sym (expiry_decides_none found p x.id) ∙ is) party))
+  expiry_idle : transfer x.id (history s O L p) ≡ Some x → (q : ℕ) → history s O (Expire p index at ∷ L) q ≡ history s O L q
+  expiry_idle found = unseen_same s O (Expire p index at) L
+      (if_own p (tells (outcome s O (Expire p index at ∷ L)) p p (history s O L p) (at_place p (history s O L p) index))
+      ∙ ap (tells (outcome s O (Expire p index at ∷ L)) p p (history s O L p)) there
+      ∙ tells_nothing (outcome s O (Expire p index at ∷ L)) p p (history s O L p) x (λ z is party. told_already p (inl refl) z (sym (expiry_decides_none found p x.id) ∙ is) party))
 
 -- a step that leaves all histories and outcomes leaves a hub that has run
 pub idle_runs : (O : Opening) (step : Step) (L : List Step) (hub : World) → step_fits (settings_of hub) step ≡ true
@@ -295,19 +295,19 @@ idle_runs O step L hub fits histories outcomes run = record {
 }
 
 -- a hub that has run these steps, and nothing is left to do of the transfer at a place
-record RunsAtRest (hub : World) (O : Opening) (at p place : ℕ) (x : Transfer) (L : List Step) : Type 0 where
+record RunsAtRest (hub : World) (O : Opening) (at p index : ℕ) (x : Transfer) (L : List Step) : Type 0 where
   run : HasRun O L hub
-  there : at_place p (history (settings_of hub) O L p) place ≡ Some x
+  there : at_place p (history (settings_of hub) O L p) index ≡ Some x
   rests : Rests (settings_of hub) O L at p x
 
-module _ (hub : World) (O : Opening) (at p place : ℕ) (x : Transfer) (is_one : is_participant (settings_of hub) p ≡ true) (L : List Step) (r : RunsAtRest hub O at p place x L) where
+module _ (hub : World) (O : Opening) (at p index : ℕ) (x : Transfer) (is_one : is_participant (settings_of hub) p ≡ true) (L : List Step) (r : RunsAtRest hub O at p index x L) where
   goes_on : (step : Step) → step_fits (settings_of hub) step ≡ true
       → ((q : ℕ) → history (settings_of hub) O (step ∷ L) q ≡ history (settings_of hub) O L q)
       → ((q : ℕ) (id : List ℕ) → outcome (settings_of hub) O (step ∷ L) q id ≡ outcome (settings_of hub) O L q id)
-      → RunsAtRest hub O at p place x (step ∷ L)
+      → RunsAtRest hub O at p index x (step ∷ L)
   goes_on step fits histories outcomes = record {
     run = idle_runs O step L hub fits histories outcomes r.run;
-    there = ap (λ (J : List Event). at_place p J place) (histories p) ∙ r.there;
+    there = ap (λ (J : List Event). at_place p J index) (histories p) ∙ r.there;
     rests = rests_stays (settings_of hub) O step L at p x (outcomes p x.id) r.rests;
   }
 
@@ -315,35 +315,35 @@ module _ (hub : World) (O : Opening) (at p place : ℕ) (x : Transfer) (is_one :
   is_sound = (together (settings_of hub) O r.run.opening L r.run.steps).sound p
 
   to_one : is_participant (settings_of hub) x.to ≡ true
-  to_one = to_participant (settings_of hub) p (history (settings_of hub) O L p) place x is_sound r.there
+  to_one = to_participant (settings_of hub) p (history (settings_of hub) O L p) index x is_sound r.there
 
-  delivered : RunsAtRest hub O at p place x (Deliver p place x.to ∷ L)
-  delivered = goes_on (Deliver p place x.to) (and_from (is_participant (settings_of hub) p) (is_participant (settings_of hub) x.to) is_one to_one)
-      (delivery_idle (settings_of hub) O L at p place x r.there r.rests) (same_outcome (settings_of hub) O (Deliver p place x.to) L refl)
+  delivered : RunsAtRest hub O at p index x (Deliver p index x.to ∷ L)
+  delivered = goes_on (Deliver p index x.to) (and_from (is_participant (settings_of hub) p) (is_participant (settings_of hub) x.to) is_one to_one)
+      (delivery_idle (settings_of hub) O L at p index x r.there r.rests) (same_outcome (settings_of hub) O (Deliver p index x.to) L refl)
 
-  originator_learnt : RunsAtRest hub O at p place x (Learn p p place ∷ L)
-  originator_learnt = goes_on (Learn p p place) (and_from (is_participant (settings_of hub) p) (is_participant (settings_of hub) p) is_one is_one)
-      (lesson_idle (settings_of hub) O L at p place x r.there r.rests p (inl refl)) (same_outcome (settings_of hub) O (Learn p p place) L refl)
+  originator_learnt : RunsAtRest hub O at p index x (Learn p p index ∷ L)
+  originator_learnt = goes_on (Learn p p index) (and_from (is_participant (settings_of hub) p) (is_participant (settings_of hub) p) is_one is_one)
+      (lesson_idle (settings_of hub) O L at p index x r.there r.rests p (inl refl)) (same_outcome (settings_of hub) O (Learn p p index) L refl)
 
-  beneficiary_learnt : RunsAtRest hub O at p place x (Learn x.to p place ∷ L)
-  beneficiary_learnt = goes_on (Learn x.to p place) (and_from (is_participant (settings_of hub) x.to) (is_participant (settings_of hub) p) to_one is_one)
-      (lesson_idle (settings_of hub) O L at p place x r.there r.rests x.to (inr refl)) (same_outcome (settings_of hub) O (Learn x.to p place) L refl)
+  beneficiary_learnt : RunsAtRest hub O at p index x (Learn x.to p index ∷ L)
+  beneficiary_learnt = goes_on (Learn x.to p index) (and_from (is_participant (settings_of hub) x.to) (is_participant (settings_of hub) p) to_one is_one)
+      (lesson_idle (settings_of hub) O L at p index x r.there r.rests x.to (inr refl)) (same_outcome (settings_of hub) O (Learn x.to p index) L refl)
 
-  time_passed : RunsAtRest hub O at p place x (Expire p place at ∷ L)
+  time_passed : RunsAtRest hub O at p index x (Expire p index at ∷ L)
   time_passed =
-      let found : transfer x.id (history (settings_of hub) O L p) ≡ Some x = place_found (settings_of hub) p (history (settings_of hub) O L p) place x is_sound r.there in
-      goes_on (Expire p place at) is_one (expiry_idle (settings_of hub) O L at p place x r.there r.rests found)
-      (expiry_decides_none (settings_of hub) O L at p place x r.there r.rests found)
+      let found : transfer x.id (history (settings_of hub) O L p) ≡ Some x = place_found (settings_of hub) p (history (settings_of hub) O L p) index x is_sound r.there in
+      goes_on (Expire p index at) is_one (expiry_idle (settings_of hub) O L at p index x r.there r.rests found)
+      (expiry_decides_none (settings_of hub) O L at p index x r.there r.rests found)
 
 -- a hub has run what follows up a transfer of which nothing is left to do
-pub rests_runs : (O : Opening) (L : List Step) (hub : World) (at p place : ℕ) (x : Transfer) → HasRun O L hub → at_place p (history (settings_of hub) O L p) place ≡ Some x
-    → is_participant (settings_of hub) p ≡ true → Rests (settings_of hub) O L at p x → HasRun O (reverse (of_transfer at p place x.to) ++ L) hub
-rests_runs O L hub at p place x run there is_one rests =
-    let before : RunsAtRest hub O at p place x L = record { run = run; there = there; rests = rests } in
-    let came = delivered hub O at p place x is_one L before in
-    let learnt = originator_learnt hub O at p place x is_one (Deliver p place x.to ∷ L) came in
-    let passed = time_passed hub O at p place x is_one (Learn p p place ∷ Deliver p place x.to ∷ L) learnt in
-    (beneficiary_learnt hub O at p place x is_one (Expire p place at ∷ Learn p p place ∷ Deliver p place x.to ∷ L) passed).run
+pub rests_runs : (O : Opening) (L : List Step) (hub : World) (at p index : ℕ) (x : Transfer) → HasRun O L hub → at_place p (history (settings_of hub) O L p) index ≡ Some x
+    → is_participant (settings_of hub) p ≡ true → Rests (settings_of hub) O L at p x → HasRun O (reverse (of_transfer at p index x.to) ++ L) hub
+rests_runs O L hub at p index x run there is_one rests =
+    let before : RunsAtRest hub O at p index x L = record { run = run; there = there; rests = rests } in
+    let came = delivered hub O at p index x is_one L before in
+    let learnt = originator_learnt hub O at p index x is_one (Deliver p index x.to ∷ L) came in
+    let passed = time_passed hub O at p index x is_one (Learn p p index ∷ Deliver p index x.to ∷ L) learnt in
+    (beneficiary_learnt hub O at p index x is_one (Expire p index at ∷ Learn p p index ∷ Deliver p index x.to ∷ L) passed).run
 
 -- what follows up a transfer leaves each place
 pub live_same_after_follow_up : (s : HubSettings) (O : Opening) (L : List Step) (t p n to q k : ℕ)
@@ -352,15 +352,15 @@ live_same_after_follow_up s O L t p n to q k = ap (λ (T : List Transfer). slice
 
 -- these steps, and the transfer at a place was delivered, and its originator has learnt of it
 abbrev after_lesson : ℕ → ℕ → ℕ → List Step → List Step
-after_lesson p place to L = Learn p p place ∷ Deliver p place to ∷ L
+after_lesson p index to L = Learn p p index ∷ Deliver p index to ∷ L
 
 -- and its expiry was looked at
 abbrev after_expiry : ℕ → ℕ → ℕ → ℕ → List Step → List Step
-after_expiry t p place to L = Expire p place t ∷ after_lesson p place to L
+after_expiry t p index to L = Expire p index t ∷ after_lesson p index to L
 
 -- and its beneficiary has learnt of it, which ends what follows up a transfer
 abbrev followed_up_by : ℕ → ℕ → ℕ → ℕ → List Step → List Step
-followed_up_by t p place to L = reverse (of_transfer t p place to) ++ L
+followed_up_by t p index to L = reverse (of_transfer t p index to) ++ L
 
 -- delivering and learning leave each place
 place_after_lesson : (s : HubSettings) (O : Opening) (L : List Step) (p n to q k : ℕ) → at_place q (history s O (after_lesson p n to L) q) k ≡ at_place q (history s O L q) k
@@ -382,59 +382,59 @@ rests_through s O L t q n to at p x undecided rests =
     (rests_stays s O (Expire q n t) (after_lesson q n to L) at p x undecided (rests_after_lesson s O L q n to at p x rests))
 
 -- what follows up another transfer leaves this one at rest
-pub follow_up_of_another_rests : (s : HubSettings) (O : Opening) → IsOpening s O → (L : List Step) → IsInterleaving s L → (t q n to at p place : ℕ) (x : Transfer)
-    → at_place p (history s O L p) place ≡ Some x → (p ≢ q) ⊎ (place ≢ n) → Rests s O L at p x → Rests s O (reverse (of_transfer t q n to) ++ L) at p x
-follow_up_of_another_rests s O opening L steps t q n to at p place x there other rests =
+pub follow_up_of_another_rests : (s : HubSettings) (O : Opening) → IsOpening s O → (L : List Step) → IsInterleaving s L → (t q n to at p index : ℕ) (x : Transfer)
+    → at_place p (history s O L p) index ≡ Some x → (p ≢ q) ⊎ (index ≢ n) → Rests s O L at p x → Rests s O (reverse (of_transfer t q n to) ++ L) at p x
+follow_up_of_another_rests s O opening L steps t q n to at p index x there other rests =
     rests_through s O L t q n to at p x
     (unexpired s O q n t (after_lesson q n to L) p x.id (λ y z taken owner stands named.
     let before : at_place p (history s O L p) n ≡ Some z = sym (place_after_lesson s O L q n to p n) ∙ stands in
-    let same : place ≡ n = places_apart s p (history s O L p) place n x z ((together s O opening L steps).sound p) there before (sym named) in
+    let same : index ≡ n = places_apart s p (history s O L p) index n x z ((together s O opening L steps).sound p) there before (sym named) in
     absurd (elim other [ inl p_differs ↦ p_differs (sym owner) | inr place_differs ↦ place_differs same ])))
     rests
 
-module _ (s : HubSettings) (O : Opening) (opening : IsOpening s O) (L : List Step) (t p place : ℕ) (x : Transfer) (there : at_place p (history s O L p) place ≡ Some x) where
-  there_after_lesson : at_place p (history s O (after_lesson p place x.to L) p) place ≡ Some x
-  there_after_lesson = place_after_lesson s O L p place x.to p place ∙ there
+module _ (s : HubSettings) (O : Opening) (opening : IsOpening s O) (L : List Step) (t p index : ℕ) (x : Transfer) (there : at_place p (history s O L p) index ≡ Some x) where
+  there_after_lesson : at_place p (history s O (after_lesson p index x.to L) p) index ≡ Some x
+  there_after_lesson = place_after_lesson s O L p index x.to p index ∙ there
 
-  there_after_expiry : at_place p (history s O (after_expiry t p place x.to L) p) place ≡ Some x
+  there_after_expiry : at_place p (history s O (after_expiry t p index x.to L) p) index ≡ Some x
   there_after_expiry =
-      ap (λ (T : List Transfer). slice_get T place) (takes_none s O (Expire p place t) (after_lesson p place x.to L) (no_ask_expire p place t) p) ∙ there_after_lesson
+      ap (λ (T : List Transfer). slice_get T index) (takes_none s O (Expire p index t) (after_lesson p index x.to L) (no_ask_expire p index t) p) ∙ there_after_lesson
 
-  found_after_lesson : transfer x.id (history s O L p) ≡ Some x → transfer x.id (history s O (after_lesson p place x.to L) p) ≡ Some x
+  found_after_lesson : transfer x.id (history s O L p) ≡ Some x → transfer x.id (history s O (after_lesson p index x.to L) p) ≡ Some x
   found_after_lesson found =
-      persists_step s O (Learn p p place) (Deliver p place x.to ∷ L) p (λ K. transfer x.id K ≡ Some x) (λ K event. transfer_kept x.id K event x)
-      (persists_step s O (Deliver p place x.to) L p (λ K. transfer x.id K ≡ Some x) (λ K event. transfer_kept x.id K event x) found)
+      persists_step s O (Learn p p index) (Deliver p index x.to ∷ L) p (λ K. transfer x.id K ≡ Some x) (λ K event. transfer_kept x.id K event x)
+      (persists_step s O (Deliver p index x.to) L p (λ K. transfer x.id K ≡ Some x) (λ K event. transfer_kept x.id K event x) found)
 
   -- a transfer that is at rest at the reading of its own following up stays at rest at each
-  pub own_follow_up_rests : IsInterleaving s L → (at : ℕ) → Rests s O L t p x → Rests s O L at p x → Rests s O (reverse (of_transfer t p place x.to) ++ L) at p x
+  pub own_follow_up_rests : IsInterleaving s L → (at : ℕ) → Rests s O L t p x → Rests s O L at p x → Rests s O (reverse (of_transfer t p index x.to) ++ L) at p x
   own_follow_up_rests steps at now rests =
-      let found : transfer x.id (history s O L p) ≡ Some x = place_found s p (history s O L p) place x ((together s O opening L steps).sound p) there in
-      rests_through s O L t p place x.to at p x
-      (expiry_decides_none s O (after_lesson p place x.to L) t p place x there_after_lesson (rests_after_lesson s O L p place x.to t p x now) (found_after_lesson found) p x.id) rests
+      let found : transfer x.id (history s O L p) ≡ Some x = place_found s p (history s O L p) index x ((together s O opening L steps).sound p) there in
+      rests_through s O L t p index x.to at p x
+      (expiry_decides_none s O (after_lesson p index x.to L) t p index x there_after_lesson (rests_after_lesson s O L p index x.to t p x now) (found_after_lesson found) p x.id) rests
 
   -- what is pending came when it was delivered
-  came_pending : (o : Option Outcome) → outcome s O L p x.id ≡ o → outcome s O (followed_up_by t p place x.to L) p x.id ≡ None
-      → is_forwarded p x.id (history s O (followed_up_by t p place x.to L) x.to) ≡ true
+  came_pending : (o : Option Outcome) → outcome s O L p x.id ≡ o → outcome s O (followed_up_by t p index x.to L) p x.id ≡ None
+      → is_forwarded p x.id (history s O (followed_up_by t p index x.to L) x.to) ≡ true
   came_pending None is none =
-      still_forwarded s O (Learn x.to p place) (after_expiry t p place x.to L) x.to p x.id
-      (still_forwarded s O (Expire p place t) (after_lesson p place x.to L) x.to p x.id
-      (still_forwarded s O (Learn p p place) (Deliver p place x.to ∷ L) x.to p x.id (delivery_forwards s O L p place x there is)))
+      still_forwarded s O (Learn x.to p index) (after_expiry t p index x.to L) x.to p x.id
+      (still_forwarded s O (Expire p index t) (after_lesson p index x.to L) x.to p x.id
+      (still_forwarded s O (Learn p p index) (Deliver p index x.to ∷ L) x.to p x.id (delivery_forwards s O L p index x there is)))
   came_pending (Some z) is none =
-      let later : outcome s O (followed_up_by t p place x.to L) p x.id ≡ Some z = outcome_stays s O (reverse (of_transfer t p place x.to)) L p x.id z is in
+      let later : outcome s O (followed_up_by t p index x.to L) p x.id ≡ Some z = outcome_stays s O (reverse (of_transfer t p index x.to)) L p x.id z is in
       let clash : None ≡ Some z = sym none ∙ later in
       absurd cc
 
-  rests_as_decided : (at : ℕ) (o : Option Outcome) → outcome s O (followed_up_by t p place x.to L) p x.id ≡ o → (o ≡ None → at < deadline s x)
-      → RestsWith s at p x (history s O (followed_up_by t p place x.to L) p) (history s O (followed_up_by t p place x.to L) x.to) o
+  rests_as_decided : (at : ℕ) (o : Option Outcome) → outcome s O (followed_up_by t p index x.to L) p x.id ≡ o → (o ≡ None → at < deadline s x)
+      → RestsWith s at p x (history s O (followed_up_by t p index x.to L) p) (history s O (followed_up_by t p index x.to L) x.to) o
   rests_as_decided at None is before = (came_pending (outcome s O L p x.id) refl is, before refl)
   rests_as_decided at (Some z) is before =
-      let E : List Step = after_expiry t p place x.to L in
-      let was : outcome s O E p x.id ≡ Some z = sym (same_outcome s O (Learn x.to p place) E refl p x.id) ∙ is in (
-        still_booked s O (Learn x.to p place) E p p x.id z (expiry_books s O opening (after_lesson p place x.to L) p place t x z there_after_lesson was),
-        λ came. learning_books s O opening E x.to p place x z there_after_expiry was (inr (came_decided s O (Learn x.to p place) E x.to p x.id z was came)),
+      let E : List Step = after_expiry t p index x.to L in
+      let was : outcome s O E p x.id ≡ Some z = sym (same_outcome s O (Learn x.to p index) E refl p x.id) ∙ is in (
+        still_booked s O (Learn x.to p index) E p p x.id z (expiry_books s O opening (after_lesson p index x.to L) p index t x z there_after_lesson was),
+        λ came. learning_books s O opening E x.to p index x z there_after_expiry was (inr (came_decided s O (Learn x.to p index) E x.to p x.id z was came)),
       )
 
   -- a transfer that was followed up is at rest, if it is pending at a reading before its deadline
-  pub follow_up_rests : (at : ℕ) → (outcome s O (reverse (of_transfer t p place x.to) ++ L) p x.id ≡ None → at < deadline s x)
-      → Rests s O (reverse (of_transfer t p place x.to) ++ L) at p x
-  follow_up_rests at before = rests_as_decided at (outcome s O (followed_up_by t p place x.to L) p x.id) refl before
+  pub follow_up_rests : (at : ℕ) → (outcome s O (reverse (of_transfer t p index x.to) ++ L) p x.id ≡ None → at < deadline s x)
+      → Rests s O (reverse (of_transfer t p index x.to) ++ L) at p x
+  follow_up_rests at before = rests_as_decided at (outcome s O (followed_up_by t p index x.to L) p x.id) refl before

@@ -12,12 +12,12 @@ use Rattle.inst_model.specs.Hub.{history}
 -- the transfer at this place of the originator p comes to its beneficiary, p learns of it and lets it expire at the
 -- reading, and the beneficiary learns of it
 abbrev pub of_transfer : ℕ → ℕ → ℕ → ℕ → List Step
-of_transfer at p place to = Deliver p place to ∷ (Learn p p place ∷ (Expire p place at ∷ (Learn to p place ∷ [])))
+of_transfer at p index to = Deliver p index to ∷ (Learn p p index ∷ (Expire p index at ∷ (Learn to p index ∷ [])))
 
 -- so each of these transfers of the originator p, in order, of which the first is at this place
 abbrev pub of_transfers : ℕ → ℕ → ℕ → List Transfer → List Step
-of_transfers at p place [] = []
-of_transfers at p place (x ∷ xs) = of_transfer at p place x.to ++ of_transfers at p (suc place) xs
+of_transfers at p index [] = []
+of_transfers at p index (x ∷ xs) = of_transfer at p index x.to ++ of_transfers at p (suc index) xs
 
 -- so the transfers of the first n originators, in order of their numbers
 abbrev pub of_originators : ℕ → (ℕ → List Transfer) → ℕ → List Step

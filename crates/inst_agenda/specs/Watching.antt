@@ -11,17 +11,17 @@ use Rattle.inst_world.specs.HasRun.{World, settings_of, HasRun}
 use Rattle.inst_agenda.specs.Resting.{Rests}
 
 -- the place is none of the next, and waits for no moment up to this reading
-pub record IsLeft (agenda : Agenda) (at p place : ℕ) : Type 0 where
-  pub not_next : is_next agenda p place ≡ false
-  pub not_due : (m : ℕ) → waits agenda m p place ≡ true → at < m
+pub record IsLeft (agenda : Agenda) (at p index : ℕ) : Type 0 where
+  pub not_next : is_next agenda p index ≡ false
+  pub not_due : (m : ℕ) → waits agenda m p index ≡ true → at < m
 
 -- next_named, waiting_named: the agenda's places are of participants
 -- rests: of each transfer of theirs that it leaves at a reading nothing is left to do
 pub record IsAgendaOf (s : HubSettings) (O : Opening) (L : List Step) (agenda : Agenda) : Type 0 where
-  pub next_named : (p place : ℕ) → is_next agenda p place ≡ true → is_participant s p ≡ true
-  pub waiting_named : (m p place : ℕ) → waits agenda m p place ≡ true → is_participant s p ≡ true
-  pub rests : (p place : ℕ) (x : Transfer) → is_participant s p ≡ true → at_place p (history s O L p) place ≡ Some x →
-      (at : ℕ) → IsLeft agenda at p place → Rests s O L at p x
+  pub next_named : (p index : ℕ) → is_next agenda p index ≡ true → is_participant s p ≡ true
+  pub waiting_named : (m p index : ℕ) → waits agenda m p index ≡ true → is_participant s p ≡ true
+  pub rests : (p index : ℕ) (x : Transfer) → is_participant s p ≡ true → at_place p (history s O L p) index ≡ Some x →
+      (at : ℕ) → IsLeft agenda at p index → Rests s O L at p x
 
 -- the hub has run these steps since this opening, and the agenda says what is left to do
 pub record Watches (O : Opening) (L : List Step) (hub : World) (agenda : Agenda) : Type 0 where

@@ -42,9 +42,9 @@ pub record CommandsFit (s : HubSettings) : Type 0 where
 pub record StepsFit (s : HubSettings) : Type 0 where
   pub ask : (a : Ask) → (ask_fits s a ≡ true) ↔ (IsNumbered s a.who × (command_fits s a.command ≡ true))
   pub asked : (a : Ask) → step_fits s (AskStep a) ≡ ask_fits s a
-  pub deliver : (from place to : ℕ) → (step_fits s (Deliver from place to) ≡ true) ↔ (IsNumbered s from × IsNumbered s to)
-  pub learn : (who from place : ℕ) → (step_fits s (Learn who from place) ≡ true) ↔ (IsNumbered s who × IsNumbered s from)
-  pub expire : (who place at : ℕ) → (step_fits s (Expire who place at) ≡ true) ↔ IsNumbered s who
+  pub deliver : (from index to : ℕ) → (step_fits s (Deliver from index to) ≡ true) ↔ (IsNumbered s from × IsNumbered s to)
+  pub learn : (who from index : ℕ) → (step_fits s (Learn who from index) ≡ true) ↔ (IsNumbered s who × IsNumbered s from)
+  pub expire : (who index at : ℕ) → (step_fits s (Expire who index at) ≡ true) ↔ IsNumbered s who
 
 abbrev pub WhatFits : Type 0
 WhatFits = (s : HubSettings) → CommandsFit s × StepsFit s

@@ -8,6 +8,6 @@ use Rattle.inst_command.specs.declared.step.Step.TheVariants.{Ask, Deliver, Lear
 -- whether the step is one of a hub with these settings
 abbrev pub step_fits : HubSettings → Step → Bool
 step_fits s (Ask ask) = ask_fits s ask
-step_fits s (Deliver from place to) = is_participant s from && is_participant s to
-step_fits s (Learn who from place) = is_participant s who && is_participant s from
-step_fits s (Expire who place at) = is_participant s who
+step_fits s (Deliver from index to) = is_participant s from && is_participant s to
+step_fits s (Learn who from index) = is_participant s who && is_participant s from
+step_fits s (Expire who index at) = is_participant s who

@@ -95,9 +95,9 @@ by_command s J who at p id x (Statement skip count) e = absurd cc
 
 pub accepts : (s : HubSettings) (J : ℕ → List Event) (step : Step) (p : ℕ) (id : List ℕ) (x : Transfer) → step_wants s J step p id x ≡ Some Accepted → Accepts J step p id x
 accepts s J (Ask ask) p id x e = by_command s J ask.who ask.at p id x ask.command e
-accepts s J (Deliver from place to) p id x e = absurd cc
-accepts s J (Learn who from place) p id x e = absurd cc
-accepts s J (Expire who place at) p id x e = never_accepted (deadline s x) at (eqb who p && is_named id (at_place p (J p) place)) None (λ f. absurd cc) e
+accepts s J (Deliver from index to) p id x e = absurd cc
+accepts s J (Learn who from index) p id x e = absurd cc
+accepts s J (Expire who index at) p id x e = never_accepted (deadline s x) at (eqb who p && is_named id (at_place p (J p) index)) None (λ f. absurd cc) e
 
 -- a confirmation that finds an outcome books it
 confirmation_books : (s : HubSettings) (who : ℕ) (J : List Event) (from : ℕ) (id : List ℕ) (at : ℕ) (o : Option Outcome) (outcome : Outcome) → is_forwarded from id J ≡ true → booked from id J ≡ None → o ≡ Some outcome → kept_events (handle s who J (Confirm from id) at o) ≡ Booked from id outcome ∷ []

@@ -73,8 +73,8 @@ nothing_new : (s : HubSettings) (O : Opening) (C : List Step) → AllTold s O C 
 nothing_new s O C told step tells p =
     let J : ℕ → List Event = history s O C in
     by_telling s O step C p tells (λ K. K ≡ J p) refl
-    (λ from place x is why.
-    let came : is_forwarded from x.id (J p) ≡ true = subst (λ q. is_forwarded from x.id (J q) ≡ true) why.addressed (told.come from place x why.there why.undecided) in
+    (λ from index x is why.
+    let came : is_forwarded from x.id (J p) ≡ true = subst (λ q. is_forwarded from x.id (J q) ≡ true) why.addressed (told.come from index x why.there why.undecided) in
     absurd (true≢false (sym came ∙ why.new)))
     (λ from id o why.
     let is : outcome s O C from id ≡ Some o = sym (same_outcome s O step C tells from id) ∙ why.outcome_is in
@@ -89,8 +89,8 @@ longer : (s : HubSettings) (N M : List Step) → OnlyTells N → IsClosing s M �
 longer s N M tells closes fits = record {
   fits = each_append _ N M fits closes.fits;
   only_tells = each_append _ N M tells closes.only_tells;
-  delivers = λ who from place w f k. Contains-append_right N M _ (closes.delivers who from place w f k);
-  learns = λ who from place w f k. Contains-append_right N M _ (closes.learns who from place w f k);
+  delivers = λ who from index w f k. Contains-append_right N M _ (closes.delivers who from index w f k);
+  learns = λ who from index w f k. Contains-append_right N M _ (closes.learns who from index w f k);
 }
 
 add_nothing : (s : HubSettings) (O : Opening) → IsOpening s O → (L M N : List Step) → IsInterleaving s L → IsClosing s M → OnlyTells N → IsInterleaving s N → (p : ℕ)

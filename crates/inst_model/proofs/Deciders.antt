@@ -104,13 +104,13 @@ ask_by s J who at p id x o (Statement skip count) e = absurd (none-some o e)
 -- a step that decides is of a party
 step_by : (s : HubSettings) (J : ℕ → List Event) (step : Step) (p : ℕ) (id : List ℕ) (x : Transfer) (o : Outcome) → step_wants s J step p id x ≡ Some o → IsBy J step p id x o
 step_by s J (Ask ask) p id x o e = ask_by s J ask.who ask.at p id x o ask.command e
-step_by s J (Deliver from place to) p id x o e = absurd (none-some o e)
-step_by s J (Learn who from place) p id x o e = absurd (none-some o e)
-step_by s J (Expire who place at) p id x o e =
-    let step : Step = Expire who place at in
-    let is = when_true (eqb who p && is_named id (at_place p (J p) place)) (expired (deadline s x) at) o e in
-    let parts = and_parts (eqb who p) (is_named id (at_place p (J p) place)) is.0 in
-    let by : IsExpiry J step p id = (place, at, ap (λ (w : ℕ). Expire w place at) (eqb-true who p parts.0), parts.1) in
+step_by s J (Deliver from index to) p id x o e = absurd (none-some o e)
+step_by s J (Learn who from index) p id x o e = absurd (none-some o e)
+step_by s J (Expire who index at) p id x o e =
+    let step : Step = Expire who index at in
+    let is = when_true (eqb who p && is_named id (at_place p (J p) index)) (expired (deadline s x) at) o e in
+    let parts = and_parts (eqb who p) (is_named id (at_place p (J p) index)) is.0 in
+    let by : IsExpiry J step p id = (index, at, ap (λ (w : ℕ). Expire w index at) (eqb-true who p parts.0), parts.1) in
     elim (late_or_early (deadline s x) at None o is.1) [
       | inl late ↦ subst (λ (q : Outcome). IsBy J step p id x q) late (inr (inr by))
       | inr early ↦ absurd (none-some o early)

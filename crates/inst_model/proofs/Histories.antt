@@ -62,7 +62,7 @@ pub record Grows (s : HubSettings) (J : ℕ → List Event) (before : ℕ → Li
       FundKept s (J p) reference → ltb (available (J p)) cents ≡ false → Q (J p ++ Defunded reference cents ∷ [])
   pub takes : (ask : AskValue) (id : List ℕ) (to cents stamp : ℕ) → step ≡ Ask ask → ask.command ≡ Submit (record { id = id; to = to; cents = cents; stamp = stamp }) →
       TakenKept s p (J p) id to cents → Q (J p ++ Taken id to cents stamp ∷ [])
-  pub forwards : (from place : ℕ) (x : Transfer) → step ≡ Deliver from place p → Comes s before from p (J from) (J p) place x →
+  pub forwards : (from index : ℕ) (x : Transfer) → step ≡ Deliver from index p → Comes s before from p (J from) (J p) index x →
       Q (J p ++ Forwarded from x.id x.cents (deadline s x) ∷ [])
   pub books : (from : ℕ) (id : List ℕ) (o : Outcome) → Books s J before step p from id o → Q (J p ++ Booked from id o ∷ [])
   pub hands_out : (ask : AskValue) (max : ℕ) (entry : Entry) (entries : List Entry) → step ≡ Ask ask → ask.command ≡ Fetch max →
@@ -84,12 +84,12 @@ grows s J before step p Q c =
         books = λ from id o why. c.books from id o (record { outcome_is = sym (why.named (decided s J before step)) ∙ why.found_here; new = why.new; party = why.party });
         hands_out = λ max entry entries command some. c.hands_out ask max entry entries is command some;
       });
-      came = λ from place x is why. c.forwards from place x is why;
-      told = λ from place x o why. c.books from x.id o (record {
+      came = λ from index x is why. c.forwards from index x is why;
+      told = λ from index x o why. c.books from x.id o (record {
         outcome_is = why.outcome;
         new = why.new;
         party = elim why.party [
-          | inl same ↦ inl (sym same, at_place_taken p (J p) place x (subst (λ (q : ℕ). at_place q (J q) place ≡ Some x) (sym same) why.there))
+          | inl same ↦ inl (sym same, at_place_taken p (J p) index x (subst (λ (q : ℕ). at_place q (J q) index ≡ Some x) (sym same) why.there))
           | inr there ↦ inr there
         ];
       });
@@ -110,7 +110,7 @@ persists s J before step p P more here =
       funds = λ ask reference cents is command why. more (J p) (Funded reference cents) here;
       defunds = λ ask reference cents is command why cover. more (J p) (Defunded reference cents) here;
       takes = λ ask id to cents stamp is command why. more (J p) (Taken id to cents stamp) here;
-      forwards = λ from place x is why. more (J p) (Forwarded from x.id x.cents (deadline s x)) here;
+      forwards = λ from index x is why. more (J p) (Forwarded from x.id x.cents (deadline s x)) here;
       books = λ from id o why. more (J p) (Booked from id o) here;
       hands_out = λ ask max entry entries is command some. more (J p) (Fetched (length (entry ∷ entries))) here;
     })
@@ -123,7 +123,7 @@ persists_within s J before step p P more here =
       funds = λ ask reference cents is command why. more (J p) (Funded reference cents) refl here;
       defunds = λ ask reference cents is command why cover. more (J p) (Defunded reference cents) refl here;
       takes = λ ask id to cents stamp is command why. more (J p) (Taken id to cents stamp) refl here;
-      forwards = λ from place x is why. more (J p) (Forwarded from x.id x.cents (deadline s x)) refl here;
+      forwards = λ from index x is why. more (J p) (Forwarded from x.id x.cents (deadline s x)) refl here;
       books = λ from id o why. more (J p) (Booked from id o) refl here;
       hands_out = λ ask max entry entries is command some. more (J p) (Fetched (length (entry ∷ entries))) refl here;
     })

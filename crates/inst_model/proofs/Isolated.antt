@@ -45,15 +45,15 @@ own_is s O past (Ask ask) p = at_ask (eqb ask.who p) refl
     at_ask true e =
         ap (λ (q : ℕ). Reply (as_reply (reply s q (history s O past q) ask.command ask.at (found (outcome s O (Ask ask ∷ past)) q (history s O past q) ask.command))) ∷ [])
         (eqb-true ask.who p e)
-own_is s O past (Deliver from place to) p =
-    sees_cases s (history s O past) (outcome s O past) (Deliver from place to) p (λ v. [] ≡ replies_on s p (history s O past p) v)
-    (record { nothing = refl; asked = λ ask is who. cc; came = λ from place x is why. refl; told = λ from place x o why. refl })
-own_is s O past (Learn who from place) p =
-    sees_cases s (history s O past) (outcome s O past) (Learn who from place) p (λ v. [] ≡ replies_on s p (history s O past p) v)
-    (record { nothing = refl; asked = λ ask is who. cc; came = λ from place x is why. refl; told = λ from place x o why. refl })
-own_is s O past (Expire who place at) p =
-    sees_cases s (history s O past) (outcome s O past) (Expire who place at) p (λ v. [] ≡ replies_on s p (history s O past p) v)
-    (record { nothing = refl; asked = λ ask is who. cc; came = λ from place x is why. refl; told = λ from place x o why. refl })
+own_is s O past (Deliver from index to) p =
+    sees_cases s (history s O past) (outcome s O past) (Deliver from index to) p (λ v. [] ≡ replies_on s p (history s O past p) v)
+    (record { nothing = refl; asked = λ ask is who. cc; came = λ from index x is why. refl; told = λ from index x o why. refl })
+own_is s O past (Learn who from index) p =
+    sees_cases s (history s O past) (outcome s O past) (Learn who from index) p (λ v. [] ≡ replies_on s p (history s O past p) v)
+    (record { nothing = refl; asked = λ ask is who. cc; came = λ from index x is why. refl; told = λ from index x o why. refl })
+own_is s O past (Expire who index at) p =
+    sees_cases s (history s O past) (outcome s O past) (Expire who index at) p (λ v. [] ≡ replies_on s p (history s O past p) v)
+    (record { nothing = refl; asked = λ ask is who. cc; came = λ from index x is why. refl; told = λ from index x o why. refl })
 
 replies_from_view : (s : HubSettings) (O : Opening) (L : List Step) (p : ℕ) → replies s O L p ≡ replies_on s p (beginning O p) (view s O L p)
 replies_from_view s O [] p = refl

@@ -47,23 +47,23 @@ booked_after s O past step who p x o seen same =
     ∙ news_books s who p x.id (J who) o (booked p x.id (J who)) refl same
 
 pub learning_books : LearningBooks
-learning_books s O opened past who p place x o stands is party =
+learning_books s O opened past who p index x o stands is party =
     let J = history s O past in
-    booked_after s O past (Learn who p place) who p x o
-    (ap (λ b. cond b (tells (outcome s O past) p who (J who) (at_place p (J p) place)) []) (eqb_refl who)
-    ∙ told_there (outcome s O past) who p (J who) (at_place p (J p) place) x o stands is party)
+    booked_after s O past (Learn who p index) who p x o
+    (ap (λ b. cond b (tells (outcome s O past) p who (J who) (at_place p (J p) index)) []) (eqb_refl who)
+    ∙ told_there (outcome s O past) who p (J who) (at_place p (J p) index) x o stands is party)
     (λ q known. let was : outcome s O past p x.id ≡ Some q = booked_outcome s O opened past who p x.id q known in cc)
 
 pub expiry_books : ExpiryBooks
-expiry_books s O opened past p place at x o stands is =
+expiry_books s O opened past p index at x o stands is =
     let J = history s O past in
-    let after = decided s J (outcome s O past) (Expire p place at) in
-    booked_after s O past (Expire p place at) p p x o
-    (ap (λ b. cond b (tells after p p (J p) (at_place p (J p) place)) []) (eqb_refl p)
-    ∙ told_there after p p (J p) (at_place p (J p) place) x o stands is (inl refl))
+    let after = decided s J (outcome s O past) (Expire p index at) in
+    booked_after s O past (Expire p index at) p p x o
+    (ap (λ b. cond b (tells after p p (J p) (at_place p (J p) index)) []) (eqb_refl p)
+    ∙ told_there after p p (J p) (at_place p (J p) index) x o stands is (inl refl))
     (λ q known.
-    let later : booked p x.id (history s O (Expire p place at ∷ past) p) ≡ Some q = booked_later s O past (Expire p place at) p p x.id q known in
-    let was : outcome s O (Expire p place at ∷ past) p x.id ≡ Some q = booked_outcome s O opened (Expire p place at ∷ past) p p x.id q later in cc)
+    let later : booked p x.id (history s O (Expire p index at ∷ past) p) ≡ Some q = booked_later s O past (Expire p index at) p p x.id q known in
+    let was : outcome s O (Expire p index at ∷ past) p x.id ≡ Some q = booked_outcome s O opened (Expire p index at ∷ past) p p x.id q later in cc)
   where
     booked_later : (s : HubSettings) (O : Opening) (past : List Step) (step : Step) (who p : ℕ) (id : List ℕ) (q : Outcome) → booked p id (history s O past who) ≡ Some q → booked p id (history s O (step ∷ past) who) ≡ Some q
     booked_later s O past step who p id q known = persists_step s O step past who (λ K. booked p id K ≡ Some q) (booked_kept p id q) known
@@ -79,15 +79,15 @@ forwarded_new s p J x =
     ∙ or_right (is_forwarded p x.id J) (forwards p x.id (Forwarded p x.id x.cents (deadline s x))) (same_transfer_refl p x.id)
 
 pub delivery_forwards : DeliveryForwards
-delivery_forwards s O past p place x stands none =
+delivery_forwards s O past p index x stands none =
     let J = history s O past in
-    let seen : sees s J (outcome s O past) (decided s J (outcome s O past) (Deliver p place x.to)) (Deliver p place x.to) x.to
+    let seen : sees s J (outcome s O past) (decided s J (outcome s O past) (Deliver p index x.to)) (Deliver p index x.to) x.to
     ≡ cond (not (is_forwarded p x.id (J x.to))) (Came p x.id x.cents (deadline s x) ∷ []) [] =
-    ap (λ b. cond b (comes s (outcome s O past) p x.to (J x.to) (at_place p (J p) place)) []) (eqb_refl x.to)
-    ∙ comes_there s (outcome s O past) p x.to (J x.to) (at_place p (J p) place) x stands
+    ap (λ b. cond b (comes s (outcome s O past) p x.to (J x.to) (at_place p (J p) index)) []) (eqb_refl x.to)
+    ∙ comes_there s (outcome s O past) p x.to (J x.to) (at_place p (J p) index) x stands
     ∙ ap (λ b. cond ((b && is_none (outcome s O past p x.id)) && not (is_forwarded p x.id (J x.to))) (Came p x.id x.cents (deadline s x) ∷ []) []) (eqb_refl x.to)
     ∙ ap (λ (out : Option Outcome). cond (is_none out && not (is_forwarded p x.id (J x.to))) (Came p x.id x.cents (deadline s x) ∷ []) []) none in
-    ap (is_forwarded p x.id) (history_step s O (Deliver p place x.to) past x.to ∙ ap (with_entries s x.to (J x.to)) seen)
+    ap (is_forwarded p x.id) (history_step s O (Deliver p index x.to) past x.to ∙ ap (with_entries s x.to (J x.to)) seen)
     ∙ cases (J x.to) (is_forwarded p x.id (J x.to)) refl
   where
     cases : (K : List Event) (b : Bool) → is_forwarded p x.id K ≡ b → is_forwarded p x.id (with_entries s x.to K (cond (not b) (Came p x.id x.cents (deadline s x) ∷ []) [])) ≡ true
@@ -95,13 +95,13 @@ delivery_forwards s O past p place x stands none =
     cases K false is = forwarded_new s p K x
 
 pub nothing_decided_is_delivered : NothingDecidedIsDelivered
-nothing_decided_is_delivered s O past p place q x o stands is =
+nothing_decided_is_delivered s O past p index q x o stands is =
     let J = history s O past in
-    let nothing : comes s (outcome s O past) p q (J q) (at_place p (J p) place) ≡ [] =
-    comes_there s (outcome s O past) p q (J q) (at_place p (J p) place) x stands
+    let nothing : comes s (outcome s O past) p q (J q) (at_place p (J p) index) ≡ [] =
+    comes_there s (outcome s O past) p q (J q) (at_place p (J p) index) x stands
     ∙ ap (λ (out : Option Outcome). cond ((eqb x.to q && is_none out) && not (is_forwarded p x.id (J q))) (Came p x.id x.cents (deadline s x) ∷ []) []) is
     ∙ never (eqb x.to q) (not (is_forwarded p x.id (J q))) in
-    ap is_some_entry (ap (λ b. cond b (comes s (outcome s O past) p q (J q) (at_place p (J p) place)) []) (eqb_refl q) ∙ nothing)
+    ap is_some_entry (ap (λ b. cond b (comes s (outcome s O past) p q (J q) (at_place p (J p) index)) []) (eqb_refl q) ∙ nothing)
   where
     never : (a b : Bool) → cond ((a && false) && b) (Came p x.id x.cents (deadline s x) ∷ []) [] ≡ []
     never true b = refl

@@ -99,14 +99,14 @@ living_next s J before step t living q from id e =
       funds = λ ask reference cents is command why. other (Funded reference cents) refl;
       defunds = λ ask reference cents is command why cover. other (Defunded reference cents) refl;
       takes = λ ask i to cents stamp is command why. other (Taken i to cents stamp) refl;
-      forwards = λ o place x is why there.
+      forwards = λ o index x is why there.
           elim (or_cases (is_forwarded from id (J q)) (same_transfer from id o x.id) (sym (list_any_push (forwards from id) (J q) (Forwarded o x.id x.cents (deadline s x))) ∙ there)) [
             | inl old ↦ living q from id old
             | inr new ↦
                 let same : (o ≡ from) × (x.id ≡ id) = same_transfer-true from id o x.id new in
                 let unbooked : booked o x.id (carried (J q)) ≡ None =
-                carried_unbooked o x.id (J q) (stranger_unbooked s q o x.id (J q) (t.sound q) (λ own. absurd (place_to_another s o (J o) place x (t.sound o) why.there (why.addressed ∙ sym own))) why.new) in
-                let live : is_none (booked o x.id (carried (J o))) ≡ true = place_live o (J o) place x why.there in
+                carried_unbooked o x.id (J q) (stranger_unbooked s q o x.id (J q) (t.sound q) (λ own. absurd (place_to_another s o (J o) index x (t.sound o) why.there (why.addressed ∙ sym own))) why.new) in
+                let live : is_none (booked o x.id (carried (J o))) ≡ true = place_live o (J o) index x why.there in
                 let at_x : is_none (booked o x.id (carried (J q))) ≡ is_none (booked o x.id (carried (J o))) = ap is_none unbooked ∙ sym live in
                 let at_from : is_none (booked from x.id (carried (J q))) ≡ is_none (booked from x.id (carried (J from))) =
                 subst (λ (f : ℕ). is_none (booked f x.id (carried (J q))) ≡ is_none (booked f x.id (carried (J f)))) same.0 at_x in

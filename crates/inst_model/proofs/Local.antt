@@ -136,8 +136,8 @@ forwarded_found from id J cents d there =
 begun_forwarded : (s : HubSettings) (O : Opening) → IsOpening s O → (p : ℕ) (id : List ℕ) (x : Transfer) → transfer id (beginning O p) ≡ Some x → booked p id (beginning O p) ≡ None → is_forwarded p id (beginning O x.to) ≡ true
 begun_forwarded s O opened p id x found none =
     let J : List Event = beginning O p in
-    let place = stands_somewhere id J x found in
-    let event : Contains J (taken_event x) = Each_at (λ (t : Transfer). Contains J (taken_event t)) (transfers J) place.0 x (each_there J) place.1 in
+    let index = stands_somewhere id J x found in
+    let event : Contains J (taken_event x) = Each_at (λ (t : Transfer). Contains J (taken_event t)) (transfers J) index.0 x (each_there J) index.1 in
     let named : Contains J (Taken id x.to x.cents x.stamp) = subst (λ (i : List ℕ). Contains J (Taken i x.to x.cents x.stamp)) (transfer_id id J x found) event in
     forwarded_found p id (beginning O x.to) x.cents (deadline_of s.limit x.stamp)
     ((beginning_closed s O opened).pending_is_forwarded p id x.to x.cents x.stamp named

@@ -158,12 +158,12 @@ taken_before s J before step t q =
       funds = λ ask reference cents is command why. other (Funded reference cents) (λ from id. refl);
       defunds = λ ask reference cents is command why cover. other (Defunded reference cents) (λ from id. refl);
       takes = λ ask id to cents stamp is command why. other (Taken id to cents stamp) (λ from id. refl);
-      forwards = λ o place x is why from id e.
+      forwards = λ o index x is why from id e.
           elim (or_cases (is_forwarded from id (J q)) (same_transfer from id o x.id) (sym (forwarded_push from id (J q) (Forwarded o x.id x.cents (deadline s x))) ∙ e)) [
             | inl old ↦ t.taken q from id old
             | inr new ↦
                 let same : (o ≡ from) × (x.id ≡ id) = same_transfer-true from id o x.id new in
-                let found : transfer x.id (J o) ≡ Some x = place_found s o (J o) place x (t.sound o) why.there in
+                let found : transfer x.id (J o) ≡ Some x = place_found s o (J o) index x (t.sound o) why.there in
                 (x, ap (λ p. transfer id (J p)) (sym same.0) ∙ ap (λ (i : List ℕ). transfer i (J o)) (sym same.1) ∙ found, why.addressed)
           ];
       books = λ from id o why. other (Booked from id o) (λ from id. refl);

@@ -46,15 +46,15 @@ place_stays s O [] L p k x e = e
 place_stays s O (step ∷ later) L p k x e = persists_step_within s O step (later ++ L) p (λ K. at_place p K k ≡ Some x) (place_kept p k x) (place_stays s O later L p k x e)
 
 pub places_name : PlacesName
-places_name s O opened L p place x steps e = record {
-  by_identifier = place_found s p (history s O L p) place x ((together s O opened L steps).sound p) e;
+places_name s O opened L p index x steps e = record {
+  by_identifier = place_found s p (history s O L p) index x ((together s O opened L steps).sound p) e;
   outcome_is = ap (outcome_of s O L p) e;
-  for_good = λ later. place_stays s O later L p place x e;
+  for_good = λ later. place_stays s O later L p index x e;
 }
 
 pub identifiers_name : IdentifiersName
 identifiers_name s O L p id x e live =
     let found = stands_somewhere id (history s O L p) x e in
     let named : x.id ≡ id = transfer_id id (history s O L p) x e in
-    let place = live_place p (history s O L p) found.0 x found.1 (ap (λ (i : List ℕ). is_live p i (history s O L p)) named ∙ live) in
-    (place.0, place.1, named)
+    let index = live_place p (history s O L p) found.0 x found.1 (ap (λ (i : List ℕ). is_live p i (history s O L p)) named ∙ live) in
+    (index.0, index.1, named)

@@ -83,7 +83,7 @@ all_booked s O opened (step ∷ past) p =
       funds = λ ask reference cents is command why. Each_push P (history s O past p) (Funded reference cents) before tt;
       defunds = λ ask reference cents is command why cover. Each_push P (history s O past p) (Defunded reference cents) before tt;
       takes = λ ask id to cents stamp is command why. Each_push P (history s O past p) (Taken id to cents stamp) before tt;
-      forwards = λ from place x is why. Each_push P (history s O past p) _ before tt;
+      forwards = λ from index x is why. Each_push P (history s O past p) _ before tt;
       books = λ from id o why. Each_push P (history s O past p) (Booked from id o) before why.outcome_is;
       hands_out = λ ask max entry entries is command some. Each_push P (history s O past p) _ before tt;
     })

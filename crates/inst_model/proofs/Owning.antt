@@ -38,12 +38,12 @@ beneficiary_booked s J sound closed from id e = elim (booked_party s from from i
   | inl ours ↦
       let found = taken_transfer id (J from) ours.1 in
       let x : Transfer = found.0 in
-      let place = stands_somewhere id (J from) x found.1 in
-      let event : Contains (J from) (taken_event x) = Each_at (λ (t : Transfer). Contains (J from) (taken_event t)) (transfers (J from)) place.0 x (each_there (J from)) place.1 in
+      let index = stands_somewhere id (J from) x found.1 in
+      let event : Contains (J from) (taken_event x) = Each_at (λ (t : Transfer). Contains (J from) (taken_event t)) (transfers (J from)) index.0 x (each_there (J from)) index.1 in
       let named : Contains (J from) (Taken id x.to x.cents x.stamp) = subst (λ (i : List ℕ). Contains (J from) (Taken i x.to x.cents x.stamp)) (transfer_id id (J from) x found.1) event in
       let received : booked from id (J x.to) ≡ Some Accepted = booked_found s x.to (J x.to) from id Accepted (sound x.to) (closed.fit.paid_is_received from id x.to x.cents x.stamp named (booked_there from id Accepted (J from) e)) in
       let forwarded : is_forwarded from id (J x.to) ≡ true = elim (booked_party s x.to from id Accepted (J x.to) (sound x.to) received) [
-        | inl itself ↦ absurd (index_to_another s from (J from) place.0 x (sound from) place.1 (sym itself.0))
+        | inl itself ↦ absurd (index_to_another s from (J from) index.0 x (sound from) index.1 (sym itself.0))
         | inr there ↦ there
       ] in
       (x, found.1, received, forwarded)

@@ -50,7 +50,7 @@ or-false true = refl
 or-false false = refl
 
 -- a step that delivers nothing forwards nothing
-pub unforwarded_next : (s : HubSettings) (J : ℕ → List Event) (before : ℕ → List ℕ → Option Outcome) (step : Step) (q p : ℕ) (id : List ℕ) → ((from place : ℕ) → step ≡ Deliver from place q → ⊥) → is_forwarded p id (next s J before step q) ≡ is_forwarded p id (J q)
+pub unforwarded_next : (s : HubSettings) (J : ℕ → List Event) (before : ℕ → List ℕ → Option Outcome) (step : Step) (q p : ℕ) (id : List ℕ) → ((from index : ℕ) → step ≡ Deliver from index q → ⊥) → is_forwarded p id (next s J before step q) ≡ is_forwarded p id (J q)
 unforwarded_next s J before step q p id none =
     let other : (event : Event) → forwards p id event ≡ false → is_forwarded p id (J q ++ event ∷ []) ≡ is_forwarded p id (J q) = λ event not_this.
     list_any_push (forwards p id) (J q) event ∙ ap (λ b. is_forwarded p id (J q) || b) not_this ∙ or-false (is_forwarded p id (J q)) in
@@ -59,7 +59,7 @@ unforwarded_next s J before step q p id none =
       funds = λ ask reference cents is command why. other (Funded reference cents) refl;
       defunds = λ ask reference cents is command why cover. other (Defunded reference cents) refl;
       takes = λ ask other_id to cents stamp is command why. other (Taken other_id to cents stamp) refl;
-      forwards = λ from place x is why. absurd (none from place is);
+      forwards = λ from index x is why. absurd (none from index is);
       books = λ from other_id o why. other (Booked from other_id o) refl;
       hands_out = λ ask max entry entries is command some. other (Fetched _) refl;
     })

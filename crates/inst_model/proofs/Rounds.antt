@@ -40,48 +40,48 @@ participants_tell s originators places (suc n) o le =
 
 -- both steps of a place are there
 abbrev BothThere : List Step → ℕ → ℕ → ℕ → Type 0
-BothThere M who from place = Contains M (Deliver from place who) × Contains M (Learn who from place)
+BothThere M who from index = Contains M (Deliver from index who) × Contains M (Learn who from index)
 
-in_front : (M N : List Step) (who from place : ℕ) → BothThere M who from place → BothThere (M ++ N) who from place
-in_front M N who from place both = (Contains-append_left M N (Deliver from place who) both.0, Contains-append_left M N (Learn who from place) both.1)
+in_front : (M N : List Step) (who from index : ℕ) → BothThere M who from index → BothThere (M ++ N) who from index
+in_front M N who from index both = (Contains-append_left M N (Deliver from index who) both.0, Contains-append_left M N (Learn who from index) both.1)
 
-behind : (M N : List Step) (who from place : ℕ) → BothThere N who from place → BothThere (M ++ N) who from place
-behind M N who from place both = (Contains-append_right M N (Deliver from place who) both.0, Contains-append_right M N (Learn who from place) both.1)
+behind : (M N : List Step) (who from index : ℕ) → BothThere N who from index → BothThere (M ++ N) who from index
+behind M N who from index both = (Contains-append_right M N (Deliver from index who) both.0, Contains-append_right M N (Learn who from index) both.1)
 
-of_pair : (who from place : ℕ) → BothThere (Deliver from place who ∷ (Learn who from place ∷ [])) who from place
-of_pair who from place = (
-  Contains-append_left (Deliver from place who ∷ []) (Learn who from place ∷ []) (Deliver from place who) (Contains-push [] (Deliver from place who)),
-  Contains-push (Deliver from place who ∷ []) (Learn who from place),
+of_pair : (who from index : ℕ) → BothThere (Deliver from index who ∷ (Learn who from index ∷ [])) who from index
+of_pair who from index = (
+  Contains-append_left (Deliver from index who ∷ []) (Learn who from index ∷ []) (Deliver from index who) (Contains-push [] (Deliver from index who)),
+  Contains-push (Deliver from index who ∷ []) (Learn who from index),
 )
 
-lower : (place n : ℕ) → place < suc n → (place ≡ n) ⊎ (place < n)
-lower place n less = elim (cases_eq place n) [ inl same ↦ inl same | inr other ↦ inr (omega arith) ]
+lower : (index n : ℕ) → index < suc n → (index ≡ n) ⊎ (index < n)
+lower index n less = elim (cases_eq index n) [ inl same ↦ inl same | inr other ↦ inr (omega arith) ]
 
-in_places : (who from n place : ℕ) → place < n → BothThere (of_places who from n) who from place
-in_places who from zero place less = absurd (omega arith)
-in_places who from (suc n) place less = elim (lower place n less) [
+in_places : (who from n index : ℕ) → index < n → BothThere (of_places who from n) who from index
+in_places who from zero index less = absurd (omega arith)
+in_places who from (suc n) index less = elim (lower index n less) [
   | inl same ↦
       subst (λ k. BothThere (of_places who from (suc n)) who from k) (sym same)
       (in_front (Deliver from n who ∷ (Learn who from n ∷ [])) (of_places who from n) who from n (of_pair who from n))
-  | inr rest ↦ behind (Deliver from n who ∷ (Learn who from n ∷ [])) (of_places who from n) who from place (in_places who from n place rest)
+  | inr rest ↦ behind (Deliver from n who ∷ (Learn who from n ∷ [])) (of_places who from n) who from index (in_places who from n index rest)
 ]
 
-in_originators : (who places n from place : ℕ) → from < n → place < places → BothThere (of_originators who places n) who from place
-in_originators who places zero from place less k = absurd (omega arith)
-in_originators who places (suc n) from place less k = elim (lower from n less) [
+in_originators : (who places n from index : ℕ) → from < n → index < places → BothThere (of_originators who places n) who from index
+in_originators who places zero from index less k = absurd (omega arith)
+in_originators who places (suc n) from index less k = elim (lower from n less) [
   | inl same ↦
-      subst (λ o. BothThere (of_originators who places (suc n)) who o place) (sym same)
-      (in_front (of_places who n places) (of_originators who places n) who n place (in_places who n places place k))
-  | inr rest ↦ behind (of_places who n places) (of_originators who places n) who from place (in_originators who places n from place rest k)
+      subst (λ o. BothThere (of_originators who places (suc n)) who o index) (sym same)
+      (in_front (of_places who n places) (of_originators who places n) who n index (in_places who n places index k))
+  | inr rest ↦ behind (of_places who n places) (of_originators who places n) who from index (in_originators who places n from index rest k)
 ]
 
-in_participants : (originators places n who from place : ℕ) → who < n → from < originators → place < places → BothThere (of_participants originators places n) who from place
-in_participants originators places zero who from place less f k = absurd (omega arith)
-in_participants originators places (suc n) who from place less f k = elim (lower who n less) [
+in_participants : (originators places n who from index : ℕ) → who < n → from < originators → index < places → BothThere (of_participants originators places n) who from index
+in_participants originators places zero who from index less f k = absurd (omega arith)
+in_participants originators places (suc n) who from index less f k = elim (lower who n less) [
   | inl same ↦
-      subst (λ w. BothThere (of_participants originators places (suc n)) w from place) (sym same)
-      (in_front (of_originators n places originators) (of_participants originators places n) n from place (in_originators n places originators from place f k))
-  | inr rest ↦ behind (of_originators n places originators) (of_participants originators places n) who from place (in_participants originators places n who from place rest f k)
+      subst (λ w. BothThere (of_participants originators places (suc n)) w from index) (sym same)
+      (in_front (of_originators n places originators) (of_participants originators places n) n from index (in_originators n places originators from index f k))
+  | inr rest ↦ behind (of_originators n places originators) (of_participants originators places n) who from index (in_participants originators places n who from index rest f k)
 ]
 
 each_part : (s : HubSettings) (P : Step → Type 0) (M : List Step) → ((step : Step) → Tells s step → P step) → Each (Tells s) M → Each P M
@@ -95,6 +95,6 @@ there_is_a_closing s =
     record {
       fits = each_part s (λ step. step_fits s step ≡ true) (closing s) (λ step t. t.fits) all;
       only_tells = each_part s (λ step. is_telling step ≡ true) (closing s) (λ step t. t.tells) all;
-      delivers = λ who from place w f k. (in_participants n s.places n who from place w f k).0;
-      learns = λ who from place w f k. (in_participants n s.places n who from place w f k).1;
+      delivers = λ who from index w f k. (in_participants n s.places n who from index w f k).0;
+      learns = λ who from index w f k. (in_participants n s.places n who from index w f k).1;
     }

@@ -15,8 +15,8 @@ pub at_most_one_entry_is_seen : AtMostOneEntryIsSeen
 at_most_one_entry_is_seen s O step past p = sees_cases s (history s O past) (outcome s O past) step p (λ v. length v ≤ 1) (record {
   nothing = omega arith;
   asked = λ ask is who. omega arith;
-  came = λ from place x is why. omega arith;
-  told = λ from place x o why. omega arith;
+  came = λ from index x is why. omega arith;
+  told = λ from index x o why. omega arith;
 })
 
 kept_or_not : (b : Bool) (a : Answer) (xs ys : List Answer) → cond b (a ∷ (xs ++ ys)) (xs ++ ys) ≡ cond b (a ∷ xs) xs ++ ys
@@ -30,15 +30,15 @@ own_answers-append p (step ∷ steps) more [] later same = absurd (omega arith)
 own_answers-append p (Ask ask ∷ steps) more (a ∷ answers) later same =
     ap (λ rest. cond (eqb ask.who p) (a ∷ rest) rest) (own_answers-append p steps more answers later (omega arith))
     ∙ kept_or_not (eqb ask.who p) a (own_answers p steps answers) (own_answers p more later)
-own_answers-append p (Deliver from place to ∷ steps) more (a ∷ answers) later same = own_answers-append p steps more answers later (omega arith)
-own_answers-append p (Learn who from place ∷ steps) more (a ∷ answers) later same = own_answers-append p steps more answers later (omega arith)
-own_answers-append p (Expire who place at ∷ steps) more (a ∷ answers) later same = own_answers-append p steps more answers later (omega arith)
+own_answers-append p (Deliver from index to ∷ steps) more (a ∷ answers) later same = own_answers-append p steps more answers later (omega arith)
+own_answers-append p (Learn who from index ∷ steps) more (a ∷ answers) later same = own_answers-append p steps more answers later (omega arith)
+own_answers-append p (Expire who index at ∷ steps) more (a ∷ answers) later same = own_answers-append p steps more answers later (omega arith)
 
 own_one : (s : HubSettings) (O : Opening) (past : List Step) (step : Step) (p : ℕ) → own_answers p (step ∷ []) (answer s O past step ∷ []) ≡ own_answer s O past step p
 own_one s O past (Ask ask) p = refl
-own_one s O past (Deliver from place to) p = refl
-own_one s O past (Learn who from place) p = refl
-own_one s O past (Expire who place at) p = refl
+own_one s O past (Deliver from index to) p = refl
+own_one s O past (Learn who from index) p = refl
+own_one s O past (Expire who index at) p = refl
 
 trace-length : (s : HubSettings) (O : Opening) (L : List Step) → length (trace s O L) ≡ length L
 trace-length s O [] = refl

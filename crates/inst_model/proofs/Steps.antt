@@ -21,22 +21,22 @@ is_none-true None e = refl
 is_none-true (Some x) e = cc
 
 -- a transfer comes
-pub record Comes (s : HubSettings) (before : ℕ → List ℕ → Option Outcome) (from p : ℕ) (Jfrom J : List Event) (place : ℕ) (x : Transfer) : Type 0 where
-  pub there : at_place from Jfrom place ≡ Some x
+pub record Comes (s : HubSettings) (before : ℕ → List ℕ → Option Outcome) (from p : ℕ) (Jfrom J : List Event) (index : ℕ) (x : Transfer) : Type 0 where
+  pub there : at_place from Jfrom index ≡ Some x
   pub addressed : x.to ≡ p
   pub undecided : before from x.id ≡ None
   pub new : is_forwarded from x.id J ≡ false
 
 -- an outcome is told
-pub record Tells (outcomes : ℕ → List ℕ → Option Outcome) (from p : ℕ) (Jfrom J : List Event) (place : ℕ) (x : Transfer) (o : Outcome) : Type 0 where
-  pub there : at_place from Jfrom place ≡ Some x
+pub record Tells (outcomes : ℕ → List ℕ → Option Outcome) (from p : ℕ) (Jfrom J : List Event) (index : ℕ) (x : Transfer) (o : Outcome) : Type 0 where
+  pub there : at_place from Jfrom index ≡ Some x
   pub party : (p ≡ from) ⊎ (is_forwarded from x.id J ≡ true)
   pub outcome : outcomes from x.id ≡ Some o
   pub new : booked from x.id J ≡ None
 
-comes_cases : (s : HubSettings) (before : ℕ → List ℕ → Option Outcome) (from p : ℕ) (Jfrom J : List Event) (place : ℕ) (found : Option Transfer) → at_place from Jfrom place ≡ found → (P : List Seen → Type 0) → P [] → ((x : Transfer) → Comes s before from p Jfrom J place x → P (Came from x.id x.cents (deadline s x) ∷ [])) → P (comes s before from p J found)
-comes_cases s before from p Jfrom J place None is P nothing come = nothing
-comes_cases s before from p Jfrom J place (Some x) is P nothing come =
+comes_cases : (s : HubSettings) (before : ℕ → List ℕ → Option Outcome) (from p : ℕ) (Jfrom J : List Event) (index : ℕ) (found : Option Transfer) → at_place from Jfrom index ≡ found → (P : List Seen → Type 0) → P [] → ((x : Transfer) → Comes s before from p Jfrom J index x → P (Came from x.id x.cents (deadline s x) ∷ [])) → P (comes s before from p J found)
+comes_cases s before from p Jfrom J index None is P nothing come = nothing
+comes_cases s before from p Jfrom J index (Some x) is P nothing come =
     cond_both _ _ _ P
     (λ e.
     let outer : ((eqb x.to p && is_none (before from x.id)) ≡ true) × (not (is_forwarded from x.id J) ≡ true) = and_parts (eqb x.to p && is_none (before from x.id)) (not (is_forwarded from x.id J)) e in
@@ -54,9 +54,9 @@ news_cases from id (Some o) None P nothing tell = tell o refl refl
 news_cases from id (Some o) (Some before) P nothing tell = nothing
 news_cases from id None before P nothing tell = nothing
 
-tells_cases : (outcomes : ℕ → List ℕ → Option Outcome) (from p : ℕ) (Jfrom J : List Event) (place : ℕ) (found : Option Transfer) → at_place from Jfrom place ≡ found → (P : List Seen → Type 0) → P [] → ((x : Transfer) (o : Outcome) → Tells outcomes from p Jfrom J place x o → P (Told from x.id o ∷ [])) → P (tells outcomes from p J found)
-tells_cases outcomes from p Jfrom J place None is P nothing tell = nothing
-tells_cases outcomes from p Jfrom J place (Some x) is P nothing tell =
+tells_cases : (outcomes : ℕ → List ℕ → Option Outcome) (from p : ℕ) (Jfrom J : List Event) (index : ℕ) (found : Option Transfer) → at_place from Jfrom index ≡ found → (P : List Seen → Type 0) → P [] → ((x : Transfer) (o : Outcome) → Tells outcomes from p Jfrom J index x o → P (Told from x.id o ∷ [])) → P (tells outcomes from p J found)
+tells_cases outcomes from p Jfrom J index None is P nothing tell = nothing
+tells_cases outcomes from p Jfrom J index (Some x) is P nothing tell =
     cond_both _ _ _ P
     (λ e. news_cases from x.id (outcomes from x.id) (booked from x.id J) P nothing
     (λ o some new. tell x o (record { there = is; party = party_of p from (is_forwarded from x.id J) e; outcome = some; new = new })))
@@ -70,31 +70,31 @@ pub record Cases (s : HubSettings) (J : ℕ → List Event) (before : ℕ → Li
   pub nothing : P []
   pub asked : (ask : AskValue) → step ≡ Ask ask → ask.who ≡ p →
       P (Asked ask.command ask.at (found (decided s J before step) p (J p) ask.command) ∷ [])
-  pub came : (from place : ℕ) (x : Transfer) → step ≡ Deliver from place p → Comes s before from p (J from) (J p) place x →
+  pub came : (from index : ℕ) (x : Transfer) → step ≡ Deliver from index p → Comes s before from p (J from) (J p) index x →
       P (Came from x.id x.cents (deadline s x) ∷ [])
-  pub told : (from place : ℕ) (x : Transfer) (o : Outcome) → Tells (decided s J before step) from p (J from) (J p) place x o →
+  pub told : (from index : ℕ) (x : Transfer) (o : Outcome) → Tells (decided s J before step) from p (J from) (J p) index x o →
       P (Told from x.id o ∷ [])
 
 pub sees_cases : (s : HubSettings) (J : ℕ → List Event) (before : ℕ → List ℕ → Option Outcome) (step : Step) (p : ℕ) (P : List Seen → Type 0) → Cases s J before step p P → P (sees s J before (decided s J before step) step p)
 sees_cases s J before (Ask ask) p P c =
     cond_both _ _ _ P (λ e. c.asked ask refl (eqb-true ask.who p e)) (λ e. c.nothing)
-sees_cases s J before (Deliver from place to) p P c =
+sees_cases s J before (Deliver from index to) p P c =
     cond_both _ _ _ P
-    (λ e. comes_cases s before from p (J from) (J p) place (at_place from (J from) place) refl P c.nothing
-    (λ x h. c.came from place x (ap (λ q. Deliver from place q) (eqb-true to p e)) h))
+    (λ e. comes_cases s before from p (J from) (J p) index (at_place from (J from) index) refl P c.nothing
+    (λ x h. c.came from index x (ap (λ q. Deliver from index q) (eqb-true to p e)) h))
     (λ e. c.nothing)
-sees_cases s J before (Learn who from place) p P c =
+sees_cases s J before (Learn who from index) p P c =
     cond_both _ _ _ P
-    (λ e. tells_cases before from p (J from) (J p) place (at_place from (J from) place) refl P c.nothing
-    (λ x o h. c.told from place x o (record {
+    (λ e. tells_cases before from p (J from) (J p) index (at_place from (J from) index) refl P c.nothing
+    (λ x o h. c.told from index x o (record {
       there = h.there;
       party = h.party;
-      outcome = or_else_kept (before from x.id) (wants s J (Learn who from place) from x.id) o h.outcome;
+      outcome = or_else_kept (before from x.id) (wants s J (Learn who from index) from x.id) o h.outcome;
       new = h.new;
     })))
     (λ e. c.nothing)
-sees_cases s J before (Expire who place at) p P c =
+sees_cases s J before (Expire who index at) p P c =
     cond_both _ _ _ P
-    (λ e. tells_cases (decided s J before (Expire who place at)) p p (J p) (J p) place (at_place p (J p) place) refl P c.nothing
-    (λ x o h. c.told p place x o h))
+    (λ e. tells_cases (decided s J before (Expire who index at)) p p (J p) (J p) index (at_place p (J p) index) refl P c.nothing
+    (λ x o h. c.told p index x o h))
     (λ e. c.nothing)

@@ -41,11 +41,11 @@ unseen b x e = ap (λ c. cond c x []) e
 sees_nothing : (s : HubSettings) (J : ℕ → List Event) (before after : ℕ → List ℕ → Option Outcome) (step : Step) (p : ℕ) → step_fits s step ≡ true → is_participant s p ≡ false → sees s J before after step p ≡ []
 sees_nothing s J before after (Ask ask) p fits none =
     unseen (eqb ask.who p) _ (another s ask.who p (and_parts (is_participant s ask.who) (command_fits s ask.command) fits).0 none)
-sees_nothing s J before after (Deliver from place to) p fits none =
+sees_nothing s J before after (Deliver from index to) p fits none =
     unseen (eqb to p) _ (another s to p (and_parts (is_participant s from) (is_participant s to) fits).1 none)
-sees_nothing s J before after (Learn who from place) p fits none =
+sees_nothing s J before after (Learn who from index) p fits none =
     unseen (eqb who p) _ (another s who p (and_parts (is_participant s who) (is_participant s from) fits).0 none)
-sees_nothing s J before after (Expire who place at) p fits none = unseen (eqb who p) _ (another s who p fits none)
+sees_nothing s J before after (Expire who index at) p fits none = unseen (eqb who p) _ (another s who p fits none)
 
 stays_as_it_begins : (s : HubSettings) (O : Opening) (L : List Step) → IsInterleaving s L → (p : ℕ) → is_participant s p ≡ false → history s O L p ≡ beginning O p
 stays_as_it_begins s O [] steps p none = refl
@@ -75,17 +75,17 @@ from_participant s who from id =
     forwarded_now J Opened fits e = absurd (false≢true e)
 
 -- who has a transfer at a place at the opening is a participant
-begins_with_a_participant : (s : HubSettings) (O : Opening) → IsOpening s O → (p place : ℕ) (x : Transfer) → at_place p (beginning O p) place ≡ Some x → is_participant s p ≡ true
-begins_with_a_participant s O opened p place x there =
+begins_with_a_participant : (s : HubSettings) (O : Opening) → IsOpening s O → (p index : ℕ) (x : Transfer) → at_place p (beginning O p) index ≡ Some x → is_participant s p ≡ true
+begins_with_a_participant s O opened p index x there =
     let J : List Event = beginning O p in
-    let taken = place_there p J place x there in
+    let taken = place_there p J index x there in
     let event : Contains J (taken_event x) = Each_at (λ (t : Transfer). Contains J (taken_event t)) (transfers J) taken.0 x (each_there J) taken.1 in
-    let came = at_an_opening_the_live_have_come s O opened p x.to x.id x.cents x.stamp event (place_live p J place x there) in
+    let came = at_an_opening_the_live_have_come s O opened p x.to x.id x.cents x.stamp event (place_live p J index x there) in
     from_participant s x.to p x.id (beginning O x.to) (beginning_sound s O opened x.to) came.0
 
 -- who has a transfer at a place is a participant
-pub of_a_participant : (s : HubSettings) (O : Opening) → IsOpening s O → (L : List Step) → IsInterleaving s L → (p place : ℕ) (x : Transfer) → at_place p (history s O L p) place ≡ Some x → is_participant s p ≡ true
-of_a_participant s O opened L steps p place x there = elim (cases_Bool (is_participant s p)) [
+pub of_a_participant : (s : HubSettings) (O : Opening) → IsOpening s O → (L : List Step) → IsInterleaving s L → (p index : ℕ) (x : Transfer) → at_place p (history s O L p) index ≡ Some x → is_participant s p ≡ true
+of_a_participant s O opened L steps p index x there = elim (cases_Bool (is_participant s p)) [
   | inl one ↦ one
-  | inr none ↦ begins_with_a_participant s O opened p place x (ap (λ J. at_place p J place) (sym (stays_as_it_begins s O L steps p none)) ∙ there)
+  | inr none ↦ begins_with_a_participant s O opened p index x (ap (λ J. at_place p J index) (sym (stays_as_it_begins s O L steps p none)) ∙ there)
 ]

@@ -29,10 +29,10 @@ OnlyTells M = Each (λ step. is_telling step ≡ true) M
 
 nothing_wanted : (s : HubSettings) (J : ℕ → List Event) (step : Step) (p : ℕ) (id : List ℕ) (o : Option Transfer) → is_telling step ≡ true → taken_wants s J step p id o ≡ None
 nothing_wanted s J step p id None tells = refl
-nothing_wanted s J (Deliver from place to) p id (Some x) tells = refl
-nothing_wanted s J (Learn who from place) p id (Some x) tells = refl
+nothing_wanted s J (Deliver from index to) p id (Some x) tells = refl
+nothing_wanted s J (Learn who from index) p id (Some x) tells = refl
 nothing_wanted s J (Ask ask) p id (Some x) tells = absurd (false≢true tells)
-nothing_wanted s J (Expire who place at) p id (Some x) tells = absurd (false≢true tells)
+nothing_wanted s J (Expire who index at) p id (Some x) tells = absurd (false≢true tells)
 
 pub same_outcome : (s : HubSettings) (O : Opening) (step : Step) (past : List Step) → is_telling step ≡ true → (p : ℕ) (id : List ℕ) → outcome s O (step ∷ past) p id ≡ outcome s O past p id
 same_outcome s O step past tells p id =
@@ -47,7 +47,7 @@ is_no_ask step ask tells is = false≢true (sym (ap is_telling is) ∙ tells)
 
 -- the history of p after a step that only tells, case by case
 pub by_telling : (s : HubSettings) (O : Opening) (step : Step) (past : List Step) (p : ℕ) → is_telling step ≡ true → (Q : List Event → Type 0) → Q (history s O past p)
-    → ((from place : ℕ) (x : Transfer) → step ≡ Deliver from place p → Comes s (outcome s O past) from p (history s O past from) (history s O past p) place x → Q (history s O past p ++ Forwarded from x.id x.cents (deadline s x) ∷ []))
+    → ((from index : ℕ) (x : Transfer) → step ≡ Deliver from index p → Comes s (outcome s O past) from p (history s O past from) (history s O past p) index x → Q (history s O past p ++ Forwarded from x.id x.cents (deadline s x) ∷ []))
     → ((from : ℕ) (id : List ℕ) (o : Outcome) → Books s (history s O past) (outcome s O past) step p from id o → Q (history s O past p ++ Booked from id o ∷ []))
     → Q (history s O (step ∷ past) p)
 by_telling s O step past p tells Q nothing forwards books =
@@ -72,7 +72,7 @@ pub same_live : (s : HubSettings) (O : Opening) (step : Step) (past : List Step)
 same_live s O step past tells p =
     let J : List Event = history s O past p in
     by_telling s O step past p tells (λ K. live_transfers p K ≡ live_transfers p J) refl
-    (λ from place x is why. none_taken p J (Forwarded from x.id x.cents (deadline s x)) refl refl) (λ from id o why. none_taken p J (Booked from id o) refl refl)
+    (λ from index x is why. none_taken p J (Forwarded from x.id x.cents (deadline s x)) refl refl) (λ from id o why. none_taken p J (Booked from id o) refl refl)
 
 -- nothing that is decided comes
 pub came_before : (s : HubSettings) (O : Opening) (step : Step) (past : List Step) → is_telling step ≡ true → (who from : ℕ) (id : List ℕ) (o : Outcome) → outcome s O past from id ≡ Some o
@@ -80,7 +80,7 @@ pub came_before : (s : HubSettings) (O : Opening) (step : Step) (past : List Ste
 came_before s O step past tells who from id o is =
     let J : List Event = history s O past who in
     by_telling s O step past who tells (λ K. is_forwarded from id K ≡ true → is_forwarded from id J ≡ true) (λ e. e)
-    (λ other place x deliver why e.
+    (λ other index x deliver why e.
     elim (or_cases (is_forwarded from id J) (same_transfer from id other x.id) (sym (list_any_push (forwards from id) J (Forwarded other x.id x.cents (deadline s x))) ∙ e)) [
       | inl old ↦ old
       | inr new ↦
@@ -103,5 +103,5 @@ only_told s O L (step ∷ M) tells p =
     let J : List Event = history s O L p in
     let so_far : OnlyTold J (history s O (M ++ L) p) = only_told s O L M tells.1 p in
     by_telling s O step (M ++ L) p tells.0 (λ K. OnlyTold J K) so_far
-    (λ from place x is why. told_more J (history s O (M ++ L) p) (Forwarded from x.id x.cents (deadline s x)) refl so_far)
+    (λ from index x is why. told_more J (history s O (M ++ L) p) (Forwarded from x.id x.cents (deadline s x)) refl so_far)
     (λ from id o why. told_more J (history s O (M ++ L) p) (Booked from id o) refl so_far)

@@ -55,10 +55,10 @@ ask_in_time s J who at p id x o (Statement skip count) e = absurd cc
 -- the reading at which a step wants something, in time
 step_in_time : (s : HubSettings) (J : ℕ → List Event) (step : Step) (p : ℕ) (id : List ℕ) (x : Transfer) (o : Outcome) → step_wants s J step p id x ≡ Some o → (at : ℕ) × (reading step ≡ Some at) × IsInTime s (deadline s x) at o
 step_in_time s J (Ask ask) p id x o e = (ask.at, refl, ask_in_time s J ask.who ask.at p id x o ask.command e)
-step_in_time s J (Deliver from place to) p id x o e = absurd cc
-step_in_time s J (Learn who from place) p id x o e = absurd cc
-step_in_time s J (Expire who place at) p id x o e =
-    (at, refl, expired_in_time s (deadline s x) at o (when_true (eqb who p && is_named id (at_place p (J p) place)) (expired (deadline s x) at) o e).1)
+step_in_time s J (Deliver from index to) p id x o e = absurd cc
+step_in_time s J (Learn who from index) p id x o e = absurd cc
+step_in_time s J (Expire who index at) p id x o e =
+    (at, refl, expired_in_time s (deadline s x) at o (when_true (eqb who p && is_named id (at_place p (J p) index)) (expired (deadline s x) at) o e).1)
 
 pub each_outcome_is_in_time : EachOutcomeIsInTime
 each_outcome_is_in_time s O past step p id o none e =

@@ -38,9 +38,9 @@ mirrors_before s J before step t q from =
       funds = λ ask reference cents is command why. mirrors_other from (J q) T (Funded reference cents) (λ id. refl) (λ g. refl) old;
       defunds = λ ask reference cents is command why cover. mirrors_other from (J q) T (Defunded reference cents) (λ id. refl) (λ g. refl) old;
       takes = λ ask id to cents stamp is command why. mirrors_other from (J q) T (Taken id to cents stamp) (λ id. refl) (λ g. refl) old;
-      forwards = λ o place x is why. elim (cases_eq o from) [
+      forwards = λ o index x is why. elim (cases_eq o from) [
         | inl same ↦
-            let found : transfer x.id (J from) ≡ Some x = ap (λ p. transfer x.id (J p)) (sym same) ∙ place_found s o (J o) place x (t.sound o) why.there in
+            let found : transfer x.id (J from) ≡ Some x = ap (λ p. transfer x.id (J p)) (sym same) ∙ place_found s o (J o) index x (t.sound o) why.there in
             let new : is_forwarded from x.id (J q) ≡ false = ap (λ p. is_forwarded p x.id (J q)) (sym same) ∙ why.new in
             let P : ℕ → Type 0 = λ p. Mirrors from (J q ++ Forwarded p x.id x.cents (deadline s x) ∷ []) T in
             subst P (sym same) (mirrors_coming from (J q) T x (deadline s x) new (λ h. single s from h x.id (J from) (t.sound from) ∙ ap (measure_of h) found) old)
@@ -77,7 +77,7 @@ mirrors_after s J before step t q from =
           let nothing : weighed_there g from K x ≡ zero = ap (λ b. cond b (g id cents) 0) unforwarded in
           omega (arith, m g, sum_by_push (weighed_there g from K) (transfers (J from)) x, nothing) in
           subst (Mirrors from K) (sym (transfers_push (J from) (Taken id to cents stamp))) longer;
-      forwards = λ o place x is why. mirrors_later from K (J from) _ refl m;
+      forwards = λ o index x is why. mirrors_later from K (J from) _ refl m;
       books = λ o id outcome why. mirrors_later from K (J from) (Booked o id outcome) refl m;
       hands_out = λ ask max entry entries is command some. mirrors_later from K (J from) _ refl m;
     })
@@ -93,18 +93,18 @@ sound_next s J before step t living fits p =
       asked = λ ask is who.
           let parts : (is_participant s ask.who ≡ true) × (command_fits s ask.command ≡ true) = and_parts (is_participant s ask.who) (command_fits s ask.command) (ap (step_fits s) (sym is) ∙ fits) in
           history_after_sound s p (J p) ask.command ask.at (found (decided s J before step) p (J p) ask.command) (t.sound p) parts.1;
-      came = λ from place x is why.
+      came = λ from index x is why.
           let parts : (is_participant s from ≡ true) × (is_participant s p ≡ true) = and_parts (is_participant s from) (is_participant s p) (ap (step_fits s) (sym is) ∙ fits) in
           sound_push s p (J p) (Forwarded from x.id x.cents (deadline s x)) (t.sound p) (record {
             originator = parts.0;
-            another = λ same. place_to_another s from (J from) place x (t.sound from) why.there (why.addressed ∙ sym same);
+            another = λ same. place_to_another s from (J from) index x (t.sound from) why.there (why.addressed ∙ sym same);
             new = why.new;
-            place = place_left s J p from place x t living why.there why.new;
+            place = place_left s J p from index x t living why.there why.new;
           });
-      told = λ from place x o why.
+      told = λ from index x o why.
           sound_push s p (J p) (Booked from x.id o) (t.sound p) (record {
             party = elim why.party [
-              | inl same ↦ inl (sym same, at_place_taken p (J p) place x (subst (λ (q : ℕ). at_place q (J q) place ≡ Some x) (sym same) why.there))
+              | inl same ↦ inl (sym same, at_place_taken p (J p) index x (subst (λ (q : ℕ). at_place q (J q) index ≡ Some x) (sym same) why.there))
               | inr there ↦ inr there
             ];
             new = why.new;

@@ -54,16 +54,16 @@ decided_taken s O opened (step ∷ past) p id o e =
 
 -- what a step that tells has done
 abbrev IsDone : HubSettings → Opening → List Step → Step → Type 0
-IsDone s O L (Deliver from place who) = (x : Transfer) → at_place from (history s O L from) place ≡ Some x → x.to ≡ who → outcome s O L from x.id ≡ None → is_forwarded from x.id (history s O L who) ≡ true
-IsDone s O L (Learn who from place) =
-    (x : Transfer) (o : Outcome) → at_place from (history s O L from) place ≡ Some x → outcome s O L from x.id ≡ Some o → (who ≡ from) ⊎ (is_forwarded from x.id (history s O L who) ≡ true)
+IsDone s O L (Deliver from index who) = (x : Transfer) → at_place from (history s O L from) index ≡ Some x → x.to ≡ who → outcome s O L from x.id ≡ None → is_forwarded from x.id (history s O L who) ≡ true
+IsDone s O L (Learn who from index) =
+    (x : Transfer) (o : Outcome) → at_place from (history s O L from) index ≡ Some x → outcome s O L from x.id ≡ Some o → (who ≡ from) ⊎ (is_forwarded from x.id (history s O L who) ≡ true)
     → booked from x.id (history s O L who) ≡ Some o
 IsDone s O L (Ask ask) = Unit {0}
-IsDone s O L (Expire who place at) = Unit {0}
+IsDone s O L (Expire who index at) = Unit {0}
 
 -- a place, an outcome and a party after a step that tells were the same before it
-stood : (s : HubSettings) (O : Opening) (step : Step) (past : List Step) → is_telling step ≡ true → (from place : ℕ) (x : Transfer) → at_place from (history s O (step ∷ past) from) place ≡ Some x → at_place from (history s O past from) place ≡ Some x
-stood s O step past tells from place x there = ap (λ T. slice_get T place) (sym (same_live s O step past tells from)) ∙ there
+stood : (s : HubSettings) (O : Opening) (step : Step) (past : List Step) → is_telling step ≡ true → (from index : ℕ) (x : Transfer) → at_place from (history s O (step ∷ past) from) index ≡ Some x → at_place from (history s O past from) index ≡ Some x
+stood s O step past tells from index x there = ap (λ T. slice_get T index) (sym (same_live s O step past tells from)) ∙ there
 
 was_party : (s : HubSettings) (O : Opening) (step : Step) (past : List Step) → is_telling step ≡ true → (who from : ℕ) (id : List ℕ) (o : Outcome) → outcome s O past from id ≡ Some o
     → (who ≡ from) ⊎ (is_forwarded from id (history s O (step ∷ past) who) ≡ true) → (who ≡ from) ⊎ (is_forwarded from id (history s O past who) ≡ true)
@@ -73,27 +73,27 @@ was_party s O step past tells who from id o is party = elim party [
 ]
 
 done_now : (s : HubSettings) (O : Opening) → IsOpening s O → (step : Step) (past : List Step) → is_telling step ≡ true → IsDone s O (step ∷ past) step
-done_now s O opened (Deliver from place who) past tells = λ x there to none.
-    let step : Step = Deliver from place who in
-    subst (λ w. is_forwarded from x.id (history s O (Deliver from place w ∷ past) w) ≡ true) to
-    (delivery_forwards s O past from place x (stood s O step past tells from place x there) (sym (same_outcome s O step past tells from x.id) ∙ none))
-done_now s O opened (Learn who from place) past tells = λ x o there is party.
-    let step : Step = Learn who from place in
+done_now s O opened (Deliver from index who) past tells = λ x there to none.
+    let step : Step = Deliver from index who in
+    subst (λ w. is_forwarded from x.id (history s O (Deliver from index w ∷ past) w) ≡ true) to
+    (delivery_forwards s O past from index x (stood s O step past tells from index x there) (sym (same_outcome s O step past tells from x.id) ∙ none))
+done_now s O opened (Learn who from index) past tells = λ x o there is party.
+    let step : Step = Learn who from index in
     let was : outcome s O past from x.id ≡ Some o = sym (same_outcome s O step past tells from x.id) ∙ is in
-    learning_books s O opened past who from place x o (stood s O step past tells from place x there) was (was_party s O step past tells who from x.id o was party)
+    learning_books s O opened past who from index x o (stood s O step past tells from index x there) was (was_party s O step past tells who from x.id o was party)
 done_now s O opened (Ask ask) past tells = tt
-done_now s O opened (Expire who place at) past tells = tt
+done_now s O opened (Expire who index at) past tells = tt
 
 done_later : (s : HubSettings) (O : Opening) (step : Step) (past : List Step) → is_telling step ≡ true → (t : Step) → IsDone s O past t → IsDone s O (step ∷ past) t
-done_later s O step past tells (Deliver from place who) done = λ x there to none.
+done_later s O step past tells (Deliver from index who) done = λ x there to none.
     persists_step s O step past who (λ K. is_forwarded from x.id K ≡ true) (forwarded_kept from x.id)
-    (done x (stood s O step past tells from place x there) to (sym (same_outcome s O step past tells from x.id) ∙ none))
-done_later s O step past tells (Learn who from place) done = λ x o there is party.
+    (done x (stood s O step past tells from index x there) to (sym (same_outcome s O step past tells from x.id) ∙ none))
+done_later s O step past tells (Learn who from index) done = λ x o there is party.
     let was : outcome s O past from x.id ≡ Some o = sym (same_outcome s O step past tells from x.id) ∙ is in
     persists_step s O step past who (λ K. booked from x.id K ≡ Some o) (booked_kept from x.id o)
-    (done x o (stood s O step past tells from place x there) was (was_party s O step past tells who from x.id o was party))
+    (done x o (stood s O step past tells from index x there) was (was_party s O step past tells who from x.id o was party))
 done_later s O step past tells (Ask ask) done = tt
-done_later s O step past tells (Expire who place at) done = tt
+done_later s O step past tells (Expire who index at) done = tt
 
 each_done : (s : HubSettings) (O : Opening) → IsOpening s O → (L M : List Step) → OnlyTells M → Each (IsDone s O (M ++ L)) M
 each_done s O opened L [] tells = tt
@@ -107,7 +107,7 @@ pub record AllTold (s : HubSettings) (O : Opening) (C : List Step) : Type 0 wher
   pub steps : IsInterleaving s C
   pub originator : (from : ℕ) (id : List ℕ) (o : Outcome) → outcome s O C from id ≡ Some o → booked from id (history s O C from) ≡ Some o
   pub beneficiary : (to from : ℕ) (id : List ℕ) (o : Outcome) → is_forwarded from id (history s O C to) ≡ true → outcome s O C from id ≡ Some o → booked from id (history s O C to) ≡ Some o
-  pub come : (from place : ℕ) (x : Transfer) → at_place from (history s O C from) place ≡ Some x → outcome s O C from x.id ≡ None → is_forwarded from x.id (history s O C x.to) ≡ true
+  pub come : (from index : ℕ) (x : Transfer) → at_place from (history s O C from) index ≡ Some x → outcome s O C from x.id ≡ None → is_forwarded from x.id (history s O C x.to) ≡ true
 
 place_below : (xs : List Transfer) (k : ℕ) (x : Transfer) → slice_get xs k ≡ Some x → k < length xs
 place_below [] k x e = absurd cc
@@ -128,33 +128,33 @@ booked_before s O opened C who from id o is settled =
     now ∙ ap Some same
 
 -- a place of a participant, below the number of places, with its beneficiary
-record Stands (s : HubSettings) (from place : ℕ) (x : Transfer) : Type 0 where
+record Stands (s : HubSettings) (from index : ℕ) (x : Transfer) : Type 0 where
   originator : from < participants s
   beneficiary : x.to < participants s
-  within : place < s.places
+  within : index < s.places
 
-stands : (s : HubSettings) (O : Opening) → IsOpening s O → (C : List Step) → IsInterleaving s C → (from place : ℕ) (x : Transfer) → at_place from (history s O C from) place ≡ Some x → Stands s from place x
-stands s O opened C steps from place x there =
+stands : (s : HubSettings) (O : Opening) → IsOpening s O → (C : List Step) → IsInterleaving s C → (from index : ℕ) (x : Transfer) → at_place from (history s O C from) index ≡ Some x → Stands s from index x
+stands s O opened C steps from index x there =
     let J : List Event = history s O C from in
     let sound = (together s O opened C steps).sound from in
-    let taken = place_there from J place x there in
+    let taken = place_there from J index x there in
     record {
-      originator = ltb-true from (participants s) (of_a_participant s O opened C steps from place x there);
+      originator = ltb-true from (participants s) (of_a_participant s O opened C steps from index x there);
       beneficiary = Each_at (λ (t : Transfer). t.to < length s.codes) (transfers J) taken.0 x (each_to_participant s from J sound) taken.1;
-      within = omega (arith, place_below (live_transfers from J) place x there, length_live from J, submissions_within s from J sound);
+      within = omega (arith, place_below (live_transfers from J) index x there, length_live from J, submissions_within s from J sound);
     }
 
 -- where what is pending at a place has come, and each party has learnt of each place, everyone is told
 told_of_places : (s : HubSettings) (O : Opening) → IsOpening s O → (C : List Step) → IsInterleaving s C
-    → ((from place : ℕ) (x : Transfer) → Stands s from place x → at_place from (history s O C from) place ≡ Some x → outcome s O C from x.id ≡ None → is_forwarded from x.id (history s O C x.to) ≡ true)
-    → ((who from place : ℕ) (x : Transfer) (o : Outcome) → who < participants s → Stands s from place x → at_place from (history s O C from) place ≡ Some x → outcome s O C from x.id ≡ Some o
+    → ((from index : ℕ) (x : Transfer) → Stands s from index x → at_place from (history s O C from) index ≡ Some x → outcome s O C from x.id ≡ None → is_forwarded from x.id (history s O C x.to) ≡ true)
+    → ((who from index : ℕ) (x : Transfer) (o : Outcome) → who < participants s → Stands s from index x → at_place from (history s O C from) index ≡ Some x → outcome s O C from x.id ≡ Some o
     → (who ≡ from) ⊎ (is_forwarded from x.id (history s O C who) ≡ true) → booked from x.id (history s O C who) ≡ Some o)
     → AllTold s O C
 told_of_places s O opened C steps come learn = record {
   steps = steps;
   originator = originator;
   beneficiary = beneficiary;
-  come = λ from place x there none. come from place x (stands s O opened C steps from place x there) there none;
+  come = λ from index x there none. come from index x (stands s O opened C steps from index x there) there none;
 }
   where
     -- a party of a live transfer has learnt its outcome
@@ -190,8 +190,8 @@ told_of_places s O opened C steps come learn = record {
 pub all_told : (s : HubSettings) (O : Opening) → IsOpening s O → (L M : List Step) → IsInterleaving s L → IsClosing s M → AllTold s O (M ++ L)
 all_told s O opened L M steps closes =
     told_of_places s O opened (M ++ L) (each_append _ M L closes.fits steps)
-    (λ from place x at there none. done (Deliver from place x.to) (closes.delivers x.to from place at.beneficiary at.originator at.within) x there refl none)
-    (λ who from place x o one at there is party. done (Learn who from place) (closes.learns who from place one at.originator at.within) x o there is party)
+    (λ from index x at there none. done (Deliver from index x.to) (closes.delivers x.to from index at.beneficiary at.originator at.within) x there refl none)
+    (λ who from index x o one at there is party. done (Learn who from index) (closes.learns who from index one at.originator at.within) x o there is party)
   where
     done : (step : Step) → Contains M step → IsDone s O (M ++ L) step
     done step there = Each_contains (IsDone s O (M ++ L)) M step (each_done s O opened L M closes.only_tells) there
@@ -200,11 +200,11 @@ all_told s O opened L M steps closes =
 pub quiet_told : (s : HubSettings) (O : Opening) → IsOpening s O → (C : List Step) → IsInterleaving s C → NothingIsLeftToTell s O C → AllTold s O C
 quiet_told s O opened C steps quiet =
     told_of_places s O opened C steps
-    (λ from place x at there none.
-    let same : history s O (Deliver from place x.to ∷ C) x.to ≡ history s O C x.to =
-    quiet (Deliver from place x.to) refl (and_from (is_participant s from) (is_participant s x.to) (lt-ltb from (participants s) at.originator) (lt-ltb x.to (participants s) at.beneficiary)) x.to in
-    ap (is_forwarded from x.id) (sym same) ∙ delivery_forwards s O C from place x there none)
-    (λ who from place x o one at there is party.
-    let same : history s O (Learn who from place ∷ C) who ≡ history s O C who =
-    quiet (Learn who from place) refl (and_from (is_participant s who) (is_participant s from) (lt-ltb who (participants s) one) (lt-ltb from (participants s) at.originator)) who in
-    ap (booked from x.id) (sym same) ∙ learning_books s O opened C who from place x o there is party)
+    (λ from index x at there none.
+    let same : history s O (Deliver from index x.to ∷ C) x.to ≡ history s O C x.to =
+    quiet (Deliver from index x.to) refl (and_from (is_participant s from) (is_participant s x.to) (lt-ltb from (participants s) at.originator) (lt-ltb x.to (participants s) at.beneficiary)) x.to in
+    ap (is_forwarded from x.id) (sym same) ∙ delivery_forwards s O C from index x there none)
+    (λ who from index x o one at there is party.
+    let same : history s O (Learn who from index ∷ C) who ≡ history s O C who =
+    quiet (Learn who from index) refl (and_from (is_participant s who) (is_participant s from) (lt-ltb who (participants s) one) (lt-ltb from (participants s) at.originator)) who in
+    ap (booked from x.id) (sym same) ∙ learning_books s O opened C who from index x o there is party)

@@ -21,23 +21,23 @@ use Rattle.inst_model.specs.Untold.{total, signed_total, untold}
 -- whether the step tells a participant of a transfer, without a reading
 abbrev pub is_telling : Step → Bool
 is_telling (Ask ask) = false
-is_telling (Deliver from place to) = true
-is_telling (Learn who from place) = true
-is_telling (Expire who place at) = false
+is_telling (Deliver from index to) = true
+is_telling (Learn who from index) = true
+is_telling (Expire who index at) = false
 
 -- the steps tell, and each participant is told of each place
 pub record IsClosing (s : HubSettings) (M : List Step) : Type 0 where
   pub fits : IsInterleaving s M
   pub only_tells : AllByRecursion (λ step. is_telling step ≡ true) M
-  pub delivers : (who from place : ℕ) → who < participants s → from < participants s → place < s.places →
-      Contains M (Deliver from place who)
-  pub learns : (who from place : ℕ) → who < participants s → from < participants s → place < s.places →
-      Contains M (Learn who from place)
+  pub delivers : (who from index : ℕ) → who < participants s → from < participants s → index < s.places →
+      Contains M (Deliver from index who)
+  pub learns : (who from index : ℕ) → who < participants s → from < participants s → index < s.places →
+      Contains M (Learn who from index)
 
 -- the participant `who` is told of the first places of the originator `from`
 abbrev pub of_places : ℕ → ℕ → ℕ → List Step
 of_places who from zero = []
-of_places who from (suc place) = Deliver from place who ∷ (Learn who from place ∷ of_places who from place)
+of_places who from (suc index) = Deliver from index who ∷ (Learn who from index ∷ of_places who from index)
 
 -- the participant `who` is told of so many places of each of the first originators
 abbrev pub of_originators : ℕ → ℕ → ℕ → List Step

@@ -32,7 +32,7 @@ IsInvestigation step p id = (at : ℕ) × (step ≡ asks p (Investigate id) at)
 
 -- the originator lets the place expire where it stands
 abbrev pub IsExpiry : (ℕ → List Event) → Step → ℕ → List ℕ → Type 0
-IsExpiry J step p id = (place : ℕ) × (at : ℕ) × (step ≡ Expire p place at) × (is_named id (at_place p (J p) place) ≡ true)
+IsExpiry J step p id = (index : ℕ) × (at : ℕ) × (step ≡ Expire p index at) × (is_named id (at_place p (J p) index) ≡ true)
 
 -- the step is of a party that may decide the transfer so
 abbrev pub IsBy : (ℕ → List Event) → Step → ℕ → List ℕ → Transfer → Outcome → Type 0

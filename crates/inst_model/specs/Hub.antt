@@ -41,4 +41,4 @@ outcome_of s O L p (Some x) = outcome s O L p x.id
 
 -- the outcome of the transfer at this place of the originator p
 abbrev pub outcome_at : HubSettings → Opening → List Step → ℕ → ℕ → Option Outcome
-outcome_at s O L p place = outcome_of s O L p (at_place p (history s O L p) place)
+outcome_at s O L p index = outcome_of s O L p (at_place p (history s O L p) index)

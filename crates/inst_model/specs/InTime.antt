@@ -14,9 +14,9 @@ use Rattle.inst_model.specs.Hub.{outcome, history}
 -- the reading of a step, where it has one
 abbrev pub reading : Step → Option ℕ
 reading (Ask ask) = Some ask.at
-reading (Deliver from place to) = None
-reading (Learn who from place) = None
-reading (Expire who place at) = Some at
+reading (Deliver from index to) = None
+reading (Learn who from index) = None
+reading (Expire who index at) = Some at
 
 -- the outcome of a transfer with this deadline is in time at the reading
 abbrev pub IsInTime : HubSettings → ℕ → ℕ → Outcome → Type 0

@@ -21,31 +21,31 @@ use Rattle.inst_model.specs.Trace.{answer, is_seen}
 -- a party that learns of a decided transfer has its outcome booked
 abbrev pub LearningBooks : Type 0
 LearningBooks =
-    (s : HubSettings) (O : Opening) → IsOpening s O → (past : List Step) (who p place : ℕ) (x : Transfer) (o : Outcome) →
-    at_place p (history s O past p) place ≡ Some x → outcome s O past p x.id ≡ Some o →
+    (s : HubSettings) (O : Opening) → IsOpening s O → (past : List Step) (who p index : ℕ) (x : Transfer) (o : Outcome) →
+    at_place p (history s O past p) index ≡ Some x → outcome s O past p x.id ≡ Some o →
     (who ≡ p) ⊎ (is_forwarded p x.id (history s O past who) ≡ true) →
-    booked p x.id (history s O (Learn who p place ∷ past) who) ≡ Some o
+    booked p x.id (history s O (Learn who p index ∷ past) who) ≡ Some o
 
 -- an originator whose transfer is decided by its expiry, or was before, has the outcome booked
 abbrev pub ExpiryBooks : Type 0
 ExpiryBooks =
-    (s : HubSettings) (O : Opening) → IsOpening s O → (past : List Step) (p place at : ℕ) (x : Transfer) (o : Outcome) →
-    at_place p (history s O past p) place ≡ Some x → outcome s O (Expire p place at ∷ past) p x.id ≡ Some o →
-    booked p x.id (history s O (Expire p place at ∷ past) p) ≡ Some o
+    (s : HubSettings) (O : Opening) → IsOpening s O → (past : List Step) (p index at : ℕ) (x : Transfer) (o : Outcome) →
+    at_place p (history s O past p) index ≡ Some x → outcome s O (Expire p index at ∷ past) p x.id ≡ Some o →
+    booked p x.id (history s O (Expire p index at ∷ past) p) ≡ Some o
 
 -- a pending transfer that is delivered has come to its beneficiary
 abbrev pub DeliveryForwards : Type 0
 DeliveryForwards =
-    (s : HubSettings) (O : Opening) (past : List Step) (p place : ℕ) (x : Transfer) →
-    at_place p (history s O past p) place ≡ Some x → outcome s O past p x.id ≡ None →
-    is_forwarded p x.id (history s O (Deliver p place x.to ∷ past) x.to) ≡ true
+    (s : HubSettings) (O : Opening) (past : List Step) (p index : ℕ) (x : Transfer) →
+    at_place p (history s O past p) index ≡ Some x → outcome s O past p x.id ≡ None →
+    is_forwarded p x.id (history s O (Deliver p index x.to ∷ past) x.to) ≡ true
 
 -- nothing decided is delivered
 abbrev pub NothingDecidedIsDelivered : Type 0
 NothingDecidedIsDelivered =
-    (s : HubSettings) (O : Opening) (past : List Step) (p place q : ℕ) (x : Transfer) (o : Outcome) →
-    at_place p (history s O past p) place ≡ Some x → outcome s O past p x.id ≡ Some o →
-    is_seen s O past (Deliver p place q) q ≡ false
+    (s : HubSettings) (O : Opening) (past : List Step) (p index q : ℕ) (x : Transfer) (o : Outcome) →
+    at_place p (history s O past p) index ≡ Some x → outcome s O past p x.id ≡ Some o →
+    is_seen s O past (Deliver p index q) q ≡ false
 
 -- once the ask is answered the transfer has this outcome, and then the asker is answered it and has it booked
 abbrev pub IsTold : HubSettings → Opening → List Step → ℕ → Command → ℕ → ℕ → List ℕ → Outcome → Type 0

@@ -12,7 +12,7 @@ use Rattle.inst_model.specs.Hub.{history}
 pub record HasPlaces (s : HubSettings) (O : Opening) (L : List Step) (p : ℕ) : Type 0 where
   pub few : length (live_transfers p (history s O L p)) ≤ s.places
   pub unbooked_has_one : (id : List ℕ) (x : Transfer) → transfer id (history s O L p) ≡ Some x →
-      booked p id (history s O L p) ≡ None → (place : ℕ) × (at_place p (history s O L p) place ≡ Some x)
+      booked p id (history s O L p) ≡ None → (index : ℕ) × (at_place p (history s O L p) index ≡ Some x)
   pub grows_at_its_end : (later : List Step) → (new : List Transfer)
       × (live_transfers p (history s O (later ++ L) p) ≡ live_transfers p (history s O L p) ++ new)
 

@@ -39,10 +39,10 @@ ask_on who (Statement skip count) at p id x = []
 -- whether a step is on it
 abbrev pub step_on : (ℕ → List Event) → Step → ℕ → List ℕ → Transfer → List Touch
 step_on J (Ask ask) p id x = ask_on ask.who ask.command ask.at p id x
-step_on J (Deliver from place to) p id x =
-    if (from == p) && (to == x.to) && is_named id (at_place p (J p) place) then Delivers ∷ [] else []
-step_on J (Learn who from place) p id x = []
-step_on J (Expire who place at) p id x = if (who == p) && is_named id (at_place p (J p) place) then Expires at ∷ [] else []
+step_on J (Deliver from index to) p id x =
+    if (from == p) && (to == x.to) && is_named id (at_place p (J p) index) then Delivers ∷ [] else []
+step_on J (Learn who from index) p id x = []
+step_on J (Expire who index at) p id x = if (who == p) && is_named id (at_place p (J p) index) then Expires at ∷ [] else []
 
 abbrev pub taken_on : (ℕ → List Event) → Step → ℕ → List ℕ → Option Transfer → List Touch
 taken_on J step p id None = []

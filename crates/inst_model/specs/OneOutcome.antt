@@ -1,5 +1,5 @@
 -- A transfer has at most one outcome, for both sides and for good (EPC004-16, chapter 4: a confirmation or
--- rejection is final).
+-- rejection is decided).
 use Rattle.std.specs.Prelude.{◌≡◌, ℕ, List, ◌∷◌, ◌++◌, Some, Contains}
 use Rattle.inst_settings.specs.Settings.{HubSettings}
 use Rattle.inst_model.specs.Opening.{Opening, IsOpening}

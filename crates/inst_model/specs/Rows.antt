@@ -41,13 +41,13 @@ position who at = ask who Position at
 
 -- who sees it, the originator, the place
 abbrev pub deliver : ℕ → ℕ → ℕ → Step
-deliver to from place = Deliver from place to
+deliver to from index = Deliver from index to
 
 abbrev pub learn : ℕ → ℕ → ℕ → Step
-learn who from place = Learn who from place
+learn who from index = Learn who from index
 
 abbrev pub expire : ℕ → ℕ → ℕ → Step
-expire who place at = Expire who place at
+expire who index at = Expire who index at
 
 abbrev pub is_done : List ℕ → Answer
 is_done reference = Reply (Done reference)

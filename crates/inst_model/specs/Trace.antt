@@ -33,9 +33,9 @@ abbrev pub answer : HubSettings → Opening → List Step → Step → Answer
 answer s O past (Ask ask) =
     Reply (as_reply (reply s ask.who (history s O past ask.who) ask.command ask.at
     (found (outcome s O (Ask ask ∷ past)) ask.who (history s O past ask.who) ask.command)))
-answer s O past (Deliver from place to) = New (is_seen s O past (Deliver from place to) to)
-answer s O past (Learn who from place) = New (is_seen s O past (Learn who from place) who)
-answer s O past (Expire who place at) = New (is_seen s O past (Expire who place at) who)
+answer s O past (Deliver from index to) = New (is_seen s O past (Deliver from index to) to)
+answer s O past (Learn who from index) = New (is_seen s O past (Learn who from index) who)
+answer s O past (Expire who index at) = New (is_seen s O past (Expire who index at) who)
 
 -- the answers to all steps, the oldest first
 abbrev pub trace : HubSettings → Opening → List Step → List Answer
@@ -45,9 +45,9 @@ trace s O (step ∷ past) = trace s O past ++ answer s O past step ∷ []
 -- the answer to a step where it is an ask by p
 abbrev pub own_answer : HubSettings → Opening → List Step → Step → ℕ → List Answer
 own_answer s O past (Ask ask) p = if ask.who == p then answer s O past (Ask ask) ∷ [] else []
-own_answer s O past (Deliver from place to) p = []
-own_answer s O past (Learn who from place) p = []
-own_answer s O past (Expire who place at) p = []
+own_answer s O past (Deliver from index to) p = []
+own_answer s O past (Learn who from index) p = []
+own_answer s O past (Expire who index at) p = []
 
 -- the answers to the asks of p, the oldest first
 abbrev pub replies : HubSettings → Opening → List Step → ℕ → List Answer
@@ -60,6 +60,6 @@ own_answers p [] answers = []
 own_answers p (step ∷ steps) [] = []
 own_answers p (Ask ask ∷ steps) (answer ∷ answers) =
     if ask.who == p then answer ∷ own_answers p steps answers else own_answers p steps answers
-own_answers p (Deliver from place to ∷ steps) (answer ∷ answers) = own_answers p steps answers
-own_answers p (Learn who from place ∷ steps) (answer ∷ answers) = own_answers p steps answers
-own_answers p (Expire who place at ∷ steps) (answer ∷ answers) = own_answers p steps answers
+own_answers p (Deliver from index to ∷ steps) (answer ∷ answers) = own_answers p steps answers
+own_answers p (Learn who from index ∷ steps) (answer ∷ answers) = own_answers p steps answers
+own_answers p (Expire who index at ∷ steps) (answer ∷ answers) = own_answers p steps answers

@@ -38,7 +38,7 @@ live_transfers who J = filter (λ x. is_live who x.id J) (transfers J)
 
 -- the live transfer at this place of the originator `who`
 abbrev pub at_place : ℕ → List Event → ℕ → Option Transfer
-at_place who J place = slice_get (live_transfers who J) place
+at_place who J index = slice_get (live_transfers who J) index
 
 -- the transfer with this identifier in an originator's history
 abbrev pub transfer : List ℕ → List Event → Option Transfer

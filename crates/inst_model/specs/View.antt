@@ -40,9 +40,9 @@ abbrev pub sees : HubSettings → (ℕ → List Event) → (ℕ → List ℕ →
     Step → ℕ → List Seen
 sees s J before after (Ask ask) p =
     if ask.who == p then Asked ask.command ask.at (found after p (J p) ask.command) ∷ [] else []
-sees s J before after (Deliver from place to) p =
-    if to == p then comes s before from p (J p) (at_place from (J from) place) else []
-sees s J before after (Learn who from place) p =
-    if who == p then tells before from p (J p) (at_place from (J from) place) else []
-sees s J before after (Expire who place at) p =
-    if who == p then tells after p p (J p) (at_place p (J p) place) else []
+sees s J before after (Deliver from index to) p =
+    if to == p then comes s before from p (J p) (at_place from (J from) index) else []
+sees s J before after (Learn who from index) p =
+    if who == p then tells before from p (J p) (at_place from (J from) index) else []
+sees s J before after (Expire who index at) p =
+    if who == p then tells after p p (J p) (at_place p (J p) index) else []

@@ -35,10 +35,10 @@ ask_wants s J who (Statement skip count) at p id x = None
 -- what a step wants for the transfer x
 abbrev pub step_wants : HubSettings → (ℕ → List Event) → Step → ℕ → List ℕ → Transfer → Option Outcome
 step_wants s J (Ask ask) p id x = ask_wants s J ask.who ask.command ask.at p id x
-step_wants s J (Deliver from place to) p id x = None
-step_wants s J (Learn who from place) p id x = None
-step_wants s J (Expire who place at) p id x =
-    if (who == p) && is_named id (at_place p (J p) place) then expired (deadline s x) at else None
+step_wants s J (Deliver from index to) p id x = None
+step_wants s J (Learn who from index) p id x = None
+step_wants s J (Expire who index at) p id x =
+    if (who == p) && is_named id (at_place p (J p) index) then expired (deadline s x) at else None
 
 abbrev pub taken_wants : HubSettings → (ℕ → List Event) → Step → ℕ → List ℕ → Option Transfer → Option Outcome
 taken_wants s J step p id None = None

@@ -13,7 +13,7 @@ use Rattle.inst_journal.specs.declared.event.Event.{Event}
 use Rattle.inst_journal.specs.Reply.{copies}
 use Rattle.inst_terms.specs.declared.terms.Terms.{Terms}
 use Rattle.inst_board.specs.declared.place.Place.{Place}
-use Rattle.inst_board.specs.Standing.{Standing, unused, pending, final}
+use Rattle.inst_board.specs.Standing.{Standing, unused, pending, decided}
 use Rattle.inst_board.specs.Plain.{Contents, standing_at, plain_knows}
 use Rattle.inst_board.specs.Laws.{SayTheSame}
 use Rattle.inst_model.specs.Opening.{Opening, IsOpening}
@@ -56,7 +56,7 @@ pub record IsWorld (world : World) : Type 0 where
 -- a place of a transfer with these terms and this deadline stands with this outcome, if any, whenever it was decided
 abbrev pub StandsWith : Terms → ℕ → Option Outcome → Standing → Type 0
 StandsWith terms d None p = p ≡ pending terms d
-StandsWith terms d (Some o) p = (moment : ℕ) × (p ≡ final terms d o moment)
+StandsWith terms d (Some o) p = (moment : ℕ) × (p ≡ decided terms d o moment)
 
 abbrev pub terms_of : Transfer → Terms
 terms_of x = terms_to x.to x.cents x.id
@@ -68,8 +68,8 @@ StandsFor s outcomes (Some x) p = StandsWith (terms_of x) (deadline s x) (outcom
 
 -- each place of the board stands for the live transfer that the model has there, after these steps
 abbrev pub IsBoardOf : HubSettings → Opening → List Step → Contents → Type 0
-IsBoardOf s O L board = (p place : ℕ) →
-    StandsFor s (outcome s O L p) (at_place p (history s O L p) place) (standing_at board (place_at p place))
+IsBoardOf s O L board = (p index : ℕ) →
+    StandsFor s (outcome s O L p) (at_place p (history s O L p) index) (standing_at board (place_at p index))
 
 -- The world has run these steps since this opening
 -- histories: each book is the participant's history
@@ -94,9 +94,9 @@ Runs old step answered new = (O : Opening) (L : List Step) → HasRun O L old �
 abbrev pub NeedsMemory : HubSettings → Opening → List Step → Step → Type 0
 NeedsMemory s O L (Ask ask) = (copies (history s O L ask.who) ask.command ≡ true)
     ⊎ (length (history s O L ask.who) < length (history s O (Ask ask ∷ L) ask.who))
-NeedsMemory s O L (Deliver from place to) = answer s O L (Deliver from place to) ≡ New true
-NeedsMemory s O L (Learn who from place) = answer s O L (Learn who from place) ≡ New true
-NeedsMemory s O L (Expire who place at) = answer s O L (Expire who place at) ≡ New true
+NeedsMemory s O L (Deliver from index to) = answer s O L (Deliver from index to) ≡ New true
+NeedsMemory s O L (Learn who from index) = answer s O L (Learn who from index) ≡ New true
+NeedsMemory s O L (Expire who index at) = answer s O L (Expire who index at) ≡ New true
 
 -- the step needs memory at this world, whatever was run before
 abbrev pub TakesMemory : World → Step → Type 0

@@ -13,17 +13,17 @@ use Rattle.inst_world.specs.HasRun.{World, settings_of, HasRun}
 -- places of this originator are gone over next, and nothing else changed
 pub record NotesSome (old new : Agenda) (from : ℕ) : Type 0 where
   pub waiting_is : new.waiting ≡ old.waiting
-  pub next_still : (p place : ℕ) → is_next old p place ≡ true → is_next new p place ≡ true
-  pub next_from : (p place : ℕ) → is_next new p place ≡ true → (is_next old p place ≡ true) ⊎ (p ≡ from)
+  pub next_still : (p index : ℕ) → is_next old p index ≡ true → is_next new p index ≡ true
+  pub next_from : (p index : ℕ) → is_next new p index ≡ true → (is_next old p index ≡ true) ⊎ (p ≡ from)
 
 -- the live transfer that is named, if any, is gone over next, and nothing else changed but for places of participants
 pub record NotesNamed (hub : World) (named : Option (ℕ × List ℕ)) (old new : Agenda) : Type 0 where
   pub waiting_is : new.waiting ≡ old.waiting
-  pub next_still : (p place : ℕ) → is_next old p place ≡ true → is_next new p place ≡ true
-  pub next_from : (p place : ℕ) → is_next new p place ≡ true →
-      (is_next old p place ≡ true) ⊎ (is_participant (settings_of hub) p ≡ true)
-  pub noted : (O : Opening) (L : List Step) → HasRun O L hub → (p place : ℕ) (x : Transfer) →
-      at_place p (history (settings_of hub) O L p) place ≡ Some x → named ≡ Some (p, x.id) → is_next new p place ≡ true
+  pub next_still : (p index : ℕ) → is_next old p index ≡ true → is_next new p index ≡ true
+  pub next_from : (p index : ℕ) → is_next new p index ≡ true →
+      (is_next old p index ≡ true) ⊎ (is_participant (settings_of hub) p ≡ true)
+  pub noted : (O : Opening) (L : List Step) → HasRun O L hub → (p index : ℕ) (x : Transfer) →
+      at_place p (history (settings_of hub) O L p) index ≡ Some x → named ≡ Some (p, x.id) → is_next new p index ≡ true
 
 -- The transfer at the place, if there is one, was gone over at this reading
 -- none, some: so the hub has run its steps
