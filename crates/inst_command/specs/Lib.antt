@@ -4,4 +4,5 @@ pub mod Deciding
 pub mod LineText
 pub mod Layout
 pub mod Laws
+pub mod Refusals
 pub mod Fitting

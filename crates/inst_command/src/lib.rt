@@ -22,6 +22,6 @@ pub use items::Items;
 pub use layout::{LineText, kind_name, line_text, other_code};
 pub use line::{Line, LineKind, Lines};
 pub use outcome::{Outcome, State};
-pub use reply::{Answer, Reply};
+pub use reply::{Answer, Reply, refusals_told};
 pub use step::Step;
 pub use submission::Submission;

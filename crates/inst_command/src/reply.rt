@@ -1,5 +1,9 @@
+ghost use Rattle.std.specs.Prelude.{◌≡◌};
+ghost use Rattle.inst_command.specs.Refusals.{refusals_told};
+
 use crate::{Entries, Lines, State};
 use inst_base::{Fault, Ident, Moment};
+use std::alloc::AllocError;
 
 /// What a participant is answered. Money is in cents.
 #[derive(Debug, Drop)]
@@ -42,4 +46,15 @@ pub enum Reply {
 pub enum Answer {
     Reply(Reply),
     New(bool),
+}
+
+/// What is answered, with each refusal but `Memory` as a reply.
+pub fn refusals_told(answer: Result<Reply, Fault>) -> Result<Reply, AllocError>
+    ensures { result ≡ refusals_told answer }
+{
+    match answer {
+        Ok(reply) => Ok(reply),
+        Err(Fault::Memory) => Err(AllocError),
+        Err(fault) => Ok(Reply::Refused(fault)),
+    }
 }

@@ -13,7 +13,7 @@ use crate::line_buffer::is_too_long;
 use crate::mode::Mode;
 use inst_agenda::{Runner, follow_up};
 use inst_base::Fault;
-use inst_command::{Answer, Reply};
+use inst_command::{Answer, Reply, refusals_told};
 use inst_json::LineReader;
 use inst_settings::Settings;
 use std::alloc::AllocError;
@@ -130,8 +130,5 @@ fn answer_step(
 fn refused(fault: Fault) -> Result<Answer, AllocError>
     ensures ok { IfOk result (λ answer. (answer ≡ Answer.Reply (Reply.Refused fault)) × (fault ≢ Fault.Memory)) }
 {
-    match fault {
-        Fault::Memory => Err(AllocError),
-        fault => Ok(Answer::Reply(Reply::Refused(fault))),
-    }
+    Ok(Answer::Reply(refusals_told(Err(fault))?))
 }

@@ -43,3 +43,4 @@ pub mod Chain
 pub mod Asking
 pub mod SettledUp
 pub mod Deciders
+pub mod Refusals

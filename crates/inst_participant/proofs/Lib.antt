@@ -7,3 +7,4 @@ pub mod Later
 pub mod Serving
 pub mod Sweeping
 pub mod Due
+pub mod Refusing

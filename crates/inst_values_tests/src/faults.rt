@@ -1,6 +1,7 @@
 //! Faults and the words that name them.
 use crate::comparing::same_at;
 use inst_base::Fault;
+use inst_command::{Reply, refusals_told};
 use inst_faults::{AnyFault, LogFault, fault_of};
 
 const WORDS: &[(&str, Option<AnyFault>)] = &[
@@ -23,4 +24,12 @@ fn faults_are_found_by_number_and_by_name(rt: HostRuntime) {
     for (word, wanted) in WORDS {
         same_at(&rt, *word, fault_of(word), *wanted);
     }
+}
+
+/// A refusal is told by a reply, and want of memory by none.
+#[test]
+fn refusals_are_told(rt: HostRuntime) {
+    let told = refusals_told(Err(Fault::Full));
+    assert!(rt; matches!(&told, Ok(Reply::Refused(Fault::Full))));
+    assert!(rt; refusals_told(Err(Fault::Memory)).is_err());
 }

@@ -18,7 +18,7 @@ fn moment(ms: u64) -> Result<Moment, Fault> {
 }
 
 fn rejected(reason: &str, at: u64) -> Result<Word, Fault> {
-    Ok(Word::Final(Outcome::Rejected(Reason::new(reason)?), moment(at)?))
+    Ok(Word::Decided(Outcome::Rejected(Reason::new(reason)?), moment(at)?))
 }
 
 fn both_ways_terms(rt: &impl Abort, terms: Terms, words: [u64; 5]) {
@@ -64,13 +64,13 @@ fn the_outcome_words(rt: HostRuntime) -> Result<(), Fault> {
     );
     both_ways_word(
         &rt,
-        Word::Final(Outcome::Accepted, moment(10_999)?),
+        Word::Decided(Outcome::Accepted, moment(10_999)?),
         92_266_299_393,
     );
     both_ways_word(&rt, rejected("AC04", 2000)?, 16_779_144_466);
     both_ways_word(
         &rt,
-        Word::Final(Outcome::TimedOut, moment(11_000)?),
+        Word::Decided(Outcome::TimedOut, moment(11_000)?),
         92_274_688_003,
     );
     Ok(())

@@ -33,7 +33,7 @@ use Rattle.inst_slot.specs.Book.{Book, place_at}
 use Rattle.inst_slot.specs.Asking.{decides, request, AppliesTo, Applies}
 use Rattle.inst_slot.specs.Telling.{delivery, with_delivery, lesson, with_event, Keeps, Expires, ExpiresFor}
 use Rattle.inst_world.specs.HasRun.{World, settings_of, IsWorld, HasRun, HasRunSomething, Runs, TakesMemory, NeedsMemory}
-use Rattle.inst_world.specs.inner.Stepping.{RunsOrNeedsMemory, refusals_told}
+use Rattle.inst_world.specs.inner.Stepping.{RunsOrNeedsMemory}
 use Rattle.inst_world.proofs.Exactly.{IsTheSame, looked}
 use Rattle.inst_world.proofs.Placing.{actor}
 use Rattle.inst_world.proofs.Telling.{RanOrNot, board_looked, delivers_run, learns_run}
@@ -42,6 +42,8 @@ use Rattle.inst_world.proofs.Asking.{never_memory}
 use Rattle.inst_world.proofs.Applying.{applies_run}
 use Rattle.inst_world.proofs.GoingOn.{goes_on}
 use Rattle.inst_world.proofs.Worlds.{LeadsTo, has_run, as_before}
+use Rattle.inst_command.specs.Refusals.{refusals_told}
+use Rattle.inst_model.proofs.Refusals.{as_told, told_memory}
 
 -- what is true of each world, with these settings of its own
 abbrev pub IsKept : HubSettings → World → Type 0
@@ -86,17 +88,6 @@ ask_refused margin stays b c slot new ask (Some asked) result did is = elim did 
   | inl done ↦ absurd (never_memory slot.settings slot.who slot.events ask.command ask.at done.0 (sym done.1 ∙ is))
   | inr refused ↦ (refused.1, board_looked b c asked.0 (looked margin b c asked.0 refused.2.look refused.2.looks).1)
 ]
-
--- what is told of an answer
-as_told : (y : Result ReplyValue Fault) (reply : ReplyValue) → y ≢ Err Memory → refusals_told y ≡ Ok reply → reply ≡ as_reply y
-as_told (Ok r) reply other e = cc
-as_told (Err Memory) reply other e = absurd (other refl)
-as_told (Err _) reply other e = cc
-
-told_memory : (y : Result ReplyValue Fault) (e : AllocError) → refusals_told y ≡ Err e → y ≡ Err Memory
-told_memory (Ok r) e is = let no : ⊥ = cc in absurd no
-told_memory (Err Memory) e is = refl
-told_memory (Err _) e is = let no : ⊥ = cc in absurd no
 
 -- the slot at i was called over the board b, in a world that a contract saw so
 module _ (books : List Book) (b c : Contents) (i : ℕ) (slot new : Book) (seen : World) (saw : record { books = books; board = b } ≡ seen) (stays : c.settings ≡ b.settings) where
@@ -182,7 +173,7 @@ module _ (books : List Book) (b c : Contents) (i : ℕ) (slot new : Book) (seen 
               let J : List Event = history b.settings O L ask.who in
               let f : Option Outcome = found (outcome b.settings O (Ask ask ∷ L)) ask.who J ask.command in
               let told_as : refusals_told (told (handle b.settings ask.who J ask.command ask.at f)) ≡ Ok reply = ap refusals_told (sym done.0) ∙ sym is in (
-                ap (λ (y : ReplyValue). Reply y) (as_told (told (handle b.settings ask.who J ask.command ask.at f)) reply (never_memory b.settings ask.who J ask.command ask.at f) told_as),
+                ap (λ (y : ReplyValue). Reply y) (as_told (told (handle b.settings ask.who J ask.command ask.at f)) reply told_as).1,
                 has_run books b c i slot new O L (Ask ask) was leads stays fits_so done.1,
               )
           | inr refused ↦

@@ -12,9 +12,9 @@ ghost use Rattle.inst_participant.specs.Answers.{Answered, IsTicket};
 ghost use Rattle.inst_participant.specs.Serving.{Serves};
 
 use super::Participant;
-use inst_base::{Fault, Ident, mention};
+use inst_base::{Ident, mention};
 use inst_cell::{Sight, Ticket};
-use inst_command::{Ask, Outcome, Reply};
+use inst_command::{Ask, Outcome, Reply, refusals_told};
 use std::alloc::AllocError;
 
 impl Participant {
@@ -62,15 +62,7 @@ impl Participant {
         let _ = self.slot.journal();
         let answer = self.slot.apply(&mut self.board, ask);
         let _ = self.slot.journal();
-        match answer {
-            Ok(reply) => Ok(reply),
-            Err(fault) => {
-                if fault == Fault::Memory {
-                    return Err(AllocError);
-                }
-                Ok(Reply::Refused(fault))
-            }
-        }
+        refusals_told(answer)
     }
 
     /// Tells the teller of the transfer that the reply tells of.

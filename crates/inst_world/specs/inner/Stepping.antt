@@ -1,11 +1,7 @@
 -- What a step makes of a world, as each function that has a slot run one says it.
-use Rattle.std.specs.Prelude.{◌≡◌, IfOk, OnErr, Result, Ok, Err, alloc_error}
+use Rattle.std.specs.Prelude.{◌≡◌, IfOk, OnErr, Result}
 use Rattle.std.specs.declared.alloc.AllocError.{AllocError}
-use Rattle.inst_base.specs.declared.fault.Fault.{Fault}
-use Rattle.inst_base.specs.declared.fault.Fault.TheVariants.{Memory}
 use Rattle.inst_command.specs.declared.reply.Answer.{Answer}
-use Rattle.inst_command.specs.declared.reply.Reply.{Reply}
-use Rattle.inst_command.specs.declared.reply.Reply.TheVariants.{Refused}
 use Rattle.inst_command.specs.declared.step.Step.{Step}
 use Rattle.inst_world.specs.HasRun.{World, settings_of, Runs, IsAsBefore, TakesMemory}
 
@@ -18,9 +14,3 @@ pub record RunsOrNeedsMemory {A : Type 0} (told : A → Answer) (old : World) (s
   pub err : OnErr result (IsAsBefore old new)
   pub memory : OnErr result (TakesMemory old step)
   pub settings : settings_of new ≡ settings_of old
-
--- what is answered, with each refusal but Memory as a reply
-abbrev pub refusals_told : Result Reply Fault → Result Reply AllocError
-refusals_told (Ok reply) = Ok reply
-refusals_told (Err Memory) = Err alloc_error
-refusals_told (Err fault) = Ok (Refused fault)

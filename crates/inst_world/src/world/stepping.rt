@@ -5,12 +5,12 @@ ghost use Rattle.inst_command.specs.Ask.{ask_fits};
 ghost use Rattle.inst_command.specs.Step.{step_fits};
 ghost use Rattle.inst_command.specs.declared.reply.Answer.{Answer};
 ghost use Rattle.inst_command.specs.declared.step.Step.{Step};
-ghost use Rattle.inst_world.specs.inner.Stepping.{RunsOrNeedsMemory, refusals_told};
+ghost use Rattle.inst_world.specs.inner.Stepping.{RunsOrNeedsMemory};
 
 use super::World;
-use inst_base::{Fault, Moment};
+use inst_base::Moment;
 use inst_board::Place;
-use inst_command::{Answer, Ask, Reply, Step};
+use inst_command::{Answer, Ask, Reply, Step, refusals_told};
 use std::alloc::AllocError;
 
 impl World {
@@ -75,16 +75,5 @@ impl World {
             (Step.Ask ask.now) result self.new }
     {
         refusals_told(self.slots[usize::from(ask.who)].apply(&mut self.board, ask))
-    }
-}
-
-/// What is answered, with each refusal but `Memory` as a reply.
-fn refusals_told(answer: Result<Reply, Fault>) -> Result<Reply, AllocError>
-    ensures { result ≡ refusals_told answer }
-{
-    match answer {
-        Ok(reply) => Ok(reply),
-        Err(Fault::Memory) => Err(AllocError),
-        Err(fault) => Ok(Reply::Refused(fault)),
     }
 }
