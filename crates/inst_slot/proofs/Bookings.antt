@@ -14,7 +14,7 @@ use Rattle.inst_journal.proofs.KeyOnce.{taken_once}
 use Rattle.inst_ledger.specs.Book.{Book as Kept, with_event}
 use Rattle.inst_slot.specs.inner.Answering.{IsOwnAt}
 use Rattle.inst_slot.specs.Book.{place_at}
-use Rattle.inst_slot.specs.Indexed.{own_ids}
+use Rattle.inst_ledger.specs.Right.{own_ids}
 use Rattle.inst_slot.specs.Telling.{taken_by}
 use Rattle.inst_slot.specs.Waiting.{Deadlines, IsRight}
 use Rattle.inst_slot.proofs.Dues.{books_at, books_another}

@@ -4,7 +4,6 @@ pub mod LawfulBoard
 pub mod Asking
 pub mod Telling
 pub mod Opening
-pub mod Indexed
 pub mod Spots
 pub mod OwnState
 pub mod Waiting

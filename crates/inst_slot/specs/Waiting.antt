@@ -11,7 +11,7 @@ use Rattle.inst_journal.specs.Booked.{booked}
 use Rattle.inst_journal.specs.Opened.{live_taken}
 use Rattle.inst_journal.specs.Sound.{IsSound}
 use Rattle.inst_slot.specs.Book.{Book}
-use Rattle.inst_slot.specs.Indexed.{own_ids}
+use Rattle.inst_ledger.specs.Right.{own_ids}
 
 -- whether the event takes a transfer of this deadline with nothing booked
 abbrev pub takes_waiting : HubSettings → ℕ → List Event → ℕ → Option Event → Bool

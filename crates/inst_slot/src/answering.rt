@@ -5,7 +5,7 @@ ghost use Rattle.inst_journal.specs.Opened.{live_taken};
 ghost use Rattle.inst_journal.specs.Reply.{told};
 ghost use Rattle.inst_slot.specs.Asking.{wish_for, request, Settles};
 ghost use Rattle.inst_slot.specs.Book.{arrived_at};
-ghost use Rattle.inst_slot.specs.Indexed.{own_ids};
+ghost use Rattle.inst_ledger.specs.Right.{own_ids};
 ghost use Rattle.inst_slot.specs.LawfulBoard.{IsLawfulBoard};
 ghost use Rattle.inst_slot.specs.Spots.{rows_of, arrivals_of, AreSpots};
 ghost use Rattle.inst_slot.specs.inner.Answering.{over, named, is_expiry, pending_for, IsAsking, Gives};

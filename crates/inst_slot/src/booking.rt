@@ -6,7 +6,7 @@ ghost use Rattle.inst_ledger.specs.Book.{with_event};
 ghost use Rattle.inst_transfers.specs.Held.{IsFound};
 ghost use Rattle.inst_slot.specs.inner.Answering.{IsOwnAt};
 ghost use Rattle.inst_slot.specs.Book.{place_at};
-ghost use Rattle.inst_slot.specs.Indexed.{own_ids};
+ghost use Rattle.inst_ledger.specs.Right.{own_ids};
 ghost use Rattle.inst_slot.specs.Waiting.{IsRight};
 
 use crate::waiting::Waiting;

@@ -45,7 +45,7 @@ pub struct Slot {
 
 impl Model for Slot {
     ghost use Rattle.inst_slot.specs.Book.{Book};
-    ghost use Rattle.inst_slot.specs.Indexed.{own_ids};
+    ghost use Rattle.inst_ledger.specs.Right.{own_ids};
     ghost use Rattle.inst_slot.specs.Spots.{rows_of, arrivals_of, AreSpots};
     ghost use Rattle.inst_slot.specs.Waiting.{IsRight};
 

@@ -2,7 +2,7 @@
 ghost use Rattle.std.specs.Prelude.{◌≡◌, ℕ, ◌<◌, ◌^◌, ◌++◌, ◌∷◌, [], ◌+◌, ◌&&◌, nat_eq, not, length, take, slice_get, IfOk, OnOk, OnErr};
 ghost use Rattle.inst_due.specs.Due.{has, Adds, IsLeast, comes_after};
 ghost use Rattle.inst_journal.specs.Opened.{carried};
-ghost use Rattle.inst_slot.specs.Indexed.{own_ids};
+ghost use Rattle.inst_ledger.specs.Right.{own_ids};
 ghost use Rattle.inst_slot.specs.Waiting.{IsWaiting};
 ghost use Rattle.inst_slot.specs.inner.Waiting.{books_own};
 

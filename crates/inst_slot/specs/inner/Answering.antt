@@ -16,7 +16,7 @@ use Rattle.inst_slot.specs.declared.arrival.Arrival.{Arrival}
 use Rattle.inst_slot.specs.declared.arrivals.Spot.{Spot}
 use Rattle.inst_slot.specs.declared.answering.Request.{Request}
 use Rattle.inst_slot.specs.Book.{Book}
-use Rattle.inst_slot.specs.Indexed.{own_ids}
+use Rattle.inst_ledger.specs.Right.{own_ids}
 use Rattle.inst_slot.specs.Spots.{rows_of, arrivals_of}
 
 -- a participant's book with these arrivals, of what its ledger keeps

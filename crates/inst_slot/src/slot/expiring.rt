@@ -3,7 +3,7 @@ ghost use Rattle.std.specs.Prelude.{◌≡◌, Some};
 ghost use Rattle.inst_slot.specs.LawfulBoard.{IsLawfulBoard, KeepsOthers, AllAreAdopted};
 ghost use Rattle.inst_slot.specs.inner.Answering.{over};
 ghost use Rattle.inst_slot.specs.inner.Expiries.{IsUnbooked, FindsUnbooked};
-ghost use Rattle.inst_slot.specs.Indexed.{own_ids};
+ghost use Rattle.inst_ledger.specs.Right.{own_ids};
 ghost use Rattle.inst_slot.specs.Spots.{rows_of, AreSpots};
 ghost use Rattle.inst_slot.specs.Telling.{ExpiresFor, Expires};
 ghost use Rattle.inst_slot.specs.Waiting.{GivesNextDue, IsRight};

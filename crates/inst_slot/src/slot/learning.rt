@@ -4,7 +4,7 @@ ghost use Rattle.inst_board.specs.declared.look.Look.{Look};
 ghost use Rattle.inst_board.specs.Learning.{Looks};
 ghost use Rattle.inst_slot.specs.inner.Answering.{over};
 ghost use Rattle.inst_slot.specs.inner.Expiries.{IsUnbooked};
-ghost use Rattle.inst_slot.specs.Indexed.{own_ids};
+ghost use Rattle.inst_ledger.specs.Right.{own_ids};
 ghost use Rattle.inst_slot.specs.LawfulBoard.{IsLawfulBoard, KeepsOthers, AllAreAdopted};
 ghost use Rattle.inst_slot.specs.inner.Lessons.{LearnsOutcome};
 ghost use Rattle.inst_slot.specs.Spots.{rows_of, AreSpots};

@@ -7,7 +7,7 @@ use Rattle.inst_transfers.specs.Held.{row_in}
 use Rattle.inst_slot.specs.declared.arrivals.Spot.{Spot}
 use Rattle.inst_slot.specs.inner.Answering.{over}
 use Rattle.inst_slot.specs.Book.{Book}
-use Rattle.inst_slot.specs.Indexed.{own_ids}
+use Rattle.inst_ledger.specs.Right.{own_ids}
 use Rattle.inst_slot.specs.Spots.{rows_of, AreSpots}
 use Rattle.inst_slot.specs.Telling.{with_delivery}
 use Rattle.inst_slot.proofs.Dues.{books_nothing}

@@ -3,7 +3,7 @@ use Rattle.std.specs.Prelude.{position}
 use Rattle.inst_journal.specs.Booked.{takes}
 use Rattle.inst_journal.specs.Opened.{live_taken}
 use Rattle.inst_slot.specs.Book.{Book}
-use Rattle.inst_slot.specs.Indexed.{own_ids}
+use Rattle.inst_ledger.specs.Right.{own_ids}
 use Rattle.inst_slot.proofs.OwnIds.{own_place, own_position}
 use Rattle.inst_slot.proofs.slot.Slot.own_index.Goals as goal
 

@@ -3,7 +3,7 @@ use Rattle.inst_journal.specs.Booked.{booked}
 use Rattle.inst_transfers.specs.Held.{found_at}
 use Rattle.inst_transfers.specs.State.{outcome_in}
 use Rattle.inst_slot.specs.Book.{Book}
-use Rattle.inst_slot.specs.Indexed.{own_ids}
+use Rattle.inst_ledger.specs.Right.{own_ids}
 use Rattle.inst_slot.specs.OwnState.{own_state, booked_state}
 use Rattle.inst_slot.proofs.OwnIds.{unused_there, used_there}
 use Rattle.inst_slot.proofs.slot.Slot.own_state.Goals as goal

@@ -11,7 +11,7 @@ use Rattle.inst_journal.specs.declared.event.Event.TheVariants.{Taken}
 use Rattle.inst_journal.specs.Sound.{Fits}
 use Rattle.inst_ledger.specs.Book.{Book as Kept}
 use Rattle.inst_slot.specs.Book.{Book, place_at}
-use Rattle.inst_slot.specs.Indexed.{own_ids}
+use Rattle.inst_ledger.specs.Right.{own_ids}
 use Rattle.inst_slot.specs.Spots.{rows_of, AreSpots}
 use Rattle.inst_slot.specs.Waiting.{IsRight, deadline_in}
 use Rattle.inst_slot.proofs.Entering.{next_index, next_unused}

@@ -1,5 +1,5 @@
 use Rattle.std.proofs.Common.{refl}
-use Rattle.inst_slot.specs.Indexed.{own_ids}
+use Rattle.inst_ledger.specs.Right.{own_ids}
 use Rattle.inst_slot.proofs.Dues.{books_at, books_absent}
 use Rattle.inst_slot.proofs.waiting.Waiting.book.Goals as goal
 
