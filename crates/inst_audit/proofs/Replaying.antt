@@ -6,7 +6,7 @@ use Rattle.std.proofs.lemmas.Option.{slice_get_past}
 use Rattle.inst_settings.specs.Settings.{HubSettings, participants}
 use Rattle.inst_journal.specs.declared.event.Event.{Event}
 use Rattle.inst_journal.specs.History.{History}
-use Rattle.inst_journal.specs.Opened.{openings}
+use Rattle.inst_journal.specs.Opened.{HasOpeningsLeft}
 use Rattle.inst_journal.specs.Sound.{Fits, IsSound}
 use Rattle.inst_journal.proofs.Soundness.{sound_push}
 use Rattle.inst_ledger.specs.Book.{Book, BookAndRoom, with_event}
@@ -86,9 +86,9 @@ module _ (s : HubSettings) (journals : List History) (ledgers : List BookAndRoom
   sound_at p (inl before) = (all.kept.can p before).sound
   sound_at p (inr past) = subst (IsSound s p) (sym (none p past)) tt
 
-  few_at : (p : ℕ) → (p < length ledgers) ⊎ (length ledgers ≤ p) → openings (books_of journals p) < 500
+  few_at : (p : ℕ) → (p < length ledgers) ⊎ (length ledgers ≤ p) → HasOpeningsLeft (books_of journals p)
   few_at p (inl before) = (all.kept.can p before).few
-  few_at p (inr past) = subst (λ (J : List Event). openings J < 500) (sym (none p past)) (omega arith)
+  few_at p (inr past) = subst (λ (J : List Event). HasOpeningsLeft J) (sym (none p past)) (omega arith)
 
   sound : (p : ℕ) → IsSound s p (books_of journals p)
   sound p = sound_at p (within p)

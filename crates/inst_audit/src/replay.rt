@@ -9,10 +9,9 @@ ghost use Rattle.inst_ledger.specs.Book.{with_event};
 use crate::tally::Tally;
 use inst_base::{Cents, Ident, Moment};
 use inst_command::is_count;
-use inst_journal::Event;
+use inst_journal::{Event, MOST_OPENINGS};
 use inst_ledger::Ledger;
 use inst_settings::Settings;
-use inst_world::MOST_OPENINGS;
 use std::alloc::{AllocError, Global};
 use std::marker::Model;
 

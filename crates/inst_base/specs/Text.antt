@@ -2,6 +2,9 @@
 -- most 35 characters of the scheme's basic Latin set (EPC004-16, chapter 4: attributes), and reasons of four characters.
 use Rattle.std.specs.Prelude.{ℕ, Bool, ◌&&◌, ◌||◌, ◌==◌, nat_le, if◌then◌else◌, List, length, Result, Ok, Err, codes}
 use Rattle.std.specs.List.{list_all, list_any}
+use Rattle.inst_base.specs.declared.code.TheConstants.{CODE_LENGTH, BRANCH_CODE_LENGTH}
+use Rattle.inst_base.specs.declared.ident.TheConstants.{MOST_IDENTIFIER_LENGTH}
+use Rattle.inst_base.specs.declared.reason.TheConstants.{REASON_LENGTH}
 use Rattle.inst_base.specs.declared.fault.Fault.{Fault}
 use Rattle.inst_base.specs.declared.fault.Fault.TheVariants.{BadField, BadIdentifier}
 
@@ -27,15 +30,15 @@ is_latin c = is_small c || is_capital c || is_digit c || list_any (λ mark. c ==
 
 -- a participant's code
 abbrev pub is_code : List ℕ → Bool
-is_code text = (length text == 8 || length text == 11) && list_all is_code_character text
+is_code text = (length text == CODE_LENGTH || length text == BRANCH_CODE_LENGTH) && list_all is_code_character text
 
 -- an identifier or a funding reference: 1 to 35 characters, in any arrangement
 abbrev pub is_identifier : List ℕ → Bool
-is_identifier text = nat_le 1 (length text) && nat_le (length text) 35 && list_all is_latin text
+is_identifier text = nat_le 1 (length text) && nat_le (length text) MOST_IDENTIFIER_LENGTH && list_all is_latin text
 
 -- why a beneficiary rejects: four characters, passed on unread
 abbrev pub is_reason : List ℕ → Bool
-is_reason text = length text == 4 && list_all is_code_character text
+is_reason text = length text == REASON_LENGTH && list_all is_code_character text
 
 -- the code of a text, or that it has another form
 abbrev pub code_of : List ℕ → Result (List ℕ) Fault

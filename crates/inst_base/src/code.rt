@@ -8,11 +8,17 @@ use crate::short_text::ShortText;
 use std::marker::Model;
 use std::simd::prelude::*;
 
+/// The characters of a code that names no branch.
+pub const CODE_LENGTH: usize = 8;
+
+/// The characters of a code that names a branch: no code is longer.
+pub const BRANCH_CODE_LENGTH: usize = 11;
+
 /// A participant's code, as a BIC (ISO 9362): 8 or 11 characters of `A-Z 0-9`. No inner structure is
 /// checked.
 #[derive(Clone, Copy, Debug, PartialEq, Eq, Hash)]
 pub struct Code {
-    text: ShortText<11>,
+    text: ShortText<BRANCH_CODE_LENGTH>,
 }
 
 impl Model for Code {
@@ -50,7 +56,7 @@ impl Code {
 fn is_code(text: &[u8]) -> bool
     ensures { result ≡ is_code text.now }
 {
-    (text.len() == 8 || text.len() == 11) && are_code_characters(text)
+    (text.len() == CODE_LENGTH || text.len() == BRANCH_CODE_LENGTH) && are_code_characters(text)
 }
 
 /// Whether the byte is one of `A-Z 0-9`.

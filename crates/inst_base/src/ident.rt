@@ -8,11 +8,14 @@ use crate::short_text::ShortText;
 use std::marker::Model;
 use std::simd::prelude::*;
 
+/// The characters of the longest identifier.
+pub const MOST_IDENTIFIER_LENGTH: usize = 35;
+
 /// The identifier of a transfer or the reference of a funding: 1 to 35 characters of the scheme's
 /// basic Latin set (`a-z A-Z 0-9 / - ? : ( ) . , ' +` and space), in any arrangement.
 #[derive(Clone, Copy, Debug, PartialEq, Eq, Hash)]
 pub struct Ident {
-    text: ShortText<35>,
+    text: ShortText<MOST_IDENTIFIER_LENGTH>,
 }
 
 impl Model for Ident {
@@ -50,7 +53,7 @@ impl Ident {
 fn is_identifier(text: &[u8]) -> bool
     ensures { result ≡ is_identifier text.now }
 {
-    !text.is_empty() && text.len() <= 35 && are_latin(text)
+    !text.is_empty() && text.len() <= MOST_IDENTIFIER_LENGTH && are_latin(text)
 }
 
 /// Whether the byte is a character of the scheme's basic Latin set.

@@ -11,9 +11,9 @@ mod reason;
 mod short_text;
 
 pub use cents::{Cents, MOST_CENTS};
-pub use code::Code;
+pub use code::{BRANCH_CODE_LENGTH, CODE_LENGTH, Code};
 pub use fault::Fault;
-pub use ident::Ident;
+pub use ident::{Ident, MOST_IDENTIFIER_LENGTH};
 pub use moment::Moment;
 pub use naming::mention;
-pub use reason::Reason;
+pub use reason::{REASON_LENGTH, Reason};

@@ -6,10 +6,13 @@ use crate::code::are_code_characters;
 use crate::short_text::ShortText;
 use std::marker::Model;
 
+/// The characters of a reason.
+pub const REASON_LENGTH: usize = 4;
+
 /// Why a beneficiary rejects a transfer: four characters of `A-Z 0-9`, passed on unread.
 #[derive(Clone, Copy, Debug, PartialEq, Eq, Hash)]
 pub struct Reason {
-    text: ShortText<4>,
+    text: ShortText<REASON_LENGTH>,
 }
 
 impl Model for Reason {
@@ -47,5 +50,5 @@ impl Reason {
 fn is_reason(text: &[u8]) -> bool
     ensures { result ≡ is_reason text.now }
 {
-    text.len() == 4 && are_code_characters(text)
+    text.len() == REASON_LENGTH && are_code_characters(text)
 }

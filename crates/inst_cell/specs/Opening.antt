@@ -10,10 +10,11 @@ use Rattle.inst_cell.specs.declared.sight.Sight.{Sight}
 use Rattle.inst_cell.specs.View.{roles_from}
 use Rattle.inst_cell.specs.Held.{settings_of, table_of, roles_of, has_role, knows}
 use Rattle.inst_cell.specs.Seen.{board_of, sees}
+use Rattle.inst_cell.specs.declared.shared_board.opening.TheConstants.{MOST_TELLERS}
 
 -- how many tellers a hub may open with
 abbrev pub MayOpen : ℕ → Type 0
-MayOpen tellers = (1 ≤ tellers) × (tellers ≤ 16)
+MayOpen tellers = (1 ≤ tellers) × (tellers ≤ MOST_TELLERS)
 
 -- it has the roles of all participants, in their order
 abbrev pub HasAllRoles : SharedBoard → Type 0

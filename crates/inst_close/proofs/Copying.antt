@@ -7,7 +7,7 @@ use Rattle.std.proofs.lemmas.Option.{slice_get-get_or, slice_get_past}
 use Rattle.inst_settings.specs.Settings.{HubSettings}
 use Rattle.inst_journal.specs.declared.event.Event.{Event}
 use Rattle.inst_journal.specs.History.{History}
-use Rattle.inst_journal.specs.Opened.{openings}
+use Rattle.inst_journal.specs.Opened.{openings, HasOpeningsLeft}
 use Rattle.inst_slot.specs.Book.{Book}
 use Rattle.inst_slot.proofs.Indexed.{last_at}
 use Rattle.inst_world.specs.NextOpening.{kept_by, books_of, CanOpenFrom}
@@ -59,18 +59,18 @@ all_copied books journals n most few so =
     not_below p n e = grind (arith, nat_tests)
 
 -- the first n may be opened from once more
-pub one_more_few : (books : List Book) (n : ℕ) (book : Book) (count : ℕ) → n < length books → book ≡ get_or books n book → openings book.events < 500 → ((p : ℕ) → p < n → openings (histories books p) < 500) → (p : ℕ) → p < n + 1 → openings (histories books p) < 500
+pub one_more_few : (books : List Book) (n : ℕ) (book : Book) (count : ℕ) → n < length books → book ≡ get_or books n book → HasOpeningsLeft book.events → ((p : ℕ) → p < n → HasOpeningsLeft (histories books p)) → (p : ℕ) → p < n + 1 → HasOpeningsLeft (histories books p)
 one_more_few books n book count below here few so p small = elim (cases_eq p n) [
   | inl at ↦
       let found : slice_get books n ≡ Some book = slice_get-get_or books n book below ∙ ap (λ (b : Book). Some b) (sym here) in
-      subst (λ (J : List Event). openings J < 500) (sym (ap (λ (q : ℕ). events_of (slice_get books q)) at ∙ ap events_of found)) few
+      subst (λ (J : List Event). HasOpeningsLeft J) (sym (ap (λ (q : ℕ). events_of (slice_get books q)) at ∙ ap events_of found)) few
   | inr other ↦ so p (omega (arith, small, other))
 ]
 
-pub all_few : (books : List Book) (n : ℕ) → length books ≤ n → ((p : ℕ) → p < n → openings (histories books p) < 500) → (p : ℕ) → openings (histories books p) < 500
+pub all_few : (books : List Book) (n : ℕ) → length books ≤ n → ((p : ℕ) → p < n → HasOpeningsLeft (histories books p)) → (p : ℕ) → HasOpeningsLeft (histories books p)
 all_few books n most so p = elim (cases_Bool (nat_lt p n)) [
   | inl below ↦ so p (ltb-true p n below)
-  | inr past ↦ subst (λ (J : List Event). openings J < 500) (sym (ap events_of (slice_get_past books p (omega (arith, not_below p n past, most))))) none_opened
+  | inr past ↦ subst (λ (J : List Event). HasOpeningsLeft J) (sym (ap events_of (slice_get_past books p (omega (arith, not_below p n past, most))))) none_opened
 ]
   where
     not_below : (p n : ℕ) → nat_lt p n ≡ false → n ≤ p
@@ -92,7 +92,7 @@ one_more_empty books journals more n j none pushed so = record {
   same = λ p. ap (λ (l : List History). books_of l p) pushed ∙ (and_empty journals j p none ∙ so.same p);
 }
 
-pub can_open_wider : (s : HubSettings) (codes : List (List ℕ)) (books : List Book) (journals : List History) → IsClosed s books → ((p : ℕ) → openings (histories books p) < 500) → AreCopiesAnd books (length codes) journals → CanOpenFrom (widened s codes) journals
+pub can_open_wider : (s : HubSettings) (codes : List (List ℕ)) (books : List Book) (journals : List History) → IsClosed s books → ((p : ℕ) → HasOpeningsLeft (histories books p)) → AreCopiesAnd books (length codes) journals → CanOpenFrom (widened s codes) journals
 can_open_wider s codes books journals closed few copies =
     let wider = closed_wider s codes (histories books) closed.closed in
     can_open_from (widened s codes) (histories books) journals (record { sound = wider.sound; closed = wider.closed; few = few })

@@ -7,7 +7,7 @@ use Rattle.inst_base.specs.declared.fault.Fault.TheVariants.{BadSettings}
 use Rattle.inst_settings.specs.Settings.{HubSettings}
 use Rattle.inst_cell.specs.Opening.{MayOpen}
 use Rattle.inst_journal.specs.History.{History}
-use Rattle.inst_journal.specs.Opened.{openings}
+use Rattle.inst_journal.specs.Opened.{HasOpeningsLeft}
 use Rattle.inst_model.specs.Opening.{BooksCanOpen}
 use Rattle.inst_model.specs.Opening.Opening.{FromBooks}
 use Rattle.inst_slot.specs.Book.{Book}
@@ -30,7 +30,7 @@ pub widened_as : (closed : ClosedHub) (codes given : List (List ℕ)) (base s : 
 widened_as closed codes given base s base_is given_is s_is = s_is ∙ (ap (λ (t : HubSettings). widened t given) base_is ∙ ap (widened closed.settings) given_is)
 
 pub can_open_as : (closed : ClosedHub) (codes : List (List ℕ)) (s : HubSettings) (n : ℕ) (journals copies : List History) → s ≡ widened closed.settings codes → n ≡ length codes → journals ≡ copies
-    → IsClosed closed.settings closed.books → ((p : ℕ) → openings (histories closed.books p) < 500) → AreCopiesAnd closed.books n copies → CanOpenFrom s journals
+    → IsClosed closed.settings closed.books → ((p : ℕ) → HasOpeningsLeft (histories closed.books p)) → AreCopiesAnd closed.books n copies → CanOpenFrom s journals
 can_open_as closed codes s n journals copies s_is n_is journals_are is_closed few made =
     let can = can_open_wider closed.settings codes closed.books copies is_closed few (subst (λ (m : ℕ). AreCopiesAnd closed.books m copies) n_is made) in
     subst (λ (t : HubSettings). CanOpenFrom t journals) (sym s_is) (subst (λ (l : List History). CanOpenFrom (widened closed.settings codes) l) (sym journals_are) can)

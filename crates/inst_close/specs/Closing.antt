@@ -23,7 +23,7 @@ use Rattle.inst_parts.specs.Apart.{IsPartsOf, histories_of, board_of, hub_of}
 use Rattle.inst_hub.specs.declared.hub.Hub.{Hub}
 use Rattle.inst_hub.specs.declared.teller.Teller.{Teller}
 use Rattle.inst_hub.specs.Calls.{knows_of, AreOf}
-use Rattle.inst_hub.specs.Opening.{parts_of}
+use Rattle.inst_hub.specs.Opening.{HaveAllParts}
 use Rattle.inst_hub.specs.Founding.{HasOpened}
 use Rattle.inst_close.specs.declared.closing.Rest.{Rest}
 use Rattle.inst_close.specs.declared.closing.Rest.TheVariants.{Whole, Apart}
@@ -68,7 +68,7 @@ IsLeftOf h tellers (Apart parts) = AreOfHub h tellers parts
 
 -- what is left can be closed: these are all the tellers of a hub that was opened, or the parts of one
 abbrev pub MayClose : Rest → Type 0
-MayClose (Whole hub handed) = AreOf hub handed.items × (parts_of handed.items ≡ 16) × ((O : Opening) × IsOpenedSo O hub)
+MayClose (Whole hub handed) = AreOf hub handed.items × HaveAllParts handed.items × ((O : Opening) × IsOpenedSo O hub)
 MayClose (Apart parts) = (O : Opening) × IsPartsOf O parts
 
 abbrev pub rest_of : CloseFault → Rest

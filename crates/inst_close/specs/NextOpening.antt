@@ -2,7 +2,7 @@
 use Rattle.std.specs.Prelude.{ℕ, ◌<◌, List}
 use Rattle.inst_settings.specs.Lawful.{IsSettings}
 use Rattle.inst_cell.specs.Opening.{MayOpen}
-use Rattle.inst_journal.specs.Opened.{openings}
+use Rattle.inst_journal.specs.Opened.{HasOpeningsLeft}
 use Rattle.inst_together.specs.Wider.{widened}
 use Rattle.inst_close.specs.ClosedHub.{ClosedHub}
 use Rattle.inst_together.specs.Together.{histories}
@@ -11,6 +11,6 @@ use Rattle.inst_together.specs.Together.{histories}
 -- few: none was opened from too often
 -- settings, seats: no code stands twice, and there are not too many participants or tellers
 pub record MayOpenWider (closed : ClosedHub) (codes : List (List ℕ)) (tellers : ℕ) : Type 0 where
-  pub few : (p : ℕ) → openings (histories closed.books p) < 500
+  pub few : (p : ℕ) → HasOpeningsLeft (histories closed.books p)
   pub settings : IsSettings (widened closed.settings codes)
   pub seats : MayOpen tellers

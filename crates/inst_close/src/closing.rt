@@ -12,7 +12,7 @@ ghost use Rattle.inst_settings.specs.Settings.{participants};
 ghost use Rattle.inst_hub.specs.declared.hub.Hub.{Hub};
 ghost use Rattle.inst_hub.specs.declared.teller.Teller.{Teller};
 ghost use Rattle.inst_hub.specs.Calls.{AreOf};
-ghost use Rattle.inst_hub.specs.Opening.{parts_of};
+ghost use Rattle.inst_hub.specs.Opening.{HaveAllParts};
 ghost use Rattle.inst_parts.specs.Apart.{IsPartsOf, histories_of, board_of, hub_of};
 ghost use Rattle.inst_close.specs.Closing.{IsOpenedSo, HaveOpened, GoOnFrom, TellAll, IsLeftOf, MayClose, IsClosedFrom, rest_of};
 ghost use Rattle.inst_close.specs.inner.Closing.{IsPartly};
@@ -53,7 +53,7 @@ impl fmt::Debug for CloseFault {
 /// back what is left of the hub.
 pub fn close(alloc: Global, hub: Hub, tellers: Vec<Teller>) -> Result<Books, CloseFault>
     requires of { AreOf hub tellers.items }
-    requires parts { parts_of tellers.items ≡ 16 }
+    requires parts { HaveAllParts tellers.items }
     requires opened { (O : Opening) × IsOpenedSo O hub }
     ensures settings { IfOk result (λ books. books.settings ≡ hub.settings) }
     ensures opened { IfOk result (λ books. (O : Opening) → IsOpenedSo O hub → HaveOpened O books) }

@@ -1,10 +1,10 @@
 //! The hub of the next opening.
 ghost use Rattle.std.specs.Prelude.{◌≡◌, ◌⊎◌, ◌<◌, [], ℕ, true, false, length, IfOk, IfErr, Err};
-ghost use Rattle.inst_journal.specs.Opened.{openings};
+ghost use Rattle.inst_journal.specs.Opened.{openings, HasOpeningsLeft};
 ghost use Rattle.inst_together.specs.Together.{histories};
 ghost use Rattle.inst_together.specs.Wider.{widened};
 ghost use Rattle.inst_hub.specs.Calls.{AreOf};
-ghost use Rattle.inst_hub.specs.Opening.{parts_of};
+ghost use Rattle.inst_hub.specs.Opening.{HaveAllParts};
 ghost use Rattle.inst_close.specs.NextOpening.{MayOpenWider};
 ghost use Rattle.inst_close.specs.inner.NextOpening.{AreCopies, AreCopiesAnd};
 ghost use Rattle.inst_close.specs.Closing.{IsNextOf};
@@ -14,7 +14,6 @@ use crate::widening::widened;
 use inst_base::{Code, Fault};
 use inst_hub::{Hub, Teller};
 use inst_journal::Journal;
-use inst_world::{MOST_OPENINGS, openings};
 use std::alloc::{AllocError, Global};
 
 impl Books {
@@ -40,13 +39,13 @@ impl Books {
         Ok(journals)
     }
 
-    /// Whether each book can be opened from once more: it was opened from fewer than 500 times.
+    /// Whether each book can be opened from once more. It walks over the events of each.
     pub fn may_open(&self) -> bool
-        ensures few { result ≡ true → (p : ℕ) → openings (histories self.now.books p) < 500 }
-        ensures many { result ≡ false → ¬ ((p : ℕ) → openings (histories self.now.books p) < 500) }
+        ensures few { result ≡ true → (p : ℕ) → HasOpeningsLeft (histories self.now.books p) }
+        ensures many { result ≡ false → ¬ ((p : ℕ) → HasOpeningsLeft (histories self.now.books p)) }
     {
         for slot in self.slots.as_slice() {
-            if openings(slot.journal()) >= MOST_OPENINGS {
+            if !slot.journal().has_openings_left() {
                 return false;
             }
         }
@@ -54,13 +53,13 @@ impl Books {
     }
 
     /// The hub of the next opening, with as many tellers as are wanted: what was pending goes on, what was decided gives
-    /// its place back. The books stay as they are. `BadSettings` where the tellers are not 1 to 16 or a book was opened
-    /// from 500 times, `Memory` where there is no room.
+    /// its place back. The books stay as they are. `BadSettings` where the tellers are not 1 to 16 or a book can't be
+    /// opened from once more, `Memory` where there is no room.
     pub fn open_next(&self, alloc: Global, tellers: u8) -> Result<(Hub, Vec<Teller>), Fault>
         ensures settings { IfOk result (λ r. r.0.settings ≡ self.now.settings) }
         ensures enough { IfOk result (λ r. length r.1.items ≡ tellers) }
         ensures of { IfOk result (λ r. AreOf r.0 r.1.items) }
-        ensures parts { IfOk result (λ r. parts_of r.1.items ≡ 16) }
+        ensures parts { IfOk result (λ r. HaveAllParts r.1.items) }
         ensures opened { IfOk result (λ r. IsNextOf self.now.books r.0) }
         ensures may { IfOk result (λ r. MayOpenWider self.now [] tellers) }
         ensures bad { result ≡ Err Fault.BadSettings → ¬ MayOpenWider self.now [] tellers }
@@ -81,7 +80,7 @@ impl Books {
         ensures settings { IfOk result (λ r. r.0.settings ≡ widened self.now.settings codes.items) }
         ensures enough { IfOk result (λ r. length r.1.items ≡ tellers) }
         ensures of { IfOk result (λ r. AreOf r.0 r.1.items) }
-        ensures parts { IfOk result (λ r. parts_of r.1.items ≡ 16) }
+        ensures parts { IfOk result (λ r. HaveAllParts r.1.items) }
         ensures opened { IfOk result (λ r. IsNextOf self.now.books r.0) }
         ensures may { IfOk result (λ r. MayOpenWider self.now codes.items tellers) }
         ensures bad { result ≡ Err Fault.BadSettings → ¬ MayOpenWider self.now codes.items tellers }

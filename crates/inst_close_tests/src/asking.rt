@@ -2,7 +2,7 @@
 ghost use Rattle.std.specs.Prelude.{◌≡◌, true, IfOk};
 ghost use Rattle.inst_command.specs.Ask.{ask_fits};
 ghost use Rattle.inst_hub.specs.Calls.{AreOf};
-ghost use Rattle.inst_hub.specs.Opening.{parts_of};
+ghost use Rattle.inst_hub.specs.Opening.{HaveAllParts};
 
 use inst_base::{Cents, Fault, Ident, Moment};
 use inst_command::{Ask, Command, Reply, State, Submission};
@@ -34,10 +34,10 @@ fn ask<R: Wait>(
     ask: &Ask,
 ) -> Result<(Reply, Option<Ticket>), Fault>
     requires of { AreOf hub.now tellers.old.items }
-    requires parts { parts_of tellers.old.items ≡ 16 }
+    requires parts { HaveAllParts tellers.old.items }
     requires fits { ask_fits hub.now.settings ask.now ≡ true }
     ensures of { AreOf hub.now tellers.new.items }
-    ensures parts { parts_of tellers.new.items ≡ 16 }
+    ensures parts { HaveAllParts tellers.new.items }
 {
     if index >= tellers.len() {
         return Err(Fault::BadField);
@@ -54,9 +54,9 @@ fn fund<R: Wait>(
     cents: u64,
 ) -> Result<(), Fault>
     requires of { AreOf hub.now tellers.old.items }
-    requires parts { parts_of tellers.old.items ≡ 16 }
+    requires parts { HaveAllParts tellers.old.items }
     ensures of { AreOf hub.now tellers.new.items }
-    ensures parts { parts_of tellers.new.items ≡ 16 }
+    ensures parts { HaveAllParts tellers.new.items }
 {
     let command = Command::Fund {
         reference: Ident::new(reference)?,
@@ -75,9 +75,9 @@ fn submit<R: Wait>(
     cents: u64,
 ) -> Result<Ticket, Fault>
     requires of { AreOf hub.now tellers.old.items }
-    requires parts { parts_of tellers.old.items ≡ 16 }
+    requires parts { HaveAllParts tellers.old.items }
     ensures of { AreOf hub.now tellers.new.items }
-    ensures parts { parts_of tellers.new.items ≡ 16 }
+    ensures parts { HaveAllParts tellers.new.items }
 {
     let command = Command::Submit(Submission {
         id: Ident::new(id)?,
@@ -107,9 +107,9 @@ pub(crate) fn confirm<R: Wait>(
     id: &str,
 ) -> Result<Option<State>, Fault>
     requires of { AreOf hub.now tellers.old.items }
-    requires parts { parts_of tellers.old.items ≡ 16 }
+    requires parts { HaveAllParts tellers.old.items }
     ensures of { AreOf hub.now tellers.new.items }
-    ensures parts { parts_of tellers.new.items ≡ 16 }
+    ensures parts { HaveAllParts tellers.new.items }
 {
     let command = Command::Confirm {
         from: 0,
@@ -126,9 +126,9 @@ pub(crate) fn one_confirmed<R: Wait>(
     tellers: &mut Vec<Teller>,
 ) -> Result<(Ticket, Ticket), Fault>
     requires of { AreOf hub.now tellers.old.items }
-    requires parts { parts_of tellers.old.items ≡ 16 }
+    requires parts { HaveAllParts tellers.old.items }
     ensures of { AreOf hub.now tellers.new.items }
-    ensures parts { parts_of tellers.new.items ≡ 16 }
+    ensures parts { HaveAllParts tellers.new.items }
 {
     fund(rt, hub, tellers, "F1", 50_000)?;
     let first = submit(rt, hub, tellers, "T1", 20_000)?;
@@ -158,9 +158,9 @@ pub(crate) fn position<R: Wait>(
     who: u8,
 ) -> Result<Option<(u64, u64, u64)>, Fault>
     requires of { AreOf hub.now tellers.old.items }
-    requires parts { parts_of tellers.old.items ≡ 16 }
+    requires parts { HaveAllParts tellers.old.items }
     ensures of { AreOf hub.now tellers.new.items }
-    ensures parts { parts_of tellers.new.items ≡ 16 }
+    ensures parts { HaveAllParts tellers.new.items }
 {
     let (reply, _) = ask(
         rt,
@@ -180,9 +180,9 @@ pub(crate) fn one_paid<R: Wait>(
     id: &str,
 ) -> Result<(), Fault>
     requires of { AreOf hub.now tellers.old.items }
-    requires parts { parts_of tellers.old.items ≡ 16 }
+    requires parts { HaveAllParts tellers.old.items }
     ensures of { AreOf hub.now tellers.new.items }
-    ensures parts { parts_of tellers.new.items ≡ 16 }
+    ensures parts { HaveAllParts tellers.new.items }
 {
     fund(rt, hub, tellers, id, 1_000)?;
     submit(rt, hub, tellers, id, 300)?;
@@ -198,9 +198,9 @@ pub(crate) fn investigated<R: Wait>(
     id: &str,
 ) -> Result<(Option<State>, bool), Fault>
     requires of { AreOf hub.now tellers.old.items }
-    requires parts { parts_of tellers.old.items ≡ 16 }
+    requires parts { HaveAllParts tellers.old.items }
     ensures of { AreOf hub.now tellers.new.items }
-    ensures parts { parts_of tellers.new.items ≡ 16 }
+    ensures parts { HaveAllParts tellers.new.items }
 {
     let command = Command::Investigate {
         id: Ident::new(id)?,

@@ -2,7 +2,7 @@
 ghost use Rattle.std.specs.Prelude.{◌≡◌, IfOk};
 ghost use Rattle.inst_model.specs.Opening.{Opening};
 ghost use Rattle.inst_hub.specs.Calls.{AreOf};
-ghost use Rattle.inst_hub.specs.Opening.{parts_of};
+ghost use Rattle.inst_hub.specs.Opening.{HaveAllParts};
 ghost use Rattle.inst_close.specs.Closing.{IsOpenedSo};
 
 use crate::asking::{confirm, one_confirmed, position};
@@ -19,7 +19,7 @@ use std::test::Fail;
 /// The hub of the first opening, with two tellers.
 pub(crate) fn opened(alloc: Global) -> Result<(Hub, Vec<Teller>), Fault>
     ensures of { IfOk result (λ r. AreOf r.0 r.1.items) }
-    ensures parts { IfOk result (λ r. parts_of r.1.items ≡ 16) }
+    ensures parts { IfOk result (λ r. HaveAllParts r.1.items) }
     ensures opened { IfOk result (λ r. (O : Opening) × IsOpenedSo O r.0) }
 {
     Hub::open(alloc, settings(alloc)?, 2)
@@ -28,7 +28,7 @@ pub(crate) fn opened(alloc: Global) -> Result<(Hub, Vec<Teller>), Fault>
 /// The hub of the next opening, with one teller.
 pub(crate) fn opened_again(alloc: Global, books: &Books) -> Result<(Hub, Vec<Teller>), Fault>
     ensures of { IfOk result (λ r. AreOf r.0 r.1.items) }
-    ensures parts { IfOk result (λ r. parts_of r.1.items ≡ 16) }
+    ensures parts { IfOk result (λ r. HaveAllParts r.1.items) }
     ensures opened { IfOk result (λ r. (O : Opening) × IsOpenedSo O r.0) }
 {
     books.open_next(alloc, 1)
@@ -37,7 +37,7 @@ pub(crate) fn opened_again(alloc: Global, books: &Books) -> Result<(Hub, Vec<Tel
 /// The books of the hub; `Memory` where there was no room.
 pub(crate) fn closed(alloc: Global, hub: Hub, tellers: Vec<Teller>) -> Result<Books, Fault>
     requires of { AreOf hub tellers.items }
-    requires parts { parts_of tellers.items ≡ 16 }
+    requires parts { HaveAllParts tellers.items }
     requires opened { (O : Opening) × IsOpenedSo O hub }
 {
     match close(alloc, hub, tellers) {
@@ -100,7 +100,7 @@ fn opens_again_from_its_books(rt: HostRuntime) -> Result<(), Fault> {
 /// The hub of the next opening, which `DDDDESMM` joins, with one teller.
 fn joined(alloc: Global, books: &Books) -> Result<(Hub, Vec<Teller>), Fault>
     ensures of { IfOk result (λ r. AreOf r.0 r.1.items) }
-    ensures parts { IfOk result (λ r. parts_of r.1.items ≡ 16) }
+    ensures parts { IfOk result (λ r. HaveAllParts r.1.items) }
 {
     let codes = vec![in alloc; Code::new("DDDDESMM")?]?;
     books.open_wider(alloc, codes, 1)

@@ -57,9 +57,9 @@ steps_fit s = record {
   ask = λ a. both (is_participant s a.who) (command_fits s a.command) (IsNumbered s a.who) (command_fits s a.command ≡ true)
       (numbered s a.who) (λ h. h, λ h. h);
   asked = λ a. refl;
-  deliver = λ from place to. both (is_participant s from) (is_participant s to) (IsNumbered s from) (IsNumbered s to)
+  deliver = λ from index to. both (is_participant s from) (is_participant s to) (IsNumbered s from) (IsNumbered s to)
       (numbered s from) (numbered s to);
-  learn = λ who from place. both (is_participant s who) (is_participant s from) (IsNumbered s who) (IsNumbered s from)
+  learn = λ who from index. both (is_participant s who) (is_participant s from) (IsNumbered s who) (IsNumbered s from)
       (numbered s who) (numbered s from);
-  expire = λ who place at. numbered s who;
+  expire = λ who index at. numbered s who;
 }

@@ -3,6 +3,7 @@ ghost use Rattle.std.specs.List.{list_all};
 ghost use Rattle.inst_base.specs.Text.{is_code_character, is_latin};
 ghost use Rattle.inst_command.specs.LineText.{line_fits, line_text, kind_name, other_code};
 ghost use Rattle.inst_command.specs.Layout.{shown};
+ghost use Rattle.inst_base.specs.declared.code.TheConstants.{BRANCH_CODE_LENGTH};
 
 use crate::{Line, LineKind};
 use inst_base::Fault;
@@ -82,7 +83,7 @@ pub fn kind_name(kind: LineKind) -> &'static str
 /// The other participant's code, blank where there is none.
 pub fn other_code(settings: &Settings, other: Option<u8>) -> &str
     ensures value { result.now ≡ other_code settings.now other }
-    ensures short { length result.now ≤ 11 }
+    ensures short { length result.now ≤ BRANCH_CODE_LENGTH }
     ensures form { list_all is_code_character result.now ≡ true }
 {
     match other.and_then(|number| settings.code(number)) {

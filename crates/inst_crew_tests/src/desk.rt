@@ -1,6 +1,7 @@
 //! What no contract says: in which order jobs are taken, and that a call fails only where it must.
 ghost use Rattle.std.specs.Prelude.{◌≡◌, IfOk};
 ghost use Rattle.inst_desk.specs.Desk.{IsHandOf, parts_of};
+ghost use Rattle.inst_desk.specs.declared.desk.opening.TheConstants.{MOST_HANDS};
 
 use inst_base::{Fault, Moment};
 use inst_command::{Ask, Command};
@@ -26,7 +27,7 @@ fn number_of(job: Option<Job>) -> Option<u32> {
 
 /// A desk of two with one hand.
 fn open(alloc: Global) -> Result<(Desk, Hand), Fault>
-    ensures { IfOk result (λ r. IsHandOf r.0 r.1 × (parts_of r.1 ≡ 16)) }
+    ensures { IfOk result (λ r. IsHandOf r.0 r.1 × (parts_of r.1 ≡ MOST_HANDS)) }
 {
     let (desk, mut hands) = Desk::open(alloc, 2, 1)?;
     let Some(hand) = hands.pop() else {
@@ -37,7 +38,7 @@ fn open(alloc: Global) -> Result<(Desk, Hand), Fault>
 
 /// Ends a desk with its only hand.
 fn end<R: Wait>(rt: &R, alloc: Global, desk: Desk, hand: Hand) -> Result<Tally, Fault>
-    requires { IsHandOf desk hand × (parts_of hand ≡ 16) }
+    requires { IsHandOf desk hand × (parts_of hand ≡ MOST_HANDS) }
 {
     let mut hands = Vec::new(alloc);
     hands.push(hand)?;

@@ -3,6 +3,7 @@
 use Rattle.std.specs.Prelude.{◌≡◌, ℕ, ◌-◌, ◌^◌, min, List, [], ◌∷◌, ◌++◌, length, sum_by}
 use Rattle.inst_desk.specs.declared.account.Account.{Account}
 use Rattle.inst_desk.specs.declared.job.Job.{Job}
+use Rattle.inst_desk.specs.declared.desk.opening.TheConstants.{MOST_HANDS}
 
 -- The two lists have the same jobs, each as often, in any order: they weigh the same, however jobs are weighed. By a weight
 -- that is 1 for one job and 0 for all others this counts that job.
@@ -23,7 +24,7 @@ account parts put taken = record { parts = parts; put = put; taken = taken }
 
 -- the first hand has all parts
 abbrev pub first_account : Account
-first_account = account 16 [] []
+first_account = account MOST_HANDS [] []
 
 -- These jobs may lie on the desk at a moment, by what this hand did until then
 -- others: what all other hands did until then
@@ -31,7 +32,7 @@ first_account = account 16 [] []
 -- even: the jobs put are the jobs taken and these, each as often
 pub record MayLie (v : Account) (jobs : List Job) : Type 0 where
   pub others : Account
-  pub alone : v.parts ≡ 16 → (others.put ≡ []) × (others.taken ≡ [])
+  pub alone : v.parts ≡ MOST_HANDS → (others.put ≡ []) × (others.taken ≡ [])
   pub even : EachAsOften (v.put ++ others.put) ((v.taken ++ others.taken) ++ jobs)
 
 -- the job lay on the desk at a moment, before all others there

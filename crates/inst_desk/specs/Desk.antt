@@ -6,6 +6,7 @@ use Rattle.inst_desk.specs.declared.desk.Desk.{Desk}
 use Rattle.inst_desk.specs.declared.hand.Hand.{Hand}
 use Rattle.inst_desk.specs.declared.job.Job.{Job}
 use Rattle.inst_desk.specs.Account.{MayLie, all_of}
+use Rattle.inst_desk.specs.declared.desk.opening.TheConstants.{MOST_HANDS, MOST_ROOM}
 
 -- how many jobs it holds at most
 abbrev pub capacity_of : Desk → ℕ
@@ -49,7 +50,7 @@ taken_together hands = all_of taken_of hands
 -- all hands of the desk
 pub record AreAllHandsOf (d : Desk) (hands : List Hand) : Type 0 where
   pub of : AreHandsOf d hands
-  pub all : sum_by parts_of hands ≡ 16
+  pub all : sum_by parts_of hands ≡ MOST_HANDS
 
 -- a hand that neither put nor took
 abbrev pub IsNewHand : Hand → Type 0
@@ -66,6 +67,6 @@ WasEmpty h = MayLie (account_of h) []
 -- how many jobs a desk may hold, and how many hands it may have
 pub record MayOpen (capacity hands : ℕ) : Type 0 where
   pub some_room : 0 < capacity
-  pub most_room : capacity ≤ 4096
+  pub most_room : capacity ≤ MOST_ROOM
   pub some_hand : 0 < hands
-  pub most_hands : hands ≤ 16
+  pub most_hands : hands ≤ MOST_HANDS

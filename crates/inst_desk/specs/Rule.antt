@@ -5,11 +5,12 @@ use lib.ListN.{get_elem?}
 use Rattle.inst_desk.specs.declared.account.Account.{Account}
 use Rattle.inst_desk.specs.declared.job.Job.{Job}
 use Rattle.inst_desk.specs.Account.{EachAsOften, all_of}
+use Rattle.inst_desk.specs.declared.desk.opening.TheConstants.{MOST_HANDS}
 
 -- dealt: all hands together have all parts
 -- idle: who has no part did nothing
 -- even: the jobs put are the jobs taken and those that lie on the desk, each as often
 pub record IsTallied (jobs : List Job) (views : List Account) : Type 0 where
-  pub dealt : sum_by (λ v. v.parts) views ≡ 16
+  pub dealt : sum_by (λ v. v.parts) views ≡ MOST_HANDS
   pub idle : (id : ℕ) (v : Account) → get_elem? views id ≡ some v → v.parts ≡ 0 → (v.put ≡ []) × (v.taken ≡ [])
   pub even : EachAsOften (all_of (λ v. v.put) views) (all_of (λ v. v.taken) views ++ jobs)

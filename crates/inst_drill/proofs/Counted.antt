@@ -8,7 +8,7 @@ use Rattle.std.proofs.lemmas.Option.{slice_get_past}
 use Rattle.inst_settings.specs.Settings.{HubSettings, participants}
 use Rattle.inst_journal.specs.declared.event.Event.{Event}
 use Rattle.inst_journal.specs.declared.event.Event.TheVariants.{Opened}
-use Rattle.inst_journal.specs.Opened.{is_opening, has_opening, openings, carried}
+use Rattle.inst_journal.specs.Opened.{is_opening, has_opening, openings, carried, HasOpeningsLeft}
 use Rattle.inst_journal.proofs.Counting.{count_push}
 use Rattle.inst_model.specs.Opening.{Opening, FromBooks}
 use Rattle.inst_together.specs.Together.{events_of, histories}
@@ -55,13 +55,13 @@ after_opening s n hub closed at settings same opened =
           (at.few p (subst (λ (t : HubSettings). p < participants t) (sym settings) small));
     }
 
-few_of_all : (n : ℕ) (closed : ClosedHub) (s : HubSettings) → IsClosed closed.settings closed.books → IsAfter s n closed → n ≤ 10 → (p : ℕ) → openings (histories closed.books p) < 500
+few_of_all : (n : ℕ) (closed : ClosedHub) (s : HubSettings) → IsClosed closed.settings closed.books → IsAfter s n closed → n ≤ 10 → (p : ℕ) → HasOpeningsLeft (histories closed.books p)
 few_of_all n closed s is so most p = elim (cases_Bool (nat_lt p (participants s))) [
   | inl below ↦ let few = so.few p (ltb-true p (participants s) below) in omega (arith, few, most)
   | inr past ↦
       let far : participants s ≤ p = not_below p (participants s) past in
       let long : length closed.books ≡ participants s = is.one_each ∙ ap participants so.settings in
-      subst (λ (J : List Event). openings J < 500) (sym (ap events_of (slice_get_past closed.books p (omega (arith, far, long))))) (omega arith)
+      subst (λ (J : List Event). HasOpeningsLeft J) (sym (ap events_of (slice_get_past closed.books p (omega (arith, far, long))))) (omega arith)
 ]
   where
     not_below : (p n : ℕ) → nat_lt p n ≡ false → n ≤ p

@@ -1,6 +1,7 @@
 -- Which hubs can be drilled. Drills are this hub's own choice.
 use Rattle.std.specs.Prelude.{ℕ, ◌*◌, ◌<◌, ◌≤◌}
 use Rattle.inst_settings.specs.Settings.{HubSettings, participants}
+use Rattle.inst_drill.specs.declared.plan.TheConstants.{MOST_DRILL_OPENINGS}
 
 -- A hub of these settings can do so many transfers in each of so many openings
 -- two: there are an originator and a beneficiary
@@ -11,4 +12,4 @@ pub record MayDrill (s : HubSettings) (transfers openings : ℕ) : Type 0 where
   pub places : transfers ≤ s.places
   pub funding : 100 * transfers ≤ s.ceiling
   pub some_opening : 0 < openings
-  pub most_openings : openings ≤ 10
+  pub most_openings : openings ≤ MOST_DRILL_OPENINGS

@@ -2,7 +2,7 @@
 ghost use Rattle.std.specs.Prelude.{◌≡◌, ◌⊎◌, ◌↔◌, ◌≤◌, ℕ, suc, false, List, length, All, OnOk, IfOk, IfErr, IsOkUnless, Err};
 ghost use Rattle.std.specs.Io.KnownBytes.{Appends};
 ghost use Rattle.inst_hub.specs.Calls.{AreOf};
-ghost use Rattle.inst_hub.specs.Opening.{parts_of};
+ghost use Rattle.inst_hub.specs.Opening.{HaveAllParts};
 ghost use Rattle.inst_drill.specs.declared.report.Report.{Report as SomeReport};
 ghost use Rattle.inst_drill.specs.inner.Chain.{AreAfter, IsOpenedAt};
 ghost use Rattle.inst_drill.specs.Plan.{MayDrill};
@@ -31,7 +31,7 @@ fn open(
     ensures settings { IfOk result (λ r. r.0.settings ≡ settings.now) }
     ensures enough { IfOk result (λ r. length r.1.items ≡ 3) }
     ensures of { IfOk result (λ r. AreOf r.0 r.1.items) }
-    ensures parts { IfOk result (λ r. parts_of r.1.items ≡ 16) }
+    ensures parts { IfOk result (λ r. HaveAllParts r.1.items) }
     ensures opened { IfOk result (λ r. (n : ℕ) → AreAfter settings.now n books.now → IsOpenedAt (suc n) r.0) }
     ensures only { IsOkUnless result Fault.Memory }
 {

@@ -2,7 +2,7 @@
 ghost use Rattle.std.specs.Prelude.{◌≡◌, length, IfOk, IsOkUnless};
 ghost use Rattle.inst_model.specs.Opening.{Opening};
 ghost use Rattle.inst_hub.specs.Calls.{AreOf};
-ghost use Rattle.inst_hub.specs.Opening.{parts_of};
+ghost use Rattle.inst_hub.specs.Opening.{HaveAllParts};
 ghost use Rattle.inst_crew.specs.Seen.{AreSeenByOne};
 ghost use Rattle.inst_close.specs.Closing.{IsOpenedSo, HaveOpened};
 ghost use Rattle.inst_drill.specs.inner.Plan.{IsPlan};
@@ -46,10 +46,10 @@ fn work<R: Threads + Wait + Sync, G: Gate + Sync>(
     gate: &G,
 ) -> Result<Worked, Fault>
     requires tellers { AreOf hub.now tellers.items × (length tellers.items ≡ 3) }
-    requires parts { parts_of tellers.items ≡ 16 }
+    requires parts { HaveAllParts tellers.items }
     requires plan { IsPlan hub.now.settings plan.now }
     ensures of { IfOk result (λ worked. AreOf hub.now worked.tellers.items) }
-    ensures parts { IfOk result (λ worked. parts_of worked.tellers.items ≡ 16) }
+    ensures parts { IfOk result (λ worked. HaveAllParts worked.tellers.items) }
     ensures submitted { IfOk result (λ worked. AreSeenByOne worked.tellers.items worked.submitted.items) }
     ensures confirmed { IfOk result (λ worked. AreSeenByOne worked.tellers.items worked.confirmed.items) }
     ensures only { IsOkUnless result Fault.Memory }
@@ -84,7 +84,7 @@ pub(crate) fn run_opening<R: Threads + Wait + Sync, G: Gate + Sync>(
     gate: &G,
 ) -> Result<(Report, Books), Fault>
     requires tellers { AreOf hub tellers.items × (length tellers.items ≡ 3) }
-    requires parts { parts_of tellers.items ≡ 16 }
+    requires parts { HaveAllParts tellers.items }
     requires opened { (O : Opening) × IsOpenedSo O hub }
     requires plan { IsPlan hub.settings plan.now }
     ensures report { IfOk result (λ r. IsUnited r.0) }

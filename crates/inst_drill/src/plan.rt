@@ -18,7 +18,7 @@ use std::alloc::{AllocError, Global};
 const CENTS: u64 = 100;
 
 /// How often a drill opens its hub at most.
-const MOST_OPENINGS: u8 = 10;
+pub const MOST_DRILL_OPENINGS: u8 = 10;
 
 /// What a drill does in each opening.
 #[derive(Clone, Copy, Debug, PartialEq, Eq)]
@@ -79,7 +79,7 @@ impl Plan {
             || transfers > settings.places()
             || all > settings.ceiling()
             || openings == 0
-            || openings > MOST_OPENINGS
+            || openings > MOST_DRILL_OPENINGS
         {
             return Err(Fault::BadSettings);
         }

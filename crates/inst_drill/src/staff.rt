@@ -2,7 +2,7 @@
 ghost use Rattle.std.specs.Prelude.{◌≡◌, length, IfOk, OnOk};
 ghost use Rattle.inst_desk.specs.Desk.{AreAllHandsOf};
 ghost use Rattle.inst_hub.specs.Calls.{AreOf};
-ghost use Rattle.inst_hub.specs.Opening.{parts_of};
+ghost use Rattle.inst_hub.specs.Opening.{HaveAllParts};
 ghost use Rattle.inst_crew.specs.Later.{Pairs, IsLaterTeller};
 ghost use Rattle.inst_crew.specs.Seen.{AreSeenByOne};
 ghost use Rattle.inst_drill.specs.inner.Plan.{IsPlan};
@@ -52,7 +52,7 @@ impl Staff {
     pub(crate) fn of(hub: &Hub, desk: &Desk, hands: Vec<Hand>, tellers: Vec<Teller>) -> Staff
         requires hands { AreAllHandsOf desk.now hands.items × (length hands.items ≡ 3) }
         requires tellers { AreOf hub.now tellers.items × (length tellers.items ≡ 3) }
-        requires parts { parts_of tellers.items ≡ 16 }
+        requires parts { HaveAllParts tellers.items }
         ensures { IsStaffOf hub.now desk.now result }
     {
         let mut hands = hands;

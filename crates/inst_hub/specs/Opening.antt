@@ -13,6 +13,7 @@ use Rattle.inst_row.specs.declared.view.Front.{Front}
 use Rattle.inst_row.specs.View.{front}
 use Rattle.inst_row.specs.Seated.{IsOn, IsFree, view_of}
 use Rattle.inst_hub.specs.declared.teller.Teller.{Teller}
+use Rattle.inst_row.specs.declared.row.TheConstants.{PARTS}
 
 -- what a teller sees with at first: over these words, and it knows of no place
 pub record IsBlank (words : SharedBoard) (t : Sight) : Type 0 where
@@ -41,3 +42,7 @@ AreNew id key sights tellers = (i : ℕ) (t : Teller) → slice_get tellers i �
 -- the parts of the row that they have
 abbrev pub parts_of : List Teller → ℕ
 parts_of tellers = sum_by (λ t. (view_of t.seat).parts) tellers
+
+-- they have all parts of the row
+abbrev pub HaveAllParts : List Teller → Type 0
+HaveAllParts tellers = parts_of tellers ≡ PARTS

@@ -20,6 +20,7 @@ use Rattle.inst_journal.proofs.OwnBookings.{own_unforwarded}
 use Rattle.inst_journal.proofs.Carrying.{carried_push, carried_opened, current_push, current_opened, carried_booked, carried_unbooked}
 use Rattle.inst_journal.proofs.Pushing.{sum_by_push, sum_by-both, list_any_push, first_some_push}
 use Rattle.inst_journal.proofs.Soundness.{sound_induction}
+use Rattle.inst_journal.specs.declared.opening.TheConstants.{MOST_OPENINGS}
 
 -- whether the event is a taken submission
 abbrev pub is_submission : Event → Bool
@@ -42,7 +43,7 @@ forwarded_from from J = count_by (forwards_from from) J
 pub count_push : (p : Event → Bool) (J : List Event) (event : Event) → count_by p (J ++ event ∷ []) ≡ count_by p J + cond (p event) 1 0
 count_push p J event = sum_by_push (λ e. cond (p e) 1 0) J event
 
-most_openings : (s : HubSettings) (who : ℕ) (J : List Event) (event : Event) → Fits s who J event → openings J ≤ 500 → openings J + cond (is_opening event) 1 0 ≤ 500
+most_openings : (s : HubSettings) (who : ℕ) (J : List Event) (event : Event) → Fits s who J event → openings J ≤ MOST_OPENINGS → openings J + cond (is_opening event) 1 0 ≤ MOST_OPENINGS
 most_openings s who J (Funded reference cents) fits before = omega arith
 most_openings s who J (Defunded reference cents) fits before = omega arith
 most_openings s who J (Taken id to cents stamp) fits before = omega arith
@@ -52,8 +53,8 @@ most_openings s who J (Fetched count) fits before = omega arith
 most_openings s who J Opened fits before = omega (arith, fits.few)
 
 -- at most 500 openings
-pub openings_within : (s : HubSettings) (who : ℕ) (J : List Event) → IsSound s who J → openings J ≤ 500
-openings_within s who = sound_induction s who (λ J. openings J ≤ 500) (omega arith)
+pub openings_within : (s : HubSettings) (who : ℕ) (J : List Event) → IsSound s who J → openings J ≤ MOST_OPENINGS
+openings_within s who = sound_induction s who (λ J. openings J ≤ MOST_OPENINGS) (omega arith)
     (λ J event sound fits before. omega (arith, count_push is_opening J event, most_openings s who J event fits before))
 
 fundings_step : (J : List Event) (event : Event) → is_opening event ≡ false → fundings (J ++ event ∷ []) ≡ fundings J + cond (is_funding event) 1 0
@@ -312,9 +313,9 @@ pub all_forwarded_few : (s : HubSettings) (who from : ℕ) (J : List Event) → 
 all_forwarded_few s who from = sound_induction s who (ForwardedFew s from) (omega arith) (λ J event sound fits before. forwarded_few_push s who from J event sound fits before (is_opening event) refl)
 
 -- all of an originator's are at most so many
-few_times : (total n m live : ℕ) → total ≤ n * m + live → n ≤ 500 → live ≤ m → total ≤ 501 * m
+few_times : (total n m live : ℕ) → total ≤ n * m + live → n ≤ MOST_OPENINGS → live ≤ m → total ≤ 501 * m
 few_times total n m live few openings within =
-    let most : n * m ≤ 500 * m = mul-le-mul openings (le-self m) in
+    let most : n * m ≤ MOST_OPENINGS * m = mul-le-mul openings (le-self m) in
     omega (arith, few, most, within)
   where
     le-self : (m : ℕ) → m ≤ m

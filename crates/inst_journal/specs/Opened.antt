@@ -1,10 +1,11 @@
 -- What a history carries over an opening from the books: the events up to and with the last Opened. A transfer that is
 -- booked there is settled and keeps its name alone; each other one is live. This hub's own choice.
-use Rattle.std.specs.Prelude.{ℕ, Bool, true, false, ◌&&◌, ◌==◌, is_none, if◌then◌else◌, List, [], ◌∷◌, count_by}
+use Rattle.std.specs.Prelude.{ℕ, ◌<◌, Bool, true, false, ◌&&◌, ◌==◌, is_none, if◌then◌else◌, List, [], ◌∷◌, count_by}
 use Rattle.std.specs.List.{list_any, filter}
 use Rattle.inst_journal.specs.declared.event.Event.{Event}
 use Rattle.inst_journal.specs.declared.event.Event.TheVariants.{Taken, Forwarded, Opened}
 use Rattle.inst_journal.specs.Booked.{booked}
+use Rattle.inst_journal.specs.declared.opening.TheConstants.{MOST_OPENINGS}
 
 abbrev pub is_opening : Event → Bool
 is_opening Opened = true
@@ -13,6 +14,10 @@ is_opening _ = false
 -- how often the hub was opened from the books
 abbrev pub openings : List Event → ℕ
 openings J = count_by is_opening J
+
+-- books can be opened from once more
+abbrev pub HasOpeningsLeft : List Event → Type 0
+HasOpeningsLeft J = openings J < MOST_OPENINGS
 
 abbrev pub has_opening : List Event → Bool
 has_opening J = list_any is_opening J

@@ -9,7 +9,7 @@ use Rattle.inst_journal.specs.declared.event.Event.{Event}
 use Rattle.inst_journal.specs.declared.event.Event.TheVariants.{Funded, Defunded, Taken, Forwarded, Booked, Fetched, Opened}
 use Rattle.inst_journal.specs.Booked.{is_taken, is_forwarded, booked}
 use Rattle.inst_journal.specs.Money.{available}
-use Rattle.inst_journal.specs.Opened.{openings, live_submissions, live_forwarded}
+use Rattle.inst_journal.specs.Opened.{HasOpeningsLeft, live_submissions, live_forwarded}
 use Rattle.inst_journal.specs.Keys.{has_reference, fundings}
 use Rattle.inst_journal.specs.Reply.{unread}
 
@@ -46,7 +46,7 @@ pub record FetchedFits (J : List Event) (count : ℕ) : Type 0 where
   pub there : count ≤ length (unread J)
 
 pub record OpenedFits (J : List Event) : Type 0 where
-  pub few : openings J < 500
+  pub few : HasOpeningsLeft J
 
 -- the event may come after these events
 abbrev pub Fits : HubSettings → ℕ → List Event → Event → Type 0

@@ -21,5 +21,6 @@ mod transfers;
 pub use event::Event;
 pub use handle::{Handled, handle_command};
 pub use journal::Journal;
+pub use opening::MOST_OPENINGS;
 pub use reply::reply_of;
 pub use transfers::{standing, still_pending};

@@ -1,8 +1,13 @@
 //! What a history carries over an opening from the books.
-ghost use Rattle.std.specs.Prelude.{◌≡◌, ◌≤◌, length, take, drop};
-ghost use Rattle.inst_journal.specs.Opened.{is_opening, carried, current};
+ghost use Rattle.std.specs.Prelude.{◌≡◌, ◌≤◌, true, false, length, take, drop};
+ghost use Rattle.inst_journal.specs.Opened.{is_opening, carried, current, openings, HasOpeningsLeft};
 
-use crate::Event;
+use crate::{Event, Journal};
+use inst_base::mention;
+use inst_command::Outcome;
+
+/// How often books can be opened from.
+pub const MOST_OPENINGS: usize = 500;
 
 /// Whether the event is an opening.
 fn is_opening(event: &Event) -> bool
@@ -38,4 +43,25 @@ pub(crate) fn current(events: &[Event]) -> &[Event]
     ensures { result.now ≡ current events.now }
 {
     &events[carried_length(events)..]
+}
+
+impl Journal {
+    /// How often it was opened from. It walks over the events.
+    pub fn openings(&self) -> usize
+        ensures { result ≡ openings self.now.events }
+    {
+        mention::<Outcome>();
+        self.events()
+            .iter()
+            .filter(|event| is_opening(event))
+            .count()
+    }
+
+    /// Whether it can be opened from once more. It walks over the events.
+    pub fn has_openings_left(&self) -> bool
+        ensures left { result ≡ true → HasOpeningsLeft self.now.events }
+        ensures none { result ≡ false → ¬ HasOpeningsLeft self.now.events }
+    {
+        self.openings() < MOST_OPENINGS
+    }
 }

@@ -3,7 +3,7 @@ use Rattle.std.specs.Prelude.{ℕ, nat_lt, List, Bool, true, false, Result, Ok, 
 use Rattle.inst_base.specs.Text.{code_of, reason_of}
 use Rattle.inst_base.specs.declared.fault.Fault.{Fault}
 use Rattle.inst_base.specs.declared.fault.Fault.TheVariants.{BadField}
-use Rattle.inst_settings.specs.Lawful.{most_places}
+use Rattle.inst_settings.specs.declared.ranges.TheConstants.{MOST_PLACES}
 use Rattle.inst_command.specs.Ask.{is_count}
 use Rattle.inst_scan.specs.Fields.{Found, missing, text, whole, other}
 use Rattle.inst_json.specs.Refusals.{◌>>=◌}
@@ -47,4 +47,4 @@ count_in field = do
 unfoldable pub place_in : Found → Result ℕ Fault
 place_in field = do
   place ← whole_in field
-  if nat_lt place most_places then Ok place else Err BadField
+  if nat_lt place MOST_PLACES then Ok place else Err BadField

@@ -1,6 +1,6 @@
 ghost use Rattle.std.specs.Prelude.{◌≡◌, ◌<◌, [], ◌∷◌, ◌++◌, IfOk, OnOk};
 ghost use Rattle.inst_settings.specs.Lawful.{IsSettings};
-ghost use Rattle.inst_journal.specs.Opened.{openings};
+ghost use Rattle.inst_journal.specs.Opened.{HasOpeningsLeft};
 ghost use Rattle.inst_journal.specs.Sound.{IsSound};
 
 mod handling;
@@ -88,7 +88,7 @@ impl Ledger {
         journal: &Journal,
     ) -> Result<Ledger, AllocError>
         requires sound { IsSound settings.now who journal.now.events }
-        requires few { openings journal.now.events < 500 }
+        requires few { HasOpeningsLeft journal.now.events }
         ensures ok { IfOk result (λ l. l.book ≡ record {
           settings = settings.now;
           who = who;

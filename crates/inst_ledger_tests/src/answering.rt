@@ -1,8 +1,7 @@
 //! Rows that are answered: by the ledger, by the plain functions on its events, and a statement by a walk over them.
-ghost use Rattle.std.specs.Prelude.{◌≡◌, ◌<◌, true, [], IfOk};
+ghost use Rattle.std.specs.Prelude.{◌≡◌, true, [], IfOk};
 ghost use Rattle.inst_settings.specs.Lawful.{IsSettings};
 ghost use Rattle.inst_command.specs.Ask.{command_fits};
-ghost use Rattle.inst_journal.specs.Opened.{openings};
 
 use crate::asked::{Asks, command, outcome};
 use crate::comparing::{same, same_at};
@@ -174,19 +173,12 @@ pub(crate) fn answered(
     Ok(ledger)
 }
 
-/// Whether the history is short enough to be opened once more.
-fn is_short(journal: &Journal) -> bool
-    ensures { result ≡ true → openings journal.now.events < 500 }
-{
-    journal.events().len() < 500
-}
-
 /// A ledger that opens from the books of this one.
 pub(crate) fn opened_again(
     rt: &(impl Abort + AllocGlobal),
     ledger: &Ledger,
 ) -> Result<Ledger, Fail> {
     let journal = ledger.journal();
-    assert!(rt; is_short(journal));
+    assert!(rt; journal.has_openings_left());
     Ok(Ledger::open_from(rt.alloc(), ledger.settings(), ledger.who(), journal)?)
 }

@@ -69,6 +69,8 @@ fn opened(alloc: Global, ids: [Ident; 3]) -> Result<Journal, Fault> {
 /// The live transfers are T2 at the first place and T3 at the second.
 fn has_two_live(rt: &impl Abort, journal: &Journal, ids: [Ident; 3]) -> Result<(), Fail> {
     let [first, second, third] = ids;
+    same(rt, journal.openings(), 1);
+    same(rt, journal.has_openings_left(), true);
     same(rt, journal.live_submissions(0), 2);
     same(rt, journal.place_of(0, &first), None);
     same(rt, journal.place_of(0, &second), Some(0));

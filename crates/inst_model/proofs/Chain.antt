@@ -18,6 +18,7 @@ use Rattle.inst_model.proofs.Outcomes.{booked_outcome, outcome_stays}
 use Rattle.inst_model.proofs.Rounds.{there_is_a_closing}
 use Rattle.inst_model.proofs.Telling.{same_outcomes}
 use Rattle.inst_model.proofs.Told.{AllTold, all_told}
+use Rattle.inst_journal.specs.declared.opening.TheConstants.{MOST_OPENINGS}
 
 -- no step opens a hub
 same_openings : (s : HubSettings) (O : Opening) (L : List Step) (p : ℕ) → openings (history s O L p) ≡ openings (beginning O p)
@@ -54,7 +55,7 @@ record Opens (s : HubSettings) (O : Opening) (count : ℕ) : Type 0 where
   opened : IsOpening s O
   counted : (p : ℕ) → openings (beginning O p) ≡ count
 
-opens_again : (s : HubSettings) (Ls : List (List Step)) → AreInterleavings s Ls → length Ls ≤ 500 → Opens s (opening_after s Ls) (length Ls)
+opens_again : (s : HubSettings) (Ls : List (List Step)) → AreInterleavings s Ls → length Ls ≤ MOST_OPENINGS → Opens s (opening_after s Ls) (length Ls)
 opens_again s [] steps few = record { opened = tt; counted = λ p. refl }
 opens_again s (L ∷ before) steps few =
     let O : Opening = opening_after s before in
@@ -72,6 +73,6 @@ an_outcome_stays_for_good s [] before L K p id o steps few is =
     an_outcome_stays_over_the_next s (opening_after s before) (opens_again s before steps.1 (omega (arith, few))).opened L (closing s) steps.0 (there_is_a_closing s) p id o is K
 an_outcome_stays_for_good s (last ∷ later) before L K p id o steps few is =
     let all : List (List Step) = later ++ (L ∷ before) in
-    let shorter : length all ≤ 500 = omega (arith, few) in
+    let shorter : length all ≤ MOST_OPENINGS = omega (arith, few) in
     an_outcome_stays_over_the_next s (opening_after s all) (opens_again s all steps.1 shorter).opened last (closing s) steps.0 (there_is_a_closing s) p id o
     (an_outcome_stays_for_good s later before L last p id o steps.1 shorter is) K

@@ -5,12 +5,13 @@ use Rattle.std.specs.List.{AllByRecursion}
 use Rattle.inst_settings.specs.Settings.{HubSettings}
 use Rattle.inst_command.specs.declared.outcome.Outcome.{Outcome}
 use Rattle.inst_command.specs.declared.step.Step.{Step}
-use Rattle.inst_journal.specs.Opened.{openings}
+use Rattle.inst_journal.specs.Opened.{openings, HasOpeningsLeft}
 use Rattle.inst_model.specs.Interleaving.{IsInterleaving}
 use Rattle.inst_model.specs.Opening.{Opening, IsOpening, beginning}
 use Rattle.inst_model.specs.Opening.Opening.{First, FromBooks}
 use Rattle.inst_model.specs.Closing.{IsClosing, closing}
 use Rattle.inst_model.specs.Hub.{outcome, history}
+use Rattle.inst_journal.specs.declared.opening.TheConstants.{MOST_OPENINGS}
 
 -- the opening from the books of a hub with these steps, the last of which close it
 abbrev pub next_opening : HubSettings → Opening → List Step → Opening
@@ -18,7 +19,7 @@ next_opening s O L = FromBooks (history s O L)
 
 abbrev pub ClosedBooksCanOpen : Type 0
 ClosedBooksCanOpen = (s : HubSettings) (O : Opening) → IsOpening s O → (L M : List Step) → IsInterleaving s L →
-    IsClosing s M → ((p : ℕ) → openings (beginning O p) < 500) → IsOpening s (next_opening s O (M ++ L))
+    IsClosing s M → ((p : ℕ) → HasOpeningsLeft (beginning O p)) → IsOpening s (next_opening s O (M ++ L))
 
 -- the next opening begins with the outcomes of this one, and with no other
 abbrev pub TheNextBeginsWithTheOutcomes : Type 0
@@ -41,12 +42,12 @@ AreInterleavings s Ls = AllByRecursion (λ L. IsInterleaving s L) Ls
 
 -- a hub can be opened from its books 500 times
 abbrev pub AHubOpensAgain : Type 0
-AHubOpensAgain = (s : HubSettings) (Ls : List (List Step)) → AreInterleavings s Ls → length Ls ≤ 500 →
+AHubOpensAgain = (s : HubSettings) (Ls : List (List Step)) → AreInterleavings s Ls → length Ls ≤ MOST_OPENINGS →
     IsOpening s (opening_after s Ls)
 
 -- an outcome stays through all openings that follow
 abbrev pub AnOutcomeStaysForGood : Type 0
 AnOutcomeStaysForGood = (s : HubSettings) (later before : List (List Step)) (L K : List Step) →
     (p : ℕ) (id : List ℕ) (o : Outcome) →
-    AreInterleavings s (later ++ (L ∷ before)) → length (later ++ (L ∷ before)) ≤ 500 →
+    AreInterleavings s (later ++ (L ∷ before)) → length (later ++ (L ∷ before)) ≤ MOST_OPENINGS →
     outcome s (opening_after s before) L p id ≡ Some o → outcome s (opening_after s (later ++ (L ∷ before))) K p id ≡ Some o

@@ -4,7 +4,7 @@ use Rattle.std.specs.Prelude.{ℕ, ◌<◌, List, [], ◌∷◌, ◌++◌}
 use Rattle.inst_settings.specs.Settings.{HubSettings}
 use Rattle.inst_journal.specs.declared.event.Event.{Event}
 use Rattle.inst_journal.specs.declared.event.Event.TheVariants.{Opened}
-use Rattle.inst_journal.specs.Opened.{openings}
+use Rattle.inst_journal.specs.Opened.{HasOpeningsLeft}
 use Rattle.inst_journal.specs.Sound.{IsSound}
 use Rattle.inst_model.specs.Fit.{BooksAreClosed}
 
@@ -25,7 +25,7 @@ beginning (FromBooks books) p = books p ++ Opened ∷ []
 pub record BooksCanOpen (s : HubSettings) (books : ℕ → List Event) : Type 0 where
   pub sound : (p : ℕ) → IsSound s p (books p)
   pub closed : BooksAreClosed s books
-  pub few : (p : ℕ) → openings (books p) < 500
+  pub few : (p : ℕ) → HasOpeningsLeft (books p)
 
 abbrev pub IsOpening : HubSettings → Opening → Type 0
 IsOpening s First = Unit {0}

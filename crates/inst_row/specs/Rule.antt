@@ -8,6 +8,7 @@ use Rattle.atomic_table.specs.Table.{State}
 use Rattle.inst_row.specs.declared.view.Front.{Front}
 use Rattle.inst_row.specs.declared.view.View.{View}
 use Rattle.inst_row.specs.View.{held, parts}
+use Rattle.inst_row.specs.declared.row.TheConstants.{PARTS}
 
 -- how many seats have a lock whose word is this: it is free at 0, and else one has it, at 2 while others may sleep until
 -- it is given back
@@ -35,6 +36,6 @@ pub record Guarded {T E K : Type 0} (law : K → ℕ → T → Type 0) (history 
       IsPrefix f.history (latest f.lock)
   pub mine : (id : ℕ) (v : View E K) → get_elem? s.views id ≡ some v → (f : Front E) → Contains v.held f →
       f.history ≡ latest f.lock
-  pub dealt : parts s.views ≡ 16
+  pub dealt : parts s.views ≡ PARTS
   pub holder : (id : ℕ) (v : View E K) → get_elem? s.views id ≡ some v → v.parts ≡ 0 → v.held ≡ []
   pub named : (id : ℕ) (v : View E K) → get_elem? s.views id ≡ some v → (k : K) → v.about ≡ Some k → k ≡ key

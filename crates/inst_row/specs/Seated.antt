@@ -6,6 +6,7 @@ use Rattle.atomic_table.specs.Seated.{TableId}
 use Rattle.inst_row.specs.declared.view.View.{View}
 use Rattle.inst_row.specs.declared.seat.RowSeat.{RowSeat}
 use Rattle.inst_row.specs.View.{front}
+use Rattle.inst_row.specs.declared.row.TheConstants.{PARTS}
 
 module _ {T E K : Type 0} where
   abbrev pub view_of : RowSeat T E K → View E K
@@ -48,7 +49,7 @@ module _ {T E K : Type 0} where
   -- it is free and has all parts of the row
   pub record HasAll (s : RowSeat T E K) : Type 0 where
     pub free : IsFree s
-    pub parts : (view_of s).parts ≡ 16
+    pub parts : (view_of s).parts ≡ PARTS
 
   -- a seat that gave one of its parts to another one, which has seen as much
   pub record Halves (old new other : RowSeat T E K) : Type 0 where

@@ -3,6 +3,7 @@
 use Rattle.std.specs.Prelude.{ℕ, suc, ◌+◌, ◌-◌, min, cond, ◌==◌, List, [], ◌∷◌, ◌++◌, Option, Some, None}
 use Rattle.inst_row.specs.declared.view.Front.{Front}
 use Rattle.inst_row.specs.declared.view.View.{View}
+use Rattle.inst_row.specs.declared.row.TheConstants.{PARTS}
 
 abbrev pub front : {E : Type 0} → ℕ → List E → Front E
 front p h = record { lock = p; history = h }
@@ -34,7 +35,7 @@ fronts_of history p (Some x ∷ xs) = front p (history x) ∷ fronts_of history 
 
 -- the first seat has all parts, and has seen the history of each value
 abbrev pub first_view : {T E K : Type 0} → (T → List E) → K → List (Option T) → View E K
-first_view history key values = record { about = Some key; parts = 16; held = []; fronts = fronts_of history 0 values }
+first_view history key values = record { about = Some key; parts = PARTS; held = []; fronts = fronts_of history 0 values }
 
 module _ {E K : Type 0} where
   -- after the lock p was taken, with the history h

@@ -1,6 +1,5 @@
 //! The slots of the worked rows' participants over one board.
-ghost use Rattle.std.specs.Prelude.{◌≡◌, ◌<◌, true};
-ghost use Rattle.inst_journal.specs.Opened.{openings};
+ghost use Rattle.std.specs.Prelude.{◌≡◌};
 ghost use Rattle.inst_journal.specs.Sound.{IsSound};
 
 use crate::acts::{Act, act_of};
@@ -38,13 +37,6 @@ impl Model for Slots {
         × (book.who ≡ p) × (book.settings ≡ slots.settings) };
 }
 
-/// Whether the history is short enough to be opened once more.
-fn is_short(journal: &Journal) -> bool
-    ensures { result ≡ true → openings journal.now.events < 500 }
-{
-    journal.events().len() < 500
-}
-
 impl Slots {
     pub fn open(alloc: Global, margin: u32) -> Result<Slots, Fault> {
         let settings = settings_with(alloc, 2, margin)?;
@@ -72,7 +64,9 @@ impl Slots {
         requires second { IsSound settings 1 second.now.events }
         requires third { IsSound settings 2 third.now.events }
     {
-        let are_few = is_short(first) && is_short(second) && is_short(third);
+        let are_few = first.has_openings_left()
+            && second.has_openings_left()
+            && third.has_openings_left();
         if settings.participants() != 3 || !are_few {
             return Err(Fault::BadSettings);
         }

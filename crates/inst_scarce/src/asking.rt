@@ -2,7 +2,7 @@
 ghost use Rattle.std.specs.Prelude.{◌≡◌, true, IfOk};
 ghost use Rattle.inst_command.specs.Ask.{ask_fits};
 ghost use Rattle.inst_hub.specs.Calls.{AreOf};
-ghost use Rattle.inst_hub.specs.Opening.{parts_of};
+ghost use Rattle.inst_hub.specs.Opening.{HaveAllParts};
 
 use crate::flaw::Flaw;
 use inst_base::Fault;
@@ -45,10 +45,10 @@ pub(crate) fn ask_by<R: Wait>(
     ask: &Ask,
 ) -> Result<(Reply, Option<Ticket>), Fault>
     requires of { AreOf hub.now tellers.old.items }
-    requires parts { parts_of tellers.old.items ≡ 16 }
+    requires parts { HaveAllParts tellers.old.items }
     requires fits { ask_fits hub.now.settings ask.now ≡ true }
     ensures of { AreOf hub.now tellers.new.items }
-    ensures parts { parts_of tellers.new.items ≡ 16 }
+    ensures parts { HaveAllParts tellers.new.items }
 {
     if index >= tellers.len() {
         return Err(Fault::BadField);

@@ -4,7 +4,7 @@ ghost use Rattle.std.specs.Prelude.{◌≡◌, true, IfOk};
 ghost use Rattle.inst_command.specs.Ask.{ask_fits};
 ghost use Rattle.inst_model.specs.Opening.{Opening};
 ghost use Rattle.inst_hub.specs.Calls.{AreOf};
-ghost use Rattle.inst_hub.specs.Opening.{parts_of};
+ghost use Rattle.inst_hub.specs.Opening.{HaveAllParts};
 ghost use Rattle.inst_close.specs.Closing.{IsOpenedSo};
 
 use crate::asking::{ask_by, fitting, ticket_of};
@@ -81,7 +81,7 @@ fn read(books: &Books, ticket: &Ticket) -> Result<Said, Flaw> {
 /// A hub with two tellers, at which participant 0 is funded.
 fn funded<R: Wait>(rt: &R, alloc: Global) -> Result<(Hub, Vec<Teller>), Flaw>
     ensures of { IfOk result (λ r. AreOf r.0 r.1.items) }
-    ensures parts { IfOk result (λ r. parts_of r.1.items ≡ 16) }
+    ensures parts { IfOk result (λ r. HaveAllParts r.1.items) }
     ensures opened { IfOk result (λ r. (O : Opening) × IsOpenedSo O r.0) }
 {
     let (hub, mut tellers) = Hub::open(alloc, settings(alloc)?, 2)?;
@@ -99,10 +99,10 @@ fn submit_dropping<R: Wait>(
     ask: &Ask,
 ) -> Result<Ticket, Flaw>
     requires of { AreOf hub.now tellers.old.items }
-    requires parts { parts_of tellers.old.items ≡ 16 }
+    requires parts { HaveAllParts tellers.old.items }
     requires fits { ask_fits hub.now.settings ask.now ≡ true }
     ensures of { AreOf hub.now tellers.new.items }
-    ensures parts { parts_of tellers.new.items ≡ 16 }
+    ensures parts { HaveAllParts tellers.new.items }
 {
     for quanta in 0..MOST_TRIES {
         if !hoard.leave(quanta * QUANTUM) {
@@ -126,9 +126,9 @@ fn asked<R: Wait>(
     row: Row,
 ) -> Result<Ticket, Flaw>
     requires of { AreOf hub.now tellers.old.items }
-    requires parts { parts_of tellers.old.items ≡ 16 }
+    requires parts { HaveAllParts tellers.old.items }
     ensures of { AreOf hub.now tellers.new.items }
-    ensures parts { parts_of tellers.new.items ≡ 16 }
+    ensures parts { HaveAllParts tellers.new.items }
 {
     let ask = fitting(hub, submit(A, "T1", B, 20_000, 1_000, 1_000)?)?;
     match row {
@@ -150,7 +150,7 @@ fn opened<R: Wait>(
     row: Row,
 ) -> Result<(Hub, Vec<Teller>, Ticket), Flaw>
     ensures of { IfOk result (λ r. AreOf r.0 r.1.items) }
-    ensures parts { IfOk result (λ r. parts_of r.1.items ≡ 16) }
+    ensures parts { IfOk result (λ r. HaveAllParts r.1.items) }
     ensures opened { IfOk result (λ r. (O : Opening) × IsOpenedSo O r.0) }
 {
     let (hub, mut tellers) = funded(rt, alloc)?;
@@ -167,7 +167,7 @@ fn close_in_want(
     tellers: Vec<Teller>,
 ) -> Result<(Books, bool), Flaw>
     requires of { AreOf hub tellers.items }
-    requires parts { parts_of tellers.items ≡ 16 }
+    requires parts { HaveAllParts tellers.items }
     requires opened { (O : Opening) × IsOpenedSo O hub }
 {
     if !hoard.leave(quanta.saturating_mul(QUANTUM)) {

@@ -5,6 +5,7 @@ use Rattle.std.specs.Prelude.{List, [], ◌∷◌, length, get_or, slice_index}
 use Rattle.std.specs.Int.{from_be_bytes, w64}
 use Rattle.inst_settings.specs.declared.finder.Holders.{Holders}
 use Rattle.inst_settings.specs.declared.finder.Holders.TheVariants.{Nobody, Only, Several}
+use Rattle.inst_base.specs.declared.code.TheConstants.{BRANCH_CODE_LENGTH}
 
 -- the first eight characters: bank, country and place
 unfoldable pub bank_of : List ℕ → ℕ
@@ -14,7 +15,7 @@ bank_of code = from_be_bytes w64 (
 
 -- the three characters of a branch, or 0
 unfoldable pub branch_of : List ℕ → ℕ
-branch_of code = if nat_lt (length code) 11 then 0
+branch_of code = if nat_lt (length code) BRANCH_CODE_LENGTH then 0
     else from_be_bytes w64 (0 ∷ 0 ∷ 0 ∷ 0 ∷ 0 ∷ slice_index code 8 ∷ slice_index code 9 ∷ slice_index code 10 ∷ [])
 
 -- the mark that a bank and a branch are mixed into

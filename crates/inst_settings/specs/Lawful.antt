@@ -4,6 +4,7 @@ use Rattle.std.specs.List.{list_all, list_any}
 use Rattle.inst_base.specs.Text.{is_code}
 use Rattle.inst_settings.specs.Settings.{HubSettings, same_text}
 use Rattle.inst_settings.specs.declared.numbers.Numbers.{Numbers}
+use Rattle.inst_settings.specs.declared.ranges.TheConstants.{MOST_PARTICIPANTS, MOST_PLACES, MOST_FUNDINGS, MOST_LIMIT, MOST_AHEAD, MOST_CEILING, MOST_BASE}
 
 -- settings of these values
 abbrev pub settings_with : List (List ℕ) → ℕ → ℕ → ℕ → ℕ → ℕ → ℕ → ℕ → HubSettings
@@ -38,26 +39,22 @@ abbrev pub are_different : List (List ℕ) → Bool
 are_different [] = true
 are_different (code ∷ codes) = not (list_any (λ other. same_text other code) codes) && are_different codes
 
--- the most places that an originator may have
-abbrev pub most_places : ℕ
-most_places = 1024
-
 -- the settings are in their ranges
 pub record IsSettings (s : HubSettings) : Type 0 where
   pub participants_some : 1 ≤ length s.codes
-  pub participants_most : length s.codes ≤ 256
+  pub participants_most : length s.codes ≤ MOST_PARTICIPANTS
   pub different : are_different s.codes ≡ true
   pub places_some : 1 ≤ s.places
-  pub places_most : s.places ≤ most_places
+  pub places_most : s.places ≤ MOST_PLACES
   pub fundings_some : 1 ≤ s.fundings
-  pub fundings_most : s.fundings ≤ 1024
+  pub fundings_most : s.fundings ≤ MOST_FUNDINGS
   pub limit_some : 1 ≤ s.limit
-  pub limit_most : s.limit ≤ 3600000
+  pub limit_most : s.limit ≤ MOST_LIMIT
   pub margin_below : s.margin < s.limit
-  pub ahead_most : s.ahead ≤ 60000
+  pub ahead_most : s.ahead ≤ MOST_AHEAD
   pub ceiling_some : 1 ≤ s.ceiling
-  pub ceiling_most : s.ceiling ≤ 99999999999
-  pub base_most : s.base ≤ 2 ^ 62
+  pub ceiling_most : s.ceiling ≤ MOST_CEILING
+  pub base_most : s.base ≤ MOST_BASE
 
 -- a hub can have them: they are in their ranges, and each code is one
 pub record AreOfAHub (s : HubSettings) : Type 0 where

@@ -2,8 +2,9 @@
 ghost use Rattle.std.specs.Prelude.{◌≡◌, ◌<◌, ◌≤◌, length};
 ghost use Rattle.inst_settings.specs.Finder.{mark_of, bank_of, branch_of, mixed, holders_of, TellsAll};
 ghost use Rattle.inst_settings.specs.inner.Finder.{with_one_more};
+ghost use Rattle.inst_base.specs.declared.code.TheConstants.{CODE_LENGTH};
 
-use inst_base::Code;
+use inst_base::{BRANCH_CODE_LENGTH, CODE_LENGTH, Code};
 
 /// How many marks there are: 16 for each of 256 participants, so that few codes share one.
 const MARKS: usize = 4096;
@@ -48,7 +49,7 @@ fn mark(code: &Code) -> usize
 /// The first eight characters: bank, country and place.
 #[inline(always)]
 fn bank(text: &[u8]) -> u64
-    requires { 8 ≤ length text.now }
+    requires { CODE_LENGTH ≤ length text.now }
     ensures { result ≡ bank_of text.now }
 {
     u64::from_be_bytes([
@@ -61,7 +62,7 @@ fn bank(text: &[u8]) -> u64
 fn branch(text: &[u8]) -> u64
     ensures { result ≡ branch_of text.now }
 {
-    if text.len() < 11 {
+    if text.len() < BRANCH_CODE_LENGTH {
         return 0;
     }
     u64::from_be_bytes([0, 0, 0, 0, 0, text[8], text[9], text[10]])

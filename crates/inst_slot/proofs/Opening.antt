@@ -25,7 +25,7 @@ use Rattle.inst_board.proofs.Knowing.{learning_truly}
 use Rattle.inst_journal.specs.declared.event.Event.{Event}
 use Rattle.inst_journal.specs.declared.event.Event.TheVariants.{Funded, Defunded, Taken, Forwarded, Booked, Fetched, Opened}
 use Rattle.inst_journal.specs.Booked.{booked}
-use Rattle.inst_journal.specs.Opened.{openings, carried, is_live, takes_live, live_taken, live_submissions}
+use Rattle.inst_journal.specs.Opened.{HasOpeningsLeft, carried, is_live, takes_live, live_taken, live_submissions}
 use Rattle.inst_journal.specs.Reply.{inbox, entry_of}
 use Rattle.inst_journal.specs.Sound.{IsSound}
 use Rattle.inst_journal.proofs.Carrying.{carried_opened}
@@ -40,7 +40,7 @@ use Rattle.inst_slot.proofs.Growing.{snoc_cases, slice_get_left, filtered}
 use Rattle.inst_slot.proofs.Others.{others_opening}
 
 -- the history with the opening is sound
-pub opened_sound : (s : HubSettings) (who : ℕ) (J : List Event) → IsSound s who J → openings J < 500 → IsSound s who (J ++ Opened ∷ [])
+pub opened_sound : (s : HubSettings) (who : ℕ) (J : List Event) → IsSound s who J → HasOpeningsLeft J → IsSound s who (J ++ Opened ∷ [])
 opened_sound s who J sound few = sound_push s who J Opened sound (record { few = few })
 
 -- the arrivals of the first events

@@ -3,7 +3,7 @@
 use Rattle.std.specs.Prelude.{ℕ, ◌<◌, List, ◌++◌}
 use Rattle.inst_settings.specs.Settings.{HubSettings}
 use Rattle.inst_journal.specs.declared.event.Event.{Event}
-use Rattle.inst_journal.specs.Opened.{openings}
+use Rattle.inst_journal.specs.Opened.{openings, HasOpeningsLeft}
 use Rattle.inst_model.specs.Closing.{AreClosed}
 use Rattle.inst_model.specs.Opening.{IsOpening}
 use Rattle.inst_model.specs.Opening.Opening.{FromBooks}
@@ -20,9 +20,9 @@ ClosedBooksStayClosedWider = (s : HubSettings) (codes : List (List ℕ)) (J : �
 -- a hub can open from closed books, with participants that join, while none was opened too often
 abbrev pub ClosedBooksOpenWider : Type 0
 ClosedBooksOpenWider = (s : HubSettings) (codes : List (List ℕ)) (J : ℕ → List Event) → AreClosed s J →
-    ((p : ℕ) → openings (J p) < 500) → IsOpening (widened s codes) (FromBooks J)
+    ((p : ℕ) → HasOpeningsLeft (J p)) → IsOpening (widened s codes) (FromBooks J)
 
 -- and without
 abbrev pub ClosedBooksOpenNext : Type 0
-ClosedBooksOpenNext = (s : HubSettings) (J : ℕ → List Event) → AreClosed s J → ((p : ℕ) → openings (J p) < 500) →
+ClosedBooksOpenNext = (s : HubSettings) (J : ℕ → List Event) → AreClosed s J → ((p : ℕ) → HasOpeningsLeft (J p)) →
     IsOpening s (FromBooks J)

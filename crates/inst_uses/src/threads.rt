@@ -7,7 +7,7 @@ ghost use Rattle.inst_cell.specs.Seen.{board_of};
 ghost use Rattle.inst_participant.specs.Behind.{IsReady};
 ghost use Rattle.inst_parts.specs.Apart.{IsPartsOf};
 ghost use Rattle.inst_hub.specs.Calls.{IsOf, AreOf};
-ghost use Rattle.inst_hub.specs.Opening.{parts_of};
+ghost use Rattle.inst_hub.specs.Opening.{HaveAllParts};
 ghost use Rattle.inst_close.specs.Closing.{IsOpenedSo};
 ghost use Rattle.inst_desk.specs.Desk.{IsHandOf, AreHandsOf};
 
@@ -71,7 +71,7 @@ pub fn parts(parts: &mut Parts) -> Result<(), AllocError>
 /// The books of a hub that was closed, and what all positions sum to.
 pub fn closed(alloc: Global, hub: Hub, tellers: Vec<Teller>) -> Result<(Books, u128), CloseFault>
     requires of { AreOf hub tellers.items }
-    requires parts { parts_of tellers.items ≡ 16 }
+    requires parts { HaveAllParts tellers.items }
     requires opened { (O : Opening) × IsOpenedSo O hub }
 {
     let books = close(alloc, hub, tellers)?; // or what is left, to be closed again

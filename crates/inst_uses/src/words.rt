@@ -15,7 +15,7 @@ pub fn terms(at: Moment) -> Result<(Option<Terms>, Option<Word>), Fault> {
         to: 1,
     };
     let words = pack(&terms); // [12800001, 6356, 0, 0, 0]
-    let word = pack_outcome(&Word::Final(Outcome::Accepted, at));
+    let word = pack_outcome(&Word::Decided(Outcome::Accepted, at));
     Ok((unpack(&words), read_outcome(word))) // `Some` of both
 }
 

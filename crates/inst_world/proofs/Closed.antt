@@ -3,7 +3,7 @@ use Rattle.std.proofs.Common.{◌≡◌, ℕ, ◌<◌, ◌++◌, List, subst, ar
 use Rattle.inst_settings.specs.Settings.{HubSettings}
 use Rattle.inst_command.specs.declared.step.Step.{Step}
 use Rattle.inst_journal.specs.History.{History}
-use Rattle.inst_journal.specs.Opened.{openings}
+use Rattle.inst_journal.specs.Opened.{HasOpeningsLeft}
 use Rattle.inst_model.specs.Closing.{closing}
 use Rattle.inst_model.specs.Hub.{history}
 use Rattle.inst_model.specs.Interleaving.{IsInterleaving}
@@ -18,7 +18,7 @@ use Rattle.inst_world.proofs.Journals.{by_number, few_can_open}
 abbrev pub AreItsJournals : World → List History → Type 0
 AreItsJournals world journals = (O : Opening) (L : List Step) → HasRun O L world → AreJournalsOf (settings_of world) (history (settings_of world) O L) journals
 
-pub closed_can : (world : World) (journals : List History) → HasClosed world → AreItsJournals world journals → ((p : ℕ) → openings (books_of journals p) < 500)
+pub closed_can : (world : World) (journals : List History) → HasClosed world → AreItsJournals world journals → ((p : ℕ) → HasOpeningsLeft (books_of journals p))
     → CanOpenFrom (settings_of world) journals
 closed_can world journals (O, L, steps, run) are few =
     let s : HubSettings = settings_of world in
@@ -26,7 +26,7 @@ closed_can world journals (O, L, steps, run) are few =
 
 -- where the books were opened from seldom enough their copies were
 pub few_copied : (s : HubSettings) (world : World) (journals : List History) (O : Opening) (L : List Step) → settings_of world ≡ s → IsOpening s O → IsInterleaving s L
-    → HasRun O (closing s ++ L) world → AreItsJournals world journals → ((p : ℕ) → openings (history s O (closing s ++ L) p) < 500) → (p : ℕ) → openings (books_of journals p) < 500
+    → HasRun O (closing s ++ L) world → AreItsJournals world journals → ((p : ℕ) → HasOpeningsLeft (history s O (closing s ++ L) p)) → (p : ℕ) → HasOpeningsLeft (books_of journals p)
 few_copied s world journals O L same opened steps run are few p =
     by_number s (history s O (closing s ++ L)) journals (closing_closes s O opened L (closing s) steps (there_is_a_closing s))
-    (subst (λ (t : HubSettings). AreJournalsOf t (history t O (closing s ++ L)) journals) same (are O (closing s ++ L) run)) (λ K. openings K < 500) p (few p) (omega arith)
+    (subst (λ (t : HubSettings). AreJournalsOf t (history t O (closing s ++ L)) journals) same (are O (closing s ++ L) run)) (λ K. HasOpeningsLeft K) p (few p) (omega arith)

@@ -8,7 +8,7 @@ use Rattle.inst_command.specs.declared.outcome.Outcome.TheVariants.{Accepted}
 use Rattle.inst_journal.specs.declared.event.Event.{Event}
 use Rattle.inst_journal.specs.declared.event.Event.TheVariants.{Taken, Forwarded, Booked}
 use Rattle.inst_journal.specs.History.{History}
-use Rattle.inst_journal.specs.Opened.{openings}
+use Rattle.inst_journal.specs.Opened.{HasOpeningsLeft}
 use Rattle.inst_journal.specs.Sound.{IsSound}
 use Rattle.inst_model.specs.Closing.{AreClosed}
 use Rattle.inst_model.specs.Fit.{BooksFit, BooksAreClosed}
@@ -77,7 +77,7 @@ module _ (s : HubSettings) (J : ℕ → List Event) (journals : List History) (c
   }
 
   -- where none was opened from too often
-  pub few_can_open : ((p : ℕ) → openings (books_of journals p) < 500) → CanOpenFrom s journals
+  pub few_can_open : ((p : ℕ) → HasOpeningsLeft (books_of journals p)) → CanOpenFrom s journals
   few_can_open few = record {
     one_each = are.one_each;
     books = record {
@@ -90,21 +90,21 @@ module _ (s : HubSettings) (J : ℕ → List Event) (journals : List History) (c
 pub can_open_from : (s : HubSettings) (J : ℕ → List Event) (journals : List History) → BooksCanOpen s J → AreJournalsOf s J journals → CanOpenFrom s journals
 can_open_from s J journals can are =
     let closed : AreClosed s J = record { sound = can.sound; closed = can.closed } in
-    few_can_open s J journals closed are (λ p. by_number s J journals closed are (λ K. openings K < 500) p (can.few p) (omega arith))
+    few_can_open s J journals closed are (λ p. by_number s J journals closed are (λ K. HasOpeningsLeft K) p (can.few p) (omega arith))
 
 -- so far none of the journals was opened from too often, nor this one
-pub one_more_few : (journals : List History) (n : ℕ) (journal : History) → n < length journals → journal ≡ get_or journals n journal → openings journal.events < 500
-    → ((p : ℕ) → p < n → openings (books_of journals p) < 500) → (p : ℕ) → p < n + 1 → openings (books_of journals p) < 500
+pub one_more_few : (journals : List History) (n : ℕ) (journal : History) → n < length journals → journal ≡ get_or journals n journal → HasOpeningsLeft journal.events
+    → ((p : ℕ) → p < n → HasOpeningsLeft (books_of journals p)) → (p : ℕ) → p < n + 1 → HasOpeningsLeft (books_of journals p)
 one_more_few journals n journal below here few so p small = elim (cases_eq p n) [
   | inl at ↦
       let found : slice_get journals n ≡ Some journal = slice_get-get_or journals n journal below ∙ ap (λ (j : History). Some j) (sym here) in
-      subst (λ (J : List Event). openings J < 500) (sym (ap (λ (q : ℕ). books_of journals q) at ∙ ap kept_by found)) few
+      subst (λ (J : List Event). HasOpeningsLeft J) (sym (ap (λ (q : ℕ). books_of journals q) at ∙ ap kept_by found)) few
   | inr other ↦ so p (omega (arith, small, other))
 ]
 
 -- none of all was
-pub all_few : (journals : List History) (n : ℕ) → length journals ≤ n → ((p : ℕ) → p < n → openings (books_of journals p) < 500) → (p : ℕ) → openings (books_of journals p) < 500
+pub all_few : (journals : List History) (n : ℕ) → length journals ≤ n → ((p : ℕ) → p < n → HasOpeningsLeft (books_of journals p)) → (p : ℕ) → HasOpeningsLeft (books_of journals p)
 all_few journals n most so p = elim (cases_Bool (nat_lt p n)) [
   | inl below ↦ so p (ltb-true p n below)
-  | inr past ↦ subst (λ (J : List Event). openings J < 500) (sym (ap kept_by (slice_get_past journals p (omega (arith, ltb-false p n past, most))))) (omega arith)
+  | inr past ↦ subst (λ (J : List Event). HasOpeningsLeft J) (sym (ap kept_by (slice_get_past journals p (omega (arith, ltb-false p n past, most))))) (omega arith)
 ]

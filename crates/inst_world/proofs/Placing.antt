@@ -106,18 +106,18 @@ live_kept p J event no_opening none =
 -- who acts in a step
 abbrev pub actor : Step → ℕ
 actor (Ask ask) = ask.who
-actor (Deliver from place to) = to
-actor (Learn who from place) = who
-actor (Expire who place at) = who
+actor (Deliver from index to) = to
+actor (Learn who from index) = who
+actor (Expire who index at) = who
 
 unseen : {A : Type 0} (b : Bool) (x : List A) → b ≡ false → cond b x [] ≡ []
 unseen b x e = ap (λ c. cond c x []) e
 
 others_see_nothing : (s : HubSettings) (J : ℕ → List Event) (before after : ℕ → List ℕ → Option Outcome) (step : Step) (p : ℕ) → p ≢ actor step → sees s J before after step p ≡ []
 others_see_nothing s J before after (Ask ask) p other = unseen (eqb ask.who p) _ (ne_eqb ask.who p (λ e. other (sym e)))
-others_see_nothing s J before after (Deliver from place to) p other = unseen (eqb to p) _ (ne_eqb to p (λ e. other (sym e)))
-others_see_nothing s J before after (Learn who from place) p other = unseen (eqb who p) _ (ne_eqb who p (λ e. other (sym e)))
-others_see_nothing s J before after (Expire who place at) p other = unseen (eqb who p) _ (ne_eqb who p (λ e. other (sym e)))
+others_see_nothing s J before after (Deliver from index to) p other = unseen (eqb to p) _ (ne_eqb to p (λ e. other (sym e)))
+others_see_nothing s J before after (Learn who from index) p other = unseen (eqb who p) _ (ne_eqb who p (λ e. other (sym e)))
+others_see_nothing s J before after (Expire who index at) p other = unseen (eqb who p) _ (ne_eqb who p (λ e. other (sym e)))
 
 -- a step leaves the histories of the others
 pub others_stay : (s : HubSettings) (O : Opening) (step : Step) (past : List Step) (p : ℕ) → p ≢ actor step → history s O (step ∷ past) p ≡ history s O past p

@@ -117,9 +117,9 @@ steps_to steps later past step k whole before =
 
 answered_state : (s : HubSettings) (O : Opening) → IsOpening s O → (past : List Step) (step : Step) (from : ℕ) (id : List ℕ) (o : Outcome) → Reply (State from id (Decided o)) ≡ answer s O past step → outcome s O (step ∷ past) from id ≡ Some o
 answered_state s O begun past (Ask ask) from id o e = answered_is_the_outcome s O begun past ask from id o (sym e)
-answered_state s O begun past (Deliver owner place to) from id o e = let no : ⊥ = cc in absurd no
-answered_state s O begun past (Learn who owner place) from id o e = let no : ⊥ = cc in absurd no
-answered_state s O begun past (Expire who place at) from id o e = let no : ⊥ = cc in absurd no
+answered_state s O begun past (Deliver owner index to) from id o e = let no : ⊥ = cc in absurd no
+answered_state s O begun past (Learn who owner index) from id o e = let no : ⊥ = cc in absurd no
+answered_state s O begun past (Expire who index at) from id o e = let no : ⊥ = cc in absurd no
 
 -- what a journal has it keeps, whatever steps follow
 stays_there : (s : HubSettings) (O : Opening) (later past : List Step) (p : ℕ) (event : Event) → Contains (history s O past p) event → Contains (history s O (later ++ past) p) event

@@ -101,7 +101,7 @@ pub as_before : (books : List Book) (b c : Contents) (p i : ℕ) (slot new : Boo
 as_before books b c p i slot new leads stays back same = record {
   settings_are = stays;
   books_are = ap (set books i) back ∙ set_back books i slot (ap (slice_get books) leads.same ∙ leads.there);
-  board_says = λ place. same place;
+  board_says = λ index. same index;
 }
   where
     set_back : (xs : List Book) (k : ℕ) (x : Book) → slice_get xs k ≡ Some x → set xs k x ≡ xs

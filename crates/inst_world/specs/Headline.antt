@@ -1,6 +1,6 @@
 -- The headline: what each run of the hub promises, said of what the run returned. A participant gets the same of every two
 -- runs in which it sees the same, whatever else goes on in them; a transfer has one outcome (EPC004-16, chapter 4: a
--- confirmation or rejection is final); its money is settled or released at most once; the positions sum to the net funding
+-- confirmation or rejection is decided); its money is settled or released at most once; the positions sum to the net funding
 -- and what is untold; and the books fit one another. This hub's own promise.
 use Rattle.std.specs.Prelude.{◌≡◌, ℕ, ◌+◌, ◌≤◌, pos, ◌+ℤ◌, true, false, List, [], ◌++◌, reverse, slice_get, take, Option, Some, is_some, Contains}
 use Rattle.inst_settings.specs.Settings.{HubSettings, is_participant}

@@ -3,7 +3,7 @@ use Rattle.std.specs.Prelude.{◌≡◌, ℕ, ◌<◌, List, length}
 use Rattle.inst_settings.specs.Settings.{HubSettings}
 use Rattle.inst_journal.specs.declared.event.Event.{Event}
 use Rattle.inst_journal.specs.History.{History}
-use Rattle.inst_journal.specs.Opened.{openings}
+use Rattle.inst_journal.specs.Opened.{HasOpeningsLeft}
 use Rattle.inst_journal.specs.Sound.{IsSound}
 use Rattle.inst_ledger.specs.Book.{BookAndRoom}
 use Rattle.inst_world.specs.NextOpening.{books_of}
@@ -12,7 +12,7 @@ use Rattle.inst_audit.specs.inner.Agreeing.{histories_of}
 -- a history that a participant can open from, whatever the others have
 pub record CanBeBook (s : HubSettings) (who : ℕ) (J : List Event) : Type 0 where
   pub sound : IsSound s who J
-  pub few : openings J < 500
+  pub few : HasOpeningsLeft J
 
 -- the first of the journals can be books, and are kept by the ledgers
 pub record AreKept (s : HubSettings) (journals : List History) (ledgers : List BookAndRoom) : Type 0 where

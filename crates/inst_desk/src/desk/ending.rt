@@ -4,6 +4,7 @@ ghost use Rattle.crossbeam_queue.specs.Passes.{view, IsPassOf, ruled_capacity};
 ghost use Rattle.inst_desk.specs.Account.{EachAsOften, account, counted};
 ghost use Rattle.inst_desk.specs.inner.Account.{together};
 ghost use Rattle.inst_desk.specs.Desk.{account_of, AreAllHandsOf, put_together, taken_together};
+ghost use Rattle.inst_desk.specs.declared.desk.opening.TheConstants.{MOST_HANDS};
 
 use super::Desk;
 use crate::hand::Hand;
@@ -34,7 +35,7 @@ fn join(queue: &Queue, hand: Hand, other: Hand) -> Hand
 /// The jobs that lie on a desk whose only hand this is.
 fn drain<R: Wait>(rt: &R, queue: &Queue, seat: Seat, left: &mut Vec<Job>)
     requires on { IsPassOf queue.now seat }
-    requires all { (view seat).parts ≡ 16 }
+    requires all { (view seat).parts ≡ MOST_HANDS }
     requires empty { left.old.items ≡ [] }
     requires room { vec_capacity left.old ≡ ruled_capacity queue.now }
     ensures { EachAsOften (view seat).put ((view seat).taken ++ left.new.items) }
@@ -55,7 +56,7 @@ impl Desk {
     fn gather(&self, hands: Vec<Hand>) -> Hand
         requires { AreAllHandsOf self.now hands.items }
         ensures on { IsPassOf self.now.queue result.seat }
-        ensures all { account_of result ≡ account 16 (put_together hands.items) (taken_together hands.items) }
+        ensures all { account_of result ≡ account MOST_HANDS (put_together hands.items) (taken_together hands.items) }
     {
         let mut hands = hands.into_iter();
         let Some(first) = hands.next() else {

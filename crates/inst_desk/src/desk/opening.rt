@@ -11,10 +11,10 @@ use inst_base::Fault;
 use std::alloc::{AllocError, Global};
 
 /// How many jobs a desk holds at most.
-const MOST_ROOM: u16 = 4_096;
+pub const MOST_ROOM: u16 = 4_096;
 
 /// How many hands a desk has at most.
-const MOST_HANDS: u8 = 16;
+pub const MOST_HANDS: u8 = 16;
 
 /// A hand that neither put nor took.
 fn new_hand(seat: Seat) -> Hand
@@ -33,7 +33,7 @@ impl Desk {
     fn hands(&self, alloc: Global, seat: Seat, hands: u8) -> Result<Vec<Hand>, AllocError>
         requires on { IsPassOf self.now.queue seat }
         requires first { view seat ≡ first_account }
-        requires hands { (0 < hands) × (hands ≤ 16) }
+        requires hands { (0 < hands) × (hands ≤ MOST_HANDS) }
         ensures enough { IfOk result (λ all. length all.items ≡ hands) }
         ensures all { IfOk result (λ all. AreAllHandsOf self.now all.items) }
         ensures new { IfOk result (λ all. All IsNewHand all.items) }

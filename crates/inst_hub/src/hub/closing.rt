@@ -10,7 +10,7 @@ ghost use Rattle.inst_row.specs.Seated.{IsOn, HasAll, HasSeen};
 ghost use Rattle.inst_parts.specs.Apart.{IsPartsOf, histories_of, board_of, hub_of};
 ghost use Rattle.inst_hub.specs.declared.teller.Teller.{Teller};
 ghost use Rattle.inst_hub.specs.Calls.{AreOf, knows_of};
-ghost use Rattle.inst_hub.specs.Opening.{parts_of};
+ghost use Rattle.inst_hub.specs.Opening.{HaveAllParts};
 ghost use Rattle.inst_settings.specs.Settings.{participants};
 ghost use Rattle.inst_hub.specs.Founding.{HasOpened};
 ghost use Rattle.inst_hub.specs.Closing.{HandsBack};
@@ -56,7 +56,7 @@ impl fmt::Debug for TakeFault {
 fn gather(row: &Row, tellers: Vec<Teller>, sights: &mut Vec<inst_cell::Sight>) -> Seat
     requires some { 0 < size row.now }
     requires seated { AreSeated (row_id row.now) (key_of row.now) tellers.items }
-    requires parts { parts_of tellers.items ≡ 16 }
+    requires parts { HaveAllParts tellers.items }
     requires none { sights.old.items ≡ [] }
     requires room { length tellers.items ≤ vec_capacity sights.old }
     ensures on { IsOn (row_id row.now) (key_of row.now) result }
@@ -107,7 +107,7 @@ impl Hub {
     /// hub. Where memory is refused it hands the hub and its tellers back as they were.
     pub fn take_apart(self, alloc: Global, tellers: Vec<Teller>) -> Result<Parts, TakeFault>
         requires of { AreOf self tellers.items }
-        requires parts { parts_of tellers.items ≡ 16 }
+        requires parts { HaveAllParts tellers.items }
         ensures settings { IfOk result (λ parts. hub_of parts ≡ self.settings) }
         ensures parts { IfOk result (λ parts. (O : Opening) → IsOpening self.settings O → HasOpened O self → IsPartsOf O parts) }
         ensures goes_on { IfOk result (λ parts. (i : ℕ) (t : Teller) (p : ℕ) (h : List Event) → slice_get tellers.items i ≡ Some t → p < participants self.settings → HasSeen p h t.seat → IsPrefix h (histories_of parts p)) }

@@ -9,7 +9,7 @@ ghost use Rattle.inst_model.specs.Opening.{First};
 ghost use Rattle.inst_participant.specs.Behind.{IsBehind};
 ghost use Rattle.inst_hub.specs.Founding.{HasOpened};
 ghost use Rattle.inst_hub.specs.Calls.{AreOf};
-ghost use Rattle.inst_hub.specs.Opening.{AreNew, first_sights, parts_of};
+ghost use Rattle.inst_hub.specs.Opening.{AreNew, first_sights, HaveAllParts};
 ghost use Rattle.inst_hub.specs.inner.Opening.{AreBoards, unboxed, AreParticipants, AreBlank};
 
 use super::Hub;
@@ -78,7 +78,7 @@ pub(super) fn admit(
     requires sights { MayOpen (length sights.items) × AreBlank (key_of row.now).words.value sights.items }
     ensures enough { IfOk result (λ all. length all.items ≡ length sights.items) }
     ensures new { IfOk result (λ all. AreNew (row_id row.now) (key_of row.now) (view_of seat).fronts all.items) }
-    ensures parts { IfOk result (λ all. parts_of all.items ≡ 16) }
+    ensures parts { IfOk result (λ all. HaveAllParts all.items) }
 {
     let mut seat = seat;
     let mut sights = sights;
@@ -102,7 +102,7 @@ impl Hub {
         ensures enough { IfOk result (λ r. length r.1.items ≡ tellers) }
         ensures of { IfOk result (λ r. AreOf r.0 r.1.items) }
         ensures new { IfOk result (λ r. AreNew (row_id r.0.row) (key_of r.0.row) (first_sights (participants settings) (λ p. [])) r.1.items) }
-        ensures parts { IfOk result (λ r. parts_of r.1.items ≡ 16) }
+        ensures parts { IfOk result (λ r. HaveAllParts r.1.items) }
         ensures opened { IfOk result (λ r. HasOpened First r.0) }
         ensures bad { (result ≡ Err Fault.BadSettings) ↔ ¬ MayOpen tellers }
         ensures only { IfErr result (λ e. (e ≡ Fault.Memory) ⊎ (e ≡ Fault.BadSettings)) }

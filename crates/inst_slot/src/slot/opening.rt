@@ -8,7 +8,7 @@ ghost use Rattle.inst_board.specs.declared.look.Look.{Look};
 ghost use Rattle.inst_board.specs.declared.place.Place.{Place};
 ghost use Rattle.inst_board.specs.Learning.{Looks, Learns, KnowsTruly};
 ghost use Rattle.inst_board.specs.Standing.{IsPlace, about, pending};
-ghost use Rattle.inst_journal.specs.Opened.{openings, carried, live_taken};
+ghost use Rattle.inst_journal.specs.Opened.{HasOpeningsLeft, carried, live_taken};
 ghost use Rattle.inst_journal.specs.Sound.{IsSound};
 ghost use Rattle.inst_slot.specs.Book.{place_at};
 ghost use Rattle.inst_slot.specs.LawfulBoard.{IsLawfulBoard, KeepsOthers, AllAreAdopted};
@@ -39,7 +39,7 @@ impl Slot {
     ) -> Result<Slot, AllocError>
         requires participant { is_participant settings.now who ≡ true }
         requires sound { IsSound settings.now who journal.now.events }
-        requires few { openings journal.now.events < 500 }
+        requires few { HasOpeningsLeft journal.now.events }
         requires board { MayOpenAgain B.settings B.knows B.has_role board.old settings.now who }
         ensures ok { IfOk result (λ slot. slot ≡ opened_again settings.now who journal.now.events) }
         ensures opens { IfOk result (λ slot. OpensPlaces B.knows settings.now who (live_taken who slot.events) board.old board.new) }
@@ -61,7 +61,7 @@ impl Slot {
         journal: &Journal,
     ) -> Result<Slot, AllocError>
         requires sound { IsSound settings.now who journal.now.events }
-        requires few { openings journal.now.events < 500 }
+        requires few { HasOpeningsLeft journal.now.events }
         ensures ok { IfOk result (λ slot. slot ≡ opened_again settings.now who journal.now.events) }
     {
         let ledger = Ledger::open_from(alloc, settings, who, journal)?;

@@ -2,7 +2,7 @@
 ghost use Rattle.std.specs.Prelude.{◌≡◌, ◌<◌, ◌++◌, ℕ, List, true, false, None, IfOk, IfSome, OnOk};
 ghost use Rattle.inst_settings.specs.Settings.{is_participant, participants};
 ghost use Rattle.inst_command.specs.declared.step.Step.{Step};
-ghost use Rattle.inst_journal.specs.Opened.{openings};
+ghost use Rattle.inst_journal.specs.Opened.{openings, HasOpeningsLeft};
 ghost use Rattle.inst_model.specs.Closing.{of_places, of_originators, closing};
 ghost use Rattle.inst_model.specs.Hub.{history};
 ghost use Rattle.inst_model.specs.Opening.{Opening};
@@ -10,33 +10,17 @@ ghost use Rattle.inst_world.specs.HasRun.{HasRun};
 ghost use Rattle.inst_world.specs.NextOpening.{books_of, AreJournalsOf, CanOpenFrom, AreCarried, HasClosed};
 
 use super::World;
-use inst_base::mention;
-use inst_command::{Outcome, Step};
-use inst_journal::{Event, Journal};
+use inst_command::Step;
+use inst_journal::Journal;
 use std::alloc::{AllocError, Global};
 
-/// How often books can be opened from.
-pub const MOST_OPENINGS: usize = 500;
-
-/// How often the journal was opened from. It walks over its events.
-pub fn openings(journal: &Journal) -> usize
-    ensures { result ≡ openings journal.now.events }
-{
-    mention::<Outcome>();
-    journal
-        .events()
-        .iter()
-        .filter(|event| matches!(event, Event::Opened))
-        .count()
-}
-
-/// Whether each journal can be opened from once more: it was opened from fewer than 500 times.
+/// Whether each journal can be opened from once more. It walks over the events of each.
 pub fn may_open(journals: &[Journal]) -> bool
-    ensures few { result ≡ true → (p : ℕ) → openings (books_of journals.now p) < 500 }
-    ensures many { result ≡ false → ¬ ((p : ℕ) → openings (books_of journals.now p) < 500) }
+    ensures few { result ≡ true → (p : ℕ) → HasOpeningsLeft (books_of journals.now p) }
+    ensures many { result ≡ false → ¬ ((p : ℕ) → HasOpeningsLeft (books_of journals.now p)) }
 {
     for journal in journals {
-        if openings(journal) >= MOST_OPENINGS {
+        if !journal.has_openings_left() {
             return false;
         }
     }
@@ -101,14 +85,14 @@ impl World {
         Ok(journals)
     }
 
-    /// Closes the hub, and copies its books for the next opening, or gives nothing where one was opened from 500 times
-    /// already. Where memory is refused it leaves what `close` leaves.
+    /// Closes the hub, and copies its books for the next opening, or gives nothing where one can't be opened
+    /// from once more. Where memory is refused it leaves what `close` leaves.
     pub fn carry(&mut self, alloc: Global) -> Result<Option<Vec<Journal>>, AllocError>
         ensures books { IfOk result (λ books. IfSome books (λ journals. (O : Opening) (L : List Step) → HasRun O L self.old →
             AreCarried self.old.board.settings O L journals.items)) }
         ensures can { IfOk result (λ books. IfSome books (λ journals. CanOpenFrom self.old.board.settings journals.items)) }
         ensures few { IfOk result (λ books. books ≡ None → (O : Opening) (L : List Step) → HasRun O L self.old →
-            ¬ ((p : ℕ) → openings (history self.old.board.settings O (closing self.old.board.settings ++ L) p) < 500)) }
+            ¬ ((p : ℕ) → HasOpeningsLeft (history self.old.board.settings O (closing self.old.board.settings ++ L) p))) }
         ensures ran { OnOk result ((O : Opening) (L : List Step) → HasRun O L self.old → HasRun O (closing self.old.board.settings ++ L) self.new) }
         ensures settings { self.new.board.settings ≡ self.old.board.settings }
     {

@@ -7,6 +7,6 @@ pub returns : goal.returns
 unfolding branch_of
 returns c = grind (arith, common_steps)
 
-pub returns-then-text-lt11 : goal.returns-then-text-lt11
+pub returns-then-text-lt-BRANCH_CODE_LENGTH : goal.returns-then-text-lt-BRANCH_CODE_LENGTH
 unfolding branch_of
-returns-then-text-lt11 c = search rules
+returns-then-text-lt-BRANCH_CODE_LENGTH c = search rules

@@ -1,6 +1,6 @@
 use Rattle.std.proofs.Common.{◌≡◌, ◌<◌, ℕ, arith, length, get_or, ap, ◌∙◌, subst, List}
 use Rattle.inst_journal.specs.declared.event.Event.{Event}
-use Rattle.inst_journal.specs.Opened.{openings}
+use Rattle.inst_journal.specs.Opened.{openings, HasOpeningsLeft}
 use Rattle.inst_slot.specs.Book.{Book}
 use Rattle.inst_close.specs.ClosedHub.{ClosedHub}
 use Rattle.inst_close.proofs.Copying.{one_more_few, all_few}
@@ -13,7 +13,7 @@ loop-slot-preserved c =
     let i : ℕ = c.loop-slot.slot-index in
     let below : i < length books = omega (arith, c.loop-slot-test.true, ap (λ (l : List Book). length l) whole) in
     let here = c.slot-item.is ∙ ap (λ (l : List Book). get_or l i c.slot-item.result) whole in
-    let few : openings c.slot-item.result.events < 500 = subst (λ (J : List Event). openings J < 500) c.journal.ensures.events (subst (λ (n : ℕ). n < 500) c.openings.ensures c.if-openings-ge-MOST_OPENINGS.false) in
+    let few : HasOpeningsLeft c.slot-item.result.events = subst (λ (J : List Event). HasOpeningsLeft J) c.journal.ensures.events (c.has_openings_left.ensures.left c.if-not-has_openings_left.false) in
     one_more_few books i c.slot-item.result 0 below here few c.loop-slot.invariant
 
 pub returns-clause-few : goal.returns-clause-few

@@ -15,7 +15,7 @@ use Rattle.inst_slot.specs.Opening.{opened_again, MayOpenAgain, OpensPlaces}
 use Rattle.inst_slot.proofs.Opening.{may_open_first, others_may_open}
 use Rattle.inst_rows.proofs.Together.{Stands, AreBooks, stayed, three}
 use Rattle.inst_rows.proofs.slots.Slots.open_from.Goals as goal
-use Rattle.inst_rows.proofs.slots.Slots.open_from.Goals.{then-is_short-2, else-is_short-2}
+use Rattle.inst_rows.proofs.slots.Slots.open_from.Goals.{then-has_openings_left-2, else-has_openings_left-2}
 
 -- any may open over a board that is new
 first_may : (b : Contents) (s : HubSettings) (who : ℕ) → b.settings ≡ s → ((k : Place) → kept_at b k ≡ Unused) → MayOpenAgain (λ (x : Contents). x.settings) plain_knows (λ _ _. Unit {0}) b s who
@@ -61,9 +61,9 @@ open_from-requires-3-clause-board c =
     (first_may c.in_ok-board.board s 2 n.0 n.1))
 
 pub open_from-requires-3-clause-few : goal.open_from-requires-3-clause-few
-open_from-requires-3-clause-few c = elim c.if-is_short-2.branch [
-  | then-is_short-2 w ↦ w.is_short-are_few.ensures (sym w.are_few-is ∙ c.if-not-are_few.false)
-  | else-is_short-2 w ↦ absurd (true≢false (sym c.if-not-are_few.false ∙ w.are_few-is ∙ w.if-is_short-2.false))
+open_from-requires-3-clause-few c = elim c.if-has_openings_left-2.branch [
+  | then-has_openings_left-2 w ↦ w.has_openings_left-are_few.ensures.left (sym w.are_few-is ∙ c.if-not-are_few.false)
+  | else-has_openings_left-2 w ↦ absurd (true≢false (sym c.if-not-are_few.false ∙ w.are_few-is ∙ w.if-has_openings_left-2.false))
 ]
 
 pub invariant_of-result : goal.invariant_of-result

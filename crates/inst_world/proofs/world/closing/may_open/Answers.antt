@@ -1,11 +1,10 @@
-use Rattle.std.proofs.Common.{◌<◌, ℕ, subst}
 use Rattle.inst_world.proofs.Journals.{one_more_few, all_few}
 use Rattle.inst_world.proofs.world.closing.may_open.Goals as goal
 
 pub loop-journal-preserved : goal.loop-journal-preserved
 loop-journal-preserved c =
     one_more_few c.args.journals.now c.loop-journal.journal-index c.journal-item.result c.loop-journal-test.true c.journal-item.is
-    (subst (λ (n : ℕ). n < 500) c.openings.ensures c.if-openings-ge-MOST_OPENINGS.false) c.loop-journal.invariant
+    (c.has_openings_left.ensures.left c.if-not-has_openings_left.false) c.loop-journal.invariant
 
 pub returns-clause-few : goal.returns-clause-few
 returns-clause-few c = λ yes. all_few c.args.journals.now c.loop-journal.journal-index c.loop-journal-test.false c.loop-journal.invariant

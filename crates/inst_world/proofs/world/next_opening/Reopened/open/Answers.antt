@@ -1,7 +1,7 @@
 use Rattle.std.proofs.Common.{◌≡◌, ◌<◌, List, length, sym, ap, subst, ◌∙◌, arith}
 use Rattle.inst_settings.specs.Settings.{participants}
 use Rattle.inst_journal.specs.declared.event.Event.{Event}
-use Rattle.inst_journal.specs.Opened.{openings}
+use Rattle.inst_journal.specs.Opened.{HasOpeningsLeft}
 use Rattle.inst_journal.specs.Sound.{IsSound}
 use Rattle.inst_slot.specs.Book.{Book}
 use Rattle.inst_slot.specs.Opening.{opened_again}
@@ -30,7 +30,7 @@ pub open_from-requires-clause-few : goal.open_from-requires-clause-few
 open_from-requires-clause-few c =
     let below : c.from.result < length c.args.journals.now = omega arith in
     let its = book_at c.args.journals.now c.from.result c.loop-who.who c.index-journals-from.result below c.from.ensures c.index-journals-from.is in
-    subst (λ (J : List Event). openings J < 500) its (c.requires.journals.books.few c.loop-who.who)
+    subst (λ (J : List Event). HasOpeningsLeft J) its (c.requires.journals.books.few c.loop-who.who)
 
 pub loop-who-preserved : goal.loop-who-preserved
 loop-who-preserved c =
