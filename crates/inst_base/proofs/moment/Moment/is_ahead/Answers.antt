@@ -1,0 +1,5 @@
+use Rattle.std.proofs.Common.{rules}
+use Rattle.inst_base.proofs.moment.Moment.is_ahead.Goals as goal
+
+pub returns : goal.returns
+returns c = search rules
