@@ -1,6 +1,6 @@
 //! The hub of the next opening.
 ghost use Rattle.std.specs.Prelude.{◌≡◌, ◌⊎◌, ◌<◌, [], ℕ, true, false, length, IfOk, IfErr, Err};
-ghost use Rattle.inst_journal.specs.Opened.{openings, HasOpeningsLeft};
+ghost use Rattle.inst_journal.specs.Opened.{HasOpeningsLeft};
 ghost use Rattle.inst_together.specs.Together.{histories};
 ghost use Rattle.inst_together.specs.Wider.{widened};
 ghost use Rattle.inst_hub.specs.Calls.{AreOf};

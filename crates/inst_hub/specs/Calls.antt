@@ -1,6 +1,6 @@
 -- What a teller of a hub may rely on when it calls: a reply is the model's on a history that goes on from all that the
 -- teller has seen of it, and nothing that the teller knew is lost. This hub's own choice.
-use Rattle.std.specs.Prelude.{◌≡◌, ◌⊎◌, ◌↔◌, ℕ, Bool, List, [], ◌∷◌, ◌++◌, slice_get, Option, Some, None, Result, Ok, Err, alloc_error}
+use Rattle.std.specs.Prelude.{◌≡◌, ◌⊎◌, ◌↔◌, ℕ, Bool, List, [], ◌∷◌, ◌++◌, slice_get, Option, Some, None, Result, Ok, Err, IfOk, OnErr, alloc_error}
 use Rattle.std.specs.declared.alloc.AllocError.{AllocError}
 use Rattle.inst_command.specs.declared.ask.Ask.{Ask}
 use Rattle.inst_command.specs.declared.reply.Reply.{Reply}
@@ -102,3 +102,13 @@ pub record IsLeft (h : Hub) (t : Teller) (ask : Ask) (u : Teller) : Type 0 where
   pub seen : sights_of u ≡ sights_of t ++ front ask.who found.slot.events ∷ front ask.who left.slot.events ∷ []
   pub serves : Serves found ask (Err alloc_error) left
   pub same : left.slot ≡ found.slot
+
+-- What a call comes to, with a gate or without one
+-- of, knows: the teller is still one of the hub's, and nothing that it knew is lost
+-- call: a reply is the model's, and what follows from it was done
+-- left: where memory was refused, nothing was changed
+pub record HasCalled (h : Hub) (t : Teller) (ask : Ask) (result : Result (Reply × Option Place) AllocError) (u : Teller) : Type 0 where
+  pub of : IsOf h u
+  pub knows : KnowsMore t u
+  pub call : IfOk result (λ answer. Calls h t ask answer u)
+  pub left : OnErr result (IsLeft h t ask u)

@@ -141,14 +141,14 @@ module _ (s : HubSettings) (who : ℕ) (J : List Event) (t : Totals) (table : He
   taken_beside id to cents stamp after fits same is =
       quiet_pushes (Taken id to cents stamp) after fits same is (omega (arith, ap (λ (st : State). st.credits) is)) refl refl (λ _. refl) refl refl refl refl refl
 
-  pub forwarded_beside : (from : ℕ) (id : List ℕ) (cents deadline : ℕ) (place : ℕ) (after : Held) → place ≡ length table.entries → Fits s who J (Forwarded from id cents deadline) → cents ≤ MOST_CENTS → after.who ≡ table.who → state_in after ≡ step table.who (state_in table) (Forwarded from id cents deadline)
-      → IsBeside s who (J ++ Forwarded from id cents deadline ∷ []) t after R since (positions ++ place ∷ []) read
-  forwarded_beside from id cents deadline place after at fits most same is =
+  pub forwarded_beside : (from : ℕ) (id : List ℕ) (cents deadline : ℕ) (position : ℕ) (after : Held) → position ≡ length table.entries → Fits s who J (Forwarded from id cents deadline) → cents ≤ MOST_CENTS → after.who ≡ table.who → state_in after ≡ step table.who (state_in table) (Forwarded from id cents deadline)
+      → IsBeside s who (J ++ Forwarded from id cents deadline ∷ []) t after R since (positions ++ position ∷ []) read
+  forwarded_beside from id cents deadline position after at fits most same is =
       let event : Event = Forwarded from id cents deadline in
-      let last : place ≡ length (rows_of who J) = at ∙ sym (length-map table.entries _) ∙ ap length b.right.rows in
-      pushes event t after R since (positions ++ place ∷ []) read fits same is (omega arith) (omega arith) (omega (arith, ap (λ (st : State). st.credits) is)) (table_keep funding_of J event R b.referred (λ _. refl))
+      let last : position ≡ length (rows_of who J) = at ∙ sym (length-map table.entries _) ∙ ap length b.right.rows in
+      pushes event t after R since (positions ++ position ∷ []) read fits same is (omega arith) (omega arith) (omega (arith, ap (λ (st : State). st.credits) is)) (table_keep funding_of J event R b.referred (λ _. refl))
       (omega (arith, b.fundings, fundings_more J event refl))
-      (read_more who J from id cents deadline place positions read last b.inboxed)
+      (read_more who J from id cents deadline position positions read last b.inboxed)
       (omega (arith, most))
 
   pub fetched_beside : (count : ℕ) → Fits s who J (Fetched count) → IsBeside s who (J ++ Fetched count ∷ []) t table R since positions (read + count)

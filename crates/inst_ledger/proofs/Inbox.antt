@@ -63,18 +63,18 @@ read_on who J count ps read is =
     }
 
 -- one that forwards a transfer, which stands last in the table
-pub read_more : (who : ℕ) (J : List Event) (from : ℕ) (id : List ℕ) (cents deadline : ℕ) (place : ℕ) (ps : List ℕ) (read : ℕ) → place ≡ length (rows_of who J) → IsRead who J ps read
-    → IsRead who (J ++ Forwarded from id cents deadline ∷ []) (ps ++ place ∷ []) read
-read_more who J from id cents deadline place ps read last is =
+pub read_more : (who : ℕ) (J : List Event) (from : ℕ) (id : List ℕ) (cents deadline : ℕ) (position : ℕ) (ps : List ℕ) (read : ℕ) → position ≡ length (rows_of who J) → IsRead who J ps read
+    → IsRead who (J ++ Forwarded from id cents deadline ∷ []) (ps ++ position ∷ []) read
+read_more who J from id cents deadline position ps read last is =
     let event : Event = Forwarded from id cents deadline in
     let entry : Entry = record { from = from; id = id; cents = cents; deadline = deadline } in
     let rows : List Entry = rows_of who J in
     let more : rows_of who (J ++ event ∷ []) ≡ rows ++ entry ∷ [] = rows_push who J event in
-    let here : get_or (rows_of who (J ++ event ∷ [])) place no_entry ≡ entry = ap (λ (l : List Entry). get_or l place no_entry) more ∙ ap (λ (n : ℕ). get_or (rows ++ entry ∷ []) n no_entry) last ∙ get_next rows entry no_entry in
+    let here : get_or (rows_of who (J ++ event ∷ [])) position no_entry ≡ entry = ap (λ (l : List Entry). get_or l position no_entry) more ∙ ap (λ (n : ℕ). get_or (rows ++ entry ∷ []) n no_entry) last ∙ get_next rows entry no_entry in
     record {
       within = subst (λ (n : ℕ). AreWithin (length (rows_of who (J ++ event ∷ []))) (ps ++ n ∷ [])) (sym last)
           (within_last (length rows) (length (rows_of who (J ++ event ∷ []))) ps (omega (arith, ap length more, length-append rows (entry ∷ []))) is.within);
-      came = map-append (λ (p : ℕ). get_or (rows_of who (J ++ event ∷ [])) p no_entry) ps (place ∷ []) ∙ ap (λ (l : List Entry). l ++ get_or (rows_of who (J ++ event ∷ [])) place no_entry ∷ []) (same_entries who J event ps is.within ∙ is.came)
+      came = map-append (λ (p : ℕ). get_or (rows_of who (J ++ event ∷ [])) p no_entry) ps (position ∷ []) ∙ ap (λ (l : List Entry). l ++ get_or (rows_of who (J ++ event ∷ [])) position no_entry ∷ []) (same_entries who J event ps is.within ∙ is.came)
           ∙ ap (λ (e : Entry). inbox J ++ e ∷ []) here ∙ sym ((in_order_of_arrival J).arrival from id cents deadline);
       were_read = omega (arith, is.were_read, sum_by_push handed_out J event);
     }

@@ -99,3 +99,20 @@ fn tells_where_live_transfers_lie(rt: HostRuntime) -> Result<(), Fail> {
     has_two_of_one_name(&rt, &journal, &first);
     Ok(())
 }
+
+/// A journal with nothing but so many openings.
+fn opened_often(alloc: Global, openings: usize) -> Result<Journal, Fault> {
+    let mut journal = Journal::new(alloc);
+    for _ in 0..openings {
+        journal.push(Event::Opened)?;
+    }
+    Ok(journal)
+}
+
+/// Books are opened from 500 times, and not once more.
+#[test]
+fn is_opened_from_500_times(rt: HostRuntime) -> Result<(), Fail> {
+    same(&rt, opened_often(rt.alloc(), 499)?.has_openings_left(), true);
+    same(&rt, opened_often(rt.alloc(), 500)?.has_openings_left(), false);
+    Ok(())
+}

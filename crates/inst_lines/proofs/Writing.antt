@@ -143,9 +143,9 @@ answer_written s O L (Ask ask) lawful opening steps fits =
     let parts = and_parts (is_participant s ask.who) (command_fits s ask.command) fits in
     reply_written s ask.who (history s O L ask.who) ask.command ask.at (found (outcome s O (Ask ask ∷ L)) ask.who (history s O L ask.who) ask.command) lawful
     ((together s O opening L steps).sound ask.who) parts.0 parts.1
-answer_written s O L (Deliver from place to) lawful opening steps fits = refl
-answer_written s O L (Learn who from place) lawful opening steps fits = refl
-answer_written s O L (Expire who place at) lawful opening steps fits = refl
+answer_written s O L (Deliver from index to) lawful opening steps fits = refl
+answer_written s O L (Learn who from index) lawful opening steps fits = refl
+answer_written s O L (Expire who index at) lawful opening steps fits = refl
 
 pub model_written : (s : HubSettings) (step : Step) (told : Answer) → step_fits s step ≡ true → IsOfModel s step told → answer_can_be_written s told ≡ true
 model_written s step told fits of = ap (answer_can_be_written s) of.answer_is ∙ answer_written s of.opening of.steps step of.lawful of.is_opening of.is_interleaving fits

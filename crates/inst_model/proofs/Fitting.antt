@@ -68,9 +68,9 @@ all_of_taken s O opened (step ∷ past) p =
       funds = λ ask reference cents is command why. Each_push P (history s O past p) (Funded reference cents) before tt;
       defunds = λ ask reference cents is command why cover. Each_push P (history s O past p) (Defunded reference cents) before tt;
       takes = λ ask id to cents stamp is command why. Each_push P (history s O past p) (Taken id to cents stamp) before tt;
-      forwards = λ from place x is why.
-          let index = place_there from (history s O past from) place x why.there in
-          let there : Contains (history s O past from) (Taken x.id x.to x.cents x.stamp) = Each_at (λ (t : Transfer). Contains (history s O past from) (taken_event t)) (transfers (history s O past from)) index.0 x (each_there (history s O past from)) index.1 in
+      forwards = λ from index x is why.
+          let found = place_there from (history s O past from) index x why.there in
+          let there : Contains (history s O past from) (Taken x.id x.to x.cents x.stamp) = Each_at (λ (t : Transfer). Contains (history s O past from) (taken_event t)) (transfers (history s O past from)) found.0 x (each_there (history s O past from)) found.1 in
           let ours : Contains (history s O past from) (Taken x.id p x.cents x.stamp) = subst (λ (q : ℕ). Contains (history s O past from) (Taken x.id q x.cents x.stamp)) why.addressed there in
           Each_push P (history s O past p) (Forwarded from x.id x.cents (deadline s x)) before (x.stamp, contains_later s O step past from (Taken x.id p x.cents x.stamp) ours, refl);
       books = λ from id o why. Each_push P (history s O past p) (Booked from id o) before tt;

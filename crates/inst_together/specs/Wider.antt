@@ -3,7 +3,7 @@
 use Rattle.std.specs.Prelude.{ℕ, ◌<◌, List, ◌++◌}
 use Rattle.inst_settings.specs.Settings.{HubSettings}
 use Rattle.inst_journal.specs.declared.event.Event.{Event}
-use Rattle.inst_journal.specs.Opened.{openings, HasOpeningsLeft}
+use Rattle.inst_journal.specs.Opened.{HasOpeningsLeft}
 use Rattle.inst_model.specs.Closing.{AreClosed}
 use Rattle.inst_model.specs.Opening.{IsOpening}
 use Rattle.inst_model.specs.Opening.Opening.{FromBooks}

@@ -27,7 +27,7 @@ use Rattle.inst_board.specs.Learning.{Looks}
 use Rattle.inst_board.specs.Plain.{Contents, plain_knows, plain_stood}
 use Rattle.inst_model.specs.Opening.{Opening}
 use Rattle.inst_model.specs.Found.{found}
-use Rattle.inst_model.specs.Trace.{answer, as_reply, is_seen}
+use Rattle.inst_model.specs.Trace.{answer, is_seen}
 use Rattle.inst_model.specs.Hub.{history, outcome}
 use Rattle.inst_slot.specs.Book.{Book, place_at}
 use Rattle.inst_slot.specs.Asking.{decides, request, AppliesTo, Applies}

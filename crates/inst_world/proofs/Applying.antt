@@ -174,7 +174,7 @@ module _ (s : HubSettings) (O : Opening) (opening : IsOpening s O) (L : List Ste
           (say_pending (standing_at c (place_at ask.who (length (live_transfers ask.who J)))) (terms_of t) (deadline s t) stands.here)
           (λ j other. stands.elsewhere j other)
           (outcomes_stay ask.who x.id ∙ untaken_undecided s O opening L ask.who x.id (transfer_none x.id J one.why.new))
-          (λ p place y is. outcomes_stay p y.id)
+          (λ p index y is. outcomes_stay p y.id)
 
       board_after : (margin : ℕ) (c : Contents) → Opens margin plain_knows book (kept_events model_handles) b c
           → OpensNothing ask.who (history s O L ask.who) (kept_events model_handles) ⊎ TakesOne s ask.who (history s O L ask.who) ask.command (kept_events model_handles)
@@ -182,7 +182,7 @@ module _ (s : HubSettings) (O : Opening) (opening : IsOpening s O) (L : List Ste
       board_after margin c opens (inr one) = opens_one margin c one opens
       board_after margin c opens (inl nothing) =
           subst (λ (d : Contents). IsBoardOf s O (Ask ask ∷ L) d) (sym (nothing.board margin book b c opens))
-          (board_stays s O opening L steps (Ask ask) b b board (live_same nothing.live) (λ j a. (λ h. h, λ h. h)) (λ p place y is. outcomes_stay p y.id))
+          (board_stays s O opening L steps (Ask ask) b b board (live_same nothing.live) (λ j a. (λ h. h, λ h. h)) (λ p index y is. outcomes_stay p y.id))
 
       entering_needs : takes_memory book ask ≡ true → NeedsMemory s O L (Ask ask)
       entering_needs takes = elim (either_true (copies book.events ask.command) (ltb 0 (length (kept_events (handle_ask book ask None)))) takes) [

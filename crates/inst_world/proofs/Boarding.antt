@@ -28,21 +28,21 @@ stands_for s before after None p same is = is
 stands_for s before after (Some x) p same is = subst (λ (o : Option Outcome). StandsWith (terms_of x) (deadline s x) o p) (sym (same x refl)) is
 
 module _ (s : HubSettings) (O : Opening) (opening : IsOpening s O) (L : List Step) (steps : IsInterleaving s L) (step : Step) (b c : Contents) (board : IsBoardOf s O L b) where
-  same_place : SameLive s O step L → (p place : ℕ) → at_place p (history s O (step ∷ L) p) place ≡ at_place p (history s O L p) place
-  same_place live p place = ap (λ (T : List Transfer). slice_get T place) (live p)
+  same_place : SameLive s O step L → (p index : ℕ) → at_place p (history s O (step ∷ L) p) index ≡ at_place p (history s O L p) index
+  same_place live p index = ap (λ (T : List Transfer). slice_get T index) (live p)
 
-  stays_at : SameLive s O step L → (p place : ℕ) → ((x : Transfer) → at_place p (history s O L p) place ≡ Some x → outcome s O (step ∷ L) p x.id ≡ outcome s O L p x.id)
-      → StandsFor s (outcome s O (step ∷ L) p) (at_place p (history s O (step ∷ L) p) place) (standing_at b (place_at p place))
-  stays_at live p place same =
-      subst (λ (X : Option Transfer). StandsFor s (outcome s O (step ∷ L) p) X (standing_at b (place_at p place))) (sym (same_place live p place))
-      (stands_for s (outcome s O L p) (outcome s O (step ∷ L) p) (at_place p (history s O L p) place) (standing_at b (place_at p place)) same (board p place))
+  stays_at : SameLive s O step L → (p index : ℕ) → ((x : Transfer) → at_place p (history s O L p) index ≡ Some x → outcome s O (step ∷ L) p x.id ≡ outcome s O L p x.id)
+      → StandsFor s (outcome s O (step ∷ L) p) (at_place p (history s O (step ∷ L) p) index) (standing_at b (place_at p index))
+  stays_at live p index same =
+      subst (λ (X : Option Transfer). StandsFor s (outcome s O (step ∷ L) p) X (standing_at b (place_at p index))) (sym (same_place live p index))
+      (stands_for s (outcome s O L p) (outcome s O (step ∷ L) p) (at_place p (history s O L p) index) (standing_at b (place_at p index)) same (board p index))
 
   -- nothing was decided or taken
-  pub board_stays : SameLive s O step L → IsTheSame b c → ((p place : ℕ) (x : Transfer) → at_place p (history s O L p) place ≡ Some x → outcome s O (step ∷ L) p x.id ≡ outcome s O L p x.id)
+  pub board_stays : SameLive s O step L → IsTheSame b c → ((p index : ℕ) (x : Transfer) → at_place p (history s O L p) index ≡ Some x → outcome s O (step ∷ L) p x.id ≡ outcome s O L p x.id)
       → IsBoardOf s O (step ∷ L) c
-  board_stays live same outcomes p place =
-      same_for s (outcome s O (step ∷ L) p) (at_place p (history s O (step ∷ L) p) place) (standing_at b (place_at p place)) (standing_at c (place_at p place)) (same (place_at p place))
-      (stays_at live p place (λ x there. outcomes p place x there))
+  board_stays live same outcomes p index =
+      same_for s (outcome s O (step ∷ L) p) (at_place p (history s O (step ∷ L) p) index) (standing_at b (place_at p index)) (standing_at c (place_at p index)) (same (place_at p index))
+      (stays_at live p index (λ x there. outcomes p index x there))
 
   other_place : (p q m n : ℕ) → (p ≢ q) ⊎ (m ≢ n) → place_at p m ≢ place_at q n
   other_place p q m n (inl owner) same = owner (ap (λ (k : Place). k.owner) same)
@@ -53,23 +53,23 @@ module _ (s : HubSettings) (O : Opening) (opening : IsOpening s O) (L : List Ste
       → StandsWith (terms_of x) (deadline s x) (outcome s O (step ∷ L) q x.id) (standing_at c (place_at q n)) → IsTheSameElsewhere b (place_at q n) c
       → ((p : ℕ) (id : List ℕ) → (p ≢ q) ⊎ (id ≢ x.id) → outcome s O (step ∷ L) p id ≡ outcome s O L p id)
       → IsBoardOf s O (step ∷ L) c
-  board_settles live q n x there here elsewhere others p place = elim (cases_eq p q) [
+  board_settles live q n x there here elsewhere others p index = elim (cases_eq p q) [
     | inr other ↦ away (inl other) (λ y is. others p y.id (inl other))
-    | inl owner ↦ elim (cases_eq place n) [
+    | inl owner ↦ elim (cases_eq index n) [
       | inr other ↦ away (inr other) (λ y is. others p y.id (inr (λ same. other
-          (places_apart s p (history s O L p) place n y x ((together s O opening L steps).sound p) is (subst (λ (r : ℕ). at_place r (history s O L r) n ≡ Some x) (sym owner) there) same))))
-      | inl index ↦
-          subst (λ (r : ℕ). StandsFor s (outcome s O (step ∷ L) r) (at_place r (history s O (step ∷ L) r) place) (standing_at c (place_at r place))) (sym owner)
-          (subst (λ (m : ℕ). StandsFor s (outcome s O (step ∷ L) q) (at_place q (history s O (step ∷ L) q) m) (standing_at c (place_at q m))) (sym index)
+          (places_apart s p (history s O L p) index n y x ((together s O opening L steps).sound p) is (subst (λ (r : ℕ). at_place r (history s O L r) n ≡ Some x) (sym owner) there) same))))
+      | inl same_index ↦
+          subst (λ (r : ℕ). StandsFor s (outcome s O (step ∷ L) r) (at_place r (history s O (step ∷ L) r) index) (standing_at c (place_at r index))) (sym owner)
+          (subst (λ (m : ℕ). StandsFor s (outcome s O (step ∷ L) q) (at_place q (history s O (step ∷ L) q) m) (standing_at c (place_at q m))) (sym same_index)
           (subst (λ (X : Option Transfer). StandsFor s (outcome s O (step ∷ L) q) X (standing_at c (place_at q n))) (sym (same_place live q n ∙ there)) here))
     ]
   ]
     where
-      away : (p ≢ q) ⊎ (place ≢ n) → ((y : Transfer) → at_place p (history s O L p) place ≡ Some y → outcome s O (step ∷ L) p y.id ≡ outcome s O L p y.id)
-          → StandsFor s (outcome s O (step ∷ L) p) (at_place p (history s O (step ∷ L) p) place) (standing_at c (place_at p place))
+      away : (p ≢ q) ⊎ (index ≢ n) → ((y : Transfer) → at_place p (history s O L p) index ≡ Some y → outcome s O (step ∷ L) p y.id ≡ outcome s O L p y.id)
+          → StandsFor s (outcome s O (step ∷ L) p) (at_place p (history s O (step ∷ L) p) index) (standing_at c (place_at p index))
       away other same =
-          same_for s (outcome s O (step ∷ L) p) (at_place p (history s O (step ∷ L) p) place) (standing_at b (place_at p place)) (standing_at c (place_at p place))
-          (elsewhere (place_at p place) (other_place p q place n other)) (stays_at live p place same)
+          same_for s (outcome s O (step ∷ L) p) (at_place p (history s O (step ∷ L) p) index) (standing_at b (place_at p index)) (standing_at c (place_at p index))
+          (elsewhere (place_at p index) (other_place p q index n other)) (stays_at live p index same)
 
   -- the transfer x was taken at the next place
   pub board_opens : (q : ℕ) (x : Transfer) → live_transfers q (history s O (step ∷ L) q) ≡ live_transfers q (history s O L q) ++ x ∷ []
@@ -77,21 +77,21 @@ module _ (s : HubSettings) (O : Opening) (opening : IsOpening s O) (L : List Ste
       → standing_at c (place_at q (length (live_transfers q (history s O L q)))) ≡ pending (terms_of x) (deadline s x)
       → IsTheSameElsewhere b (place_at q (length (live_transfers q (history s O L q)))) c
       → outcome s O (step ∷ L) q x.id ≡ None
-      → ((p place : ℕ) (y : Transfer) → at_place p (history s O L p) place ≡ Some y → outcome s O (step ∷ L) p y.id ≡ outcome s O L p y.id)
+      → ((p index : ℕ) (y : Transfer) → at_place p (history s O L p) index ≡ Some y → outcome s O (step ∷ L) p y.id ≡ outcome s O L p y.id)
       → IsBoardOf s O (step ∷ L) c
-  board_opens q x grown others here elsewhere undecided outcomes p place = elim (cases_eq p q) [
-    | inr other ↦ go_on (inl other) (ap (λ (T : List Transfer). slice_get T place) (others p other))
-    | inl owner ↦ elim (cases_eq place (length (live_transfers q (history s O L q)))) [
+  board_opens q x grown others here elsewhere undecided outcomes p index = elim (cases_eq p q) [
+    | inr other ↦ go_on (inl other) (ap (λ (T : List Transfer). slice_get T index) (others p other))
+    | inl owner ↦ elim (cases_eq index (length (live_transfers q (history s O L q)))) [
       | inl last ↦
-          subst (λ (r : ℕ). StandsFor s (outcome s O (step ∷ L) r) (at_place r (history s O (step ∷ L) r) place) (standing_at c (place_at r place))) (sym owner)
+          subst (λ (r : ℕ). StandsFor s (outcome s O (step ∷ L) r) (at_place r (history s O (step ∷ L) r) index) (standing_at c (place_at r index))) (sym owner)
           (subst (λ (m : ℕ). StandsFor s (outcome s O (step ∷ L) q) (at_place q (history s O (step ∷ L) q) m) (standing_at c (place_at q m))) (sym last)
           (subst (λ (X : Option Transfer). StandsFor s (outcome s O (step ∷ L) q) X (standing_at c (place_at q (length (live_transfers q (history s O L q)))))) (sym (at_last ∙ get_last (live_transfers q (history s O L q)) x))
           (subst (λ (o : Option Outcome). StandsWith (terms_of x) (deadline s x) o (standing_at c (place_at q (length (live_transfers q (history s O L q)))))) (sym undecided) here)))
       | inr before ↦ go_on (inr before)
-          (ap (λ (r : ℕ). at_place r (history s O (step ∷ L) r) place) owner
-          ∙ ap (λ (T : List Transfer). slice_get T place) grown
-          ∙ get_other (live_transfers q (history s O L q)) x place before
-          ∙ ap (λ (r : ℕ). at_place r (history s O L r) place) (sym owner))
+          (ap (λ (r : ℕ). at_place r (history s O (step ∷ L) r) index) owner
+          ∙ ap (λ (T : List Transfer). slice_get T index) grown
+          ∙ get_other (live_transfers q (history s O L q)) x index before
+          ∙ ap (λ (r : ℕ). at_place r (history s O L r) index) (sym owner))
     ]
   ]
     where
@@ -108,11 +108,11 @@ module _ (s : HubSettings) (O : Opening) (opening : IsOpening s O) (L : List Ste
       at_last : at_place q (history s O (step ∷ L) q) (length (live_transfers q (history s O L q))) ≡ slice_get (live_transfers q (history s O L q) ++ x ∷ []) (length (live_transfers q (history s O L q)))
       at_last = ap (λ (T : List Transfer). slice_get T (length (live_transfers q (history s O L q)))) grown
 
-      go_on : (p ≢ q) ⊎ (place ≢ length (live_transfers q (history s O L q))) → at_place p (history s O (step ∷ L) p) place ≡ at_place p (history s O L p) place
-          → StandsFor s (outcome s O (step ∷ L) p) (at_place p (history s O (step ∷ L) p) place) (standing_at c (place_at p place))
+      go_on : (p ≢ q) ⊎ (index ≢ length (live_transfers q (history s O L q))) → at_place p (history s O (step ∷ L) p) index ≡ at_place p (history s O L p) index
+          → StandsFor s (outcome s O (step ∷ L) p) (at_place p (history s O (step ∷ L) p) index) (standing_at c (place_at p index))
       go_on other same =
-          let k : Place = place_at p place in
-          same_for s (outcome s O (step ∷ L) p) (at_place p (history s O (step ∷ L) p) place) (standing_at b k) (standing_at c k)
-          (elsewhere k (other_place p q place (length (live_transfers q (history s O L q))) other))
+          let k : Place = place_at p index in
+          same_for s (outcome s O (step ∷ L) p) (at_place p (history s O (step ∷ L) p) index) (standing_at b k) (standing_at c k)
+          (elsewhere k (other_place p q index (length (live_transfers q (history s O L q))) other))
           (subst (λ (X : Option Transfer). StandsFor s (outcome s O (step ∷ L) p) X (standing_at b k)) (sym same)
-          (stands_for s (outcome s O L p) (outcome s O (step ∷ L) p) (at_place p (history s O L p) place) (standing_at b k) (λ y is. outcomes p place y is) (board p place)))
+          (stands_for s (outcome s O L p) (outcome s O (step ∷ L) p) (at_place p (history s O L p) index) (standing_at b k) (λ y is. outcomes p index y is) (board p index)))

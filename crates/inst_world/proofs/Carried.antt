@@ -105,9 +105,9 @@ module _ (s : HubSettings) (J : ℕ → List Event) (can : BooksCanOpen s J) whe
         ap events_of (sym there) ∙ finds.histories p ∙ begins_so p below
 
     board_is : IsBoardOf s (FromBooks J) [] world.board
-    board_is p place =
-        let k : Place = place_at p place in
-        same_for s (outcome s (FromBooks J) [] p) (at_place p (J p ++ Opened ∷ []) place) (standing_at first.board k) (standing_at world.board k) (finds.board_says k) (board_opened s J can first opened p place)
+    board_is p index =
+        let k : Place = place_at p index in
+        same_for s (outcome s (FromBooks J) [] p) (at_place p (J p ++ Opened ∷ []) index) (standing_at first.board k) (standing_at world.board k) (finds.board_says k) (board_opened s J can first opened p index)
 
     pub has_run_none : HasRun (FromBooks J) [] world
     has_run_none =

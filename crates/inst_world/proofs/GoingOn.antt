@@ -25,10 +25,10 @@ still_has_run old new same O L was =
       was.opening,
       was.steps,
       λ p book there. was.histories p book (ap (λ (xs : List Book). slice_get xs p) (sym same.books_are) ∙ there),
-      λ p place.
-          let k : Place = place_at p place in
+      λ p index.
+          let k : Place = place_at p index in
           let s : HubSettings = settings_of old in
-          same_for s (outcome s O L p) (at_place p (history s O L p) place) (standing_at old.board k) (standing_at new.board k) (same.board_says k) (was.board p place),
+          same_for s (outcome s O L p) (at_place p (history s O L p) index) (standing_at old.board k) (standing_at new.board k) (same.board_says k) (was.board p index),
     ) in
     let r : at (settings_of new) = subst at (sym same.settings_are) here in
     record { opening = r.0; steps = r.1; histories = r.2; board = r.3 }

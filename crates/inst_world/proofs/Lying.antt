@@ -35,25 +35,25 @@ says_due t d e None p is says = subst (λ (q : Standing). Says q (Due e)) is say
 says_due t d e (Some z) p is says = subst (λ (q : Standing). Says q (Due e)) is.1 says
 
 -- the transfer that lies at a place of which the opening is known
-pub record LiesThere (s : HubSettings) (J : ℕ → List Event) (p place : ℕ) (t : Terms) (d : ℕ) : Type 0 where
+pub record LiesThere (s : HubSettings) (J : ℕ → List Event) (p index : ℕ) (t : Terms) (d : ℕ) : Type 0 where
   pub transfer : Transfer
-  pub there : at_place p (J p) place ≡ Some transfer
+  pub there : at_place p (J p) index ≡ Some transfer
   pub terms_are : t ≡ terms_of transfer
   pub deadline_is : d ≡ deadline s transfer
 
 module _ (s : HubSettings) (O : Opening) (opening : IsOpening s O) (L : List Step) (steps : IsInterleaving s L) (b : Contents) (board : IsBoardOf s O L b) where
-  lies_as : (p place : ℕ) (t : Terms) (d : ℕ) → KnowsOpening plain_knows b (place_at p place) t d → (X : Option Transfer) → at_place p (history s O L p) place ≡ X
-      → StandsFor s (outcome s O L p) X (standing_at b (place_at p place)) → LiesThere s (history s O L) p place t d
-  lies_as p place t d known None is stands = absurd (subst (λ (q : Standing). Says q Opened) stands known.opened)
-  lies_as p place t d known (Some x) is stands = record {
+  lies_as : (p index : ℕ) (t : Terms) (d : ℕ) → KnowsOpening plain_knows b (place_at p index) t d → (X : Option Transfer) → at_place p (history s O L p) index ≡ X
+      → StandsFor s (outcome s O L p) X (standing_at b (place_at p index)) → LiesThere s (history s O L) p index t d
+  lies_as p index t d known None is stands = absurd (subst (λ (q : Standing). Says q Opened) stands known.opened)
+  lies_as p index t d known (Some x) is stands = record {
     transfer = x;
     there = is;
-    terms_are = says_terms (terms_of x) t (deadline s x) (outcome s O L p x.id) (standing_at b (place_at p place)) stands known.terms;
-    deadline_is = says_due (terms_of x) (deadline s x) d (outcome s O L p x.id) (standing_at b (place_at p place)) stands known.due;
+    terms_are = says_terms (terms_of x) t (deadline s x) (outcome s O L p x.id) (standing_at b (place_at p index)) stands known.terms;
+    deadline_is = says_due (terms_of x) (deadline s x) d (outcome s O L p x.id) (standing_at b (place_at p index)) stands known.due;
   }
 
-  pub lies_there : (p place : ℕ) (t : Terms) (d : ℕ) → KnowsOpening plain_knows b (place_at p place) t d → LiesThere s (history s O L) p place t d
-  lies_there p place t d known = lies_as p place t d known (at_place p (history s O L p) place) refl (board p place)
+  pub lies_there : (p index : ℕ) (t : Terms) (d : ℕ) → KnowsOpening plain_knows b (place_at p index) t d → LiesThere s (history s O L) p index t d
+  lies_there p index t d known = lies_as p index t d known (at_place p (history s O L p) index) refl (board p index)
 
   module _ (q : ℕ) (book : Book) (member : IsMember s b q book) (events : book.events ≡ history s O L q) where
     -- the transfer that came from a place lies there
@@ -77,24 +77,24 @@ module _ (s : HubSettings) (O : Opening) (opening : IsOpening s O) (L : List Ste
         subst (λ (i : List ℕ). is_forwarded from i book.events ≡ true) a.id_is (subst (λ (n : ℕ). is_forwarded n a.arrival.entry.id book.events ≡ true) a.from_is f)
 
     -- what is live at its originator's and forwarded is live
-    forwarded_live : (from place : ℕ) (x : Transfer) → at_place from (history s O L from) place ≡ Some x → is_forwarded from x.id book.events ≡ true → is_live from x.id book.events ≡ true
-    forwarded_live from place x there forwarded =
+    forwarded_live : (from index : ℕ) (x : Transfer) → at_place from (history s O L from) index ≡ Some x → is_forwarded from x.id book.events ≡ true → is_live from x.id book.events ≡ true
+    forwarded_live from index x there forwarded =
         ap (is_live from x.id) events
         ∙ live_together s O opening L steps q from x.id (sym (ap (is_forwarded from x.id) events) ∙ forwarded)
-        ∙ place_live from (history s O L from) place x there
+        ∙ place_live from (history s O L from) index x there
 
     -- a transfer that lies at a place was forwarded exactly if it arrived from there
-    pub arrived_there : (from place : ℕ) (x : Transfer) → at_place from (history s O L from) place ≡ Some x → is_at place (arrived_at from x.id book.arrivals) ≡ is_forwarded from x.id book.events
-    arrived_there from place x there = go (arrived_at from x.id book.arrivals) refl
+    pub arrived_there : (from index : ℕ) (x : Transfer) → at_place from (history s O L from) index ≡ Some x → is_at index (arrived_at from x.id book.arrivals) ≡ is_forwarded from x.id book.events
+    arrived_there from index x there = go (arrived_at from x.id book.arrivals) refl
       where
-        go : (o : Option ℕ) → arrived_at from x.id book.arrivals ≡ o → is_at place o ≡ is_forwarded from x.id book.events
+        go : (o : Option ℕ) → arrived_at from x.id book.arrivals ≡ o → is_at index o ≡ is_forwarded from x.id book.events
         go None none = elim (cases_Bool (is_forwarded from x.id book.events)) [
           | inl came ↦
-              let some = is_adopted (λ (c : Contents). c.settings) plain_knows (λ c r. Unit {0}) b book from x.id member.lawful member.adopted came (forwarded_live from place x there came) in
+              let some = is_adopted (λ (c : Contents). c.settings) plain_knows (λ c r. Unit {0}) b book from x.id member.lawful member.adopted came (forwarded_live from index x there came) in
               absurd (false≢true (sym (ap (λ (o : Option ℕ). is_some o) none) ∙ some))
           | inr never ↦ sym never
         ]
-        go (Some index) some =
-            let y = came_from from x.id index some in
-            let same : index ≡ place = places_apart s from (history s O L from) index place y.0 x ((together s O opening L steps).sound from) y.1 there y.2 in
-            ap (λ (n : ℕ). n == place) same ∙ eqb_refl place ∙ sym (came_forwarded from x.id index some)
+        go (Some found) some =
+            let y = came_from from x.id found some in
+            let same : found ≡ index = places_apart s from (history s O L from) found index y.0 x ((together s O opening L steps).sound from) y.1 there y.2 in
+            ap (λ (n : ℕ). n == index) same ∙ eqb_refl index ∙ sym (came_forwarded from x.id found some)

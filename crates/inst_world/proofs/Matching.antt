@@ -41,24 +41,24 @@ comes_decided s book V true false = adds_nothing s book
 comes_decided s book V false true = adds_nothing s book
 comes_decided s book V false false = adds_nothing s book
 
-comes_by : (s : HubSettings) (book : Book) (from place : ℕ) (x : Transfer) (o : Option Outcome) (p : Standing) → StandsWith (terms_of x) (deadline s x) o p
+comes_by : (s : HubSettings) (book : Book) (from index : ℕ) (x : Transfer) (o : Option Outcome) (p : Standing) → StandsWith (terms_of x) (deadline s x) o p
     → Adds s book (cond ((x.to == book.who) && is_none o && not (is_forwarded from x.id book.events)) (Came from x.id x.cents (deadline s x) ∷ []) [])
-    (with_delivery book (place_at from place) (delivery book (place_at from place) (look_of p))) (is_some (delivery book (place_at from place) (look_of p)))
-comes_by s book from place x None p is =
+    (with_delivery book (place_at from index) (delivery book (place_at from index) (look_of p))) (is_some (delivery book (place_at from index) (look_of p)))
+comes_by s book from index x None p is =
     subst (λ (q : Standing). Adds s book (cond ((x.to == book.who) && true && not (is_forwarded from x.id book.events)) (Came from x.id x.cents (deadline s x) ∷ []) [])
-    (with_delivery book (place_at from place) (delivery book (place_at from place) (look_of q))) (is_some (delivery book (place_at from place) (look_of q)))) (sym is)
-    (comes_or_not s book (place_at from place) (record { from = from; id = x.id; cents = x.cents; deadline = deadline s x }) (x.to == book.who) (not (is_forwarded from x.id book.events)))
-comes_by s book from place x (Some z) p is =
+    (with_delivery book (place_at from index) (delivery book (place_at from index) (look_of q))) (is_some (delivery book (place_at from index) (look_of q)))) (sym is)
+    (comes_or_not s book (place_at from index) (record { from = from; id = x.id; cents = x.cents; deadline = deadline s x }) (x.to == book.who) (not (is_forwarded from x.id book.events)))
+comes_by s book from index x (Some z) p is =
     subst (λ (q : Standing). Adds s book (cond ((x.to == book.who) && false && not (is_forwarded from x.id book.events)) (Came from x.id x.cents (deadline s x) ∷ []) [])
-    (with_delivery book (place_at from place) (delivery book (place_at from place) (look_of q))) (is_some (delivery book (place_at from place) (look_of q)))) (sym is.1)
+    (with_delivery book (place_at from index) (delivery book (place_at from index) (look_of q))) (is_some (delivery book (place_at from index) (look_of q)))) (sym is.1)
     (comes_decided s book (Came from x.id x.cents (deadline s x) ∷ []) (x.to == book.who) (not (is_forwarded from x.id book.events)))
 
 -- a delivery does what the model says
-pub delivery_comes : (s : HubSettings) (outcomes : ℕ → List ℕ → Option Outcome) (book : Book) (from place : ℕ) (X : Option Transfer) (p : Standing) → StandsFor s (outcomes from) X p
-    → Adds s book (comes s outcomes from book.who book.events X) (with_delivery book (place_at from place) (delivery book (place_at from place) (look_of p))) (is_some (delivery book (place_at from place) (look_of p)))
-delivery_comes s outcomes book from place None p is =
-    subst (λ (q : Standing). Adds s book [] (with_delivery book (place_at from place) (delivery book (place_at from place) (look_of q))) (is_some (delivery book (place_at from place) (look_of q)))) (sym is) (adds_nothing s book)
-delivery_comes s outcomes book from place (Some x) p is = comes_by s book from place x (outcomes from x.id) p is
+pub delivery_comes : (s : HubSettings) (outcomes : ℕ → List ℕ → Option Outcome) (book : Book) (from index : ℕ) (X : Option Transfer) (p : Standing) → StandsFor s (outcomes from) X p
+    → Adds s book (comes s outcomes from book.who book.events X) (with_delivery book (place_at from index) (delivery book (place_at from index) (look_of p))) (is_some (delivery book (place_at from index) (look_of p)))
+delivery_comes s outcomes book from index None p is =
+    subst (λ (q : Standing). Adds s book [] (with_delivery book (place_at from index) (delivery book (place_at from index) (look_of q))) (is_some (delivery book (place_at from index) (look_of q)))) (sym is) (adds_nothing s book)
+delivery_comes s outcomes book from index (Some x) p is = comes_by s book from index x (outcomes from x.id) p is
 
 -- what is told
 
@@ -78,31 +78,31 @@ swapped a b = elim (cases_eq a b) [
   | inr other ↦ ne_eqb a b other ∙ sym (ne_eqb b a (λ e. other (sym e)))
 ]
 
-tells_by : (s : HubSettings) (book : Book) (from place : ℕ) (x : Transfer) (o : Option Outcome) (p : Standing) → StandsWith (terms_of x) (deadline s x) o p
-    → is_at place (arrived_at from x.id book.arrivals) ≡ is_forwarded from x.id book.events
+tells_by : (s : HubSettings) (book : Book) (from index : ℕ) (x : Transfer) (o : Option Outcome) (p : Standing) → StandsWith (terms_of x) (deadline s x) o p
+    → is_at index (arrived_at from x.id book.arrivals) ≡ is_forwarded from x.id book.events
     → Adds s book (cond ((book.who == from) || is_forwarded from x.id book.events) (news from x.id o (booked from x.id book.events)) [])
-    (with_event book (lesson book (place_at from place) (look_of p))) (is_some (lesson book (place_at from place) (look_of p)))
-tells_by s book from place x None p is party =
+    (with_event book (lesson book (place_at from index) (look_of p))) (is_some (lesson book (place_at from index) (look_of p)))
+tells_by s book from index x None p is party =
     subst (λ (q : Standing). Adds s book (cond ((book.who == from) || is_forwarded from x.id book.events) [] [])
-    (with_event book (lesson book (place_at from place) (look_of q))) (is_some (lesson book (place_at from place) (look_of q)))) (sym is)
+    (with_event book (lesson book (place_at from index) (look_of q))) (is_some (lesson book (place_at from index) (look_of q)))) (sym is)
     (no_news s book ((book.who == from) || is_forwarded from x.id book.events))
-tells_by s book from place x (Some z) p is party =
-    let same : is_party book (place_at from place) x.id ≡ ((book.who == from) || is_forwarded from x.id book.events) =
-    ap (λ (b : Bool). b || is_at place (arrived_at from x.id book.arrivals)) (swapped from book.who) ∙ ap (λ (b : Bool). (book.who == from) || b) party in
+tells_by s book from index x (Some z) p is party =
+    let same : is_party book (place_at from index) x.id ≡ ((book.who == from) || is_forwarded from x.id book.events) =
+    ap (λ (b : Bool). b || is_at index (arrived_at from x.id book.arrivals)) (swapped from book.who) ∙ ap (λ (b : Bool). (book.who == from) || b) party in
     let before : Option Outcome = booked from x.id book.events in
     subst (λ (q : Standing). Adds s book (cond ((book.who == from) || is_forwarded from x.id book.events) (news from x.id (Some z) before) [])
-    (with_event book (lesson book (place_at from place) (look_of q))) (is_some (lesson book (place_at from place) (look_of q)))) (sym is.1)
+    (with_event book (lesson book (place_at from index) (look_of q))) (is_some (lesson book (place_at from index) (look_of q)))) (sym is.1)
     (subst (λ (c : Bool). Adds s book (cond c (news from x.id (Some z) before) [])
-    (with_event book (cond (is_party book (place_at from place) x.id && is_none before) (Some (Booked from x.id z)) None)) (is_some (cond (is_party book (place_at from place) x.id && is_none before) (Some (Booked from x.id z)) None))) same
-    (tells_or_not s book from x.id z (is_party book (place_at from place) x.id) before))
+    (with_event book (cond (is_party book (place_at from index) x.id && is_none before) (Some (Booked from x.id z)) None)) (is_some (cond (is_party book (place_at from index) x.id && is_none before) (Some (Booked from x.id z)) None))) same
+    (tells_or_not s book from x.id z (is_party book (place_at from index) x.id) before))
 
 -- a lesson does what the model says
-pub lesson_tells : (s : HubSettings) (outcomes : ℕ → List ℕ → Option Outcome) (book : Book) (from place : ℕ) (X : Option Transfer) (p : Standing) → StandsFor s (outcomes from) X p
-    → ((x : Transfer) → X ≡ Some x → is_at place (arrived_at from x.id book.arrivals) ≡ is_forwarded from x.id book.events)
-    → Adds s book (tells outcomes from book.who book.events X) (with_event book (lesson book (place_at from place) (look_of p))) (is_some (lesson book (place_at from place) (look_of p)))
-lesson_tells s outcomes book from place None p is party =
-    subst (λ (q : Standing). Adds s book [] (with_event book (lesson book (place_at from place) (look_of q))) (is_some (lesson book (place_at from place) (look_of q)))) (sym is) (adds_nothing s book)
-lesson_tells s outcomes book from place (Some x) p is party = tells_by s book from place x (outcomes from x.id) p is (party x refl)
+pub lesson_tells : (s : HubSettings) (outcomes : ℕ → List ℕ → Option Outcome) (book : Book) (from index : ℕ) (X : Option Transfer) (p : Standing) → StandsFor s (outcomes from) X p
+    → ((x : Transfer) → X ≡ Some x → is_at index (arrived_at from x.id book.arrivals) ≡ is_forwarded from x.id book.events)
+    → Adds s book (tells outcomes from book.who book.events X) (with_event book (lesson book (place_at from index) (look_of p))) (is_some (lesson book (place_at from index) (look_of p)))
+lesson_tells s outcomes book from index None p is party =
+    subst (λ (q : Standing). Adds s book [] (with_event book (lesson book (place_at from index) (look_of q))) (is_some (lesson book (place_at from index) (look_of q)))) (sym is) (adds_nothing s book)
+lesson_tells s outcomes book from index (Some x) p is party = tells_by s book from index x (outcomes from x.id) p is (party x refl)
 
 -- what an expiry books
 

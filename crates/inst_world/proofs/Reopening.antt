@@ -131,57 +131,57 @@ stands_pending s outcomes x q none says =
     (subst (λ (o : Option Outcome). StandsWith (terms_of x) (deadline s x) o (pending (terms_of x) (deadline s x))) (sym none) refl)
 
 -- the transfer of an opened place
-pub record IsOf (s : HubSettings) (J : ℕ → List Event) (p place : ℕ) (a : About) : Type 0 where
+pub record IsOf (s : HubSettings) (J : ℕ → List Event) (p index : ℕ) (a : About) : Type 0 where
   pub transfer : Transfer
-  pub there : at_place p (J p ++ Opened ∷ []) place ≡ Some transfer
+  pub there : at_place p (J p ++ Opened ∷ []) index ≡ Some transfer
   pub says : Says (pending (terms_of transfer) (deadline s transfer)) a
 
 module _ (s : HubSettings) (J : ℕ → List Event) where
-  opened_is : (n p place : ℕ) (a : About) → IsOpenedBelow s J n (about (place_at p place) a) → IsOf s J p place a
-  opened_is n p place a x =
+  opened_is : (n p index : ℕ) (a : About) → IsOpenedBelow s J n (about (place_at p index) a) → IsOf s J p index a
+  opened_is n p index a x =
       let o = x.opening in
       let owner : x.owner ≡ p = sym (ap (λ (k : Place). k.owner) o.place_is) in
-      let index : o.index ≡ place = sym (ap (λ (k : Place). k.index) o.place_is) in
+      let same_index : o.index ≡ index = sym (ap (λ (k : Place). k.index) o.place_is) in
       let event : Event = Taken o.id o.to o.cents o.stamp in
       let here : slice_get (live_taken p (J p ++ Opened ∷ [])) o.index ≡ Some event = subst (λ (q : ℕ). slice_get (live_taken q (J q ++ Opened ∷ [])) o.index ≡ Some event) owner o.there in
-      let at : slice_get (live_taken p (J p ++ Opened ∷ [])) place ≡ Some event = subst (λ (i : ℕ). slice_get (live_taken p (J p ++ Opened ∷ [])) i ≡ Some event) index here in
-      record { transfer = as_transfer o.id o.to o.cents o.stamp; there = at_taken p (J p ++ Opened ∷ []) place ∙ ap terms_in at; says = o.says }
+      let at : slice_get (live_taken p (J p ++ Opened ∷ [])) index ≡ Some event = subst (λ (i : ℕ). slice_get (live_taken p (J p ++ Opened ∷ [])) i ≡ Some event) same_index here in
+      record { transfer = as_transfer o.id o.to o.cents o.stamp; there = at_taken p (J p ++ Opened ∷ []) index ∙ ap terms_in at; says = o.says }
 
-  is_opened : (n p place : ℕ) (x : Transfer) (a : About) → p < n → at_place p (J p ++ Opened ∷ []) place ≡ Some x → Says (pending (terms_of x) (deadline s x)) a → IsOpenedBelow s J n (about (place_at p place) a)
-  is_opened n p place x a below there says = record {
+  is_opened : (n p index : ℕ) (x : Transfer) (a : About) → p < n → at_place p (J p ++ Opened ∷ []) index ≡ Some x → Says (pending (terms_of x) (deadline s x)) a → IsOpenedBelow s J n (about (place_at p index) a)
+  is_opened n p index x a below there says = record {
     owner = p;
     below = below;
     opening = record {
-      index = place;
+      index = index;
       id = x.id;
       to = x.to;
       cents = x.cents;
       stamp = x.stamp;
-      there = takes_this (slice_get (live_taken p (J p ++ Opened ∷ [])) place) x (sym (at_taken p (J p ++ Opened ∷ []) place) ∙ there);
+      there = takes_this (slice_get (live_taken p (J p ++ Opened ∷ [])) index) x (sym (at_taken p (J p ++ Opened ∷ []) index) ∙ there);
       place_is = refl;
       says = says;
     };
   }
 
   module _ (can : BooksCanOpen s J) where
-    pub begins_undecided : (p place : ℕ) (x : Transfer) → at_place p (J p ++ Opened ∷ []) place ≡ Some x → outcome s (FromBooks J) [] p x.id ≡ None
-    begins_undecided p place x there =
+    pub begins_undecided : (p index : ℕ) (x : Transfer) → at_place p (J p ++ Opened ∷ []) index ≡ Some x → outcome s (FromBooks J) [] p x.id ≡ None
+    begins_undecided p index x there =
         none_booked (booked p x.id (J p ++ Opened ∷ []))
-        (sym (ap (λ (C : List Event). is_none (booked p x.id C)) (begins_carried (FromBooks J) p)) ∙ place_live p (J p ++ Opened ∷ []) place x there)
+        (sym (ap (λ (C : List Event). is_none (booked p x.id C)) (begins_carried (FromBooks J) p)) ∙ place_live p (J p ++ Opened ∷ []) index x there)
 
-    begun_at : (board : Contents) (p place : ℕ) (a : About) (X : Option Transfer) → at_place p (J p ++ Opened ∷ []) place ≡ X → StandsFor s (outcome s (FromBooks J) [] p) X (standing_at board (place_at p place))
-        → Says (standing_at board (place_at p place)) a ↔ IsOpenedBelow s J (participants s) (about (place_at p place) a)
-    begun_at board p place a None none stands = (
+    begun_at : (board : Contents) (p index : ℕ) (a : About) (X : Option Transfer) → at_place p (J p ++ Opened ∷ []) index ≡ X → StandsFor s (outcome s (FromBooks J) [] p) X (standing_at board (place_at p index))
+        → Says (standing_at board (place_at p index)) a ↔ IsOpenedBelow s J (participants s) (about (place_at p index) a)
+    begun_at board p index a None none stands = (
       λ says. absurd (subst (λ (q : Standing). Says q a) stands says),
-      λ x. let o = opened_is (participants s) p place a x in let e : None ≡ Some o.transfer = sym none ∙ o.there in let no : ⊥ = cc in absurd no,
+      λ x. let o = opened_is (participants s) p index a x in let e : None ≡ Some o.transfer = sym none ∙ o.there in let no : ⊥ = cc in absurd no,
     )
-    begun_at board p place a (Some x) some stands =
-        let number : is_participant s p ≡ true = of_a_participant s (FromBooks J) can [] tt p place x some in
-        let is : standing_at board (place_at p place) ≡ pending (terms_of x) (deadline s x) =
-        subst (λ (o : Option Outcome). StandsWith (terms_of x) (deadline s x) o (standing_at board (place_at p place))) (begins_undecided p place x some) stands in (
-          λ says. is_opened (participants s) p place x a (ltb-true p (participants s) number) some (subst (λ (q : Standing). Says q a) is says),
+    begun_at board p index a (Some x) some stands =
+        let number : is_participant s p ≡ true = of_a_participant s (FromBooks J) can [] tt p index x some in
+        let is : standing_at board (place_at p index) ≡ pending (terms_of x) (deadline s x) =
+        subst (λ (o : Option Outcome). StandsWith (terms_of x) (deadline s x) o (standing_at board (place_at p index))) (begins_undecided p index x some) stands in (
+          λ says. is_opened (participants s) p index x a (ltb-true p (participants s) number) some (subst (λ (q : Standing). Says q a) is says),
           λ y.
-              let o = opened_is (participants s) p place a y in
+              let o = opened_is (participants s) p index a y in
               subst (λ (q : Standing). Says q a) (sym is) (subst (λ (z : Transfer). Says (pending (terms_of z) (deadline s z)) a) (same_Some o.transfer x (sym o.there ∙ some)) o.says),
         )
 
@@ -190,23 +190,23 @@ module _ (s : HubSettings) (J : ℕ → List Event) where
     begun_known board is f = begun_at board f.place.owner f.place.index f.about (at_place f.place.owner (J f.place.owner ++ Opened ∷ []) f.place.index) refl (is f.place.owner f.place.index)
 
     module _ (world : World) (opened : AreOpenedAgain s J (participants s) world) where
-      stands_at : (p place : ℕ) (X : Option Transfer) → at_place p (J p ++ Opened ∷ []) place ≡ X → StandsFor s (outcome s (FromBooks J) [] p) X (standing_at world.board (place_at p place))
-      stands_at p place None none =
-          same_for s (outcome s (FromBooks J) [] p) None unused (standing_at world.board (place_at p place))
-          (λ a. (λ says. let o = opened_is (participants s) p place a ((opened.known (about (place_at p place) a)).0 says) in let e : None ≡ Some o.transfer = sym none ∙ o.there in let no : ⊥ = cc in absurd no, λ says. absurd says))
+      stands_at : (p index : ℕ) (X : Option Transfer) → at_place p (J p ++ Opened ∷ []) index ≡ X → StandsFor s (outcome s (FromBooks J) [] p) X (standing_at world.board (place_at p index))
+      stands_at p index None none =
+          same_for s (outcome s (FromBooks J) [] p) None unused (standing_at world.board (place_at p index))
+          (λ a. (λ says. let o = opened_is (participants s) p index a ((opened.known (about (place_at p index) a)).0 says) in let e : None ≡ Some o.transfer = sym none ∙ o.there in let no : ⊥ = cc in absurd no, λ says. absurd says))
           refl
-      stands_at p place (Some x) some =
-          let number : is_participant s p ≡ true = of_a_participant s (FromBooks J) can [] tt p place x some in
-          stands_pending s (outcome s (FromBooks J) [] p) x (standing_at world.board (place_at p place)) (begins_undecided p place x some)
+      stands_at p index (Some x) some =
+          let number : is_participant s p ≡ true = of_a_participant s (FromBooks J) can [] tt p index x some in
+          stands_pending s (outcome s (FromBooks J) [] p) x (standing_at world.board (place_at p index)) (begins_undecided p index x some)
           (λ a. (
             λ says.
-                let o = opened_is (participants s) p place a ((opened.known (about (place_at p place) a)).0 says) in
+                let o = opened_is (participants s) p index a ((opened.known (about (place_at p index) a)).0 says) in
                 subst (λ (y : Transfer). Says (pending (terms_of y) (deadline s y)) a) (same_Some o.transfer x (sym o.there ∙ some)) o.says,
-            λ says. (opened.known (about (place_at p place) a)).1 (is_opened (participants s) p place x a (ltb-true p (participants s) number) some says),
+            λ says. (opened.known (about (place_at p index) a)).1 (is_opened (participants s) p index x a (ltb-true p (participants s) number) some says),
           ))
 
       pub board_opened : IsBoardOf s (FromBooks J) [] world.board
-      board_opened p place = stands_at p place (at_place p (J p ++ Opened ∷ []) place) refl
+      board_opened p index = stands_at p index (at_place p (J p ++ Opened ∷ []) index) refl
 
       addressed_at : (k : Place) (t : Terms) (d : ℕ) (X : Option Transfer) → at_place k.owner (J k.owner ++ Opened ∷ []) k.index ≡ X → StandsFor s (outcome s (FromBooks J) [] k.owner) X (standing_at world.board k)
           → standing_at world.board k ≡ pending t d → is_participant s t.to ≡ true

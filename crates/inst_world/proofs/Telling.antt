@@ -40,7 +40,7 @@ takes_none s O step L no_ask p =
       funds = λ ask reference cents is command why. absurd (no_ask ask is);
       defunds = λ ask reference cents is command why cover. absurd (no_ask ask is);
       takes = λ ask id to cents stamp is command why. absurd (no_ask ask is);
-      forwards = λ from place x is why. live_kept p J (Forwarded from x.id x.cents (deadline s x)) refl refl;
+      forwards = λ from index x is why. live_kept p J (Forwarded from x.id x.cents (deadline s x)) refl refl;
       books = λ from id o why. live_kept p J (Booked from id o) refl refl;
       hands_out = λ ask max entry entries is command some. absurd (no_ask ask is);
     })
@@ -73,18 +73,18 @@ RanOrNot s O step L book result new c =
     ((result ≡ Ok (is_seen s O L step (actor step))) × Ran s O step L new c)
     ⊎ ((result ≡ Err alloc_error) × (new ≡ book) × IsBoardOf s O L c × (is_seen s O L step (actor step) ≡ true))
 
-pub no_ask_deliver : (from place to : ℕ) (ask : AskValue) → Deliver from place to ≡ Ask ask → ⊥
-no_ask_deliver from place to ask e = let no : ⊥ = cc in no
+pub no_ask_deliver : (from index to : ℕ) (ask : AskValue) → Deliver from index to ≡ Ask ask → ⊥
+no_ask_deliver from index to ask e = let no : ⊥ = cc in no
 
-pub no_ask_learn : (who from place : ℕ) (ask : AskValue) → Learn who from place ≡ Ask ask → ⊥
-no_ask_learn who from place ask e = let no : ⊥ = cc in no
+pub no_ask_learn : (who from index : ℕ) (ask : AskValue) → Learn who from index ≡ Ask ask → ⊥
+no_ask_learn who from index ask e = let no : ⊥ = cc in no
 
-pub no_ask_expire : (who place at : ℕ) (ask : AskValue) → Expire who place at ≡ Ask ask → ⊥
-no_ask_expire who place at ask e = let no : ⊥ = cc in no
+pub no_ask_expire : (who index at : ℕ) (ask : AskValue) → Expire who index at ≡ Ask ask → ⊥
+no_ask_expire who index at ask e = let no : ⊥ = cc in no
 
 module _ (s : HubSettings) (O : Opening) (opening : IsOpening s O) (L : List Step) (steps : IsInterleaving s L) (b : Contents) (board : IsBoardOf s O L b) where
   still : (c : Contents) → IsTheSame b c → IsBoardOf s O L c
-  still c same p place = same_for s (outcome s O L p) (at_place p (history s O L p) place) (standing_at b (place_at p place)) (standing_at c (place_at p place)) (same (place_at p place)) (board p place)
+  still c same p index = same_for s (outcome s O L p) (at_place p (history s O L p) index) (standing_at b (place_at p index)) (standing_at c (place_at p index)) (same (place_at p index)) (board p index)
 
   pub looked_still : (margin : ℕ) (c : Contents) (k : Place) (look : Look) → Looks margin plain_knows (λ _ _. Unit {0}) plain_stood b k look c → IsBoardOf s O L c
   looked_still margin c k look h = still c (board_looked b c k (looked margin b c k look h).1)
@@ -101,20 +101,20 @@ module _ (s : HubSettings) (O : Opening) (opening : IsOpening s O) (L : List Ste
       adds.is_new_is ∙ ap (λ (w : ℕ). is_some_entry (f w book.events)) member.who_is ∙ ap (λ (E : List Event). is_some_entry (f q E)) events ∙ sym seen.is_seen_is,
     )
 
-    pub delivers_run : (margin from place : ℕ) (look : Look) (c : Contents) (result : Result Bool AllocError) (new : Book)
-        → Looks margin plain_knows (λ _ _. Unit {0}) plain_stood b (place_at from place) look c
-        → Keeps (is_some (delivery book (place_at from place) look)) book (with_delivery book (place_at from place) (delivery book (place_at from place) look)) result new
-        → RanOrNot s O (Deliver from place q) L book result new c
-    delivers_run margin from place look c result new looks keeps =
-        let step : Step = Deliver from place q in
-        let k : Place = place_at from place in
+    pub delivers_run : (margin from index : ℕ) (look : Look) (c : Contents) (result : Result Bool AllocError) (new : Book)
+        → Looks margin plain_knows (λ _ _. Unit {0}) plain_stood b (place_at from index) look c
+        → Keeps (is_some (delivery book (place_at from index) look)) book (with_delivery book (place_at from index) (delivery book (place_at from index) look)) result new
+        → RanOrNot s O (Deliver from index q) L book result new c
+    delivers_run margin from index look c result new looks keeps =
+        let step : Step = Deliver from index q in
+        let k : Place = place_at from index in
         let seen = looked margin b c k look looks in
         let same : IsTheSame b c = board_looked b c k seen.1 in
-        let X : Option Transfer = at_place from (history s O L from) place in
+        let X : Option Transfer = at_place from (history s O L from) index in
         let f : ℕ → List Event → List Seen = λ w E. comes s (outcome s O L) from w E X in
         let adds : Adds s book (f book.who book.events) (with_delivery book k (delivery book k look)) (is_some (delivery book k look)) =
         subst (λ (l : Look). Adds s book (f book.who book.events) (with_delivery book k (delivery book k l)) (is_some (delivery book k l))) (sym seen.0)
-        (delivery_comes s (outcome s O L) book from place X (standing_at b k) (board from place)) in
+        (delivery_comes s (outcome s O L) book from index X (standing_at b k) (board from index)) in
         let sees = sees_this s O step L q (f q (history s O L q)) (if_own q (f q (history s O L q))) in
         let a = added step refl f sees (with_delivery book k (delivery book k look)) (is_some (delivery book k look)) adds in
         elim keeps [
@@ -122,26 +122,26 @@ module _ (s : HubSettings) (O : Opening) (opening : IsOpening s O) (L : List Ste
             kept.0 ∙ ap (λ (x : Bool). Ok x) a.1,
             record {
               events = ap (λ (n : Book). n.events) kept.1 ∙ a.0;
-              board = board_stays s O opening L steps step b c board (takes_none s O step L (no_ask_deliver from place q)) same (λ p n x there. same_outcome s O step L refl p x.id);
+              board = board_stays s O opening L steps step b c board (takes_none s O step L (no_ask_deliver from index q)) same (λ p n x there. same_outcome s O step L refl p x.id);
             },
           )
           | inr refused ↦ inr (refused.0, refused.1, still c same, sym a.1 ∙ refused.2)
         ]
 
-    pub learns_run : (margin from place : ℕ) (look : Look) (c : Contents) (result : Result Bool AllocError) (new : Book)
-        → Looks margin plain_knows (λ _ _. Unit {0}) plain_stood b (place_at from place) look c
-        → Keeps (is_some (lesson book (place_at from place) look)) book (with_event book (lesson book (place_at from place) look)) result new
-        → RanOrNot s O (Learn q from place) L book result new c
-    learns_run margin from place look c result new looks keeps =
-        let step : Step = Learn q from place in
-        let k : Place = place_at from place in
+    pub learns_run : (margin from index : ℕ) (look : Look) (c : Contents) (result : Result Bool AllocError) (new : Book)
+        → Looks margin plain_knows (λ _ _. Unit {0}) plain_stood b (place_at from index) look c
+        → Keeps (is_some (lesson book (place_at from index) look)) book (with_event book (lesson book (place_at from index) look)) result new
+        → RanOrNot s O (Learn q from index) L book result new c
+    learns_run margin from index look c result new looks keeps =
+        let step : Step = Learn q from index in
+        let k : Place = place_at from index in
         let seen = looked margin b c k look looks in
         let same : IsTheSame b c = board_looked b c k seen.1 in
-        let X : Option Transfer = at_place from (history s O L from) place in
+        let X : Option Transfer = at_place from (history s O L from) index in
         let f : ℕ → List Event → List Seen = λ w E. tells (outcome s O L) from w E X in
         let adds : Adds s book (f book.who book.events) (with_event book (lesson book k look)) (is_some (lesson book k look)) =
         subst (λ (l : Look). Adds s book (f book.who book.events) (with_event book (lesson book k l)) (is_some (lesson book k l))) (sym seen.0)
-        (lesson_tells s (outcome s O L) book from place X (standing_at b k) (board from place) (λ x there. arrived_there s O opening L steps b board q book member events from place x there)) in
+        (lesson_tells s (outcome s O L) book from index X (standing_at b k) (board from index) (λ x there. arrived_there s O opening L steps b board q book member events from index x there)) in
         let sees = sees_this s O step L q (f q (history s O L q)) (if_own q (f q (history s O L q))) in
         let a = added step refl f sees (with_event book (lesson book k look)) (is_some (lesson book k look)) adds in
         elim keeps [
@@ -149,7 +149,7 @@ module _ (s : HubSettings) (O : Opening) (opening : IsOpening s O) (L : List Ste
             kept.0 ∙ ap (λ (x : Bool). Ok x) a.1,
             record {
               events = ap (λ (n : Book). n.events) kept.1 ∙ a.0;
-              board = board_stays s O opening L steps step b c board (takes_none s O step L (no_ask_learn q from place)) same (λ p n x there. same_outcome s O step L refl p x.id);
+              board = board_stays s O opening L steps step b c board (takes_none s O step L (no_ask_learn q from index)) same (λ p n x there. same_outcome s O step L refl p x.id);
             },
           )
           | inr refused ↦ inr (refused.0, refused.1, still c same, sym a.1 ∙ refused.2)

@@ -1,7 +1,7 @@
 //! Calls of a hub, under the locks of participants.
 ghost use Rattle.std.specs.Prelude.{◌≡◌, ◌<◌, true, IfOk, IfSome, OnErr};
 ghost use Rattle.inst_command.specs.Ask.{ask_fits};
-ghost use Rattle.inst_hub.specs.Calls.{IsOf, KnowsMore, Calls, IsLeft};
+ghost use Rattle.inst_hub.specs.Calls.{IsOf, KnowsMore, HasCalled, IsLeft};
 ghost use Rattle.inst_hub.specs.inner.Calls.{Follows, Asks};
 ghost use Rattle.inst_row.specs.Row.{size};
 
@@ -27,10 +27,7 @@ impl Hub {
     ) -> Result<(Reply, Option<Ticket>), AllocError>
         requires of { IsOf self.now teller.old }
         requires fits { ask_fits self.now.settings ask.now ≡ true }
-        ensures of { IsOf self.now teller.new }
-        ensures knows { KnowsMore teller.old teller.new }
-        ensures call { IfOk result (λ answer. Calls self.now teller.old ask.now answer teller.new) }
-        ensures left { OnErr result (IsLeft self.now teller.old ask.now teller.new) }
+        ensures { HasCalled self.now teller.old ask.now result teller.new }
     {
         self.call_with(rt, teller, ask, &Ungated)
     }
@@ -45,10 +42,7 @@ impl Hub {
     ) -> Result<(Reply, Option<Ticket>), AllocError>
         requires of { IsOf self.now teller.old }
         requires fits { ask_fits self.now.settings ask.now ≡ true }
-        ensures of { IsOf self.now teller.new }
-        ensures knows { KnowsMore teller.old teller.new }
-        ensures call { IfOk result (λ answer. Calls self.now teller.old ask.now answer teller.new) }
-        ensures left { OnErr result (IsLeft self.now teller.old ask.now teller.new) }
+        ensures { HasCalled self.now teller.old ask.now result teller.new }
     {
         let (answer, follow_up) = self.ask(rt, teller, ask, gate)?;
         self.follow(rt, teller, follow_up);

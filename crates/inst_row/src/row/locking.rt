@@ -21,7 +21,8 @@ const TAKEN: u64 = 1;
 const AWAITED: u64 = 2;
 
 impl<T, E, K, L: Lawful<T, E, K>> LockRow<T, E, K, L> {
-    /// The value behind the lock, whose word is `word` from then on, where no seat has it. It is tried once.
+    /// The value behind the lock, whose word is `word` from then on, where no seat has it at one of some tries. Between
+    /// them the thread lets others run: who has a lock keeps it for one event, which is sooner over than a sleep.
     fn try_take(&self, seat: &mut RowSeat<T, E, K>, lock: usize, word: u64) -> Option<T>
         requires on { IsOn (row_id self.now) (key_of self.now) seat.old }
         requires lock { lock < size self.now }
@@ -35,30 +36,9 @@ impl<T, E, K, L: Lawful<T, E, K>> LockRow<T, E, K, L> {
         ensures none { IfNone result (seat.new.seat.me ≡ seat.old.seat.me) }
     {
         let shared = &self.table.shared;
-        if shared.compare_exchange::<Taking<L>>(&mut seat.seat, lock, 0, word) == 0 {
-            shared.exchange(&mut seat.seat, lock, None)
-        } else {
-            None
-        }
-    }
-
-    /// The same at one of some tries. Between them the thread lets others run: who has a lock keeps it for one
-    /// event, which is sooner over than a sleep.
-    fn try_often(&self, seat: &mut RowSeat<T, E, K>, lock: usize, word: u64) -> Option<T>
-        requires on { IsOn (row_id self.now) (key_of self.now) seat.old }
-        requires lock { lock < size self.now }
-        requires word { 0 < word }
-        requires free { IsFree seat.old }
-        ensures law { IfSome result (λ value. L.law (key_of self.now) lock value) }
-        ensures goes_on { IfSome result (λ value. GoesOn lock (L.history value) seat.old) }
-        ensures has { IfSome result (λ value. Has lock (L.history value) seat.new) }
-        ensures on { IsOn (row_id self.now) (key_of self.now) seat.new }
-        ensures sees { IfSome result (λ value. Sees lock (L.history value) seat.old seat.new) }
-        ensures none { IfNone result (seat.new.seat.me ≡ seat.old.seat.me) }
-    {
         for _ in 0..TRIES {
-            if let Some(value) = self.try_take(seat, lock, word) {
-                return Some(value);
+            if shared.compare_exchange::<Taking<L>>(&mut seat.seat, lock, 0, word) == 0 {
+                return shared.exchange(&mut seat.seat, lock, None);
             }
             yield_now();
         }
@@ -89,13 +69,13 @@ impl<T, E, K, L: Lawful<T, E, K>> LockRow<T, E, K, L> {
         ensures on { IsOn (row_id self.now) (key_of self.now) seat.new }
         ensures sees { Sees lock (L.history result) seat.old seat.new }
     {
-        if let Some(value) = self.try_often(seat, lock, TAKEN) {
+        if let Some(value) = self.try_take(seat, lock, TAKEN) {
             return value;
         }
         for _ in rt.forever() {
             self.wait(rt, seat, lock);
             // others may still sleep
-            if let Some(value) = self.try_often(seat, lock, AWAITED) {
+            if let Some(value) = self.try_take(seat, lock, AWAITED) {
                 return value;
             }
         }

@@ -1,11 +1,13 @@
-use Rattle.std.proofs.Common.{rules, ◌≡◌, Some, refl, sym, subst, IfSome}
+use Rattle.std.proofs.Common.{rules, ◌≡◌, ◌<◌, Some, Contains, refl, sym, ap, subst, IfSome}
 use Rattle.inst_row.specs.View.{front}
-use Rattle.inst_row.specs.Seated.{GoesOn}
+use Rattle.inst_row.specs.Seated.{GoesOn, view_of}
 use Rattle.inst_row.proofs.Locks.{takes_rule, refront}
 use Rattle.inst_row.proofs.row.LockRow.try_take.Goals as goal
 
 pub compare_exchange-requires : goal.compare_exchange-requires
-compare_exchange-requires g c = (search rules, search rules, takes_rule g.L.Lawful.law g.L.Lawful.history _ _ _ _ (search rules) _ c.requires.word _ c.requires.free.part)
+compare_exchange-requires g c =
+    let part : 0 < (view_of c.loop.seat).parts = subst (λ n. 0 < n) (ap (λ me. me.0.parts) (sym c.loop.invariant.1)) c.requires.free.part in
+    (search rules, search rules, takes_rule g.L.Lawful.law g.L.Lawful.history _ _ _ _ (search rules) _ c.requires.word _ part)
 
 pub exchange-requires : goal.exchange-requires
 exchange-requires g c = let t = c.compare_exchange.ensures.2.0 c.if-compare_exchange-eq0.true in
@@ -15,7 +17,6 @@ pub returns-then-compare_exchange-eq0-clause-goes_on : goal.returns-then-compare
 returns-then-compare_exchange-eq0-clause-goes_on g c =
     let t = c.compare_exchange.ensures.2.0 c.if-compare_exchange-eq0.true in
     let found : c.exchange.result ≡ Some t.0 = search rules in
-    subst (λ o. IfSome o (λ value. GoesOn c.args.lock (g.L.Lawful.history value) c.args.seat.now)) (sym found) (λ h seen. t.2 (front c.args.lock h) seen refl)
-
-pub returns-else-compare_exchange-eq0-clause-none : goal.returns-else-compare_exchange-eq0-clause-none
-returns-else-compare_exchange-eq0-clause-none g c = let t = c.compare_exchange.ensures.2.1 c.if-compare_exchange-eq0.false in search rules
+    let seen_still = ap (λ me. me.0.fronts) (sym c.loop.invariant.1) in
+    subst (λ o. IfSome o (λ value. GoesOn c.args.lock (g.L.Lawful.history value) c.args.seat.now)) (sym found)
+    (λ h seen. t.2 (front c.args.lock h) (subst (λ fronts. Contains fronts (front c.args.lock h)) seen_still seen) refl)

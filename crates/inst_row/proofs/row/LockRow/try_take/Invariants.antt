@@ -1,7 +1,7 @@
 use Rattle.std.proofs.Common.{◌≡◌}
 use Rattle.inst_row.specs.Seated.{IsOn}
 use Rattle.inst_row.specs.Row.{row_id, key_of}
-use Rattle.inst_row.proofs.row.LockRow.try_often.Given as goal
+use Rattle.inst_row.proofs.row.LockRow.try_take.Given as goal
 
 abbrev pub invariant-loop : goal.invariant-loop
 invariant-loop g l =
