@@ -70,6 +70,6 @@ meaning_of LineTooLong = codes "the line has more than 4,096 bytes"
 meaning_of ReadFault = codes "the input failed, or went past the limits of a run"
 meaning_of WriteFault = codes "the output failed, or took no byte"
 
--- what is returned is what is wanted, unless memory was refused
+-- what is returned is what is wanted, or that memory was refused, whenever that is
 abbrev pub IsUnlessMemory : {X : Type 0} → Result X Fault → Result X Fault → Type 0
 IsUnlessMemory returned wanted = (returned ≡ Err Memory) ⊎ (returned ≡ wanted)

@@ -126,11 +126,11 @@ abbrev pub or_bad_line : {X : Type 0} → Result X Fault → Result X BookFault
 or_bad_line (Ok x) = Ok x
 or_bad_line (Err fault) = Err BadLine
 
--- what is returned is what is wanted, unless memory was refused
+-- what is returned is what is wanted, or that memory was refused, whenever that is
 abbrev pub IsUnlessMemory : {X : Type 0} → Result X BookFault → Result X BookFault → Type 0
 IsUnlessMemory returned wanted = (returned ≡ Err Memory) ⊎ (returned ≡ wanted)
 
--- what is returned, seen by view, is what is wanted, unless memory was refused
+-- what is returned, seen by view, is what is wanted, or that memory was refused, whenever that is
 abbrev pub GivesUnlessMemory : {X Y : Type 0} → (X → Y) → Result X BookFault → Result Y BookFault → Type 0
 GivesUnlessMemory view (Ok x) wanted = Ok (view x) ≡ wanted
 GivesUnlessMemory view (Err fault) wanted = (fault ≡ Memory) ⊎ (Err fault ≡ wanted)

@@ -5,9 +5,9 @@ use Rattle.inst_command.specs.declared.outcome.State.{State}
 use Rattle.inst_command.specs.declared.outcome.State.TheVariants.{Unused}
 use Rattle.inst_board.specs.declared.place.Place.{Place}
 use Rattle.inst_journal.specs.declared.event.Event.{Event}
-use Rattle.inst_slot.specs.Book.{Book}
+use Rattle.inst_slot.specs.Book.{events_of, Book}
 use Rattle.inst_slot.specs.OwnState.{own_state}
-use Rattle.inst_together.specs.Together.{events_of, histories}
+use Rattle.inst_together.specs.Together.{histories}
 use Rattle.inst_together.specs.Told.{told}
 
 pub told_at : (books : List Book) (k : Place) (book : Book) (r : State) → slice_get books k.owner ≡ Some book → r ≡ own_state k.owner book.events k.index → r ≡ told (histories books) k

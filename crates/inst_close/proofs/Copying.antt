@@ -8,11 +8,11 @@ use Rattle.inst_settings.specs.Settings.{HubSettings}
 use Rattle.inst_journal.specs.declared.event.Event.{Event}
 use Rattle.inst_journal.specs.History.{History}
 use Rattle.inst_journal.specs.Opened.{openings, HasOpeningsLeft}
-use Rattle.inst_slot.specs.Book.{Book}
+use Rattle.inst_slot.specs.Book.{events_of, Book}
 use Rattle.inst_slot.proofs.Indexed.{last_at}
 use Rattle.inst_world.specs.NextOpening.{kept_by, books_of, CanOpenFrom}
 use Rattle.inst_world.proofs.Journals.{can_open_from}
-use Rattle.inst_together.specs.Together.{events_of, histories}
+use Rattle.inst_together.specs.Together.{histories}
 use Rattle.inst_close.specs.ClosedHub.{IsClosed}
 use Rattle.inst_together.specs.Wider.{widened}
 use Rattle.inst_together.proofs.Wider.{closed_wider}

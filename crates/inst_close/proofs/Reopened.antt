@@ -1,5 +1,5 @@
 -- The hub that was opened from copies of the books is the next one.
-use Rattle.std.proofs.Common.{◌≡◌, ℕ, ◌<◌, arith, length, List, inl, inr, sym, ap, ◌∙◌, subst, ltb-false}
+use Rattle.std.proofs.Common.{◌≡◌, ℕ, arith, length, List, inl, inr, sym, ap, ◌∙◌, subst, ltb-false}
 use Rattle.std.specs.Prelude.{nat_lt, Result, Ok, Err, IfOk}
 use Rattle.std.proofs.lemmas.Bool.{cases_Bool, ltb-true}
 use Rattle.inst_base.specs.declared.fault.Fault.{Fault}

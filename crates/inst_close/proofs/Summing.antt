@@ -21,8 +21,8 @@ use Rattle.inst_journal.proofs.Soundness.{sound_induction}
 use Rattle.inst_model.specs.Untold.{sum_below, signed_sum_below, total, signed_total}
 use Rattle.inst_model.proofs.Closing.{closed_books_sum_to_the_net}
 use Rattle.inst_model.proofs.Totals.{signed_sum_is}
-use Rattle.inst_slot.specs.Book.{Book}
-use Rattle.inst_together.specs.Together.{events_of, histories}
+use Rattle.inst_slot.specs.Book.{events_of, Book}
+use Rattle.inst_together.specs.Together.{histories}
 use Rattle.inst_close.specs.ClosedHub.{IsClosed}
 
 -- the most that the event can fund

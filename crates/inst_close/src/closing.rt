@@ -48,9 +48,9 @@ impl fmt::Debug for CloseFault {
     }
 }
 
-/// The books of the hub, once each participant has booked and got what there is for it. They were opened as the hub was, go on from all that the
-/// tellers have seen, and tell all that these knew. It waits for no lock, since nobody else has the hub. `Memory` hands
-/// back what is left of the hub.
+/// The books of the hub, once each participant has booked and got what there is for it. They were opened as the hub was,
+/// go on from all that the tellers have seen, and tell all that these knew. It waits for no lock, since nobody else has
+/// the hub. `Memory` hands back what is left of the hub.
 pub fn close(alloc: Global, hub: Hub, tellers: Vec<Teller>) -> Result<Books, CloseFault>
     requires of { AreOf hub tellers.items }
     requires parts { HaveAllParts tellers.items }

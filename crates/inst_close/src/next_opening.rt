@@ -1,5 +1,5 @@
 //! The hub of the next opening.
-ghost use Rattle.std.specs.Prelude.{◌≡◌, ◌⊎◌, ◌<◌, [], ℕ, true, false, length, IfOk, IfErr, Err};
+ghost use Rattle.std.specs.Prelude.{◌≡◌, ◌⊎◌, [], ℕ, true, false, length, IfOk, IfErr, Err};
 ghost use Rattle.inst_journal.specs.Opened.{HasOpeningsLeft};
 ghost use Rattle.inst_together.specs.Together.{histories};
 ghost use Rattle.inst_together.specs.Wider.{widened};

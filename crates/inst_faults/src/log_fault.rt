@@ -6,7 +6,8 @@ ghost use Rattle.inst_faults.specs.LogFault.{number_of, name_of, status_of_log};
 pub enum LogFault {
     /// The disk failed or has no room, or the file can't be opened.
     DiskFault,
-    /// The log begins with other settings than the options give.
+    /// The log begins with other settings than the options give, or with books in another form, or fewer lines of them
+    /// than it says.
     OtherSettings,
     /// The file is no log.
     NoLog,

@@ -13,9 +13,9 @@ use Rattle.inst_journal.specs.Sound.{IsSound}
 use Rattle.inst_model.specs.Opening.{Opening, IsOpening}
 use Rattle.inst_row.specs.Row.{key_of, size}
 use Rattle.inst_row.specs.Seated.{HasSeen}
-use Rattle.inst_slot.specs.Book.{Book}
+use Rattle.inst_slot.specs.Book.{events_of, Book}
 use Rattle.inst_slot.proofs.Growing.{slice_get_at}
-use Rattle.inst_together.specs.Together.{events_of, histories}
+use Rattle.inst_together.specs.Together.{histories}
 use Rattle.inst_parts.specs.Uniting.{AreSeparate, AreAtOne, AreSights}
 use Rattle.inst_hub.specs.declared.hub.Hub.{Hub}
 use Rattle.inst_hub.specs.declared.teller.Teller.{Teller}

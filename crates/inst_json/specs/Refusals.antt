@@ -33,7 +33,7 @@ abbrev pub Gives : {X Y : Type 0} → (X → Y) → Result X Fault → Result Y 
 Gives view (Ok x) wanted = Ok (view x) ≡ wanted
 Gives view (Err fault) wanted = Err fault ≡ wanted
 
--- what is read of a line is what is wanted, unless memory was refused
+-- what is read of a line is what is wanted, or that memory was refused, whenever that is
 abbrev pub IsReadUnlessMemory : {A : Type 0} → Result A Refusal → Result A Refusal → Type 0
 IsReadUnlessMemory (Ok x) wanted = Ok x ≡ wanted
 IsReadUnlessMemory (Err refusal) wanted = (refusal.fault ≡ Memory) ⊎ (Err refusal ≡ wanted)

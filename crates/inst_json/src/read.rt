@@ -144,7 +144,7 @@ fn is_json(text: &str, scratch: &mut Scratch) -> Result<bool, AllocError>
     Ok(reader.skip_value(MOST_DEPTH).is_ok() && reader.next().is_none())
 }
 
-/// The ask of a single command line, as a `LineReader` reads it.
+/// The ask of a single command line, or its refusal, as a `LineReader` reads it.
 pub fn read_command(alloc: Global, settings: &Settings, line: &[u8]) -> Result<Ask, Fault>
     ensures value { IsUnlessMemory result (command_of_line settings.now line.now) }
     ensures fits { IfOk result (λ ask. ask_fits settings.now ask ≡ true) }
@@ -152,7 +152,7 @@ pub fn read_command(alloc: Global, settings: &Settings, line: &[u8]) -> Result<A
     LineReader::new(alloc).read_command(settings, line)
 }
 
-/// The step of a single script line, as a `LineReader` reads it.
+/// The step of a single script line, or its refusal, as a `LineReader` reads it.
 pub fn read_step(alloc: Global, settings: &Settings, line: &[u8]) -> Result<Step, Fault>
     ensures value { IsUnlessMemory result (step_of_line settings.now line.now) }
     ensures fits { IfOk result (λ step. step_fits settings.now step ≡ true) }

@@ -8,7 +8,7 @@ use crate::comparing::{same, same_at};
 use crate::told::{Told, is_refused, is_reply};
 use inst_base::Moment;
 use inst_command::{Ask, Outcome};
-use inst_journal::{Event, Handled, Journal, handle_command, reply_of};
+use inst_journal::{Event, Handled, handle_command, reply_of};
 use inst_ledger::Ledger;
 use inst_rows::{End, are_lines, settings};
 use inst_statement::statement;

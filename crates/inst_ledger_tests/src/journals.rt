@@ -112,7 +112,15 @@ fn opened_often(alloc: Global, openings: usize) -> Result<Journal, Fault> {
 /// Books are opened from 500 times, and not once more.
 #[test]
 fn is_opened_from_500_times(rt: HostRuntime) -> Result<(), Fail> {
-    same(&rt, opened_often(rt.alloc(), 499)?.has_openings_left(), true);
-    same(&rt, opened_often(rt.alloc(), 500)?.has_openings_left(), false);
+    same(
+        &rt,
+        opened_often(rt.alloc(), 499)?.has_openings_left(),
+        true,
+    );
+    same(
+        &rt,
+        opened_often(rt.alloc(), 500)?.has_openings_left(),
+        false,
+    );
     Ok(())
 }

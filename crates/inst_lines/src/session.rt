@@ -43,7 +43,7 @@ impl Session {
     ghost use Rattle.inst_lines.specs.inner.Session.{TakesLine, AnswersLast, IsNoReadFault};
     ghost use Rattle.inst_lines.specs.inner.Session.{MovesOn, HasStopped, HasFinished};
 
-    /// A session that has read nothing.
+    /// A session that has read nothing. `Memory` is the only fault.
     pub fn new(alloc: Global) -> Result<Session, Fault>
         ensures ready { IfOk result (λ session. IsReady session) }
         ensures input { IfOk result (λ session. held session.input ≡ []) }

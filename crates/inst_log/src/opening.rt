@@ -121,7 +121,7 @@ fn blank<D: Disk>(disk: &mut D, bytes: &[u8]) -> io::Result<()>
     write_synced(disk, 0, &[0])
 }
 
-/// All the bytes of a file.
+/// All the bytes of a file. `Disk` where the disk fails, `Memory` where there is no room for them.
 pub fn read_file<D: Disk>(alloc: Global, disk: &mut D) -> Result<Vec<u8>, LogError>
     requires usable { IsTrue (D.Disk.is_usable disk.old) }
     ensures bytes { IfOk result (λ bytes. IsTrue (D.Disk.is_clean disk.new) → bytes.items ≡ D.Disk.seen disk.old) }

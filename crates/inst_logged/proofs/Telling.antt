@@ -8,10 +8,10 @@ use Rattle.std.proofs.lemmas.Str.Parse.{digit_from_value}
 use Rattle.std.proofs.lemmas.List.{append_cancel_right}
 use Rattle.inst_base.specs.Text.{is_code, is_code_character}
 use Rattle.inst_settings.specs.Settings.{HubSettings}
-use Rattle.inst_settings.specs.Lawful.{settings_with}
+use Rattle.inst_settings.specs.Lawful.{AreOfAHub, settings_with}
 use Rattle.inst_lines.specs.declared.mode.Mode.{Mode}
 use Rattle.inst_lines.specs.declared.mode.Mode.TheVariants.{Run, Play}
-use Rattle.inst_logged.specs.Header.{header, header_line, field, mode_field, participants_field, mode_word, listed, comma_if, quoted, AreOfAHub}
+use Rattle.inst_logged.specs.Header.{header, header_line, field, mode_field, participants_field, mode_word, listed, comma_if, quoted}
 
 -- no byte is this one
 abbrev Lacks : ℕ → List ℕ → Type 0

@@ -1,9 +1,7 @@
 -- With which line a log begins: the settings of its hub, and what its lines stand for. This hub's own choice.
 use Rattle.std.specs.Prelude.{◌≡◌, ℕ, Bool, true, false, List, [], ◌∷◌, ◌++◌, length, Option, None, Some, codes, decimal, if◌then◌else◌}
-use Rattle.std.specs.List.{list_all}
-use Rattle.inst_base.specs.Text.{is_code}
 use Rattle.inst_settings.specs.Settings.{HubSettings}
-use Rattle.inst_settings.specs.Lawful.{IsSettings}
+use Rattle.inst_settings.specs.Lawful.{AreOfAHub}
 use Rattle.inst_lines.specs.declared.mode.Mode.{Mode}
 use Rattle.inst_lines.specs.declared.mode.Mode.TheVariants.{Run, Play}
 use Rattle.inst_journal.specs.History.{History}
@@ -63,11 +61,6 @@ header mode s = at_rest (raw_of (header_line mode s None) ∷ [])
 unfoldable pub header_from : Mode → HubSettings → List History → List ℕ
 header_from mode s journals =
     let books = recovered (books_text s (all_events journals)) in at_rest (raw_of (header_line mode s (Some (length books))) ∷ books)
-
--- settings that a hub can have, with codes that are such
-pub record AreOfAHub (s : HubSettings) : Type 0 where
-  pub lawful : IsSettings s
-  pub codes_formed : list_all is_code s.codes ≡ true
 
 -- logs that begin alike are of hubs with the same settings, and their lines stand for the same
 abbrev pub HeadersTellTheirSettings : Type 0

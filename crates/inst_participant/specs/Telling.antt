@@ -4,7 +4,7 @@ use Rattle.inst_cell.specs.declared.sight.Sight.{Sight}
 use Rattle.inst_cell.specs.Held.{Stays}
 use Rattle.inst_cell.specs.Seen.{board_of, sees}
 
--- it is the same teller, and nothing that it knew is lost
+-- the sight is over the same words, and nothing that it knew is lost
 pub record SeesMore (t u : Sight) : Type 0 where
   pub stays : Stays (board_of t) (board_of u)
   pub kept : (f : Fact) → sees t f → sees u f

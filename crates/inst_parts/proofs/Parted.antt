@@ -13,8 +13,8 @@ use Rattle.inst_journal.specs.declared.event.Event.{Event}
 use Rattle.inst_journal.specs.Sound.{IsSound}
 use Rattle.inst_model.specs.Closing.{AreClosed, OnlyTold}
 use Rattle.inst_model.specs.Opening.{Opening, IsOpening}
-use Rattle.inst_slot.specs.Book.{Book, place_at}
-use Rattle.inst_together.specs.Together.{events_of, histories, IsMember, IsSettled}
+use Rattle.inst_slot.specs.Book.{events_of, Book, place_at}
+use Rattle.inst_together.specs.Together.{histories, IsMember, IsSettled}
 use Rattle.inst_together.specs.Told.{IsInTheBooks}
 use Rattle.inst_together.proofs.Fitting.{addressed, are_closed, in_the_books}
 use Rattle.inst_parts.specs.Settling.{IsReady, IsLater}

@@ -40,13 +40,6 @@ impl Parts {
         }
     }
 
-    /// The settings of the hub.
-    pub fn settings(&self) -> &Settings
-        ensures { result.now ≡ self.now.settings }
-    {
-        &self.settings
-    }
-
     /// Books what is decided of the transfers in the book of `who`, its own by place and then those that came in order of
     /// arrival, and gets what is pending for it, by originator and place. How many of these were new. Refused
     /// memory ends it, and what was done before stands.

@@ -1,5 +1,5 @@
 -- Which settings a hub can have. The ranges are this hub's own choice.
-use Rattle.std.specs.Prelude.{◌≡◌, ℕ, ◌^◌, ◌<◌, ◌≤◌, Bool, true, ◌&&◌, not, List, [], ◌∷◌, length}
+use Rattle.std.specs.Prelude.{◌≡◌, ℕ, ◌<◌, ◌≤◌, Bool, true, ◌&&◌, not, List, [], ◌∷◌, length}
 use Rattle.std.specs.List.{list_all, list_any}
 use Rattle.inst_base.specs.Text.{is_code}
 use Rattle.inst_settings.specs.Settings.{HubSettings, same_text}

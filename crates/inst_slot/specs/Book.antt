@@ -1,6 +1,6 @@
 -- What a contract sees of a slot: the settings of its hub, the number of its participant, its history, and where the
 -- live transfers lie that were forwarded to it. That a participant's books stand by themselves is this hub's own choice.
-use Rattle.std.specs.Prelude.{ℕ, Bool, false, ◌==◌, if◌then◌else◌, List, Option, Some, None, position}
+use Rattle.std.specs.Prelude.{ℕ, Bool, false, ◌==◌, if◌then◌else◌, List, [], Option, Some, None, position}
 use Rattle.std.specs.List.{filter}
 use Rattle.inst_settings.specs.Settings.{HubSettings}
 use Rattle.inst_command.specs.declared.entry.Entry.{Entry}
@@ -17,6 +17,11 @@ pub record Book : Type 0 where
   pub who : ℕ
   pub events : List Event
   pub arrivals : List Arrival
+
+-- the events of a book, where there is one
+abbrev pub events_of : Option Book → List Event
+events_of None = []
+events_of (Some book) = book.events
 
 abbrev pub place_at : ℕ → ℕ → Place
 place_at owner index = record { owner = owner; index = index }

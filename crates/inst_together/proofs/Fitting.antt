@@ -36,12 +36,12 @@ use Rattle.inst_model.proofs.Growing.{is_none_of}
 use Rattle.inst_model.proofs.Sides.{came_as_taken}
 use Rattle.inst_model.proofs.Transfers.{as_transfer}
 use Rattle.inst_slot.specs.declared.arrival.Arrival.{Arrival}
-use Rattle.inst_slot.specs.Book.{Book, place_at, terms_to}
+use Rattle.inst_slot.specs.Book.{events_of, Book, place_at, terms_to}
 use Rattle.inst_slot.proofs.Growing.{slice_get_at, filtered}
 use Rattle.inst_slot.proofs.Keeping.{same_terms, same_end, lying}
 use Rattle.inst_slot.proofs.Learning.{taken_below}
 use Rattle.inst_ledger.proofs.Opening.{fits_at_place}
-use Rattle.inst_together.specs.Together.{events_of, histories, IsMember, AreTogether, IsSettled, AllAreSettled}
+use Rattle.inst_together.specs.Together.{histories, IsMember, AreTogether, IsSettled, AllAreSettled}
 use Rattle.inst_command.specs.declared.outcome.State.TheVariants.{Unused as StateUnused}
 use Rattle.inst_slot.specs.OwnState.{booked_state, state_of}
 use Rattle.inst_together.specs.Told.{IsInTheBooks}

@@ -1,7 +1,7 @@
 -- The books of all participants of a hub, over one board whose holder has all roles, as a closing finds them and leaves
 -- them: each goes on from what the hub was opened with, and what there is to book and to get was booked and came. This
 -- hub's own choice.
-use Rattle.std.specs.Prelude.{◌≡◌, ◌≢◌, ◌⊎◌, ℕ, true, is_some, List, [], length, slice_get, Contains, Option, Some, None}
+use Rattle.std.specs.Prelude.{◌≡◌, ◌≢◌, ◌⊎◌, ℕ, true, is_some, List, length, slice_get, Contains, Some}
 use Rattle.inst_settings.specs.Settings.{HubSettings, participants}
 use Rattle.inst_command.specs.declared.outcome.Outcome.{Outcome}
 use Rattle.inst_terms.specs.declared.terms.Terms.{Terms}
@@ -18,12 +18,8 @@ use Rattle.inst_model.specs.Closing.{AreClosed}
 use Rattle.inst_model.specs.Fit.{BooksFit}
 use Rattle.inst_model.specs.Opening.{Opening, IsOpening, beginning}
 use Rattle.inst_slot.specs.declared.arrival.Arrival.{Arrival}
-use Rattle.inst_slot.specs.Book.{Book, place_at}
+use Rattle.inst_slot.specs.Book.{Book, events_of, place_at}
 use Rattle.inst_slot.specs.LawfulBoard.{IsLawfulBoard, AllAreAdopted}
-
-abbrev pub events_of : Option Book → List Event
-events_of None = []
-events_of (Some book) = book.events
 
 -- the history of each participant, by its number
 abbrev pub histories : List Book → ℕ → List Event

@@ -1,6 +1,6 @@
 -- Participants that join between two openings: their codes stand behind those of the others, so that each old number stays
 -- what it was, and their books are empty. This hub's own choice.
-use Rattle.std.specs.Prelude.{ℕ, ◌<◌, List, ◌++◌}
+use Rattle.std.specs.Prelude.{ℕ, List, ◌++◌}
 use Rattle.inst_settings.specs.Settings.{HubSettings}
 use Rattle.inst_journal.specs.declared.event.Event.{Event}
 use Rattle.inst_journal.specs.Opened.{HasOpeningsLeft}

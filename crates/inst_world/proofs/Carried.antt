@@ -25,9 +25,9 @@ use Rattle.inst_model.proofs.Events.{taken_found, stands_somewhere}
 use Rattle.inst_model.proofs.Sides.{the_live_are_the_same_on_both_sides}
 use Rattle.inst_model.proofs.Transfers.{as_transfer, live_place}
 use Rattle.inst_slot.specs.declared.arrival.Arrival.{Arrival}
-use Rattle.inst_slot.specs.Book.{Book, place_at, terms_to}
+use Rattle.inst_slot.specs.Book.{events_of, Book, place_at, terms_to}
 use Rattle.inst_slot.proofs.Growing.{slice_get_at}
-use Rattle.inst_world.specs.HasRun.{World, settings_of, events_of, journal_of, StandsWith, StandsFor, IsBoardOf, terms_of, IsWorld, HasRun}
+use Rattle.inst_world.specs.HasRun.{World, settings_of, journal_of, StandsWith, StandsFor, IsBoardOf, terms_of, IsWorld, HasRun}
 use Rattle.inst_world.specs.inner.NextOpening.{books_again, AreOpenedAgain, IsCarryingWorld, HaveFoundBefore, OnlyFinds}
 use Rattle.inst_world.proofs.Exactly.{same_for}
 use Rattle.inst_world.proofs.Reopening.{again_length, again_at, board_opened, begins_undecided}

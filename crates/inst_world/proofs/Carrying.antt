@@ -15,11 +15,11 @@ use Rattle.inst_board.specs.Learning.{Looks}
 use Rattle.inst_board.specs.Plain.{Contents, standing_at, plain_knows, plain_stood, known_is_place}
 use Rattle.inst_board.specs.Laws.{SayTheSame}
 use Rattle.inst_slot.specs.declared.arrival.Arrival.{Arrival}
-use Rattle.inst_slot.specs.Book.{Book, place_at, terms_to}
+use Rattle.inst_slot.specs.Book.{events_of, Book, place_at, terms_to}
 use Rattle.inst_slot.specs.LawfulBoard.{IsLawfulBoard, KeepsOthers}
 use Rattle.inst_slot.specs.Opening.{is_of, is_unfound, awaits, found_at, with_found}
 use Rattle.inst_model.proofs.Basics.{same_transfer_refl}
-use Rattle.inst_world.specs.HasRun.{World, settings_of, events_of}
+use Rattle.inst_world.specs.HasRun.{World, settings_of}
 use Rattle.inst_world.specs.inner.NextOpening.{IsCarrying, IsCarryingWorld, StandsBefore, HaveFoundBefore, OnlyFinds}
 use Rattle.inst_world.proofs.Exactly.{IsTheSame, say_pending, same_through, looked}
 use Rattle.inst_world.proofs.Worlds.{get_set, get_set_other, set_cases}

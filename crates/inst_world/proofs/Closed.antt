@@ -1,5 +1,5 @@
 -- A world that was closed: its journals can open.
-use Rattle.std.proofs.Common.{◌≡◌, ℕ, ◌<◌, ◌++◌, List, subst, arith}
+use Rattle.std.proofs.Common.{◌≡◌, ℕ, ◌++◌, List, subst, arith}
 use Rattle.inst_settings.specs.Settings.{HubSettings}
 use Rattle.inst_command.specs.declared.step.Step.{Step}
 use Rattle.inst_journal.specs.History.{History}

@@ -45,8 +45,8 @@ use Rattle.inst_model.proofs.Settling.{money_is_settled_once}
 use Rattle.inst_model.proofs.Stepping.{replies_are_in_the_trace}
 use Rattle.inst_model.proofs.Totals.{sum_below_same, sum_below_zero}
 use Rattle.inst_slot.proofs.Growing.{snoc_cases}
-use Rattle.inst_slot.specs.Book.{Book}
-use Rattle.inst_world.specs.HasRun.{World, settings_of, HasRun, IsWorld, events_of, journal_of}
+use Rattle.inst_slot.specs.Book.{events_of, Book}
+use Rattle.inst_world.specs.HasRun.{World, settings_of, HasRun, IsWorld, journal_of}
 use Rattle.inst_world.specs.Headline.{Run, run_of, IsRun, SeesTheSame, GotTheSame, IsIsolated, HasOneOutcome, SettlesOnce, AddsUp, BooksOfFit, IsLocal, KeepsTheHeadline}
 
 module _ (s : HubSettings) (run : Run) (is : IsRun s run) where

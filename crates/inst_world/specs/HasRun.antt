@@ -1,7 +1,7 @@
 -- What a world of slots over one board has run: a list of steps since an opening. Its histories are the model's, and
 -- its board has, at each place, the live transfer that the model has there with its outcome, and nothing else. That
 -- one thread holds all slots is this hub's own choice.
-use Rattle.std.specs.Prelude.{◌≡◌, ◌⊎◌, ℕ, ◌<◌, true, List, [], ◌∷◌, length, slice_get, Option, Some, None}
+use Rattle.std.specs.Prelude.{◌≡◌, ◌⊎◌, ℕ, ◌<◌, true, List, ◌∷◌, length, slice_get, Option, Some, None}
 use Rattle.inst_settings.specs.Settings.{HubSettings, participants}
 use Rattle.inst_settings.specs.Lawful.{IsSettings}
 use Rattle.inst_command.specs.declared.outcome.Outcome.{Outcome}
@@ -21,18 +21,13 @@ use Rattle.inst_model.specs.Interleaving.{IsInterleaving}
 use Rattle.inst_model.specs.Transfer.{Transfer, deadline, at_place}
 use Rattle.inst_model.specs.Hub.{outcome, history}
 use Rattle.inst_model.specs.Trace.{answer}
-use Rattle.inst_slot.specs.Book.{Book, place_at, terms_to}
+use Rattle.inst_slot.specs.Book.{Book, events_of, place_at, terms_to}
 use Rattle.inst_slot.specs.LawfulBoard.{IsLawfulBoard, AllAreAdopted}
 
 -- what a contract sees of a world: the books of its participants by their numbers, and its board
 pub record World : Type 0 where
   pub books : List Book
   pub board : Contents
-
--- the events of a book, where there is one
-abbrev pub events_of : Option Book → List Event
-events_of None = []
-events_of (Some book) = book.events
 
 -- the journal of a participant
 abbrev pub journal_of : World → ℕ → List Event

@@ -16,6 +16,7 @@ impl<T, A: Allocator> Model for BoxParts<T, A> {
 }
 
 impl<T, A: Allocator> BoxParts<T, A> {
+    /// The parts of a box, which own what it owned: nothing frees that but `into_box`.
     pub fn of(b: Box<T, A>) -> BoxParts<T, A>
     where
         T: Drop,
@@ -25,6 +26,7 @@ impl<T, A: Allocator> BoxParts<T, A> {
         BoxParts { ptr, alloc }
     }
 
+    /// The box that they were.
     pub fn into_box(self) -> Box<T, A>
         ensures { result.value ≡ self.value }
     {

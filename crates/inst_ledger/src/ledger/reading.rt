@@ -187,14 +187,6 @@ impl Ledger {
         Some(sending.to)
     }
 
-    /// Whether this very submission is taken.
-    pub(crate) fn is_submission_repeat(&self, submission: &Submission) -> bool
-        ensures { result ≡ is_submission_repeat submission.now self.now.book.events }
-    {
-        let _ = &self.settings;
-        is_sending(self.sending(&submission.id), submission)
-    }
-
     /// Whether this transfer was forwarded to the participant.
     pub fn is_forwarded(&self, from: u8, id: &Ident) -> bool
         ensures { result ≡ is_forwarded from id.now self.now.book.events }

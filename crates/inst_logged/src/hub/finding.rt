@@ -19,7 +19,7 @@ use std::alloc::Global;
 impl<D: Disk + Drop> LoggedHub<D> {
     /// The hub that the log on this disk is of: one that opens again from the books that stand behind the log's settings,
     /// or for the first time where none stand there. `Books` where they are none that a hub of these settings can open
-    /// from. It has answered nothing. Reads the whole log into memory, and lets it go.
+    /// from; else the errors of `read_file`. It has answered nothing. Reads the whole log into memory, and lets it go.
     pub fn of_log(
         alloc: Global,
         mode: Mode,

@@ -1,5 +1,5 @@
 //! How a hub in one thread is closed, and its books are carried to the next opening.
-ghost use Rattle.std.specs.Prelude.{◌≡◌, ◌<◌, ◌++◌, ℕ, List, true, false, None, IfOk, IfSome, OnOk};
+ghost use Rattle.std.specs.Prelude.{◌≡◌, ◌++◌, ℕ, List, true, false, None, IfOk, IfSome, OnOk};
 ghost use Rattle.inst_settings.specs.Settings.{is_participant, participants};
 ghost use Rattle.inst_command.specs.declared.step.Step.{Step};
 ghost use Rattle.inst_journal.specs.Opened.{HasOpeningsLeft};

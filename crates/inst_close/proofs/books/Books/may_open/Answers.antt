@@ -1,6 +1,6 @@
 use Rattle.std.proofs.Common.{◌≡◌, ◌<◌, ℕ, arith, length, get_or, ap, ◌∙◌, subst, List}
 use Rattle.inst_journal.specs.declared.event.Event.{Event}
-use Rattle.inst_journal.specs.Opened.{openings, HasOpeningsLeft}
+use Rattle.inst_journal.specs.Opened.{HasOpeningsLeft}
 use Rattle.inst_slot.specs.Book.{Book}
 use Rattle.inst_close.specs.ClosedHub.{ClosedHub}
 use Rattle.inst_close.proofs.Copying.{one_more_few, all_few}

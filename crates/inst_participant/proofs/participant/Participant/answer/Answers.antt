@@ -1,4 +1,4 @@
-use Rattle.std.proofs.Common.{◌≡◌, ⊎_elim, subst, List}
+use Rattle.std.proofs.Common.{⊎_elim, subst, List}
 use Rattle.inst_cell.specs.declared.shared_board.SharedBoard.{SharedBoard}
 use Rattle.inst_cell.specs.Held.{settings_of, knows, has_role, stood, Stays, roles_same}
 use Rattle.inst_board.specs.Learning.{IsAnswer, KnowTheSame}

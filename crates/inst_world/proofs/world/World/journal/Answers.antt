@@ -3,7 +3,8 @@ use Rattle.inst_settings.specs.Settings.{HubSettings}
 use Rattle.inst_settings.specs.Lawful.{IsSettings}
 use Rattle.inst_journal.specs.Sound.{IsSound}
 use Rattle.inst_model.specs.Hub.{history}
-use Rattle.inst_world.specs.HasRun.{World, HasRun, events_of, journal_of}
+use Rattle.inst_slot.specs.Book.{events_of}
+use Rattle.inst_world.specs.HasRun.{World, HasRun, journal_of}
 use Rattle.inst_world.proofs.Worlds.{leads_to}
 use Rattle.inst_world.proofs.world.World.journal.Goals as goal
 
