@@ -1,4 +1,3 @@
-use Rattle.std.proofs.Common.{tt}
 use Rattle.inst_hub.proofs.Calling.{knows_twice, call_more}
 use Rattle.inst_hub.proofs.hub.Hub.call_with.Goals as goal
 
