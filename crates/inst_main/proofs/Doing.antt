@@ -7,7 +7,8 @@ use Rattle.inst_lines.specs.declared.mode.Mode.{Mode}
 use Rattle.inst_options.specs.Options.Task.{Drill, Check}
 use Rattle.inst_options.specs.Asking.{AreChosen, AreWhole, AskToExplain, NameALog, NameTheLog}
 use Rattle.inst_options.specs.declared.wish.LogOptions.{LogOptions}
-use Rattle.inst_main.specs.Program.{AskForADrill, Checks, Drills, FailsAtLines, IsAnswered, IsEnding, IsServed, IsUnanswered, IsUnchecked, IsUndrilled, IsUnexplained, IsUnkept, task_of}
+use Rattle.inst_main.specs.Program.{AskForADrill, Checks, Drills, FailsAtLines, task_of}
+use Rattle.inst_main.specs.inner.Ending.{IsAnswered, IsEnding, IsServed, IsUnanswered, IsUnchecked, IsUndrilled, IsUnexplained, IsUnkept}
 use Rattle.inst_main.specs.declared.ending.Ending.{Ending}
 use Rattle.inst_main.specs.declared.ending.Ending.TheVariants as ending
 use Rattle.inst_main.proofs.Refusing.{undrillable}

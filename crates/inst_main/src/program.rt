@@ -4,11 +4,14 @@ ghost use Rattle.inst_base.specs.declared.fault.Fault.{Fault as SomeFault};
 ghost use Rattle.inst_lines.specs.Answering.{answering, opened};
 ghost use Rattle.inst_lines.specs.Session.{FailsAfter};
 ghost use Rattle.inst_options.specs.Asking.{AskForHelp, AreWrong, IsWished, NameALog};
-ghost use Rattle.inst_main.specs.Program.{status_of, status_of_error, status_of_ending};
+ghost use Rattle.inst_main.specs.Program.{status_of};
+ghost use Rattle.inst_main.specs.inner.Ending.{status_of_error, status_of_ending};
 ghost use Rattle.inst_main.specs.Program.{Answers, Serves, Checks, HasKept, HasChecked, HasDrilled, HasExplained};
 ghost use Rattle.inst_main.specs.Program.{FailsAtLines};
-ghost use Rattle.inst_main.specs.Program.{AreRefused, AskForADrill, AskForAnExplanation, NameNoFault, IsServed, IsEnding};
-ghost use Rattle.inst_main.specs.Program.{IsAnswered, IsUnanswered, Drills, IsUndrilled, IsUnchecked, Explains, IsUnexplained};
+ghost use Rattle.inst_main.specs.Program.{AreRefused, AskForADrill, AskForAnExplanation, NameNoFault};
+ghost use Rattle.inst_main.specs.inner.Ending.{IsServed, IsEnding};
+ghost use Rattle.inst_main.specs.Program.{Drills, Explains};
+ghost use Rattle.inst_main.specs.inner.Ending.{IsAnswered, IsUnanswered, IsUndrilled, IsUnchecked, IsUnexplained};
 
 use crate::ending::Ending;
 use crate::keeping::{keep, next, show};
