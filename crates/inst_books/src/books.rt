@@ -13,7 +13,7 @@ ghost use Rattle.inst_books.specs.Books.{all_events, books_text, books_of_text, 
 ghost use Rattle.inst_books.specs.Books.{AreWritable};
 ghost use Rattle.inst_books.specs.inner.Books.{Keeps};
 
-use crate::write::append_event_in;
+use crate::write::append_event;
 use crate::{BookFault, read_event};
 use inst_base::mention;
 use inst_command::Outcome;
@@ -67,7 +67,7 @@ fn append_book(
 {
     let book = code_text(settings, who);
     for event in events {
-        append_event_in(settings, book, event, out)?;
+        append_event(settings, book, event, out)?;
         out.push(b'\n')?;
     }
     Ok(())

@@ -12,4 +12,3 @@ mod write;
 pub use books::{append_books, read_books};
 pub use fault::BookFault;
 pub use read::read_event;
-pub use write::append_event;

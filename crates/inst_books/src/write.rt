@@ -5,7 +5,7 @@ ghost use Rattle.inst_base.specs.Cents.{is_amount};
 ghost use Rattle.inst_base.specs.Moment.{is_moment};
 ghost use Rattle.inst_base.specs.Text.{is_code, is_identifier, is_reason};
 ghost use Rattle.inst_settings.specs.Settings.{is_participant};
-ghost use Rattle.inst_books.specs.Events.{event_line, data_in, event_can_be_written};
+ghost use Rattle.inst_books.specs.Events.{data_in, event_can_be_written};
 ghost use Rattle.inst_books.specs.inner.Events.{is_name};
 ghost use Rattle.inst_books.specs.Laws.{event_has_form, outcome_has_form};
 ghost use Rattle.inst_books.specs.Events.{funding_data, taken_data, forwarded_data, booked_data, rejected_data};
@@ -19,26 +19,10 @@ use inst_json::code_text;
 use inst_settings::Settings;
 use std::alloc::AllocError;
 
-/// Puts the line of an event in the book of the participant `who`, without its newline, at the end of `out`: compact
-/// JSON with the keys in byte order. Moments are absolute milliseconds, and amounts are cents. After an error a part
-/// of the line may stand at the end.
-#[tactic(auto, unfolding(crate::specs::Events::event_line))]
-pub fn append_event(
-    settings: &Settings,
-    who: u8,
-    event: &Event,
-    out: &mut Vec<u8>,
-) -> Result<(), AllocError>
-    requires book { is_participant settings.now who ≡ true }
-    requires writable { event_can_be_written settings.now event.now ≡ true }
-    ensures text { OnOk result (out.new.items ≡ out.old.items ++ event_line settings.now who event.now) }
-    ensures form { event_has_form event.now ≡ true }
-{
-    append_event_in(settings, code_text(settings, who), event, out)
-}
-
-/// Puts the line of an event in the book of the participant with this code at the end of `out`.
-pub(crate) fn append_event_in(
+/// Puts the line of an event in the book of the participant with this code, without its newline, at the end of `out`:
+/// compact JSON with the keys in byte order. Moments are absolute milliseconds, and amounts are cents. After an error
+/// a part of the line may stand at the end.
+pub(crate) fn append_event(
     settings: &Settings,
     book: &str,
     event: &Event,
