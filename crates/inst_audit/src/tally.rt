@@ -1,29 +1,30 @@
 //! What is counted of a history beside what a ledger keeps.
 ghost use Rattle.std.specs.Prelude.{◌≡◌, ℕ, ◌+◌, ◌-◌, ◌<◌, ◌≤◌, ◌^◌, slice_index, slice_set};
+ghost use Rattle.inst_settings.specs.declared.ranges.TheConstants.{MOST_PARTICIPANTS};
 
-/// One for each number that a participant may have.
-const NUMBERS: usize = 256;
+use inst_settings::MOST_PARTICIPANTS;
 
-/// How many transfers came from each originator, by its number, and how often the hub was opened.
+/// How many transfers came from each originator, by its number, and how often the hub was opened: an entry for each
+/// number that a participant may have.
 #[derive(Clone, Copy, Debug, Drop)]
 pub(crate) struct Tally {
     /// Those that are live.
-    pub(crate) live: [usize; NUMBERS],
+    pub(crate) live: [usize; MOST_PARTICIPANTS],
     /// Those with nothing booked.
-    pub(crate) waiting: [usize; NUMBERS],
+    pub(crate) waiting: [usize; MOST_PARTICIPANTS],
     pub(crate) openings: usize,
 }
 
 impl Tally {
     /// Of an empty history.
     pub(crate) fn new() -> Tally
-        ensures live { (from : ℕ) → from < 256 → slice_index result.live from ≡ 0 }
-        ensures waiting { (from : ℕ) → from < 256 → slice_index result.waiting from ≡ 0 }
+        ensures live { (from : ℕ) → from < MOST_PARTICIPANTS → slice_index result.live from ≡ 0 }
+        ensures waiting { (from : ℕ) → from < MOST_PARTICIPANTS → slice_index result.waiting from ≡ 0 }
         ensures openings { result.openings ≡ 0 }
     {
         Tally {
-            live: [0; NUMBERS],
-            waiting: [0; NUMBERS],
+            live: [0; MOST_PARTICIPANTS],
+            waiting: [0; MOST_PARTICIPANTS],
             openings: 0,
         }
     }

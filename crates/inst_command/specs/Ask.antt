@@ -8,10 +8,11 @@ use Rattle.inst_settings.specs.Settings.{HubSettings, is_participant, is_within_
 use Rattle.inst_command.specs.declared.command.Command.{Command}
 use Rattle.inst_command.specs.declared.command.Command.TheVariants.{Fund, Defund, Submit, Confirm, Reject, Investigate, Fetch, Position, Statement}
 use Rattle.inst_command.specs.declared.ask.Ask.{Ask}
+use Rattle.inst_command.specs.declared.count.TheConstants.{MOST_COUNT}
 
--- whether the number of entries or lines asked for is 1 to 100
+-- whether so many entries or lines can be asked for
 abbrev pub is_count : ℕ → Bool
-is_count count = nat_le 1 count && nat_le count 100
+is_count count = nat_le 1 count && nat_le count MOST_COUNT
 
 -- whether the command is one of a hub with these settings
 abbrev pub command_fits : HubSettings → Command → Bool

@@ -5,6 +5,7 @@ use Rattle.inst_settings.specs.Settings.{HubSettings}
 use Rattle.inst_command.specs.declared.command.Command.TheVariants.{Fund, Defund, Submit, Confirm, Reject}
 use Rattle.inst_command.specs.declared.command.Command.TheVariants.{Investigate, Fetch, Position, Statement}
 use Rattle.inst_command.specs.declared.ask.Ask.{Ask}
+use Rattle.inst_command.specs.declared.count.TheConstants.{MOST_COUNT}
 use Rattle.inst_command.specs.declared.step.Step.TheVariants.{Ask as AskStep, Deliver, Learn, Expire}
 use Rattle.inst_command.specs.declared.submission.Submission.{Submission}
 use Rattle.inst_command.specs.Ask.{command_fits, ask_fits}
@@ -20,7 +21,7 @@ MayMove s cents = (1 ≤ cents) × (cents ≤ s.ceiling)
 
 -- so many entries or lines may be asked for
 abbrev pub MayBeAskedFor : ℕ → Type 0
-MayBeAskedFor count = (1 ≤ count) × (count ≤ 100)
+MayBeAskedFor count = (1 ≤ count) × (count ≤ MOST_COUNT)
 
 -- the beneficiary is a participant, the amount may be moved, and the deadline is a moment: below 2^41
 abbrev pub MayBeSubmitted : HubSettings → Submission → Type 0

@@ -5,11 +5,12 @@ use Rattle.std.specs.Prelude.{ℕ, ◌+◌, ◌*◌, ◌<◌, List, ◌∷◌, I
 use Rattle.inst_base.specs.Cents.{is_amount}
 use Rattle.inst_base.specs.Text.{is_identifier}
 use Rattle.inst_terms.specs.declared.terms.Terms.{Terms}
+use Rattle.inst_terms.specs.declared.terms.TheConstants.{BENEFICIARIES}
 use Rattle.inst_terms.specs.Identifier.{identifier_words}
 
 -- how many beneficiaries the first word can name: the factor of the cents in it
 abbrev pub beneficiaries : ℕ
-beneficiaries = 256
+beneficiaries = BENEFICIARIES
 
 -- the five words
 abbrev pub words_of : Terms → List ℕ
