@@ -127,18 +127,18 @@ dealt_more all0 n i all later new boards d below t1 v1 t2 v2 =
           (snoc_cases boards new b p f);
     }
 
--- the tellers that were admitted by a board that knows nothing
-pub record Seated (all0 : SharedBoard) (next : ℕ) (all : SharedBoard) (tellers : List Sight) : Type 0 where
-  pub enough : length tellers ≡ next
+-- the sights that were admitted by a board that knows nothing
+pub record Seated (all0 : SharedBoard) (next : ℕ) (all : SharedBoard) (sights : List Sight) : Type 0 where
+  pub enough : length sights ≡ next
   pub one : AtOneTable all0 all
   pub same : view_of all ≡ view_of all0
-  pub each : (i : ℕ) (t : Sight) → slice_get tellers i ≡ Some t → IsAdmitted (settings_of all0) (table_of all0) t
+  pub each : (i : ℕ) (t : Sight) → slice_get sights i ≡ Some t → IsAdmitted (settings_of all0) (table_of all0) t
 
-pub seated_more : (all0 : SharedBoard) (i : ℕ) (all later : SharedBoard) (new : Sight) (tellers : List Sight) → ((f : Fact) → ¬ knows all0 f) → Seated all0 i all tellers
+pub seated_more : (all0 : SharedBoard) (i : ℕ) (all later : SharedBoard) (new : Sight) (sights : List Sight) → ((f : Fact) → ¬ knows all0 f) → Seated all0 i all sights
     → AtOneTable all (board_of new) → view_of (board_of new) ≡ told (view_of all)
     → AtOneTable all later → view_of later ≡ view_of all
-    → Seated all0 (i + 1) later (tellers ++ new ∷ [])
-seated_more all0 i all later new tellers nothing d t1 v1 t2 v2 =
+    → Seated all0 (i + 1) later (sights ++ new ∷ [])
+seated_more all0 i all later new sights nothing d t1 v1 t2 v2 =
     let b = board_of new in
     let facts : all_of (view_of b) ≡ all_of (view_of all0) = ap all_of v1 ∙ ap all_of d.same in
     let admitted : IsAdmitted (settings_of all0) (table_of all0) new = record {
@@ -149,20 +149,20 @@ seated_more all0 i all later new tellers nothing d t1 v1 t2 v2 =
     } in
     let many = d.enough in
     record {
-      enough = length-append tellers (new ∷ []) ∙ (let z : length tellers + length (new ∷ []) ≡ i + 1 = omega arith in z);
+      enough = length-append sights (new ∷ []) ∙ (let z : length sights + length (new ∷ []) ≡ i + 1 = omega arith in z);
       one = (t2.0 ∙ d.one.0, t2.1 ∙ d.one.1);
       same = v2 ∙ d.same;
       each = λ p t f. ⊎_elim (λ old. d.each p t old)
           (λ last. subst (λ (x : Sight). IsAdmitted (settings_of all0) (table_of all0) x) last.1 admitted)
-          (snoc_cases tellers new t p f);
+          (snoc_cases sights new t p f);
     }
 
 -- a whole board that knows nothing, dealt
-pub opened_dealt : (s : HubSettings) (n : ℕ) (all : SharedBoard) (boards : List SharedBoard) (tellers : List Sight) → IsWhole s all → AreAdmitted all n tellers → AreDealt all boards → AreOpened s n boards tellers
-opened_dealt s n all boards tellers w are d = record {
+pub opened_dealt : (s : HubSettings) (n : ℕ) (all : SharedBoard) (boards : List SharedBoard) (sights : List Sight) → IsWhole s all → AreAdmitted all n sights → AreDealt all boards → AreOpened s n boards sights
+opened_dealt s n all boards sights w are d = record {
   table = table_of all;
   participants = d.enough ∙ ap participants w.settings;
   board = λ p b at. let x = d.each p b at in record { settings = x.settings ∙ w.settings; table = x.table; role = x.role; known = λ f. (λ h. w.nothing f ((x.known f).0 h), λ h. absurd h) };
-  tellers = are.enough;
-  teller = λ i t at. let x = are.each i t at in record { settings = x.settings ∙ w.settings; table = x.table; roles = x.roles; nothing = x.nothing };
+  sights = are.enough;
+  sight = λ i t at. let x = are.each i t at in record { settings = x.settings ∙ w.settings; table = x.table; roles = x.roles; nothing = x.nothing };
 }

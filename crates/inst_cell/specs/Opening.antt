@@ -1,5 +1,5 @@
--- The boards and tellers of a hub that opens. At first one board has the roles of all participants, and nobody knows of
--- any place; then each participant's board gets that one's role alone, and knows what the one board knew. The tellers
+-- The boards and sights of a hub that opens. At first one board has the roles of all participants, and nobody knows of
+-- any place; then each participant's board gets that one's role alone, and knows what the one board knew. The sights
 -- have no role. This hub's own choice.
 use Rattle.std.specs.Prelude.{◌≡◌, ◌↔◌, ℕ, ◌≤◌, List, [], length, slice_get, Some}
 use Rattle.atomic_table.specs.Seated.{TableId}
@@ -37,7 +37,7 @@ pub record IsDealt (s : HubSettings) (id : TableId) (facts : Fact → Type 0) (p
 abbrev pub IsOpened : HubSettings → TableId → ℕ → SharedBoard → Type 0
 IsOpened s id p b = IsDealt s id (λ f. ⊥) p b
 
--- a teller as the hub opens
+-- the sight of a teller as the hub opens
 pub record IsAdmitted (s : HubSettings) (id : TableId) (t : Sight) : Type 0 where
   pub settings : settings_of (board_of t) ≡ s
   pub table : table_of (board_of t) ≡ id
@@ -50,15 +50,15 @@ pub record AreDealt (all : SharedBoard) (boards : List SharedBoard) : Type 0 whe
   pub each : (p : ℕ) (b : SharedBoard) → slice_get boards p ≡ Some b →
       IsDealt (settings_of all) (table_of all) (knows all) p b
 
--- so many tellers, over the words of `all`
-pub record AreAdmitted (all : SharedBoard) (n : ℕ) (tellers : List Sight) : Type 0 where
-  pub enough : length tellers ≡ n
-  pub each : (i : ℕ) (t : Sight) → slice_get tellers i ≡ Some t → IsAdmitted (settings_of all) (table_of all) t
+-- so many sights, over the words of `all`
+pub record AreAdmitted (all : SharedBoard) (n : ℕ) (sights : List Sight) : Type 0 where
+  pub enough : length sights ≡ n
+  pub each : (i : ℕ) (t : Sight) → slice_get sights i ≡ Some t → IsAdmitted (settings_of all) (table_of all) t
 
--- over one table, a board for each participant, by number, and as many tellers as were wanted
-pub record AreOpened (s : HubSettings) (n : ℕ) (boards : List SharedBoard) (seats : List Sight) : Type 0 where
+-- over one table, a board for each participant, by number, and as many sights as tellers were wanted
+pub record AreOpened (s : HubSettings) (n : ℕ) (boards : List SharedBoard) (sights : List Sight) : Type 0 where
   pub table : TableId
   pub participants : length boards ≡ participants s
   pub board : (p : ℕ) (b : SharedBoard) → slice_get boards p ≡ Some b → IsOpened s table p b
-  pub tellers : length seats ≡ n
-  pub teller : (i : ℕ) (t : Sight) → slice_get seats i ≡ Some t → IsAdmitted s table t
+  pub sights : length sights ≡ n
+  pub sight : (i : ℕ) (t : Sight) → slice_get sights i ≡ Some t → IsAdmitted s table t

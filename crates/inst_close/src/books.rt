@@ -56,8 +56,8 @@ impl Books {
         &self.settings
     }
 
-    /// The book of the participant `who`.
-    pub fn book(&self, who: u8) -> &Journal
+    /// The history of the participant `who`.
+    pub fn journal(&self, who: u8) -> &Journal
         requires { who < participants self.now.settings }
         ensures events { result.now.events ≡ histories self.now.books who }
         ensures sound { IsSound self.now.settings who result.now.events }

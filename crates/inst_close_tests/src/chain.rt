@@ -71,7 +71,7 @@ fn both_counted(books: &Books) -> Result<(Kept, Kept), Fault> {
     if books.settings().participants() < 2 {
         return Err(Fault::BadSettings);
     }
-    Ok((counted(books.book(0)), counted(books.book(1))))
+    Ok((counted(books.journal(0)), counted(books.journal(1))))
 }
 
 /// What the originator is told, once more, of the first and the last that it paid.

@@ -19,9 +19,9 @@ pub(crate) fn sums_of(books: &Books) -> Result<Sums, Fault> {
         return Err(Fault::BadSettings);
     }
     Ok(Sums {
-        first: books.book(0).position(),
-        second: books.book(1).position(),
-        third: books.book(2).position(),
+        first: books.journal(0).position(),
+        second: books.journal(1).position(),
+        third: books.journal(2).position(),
         sum: books.sum(),
         net: books.net(),
     })

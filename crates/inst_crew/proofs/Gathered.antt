@@ -10,20 +10,20 @@ use Rattle.inst_desk.specs.declared.hand.Hand.{Hand}
 use Rattle.inst_hub.specs.declared.teller.Teller.{Teller}
 use Rattle.inst_crew.specs.declared.crew.Crew.{Crew}
 use Rattle.inst_crew.specs.declared.shift.Shift.{Shift}
-use Rattle.inst_crew.specs.inner.Workers.{IsGathered, sights_of}
+use Rattle.inst_crew.specs.inner.Workers.{IsGathered, states_of}
 
 map_more : {X Y : Type 0} (f : X → Y) (xs : List X) (x : X) → map f (xs ++ x ∷ []) ≡ map f xs ++ f x ∷ []
 map_more f [] x = refl
 map_more {X} {Y} f (y ∷ ys) x = ap (λ (l : List Y). f y ∷ l) (map_more f ys x)
 
-sights_more : (ss : List Shift) (s : Shift) → sights_of (ss ++ s ∷ []) ≡ sights_of ss ++ s.sights.items
-sights_more [] s = append-nil s.sights.items
-sights_more (x ∷ xs) s = ap (λ (l : List (Place × State)). x.sights.items ++ l) (sights_more xs s) ∙ sym (append_assoc x.sights.items (sights_of xs) s.sights.items)
+states_more : (ss : List Shift) (s : Shift) → states_of (ss ++ s ∷ []) ≡ states_of ss ++ s.states.items
+states_more [] s = append-nil s.states.items
+states_more (x ∷ xs) s = ap (λ (l : List (Place × State)). x.states.items ++ l) (states_more xs s) ∙ sym (append_assoc x.states.items (states_of xs) s.states.items)
 
-pub gathered_more : (ss : List Shift) (s : Shift) (crew more : Crew) → IsGathered ss crew → more.answered ≡ min (crew.answered + s.answered) (2 ^ 64 - 1) → more.sights.items ≡ crew.sights.items ++ s.sights.items → more.hands.items ≡ crew.hands.items ++ s.hand ∷ [] → more.tellers.items ≡ crew.tellers.items ++ s.teller ∷ [] → IsGathered (ss ++ s ∷ []) more
-gathered_more ss s crew more g answered sights hands tellers = record {
+pub gathered_more : (ss : List Shift) (s : Shift) (crew more : Crew) → IsGathered ss crew → more.answered ≡ min (crew.answered + s.answered) (2 ^ 64 - 1) → more.states.items ≡ crew.states.items ++ s.states.items → more.hands.items ≡ crew.hands.items ++ s.hand ∷ [] → more.tellers.items ≡ crew.tellers.items ++ s.teller ∷ [] → IsGathered (ss ++ s ∷ []) more
+gathered_more ss s crew more g answered states hands tellers = record {
   answered = (let a = sum_by_push (λ (x : Shift). x.answered) ss s in let e = g.answered in omega arith);
-  sights = sights ∙ (ap (λ (l : List (Place × State)). l ++ s.sights.items) g.sights ∙ sym (sights_more ss s));
+  states = states ∙ (ap (λ (l : List (Place × State)). l ++ s.states.items) g.states ∙ sym (states_more ss s));
   hands = hands ∙ (ap (λ (l : List Hand). l ++ s.hand ∷ []) g.hands ∙ sym (map_more (λ (x : Shift). x.hand) ss s));
   tellers = tellers ∙ (ap (λ (l : List Teller). l ++ s.teller ∷ []) g.tellers ∙ sym (map_more (λ (x : Shift). x.teller) ss s));
 }

@@ -17,7 +17,7 @@ use Rattle.inst_crew.specs.declared.worker.Worker.{Worker}
 use Rattle.inst_crew.specs.Crew.{fitting, answered_between}
 use Rattle.inst_crew.specs.Later.{Pairs, IsLaterHand, IsLaterTeller}
 use Rattle.inst_crew.specs.Seen.{IsSeen, AreSeenByOne}
-use Rattle.inst_crew.specs.inner.Workers.{hands_of, tellers_of, sights_of, IsReady, AreReady, Works, AllWork}
+use Rattle.inst_crew.specs.inner.Workers.{hands_of, tellers_of, states_of, IsReady, AreReady, Works, AllWork}
 use Rattle.inst_crew.proofs.Working.{fitting_both, fitting_prefix}
 
 pub first_is : {X : Type 0} (xs : List X) (x y : X) → slice_get (x ∷ xs) 0 ≡ Some y → x ≡ y
@@ -122,13 +122,13 @@ either_side [] ys x i P left right at = right i at
 either_side (z ∷ zs) ys x zero P left right at = left 0 at
 either_side (z ∷ zs) ys x (suc i) P left right at = either_side zs ys x i P (λ j e. left (suc j) e) right at
 
-pub all_seen : (hub : Hub) (d : Desk) (ws : List Worker) (ss : List Shift) → Pairs (Works hub d) ws ss → AreSeenByOne (map (λ s. s.teller) ss) (sights_of ss)
+pub all_seen : (hub : Hub) (d : Desk) (ws : List Worker) (ss : List Shift) → Pairs (Works hub d) ws ss → AreSeenByOne (map (λ s. s.teller) ss) (states_of ss)
 all_seen hub d [] [] p i x at = absurd (nothing_at i x at)
 all_seen hub d [] (s ∷ ss) p i x at = absurd p
 all_seen hub d (w ∷ ws) [] p i x at = absurd p
 all_seen hub d (w ∷ ws) (s ∷ ss) p i x at =
-    either_side s.sights.items (sights_of ss) x i ((j : ℕ) × (t : Teller) × (slice_get (map (λ (y : Shift). y.teller) (s ∷ ss)) j ≡ Some t) × IsSeen t x)
-    (λ j e. (0, s.teller, refl, p.0.sights j x e))
+    either_side s.states.items (states_of ss) x i ((j : ℕ) × (t : Teller) × (slice_get (map (λ (y : Shift). y.teller) (s ∷ ss)) j ≡ Some t) × IsSeen t x)
+    (λ j e. (0, s.teller, refl, p.0.states j x e))
     (λ j e. (let r = all_seen hub d ws ss p.1 j x e in (suc r.0, r.1, r.2, r.3)))
     at
 
@@ -137,8 +137,8 @@ at_left [] us j t e = absurd (nothing_at j t e)
 at_left (x ∷ xs) us zero t e = e
 at_left (x ∷ xs) us (suc j) t e = at_left xs us j t e
 
-pub seen_with : (ts us : List Teller) (sights : List (Place × State)) → AreSeenByOne ts sights → AreSeenByOne (ts ++ us) sights
-seen_with ts us sights seen i x at = let r = seen i x at in (r.0, r.1, at_left ts us r.0 r.1 r.2, r.3)
+pub seen_with : (ts us : List Teller) (states : List (Place × State)) → AreSeenByOne ts states → AreSeenByOne (ts ++ us) states
+seen_with ts us states seen i x at = let r = seen i x at in (r.0, r.1, at_left ts us r.0 r.1 r.2, r.3)
 
 pub pairs_length : {X Y : Type 0} (R : X → Y → Type 0) (xs : List X) (ys : List Y) → Pairs R xs ys → length ys ≡ length xs
 pairs_length R [] [] p = refl

@@ -14,7 +14,7 @@ use Rattle.inst_crew.specs.declared.worker.Worker.{Worker}
 use Rattle.inst_crew.specs.Crew.{answered_between}
 use Rattle.inst_crew.specs.Later.{Pairs, IsLaterHand, IsLaterTeller}
 use Rattle.inst_crew.specs.Seen.{AreSeenByOne}
-use Rattle.inst_crew.specs.inner.Workers.{hands_of, tellers_of, sights_of, Works, AllWork, IsGathered}
+use Rattle.inst_crew.specs.inner.Workers.{hands_of, tellers_of, states_of, Works, AllWork, IsGathered}
 use Rattle.inst_crew.proofs.Pairing.{pairs_both, pairs_from, pairs_hands, pairs_tellers, all_answered, all_seen, seen_with}
 
 -- what a crew promises
@@ -22,11 +22,11 @@ pub record Ran (hub : Hub) (d : Desk) (gs : List Hand) (ts : List Teller) (crew 
   pub hands : Pairs (IsLaterHand d) gs crew.hands.items
   pub tellers : Pairs (IsLaterTeller hub) ts crew.tellers.items
   pub answered : crew.answered ≡ answered_between hub.settings gs crew.hands.items
-  pub sights : AreSeenByOne crew.tellers.items crew.sights.items
+  pub states : AreSeenByOne crew.tellers.items crew.states.items
 
 pub ran : (hub : Hub) (d : Desk) (hands : List Hand) (tellers more after : List Teller) (ws : List Worker) (rs : List (Result Shift AllocError)) (first crew : Crew) (ss : List Shift)
     → hands_of ws ≡ hands → tellers_of ws ≡ tellers → AllWork hub d ws rs → rs ≡ map Ok ss → IsGathered ss first → Pairs (IsLaterTeller hub) more after
-    → crew.hands.items ≡ first.hands.items → crew.tellers.items ≡ first.tellers.items ++ after → crew.answered ≡ first.answered → crew.sights.items ≡ first.sights.items
+    → crew.hands.items ≡ first.hands.items → crew.tellers.items ≡ first.tellers.items ++ after → crew.answered ≡ first.answered → crew.states.items ≡ first.states.items
     → Ran hub d hands (tellers ++ more) crew
 ran hub d hands tellers more after ws rs first crew ss h t all ok g swept ch ct ca cs =
     let pairs : Pairs (Works hub d) ws ss = pairs_from hub d ws ss (subst (λ (l : List (Result Shift AllocError)). AllWork hub d ws l) ok all) in
@@ -40,7 +40,7 @@ ran hub d hands tellers more after ws rs first crew ss h t all ok g swept ch ct 
           (pairs_both (IsLaterTeller hub) (tellers_of ws) more (map (λ (s : Shift). s.teller) ss) after (pairs_tellers hub d ws ss pairs) swept));
       answered = ca ∙ (g.answered ∙ (counts.0 ∙ (ap (λ (l : List Hand). answered_between hub.settings l (map (λ (s : Shift). s.hand) ss)) h
           ∙ ap (λ (l : List Hand). answered_between hub.settings hands l) (sym hs))));
-      sights = subst (λ (l : List Teller). AreSeenByOne l crew.sights.items) (sym ts)
-          (subst (λ (l : List (Place × State)). AreSeenByOne (map (λ (s : Shift). s.teller) ss ++ after) l) (sym (cs ∙ g.sights))
-          (seen_with (map (λ (s : Shift). s.teller) ss) after (sights_of ss) (all_seen hub d ws ss pairs)));
+      states = subst (λ (l : List Teller). AreSeenByOne l crew.states.items) (sym ts)
+          (subst (λ (l : List (Place × State)). AreSeenByOne (map (λ (s : Shift). s.teller) ss ++ after) l) (sym (cs ∙ g.states))
+          (seen_with (map (λ (s : Shift). s.teller) ss) after (states_of ss) (all_seen hub d ws ss pairs)));
     }

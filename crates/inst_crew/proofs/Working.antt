@@ -48,7 +48,7 @@ fitting_fits s job e = ap (λ (b : Bool). length (cond b (job ∷ []) [])) e
 counted_more : (before now after one answered next : ℕ) → answered ≡ min (now - before) (2 ^ 64 - 1) → before ≤ now → after ≡ now + one → next ≡ min (answered + one) (2 ^ 64 - 1) → next ≡ min (after - before) (2 ^ 64 - 1)
 counted_more before now after one answered next e le more is = omega arith
 
-pub works_fitting : (hub : Hub) (d : Desk) (w : Worker) (s r : Shift) (job : Job) → Works hub d w s → IsHandOf d r.hand → IsSameHand s.hand r.hand → put_of r.hand ≡ put_of s.hand → taken_of r.hand ≡ taken_of s.hand ++ job ∷ [] → ask_fits hub.settings job.ask ≡ true → IsOf hub r.teller → KnowsMore s.teller r.teller → r.answered ≡ min (s.answered + 1) (2 ^ 64 - 1) → AreSeen r.teller r.sights.items → Works hub d w r
+pub works_fitting : (hub : Hub) (d : Desk) (w : Worker) (s r : Shift) (job : Job) → Works hub d w s → IsHandOf d r.hand → IsSameHand s.hand r.hand → put_of r.hand ≡ put_of s.hand → taken_of r.hand ≡ taken_of s.hand ++ job ∷ [] → ask_fits hub.settings job.ask ≡ true → IsOf hub r.teller → KnowsMore s.teller r.teller → r.answered ≡ min (s.answered + 1) (2 ^ 64 - 1) → AreSeen r.teller r.states.items → Works hub d w r
 works_fitting hub d w s r job works of same put taken fits is more answered seen = record {
   hand = hand_more d w.hand s.hand r.hand job works.hand of same put taken;
   teller = later_more hub w.teller s.teller r.teller works.teller is more;
@@ -56,7 +56,7 @@ works_fitting hub d w s r job works of same put taken fits is more answered seen
       works.answered (fitting_prefix hub.settings (taken_of w.hand) (taken_of s.hand) works.hand.taken)
       (ap (fitting hub.settings) taken ∙ (fitting_both hub.settings (taken_of s.hand) (job ∷ []) ∙ ap (λ n. fitting hub.settings (taken_of s.hand) + n) (fitting_fits hub.settings job fits)))
       answered;
-  sights = seen;
+  states = seen;
 }
 
 -- the hand took the job
@@ -66,7 +66,7 @@ pub record Took (d : Desk) (h k : Hand) (job : Job) : Type 0 where
   pub put : put_of k ≡ put_of h
   pub taken : taken_of k ≡ taken_of h ++ job ∷ []
 
-pub works_serves : (hub : Hub) (d : Desk) (w : Worker) (s r : Shift) (k : Hand) (job : Job) → Works hub d w s → Took d s.hand k job → r.hand ≡ k → ask_fits hub.settings job.ask ≡ true → IsOf hub r.teller → KnowsMore s.teller r.teller → r.answered ≡ min (s.answered + 1) (2 ^ 64 - 1) → AreSeen r.teller r.sights.items → Works hub d w r
+pub works_serves : (hub : Hub) (d : Desk) (w : Worker) (s r : Shift) (k : Hand) (job : Job) → Works hub d w s → Took d s.hand k job → r.hand ≡ k → ask_fits hub.settings job.ask ≡ true → IsOf hub r.teller → KnowsMore s.teller r.teller → r.answered ≡ min (s.answered + 1) (2 ^ 64 - 1) → AreSeen r.teller r.states.items → Works hub d w r
 works_serves hub d w s r k job works took is fits of more answered seen =
     let t : Took d s.hand r.hand job = subst (λ (x : Hand). Took d s.hand x job) (sym is) took in
     works_fitting hub d w s r job works t.of t.same t.put t.taken fits of more answered seen

@@ -1,4 +1,4 @@
--- What a crew saw of transfers, which its tellers then know. Sights are this hub's own choice.
+-- What a crew saw of transfers, which its tellers then know. This hub's own choice.
 use Rattle.std.specs.Prelude.{◌≡◌, ◌≢◌, ℕ, List, slice_get, Some}
 use Rattle.inst_board.specs.declared.about.About.TheVariants.{Opened, Decided}
 use Rattle.inst_board.specs.declared.place.Place.{Place}
@@ -10,12 +10,12 @@ use Rattle.inst_hub.specs.declared.teller.Teller.{Teller}
 use Rattle.inst_hub.specs.Calls.{knows_of}
 
 -- the teller knows the place opened, with this outcome if the state has one
-pub record IsSeen (t : Teller) (sight : Place × State) : Type 0 where
-  pub opened : knows_of t (about sight.0 Opened)
-  pub used : sight.1 ≢ Unused
-  pub outcome : (o : Outcome) → sight.1 ≡ IsDecided o → knows_of t (about sight.0 (Decided o))
+pub record IsSeen (t : Teller) (pair : Place × State) : Type 0 where
+  pub opened : knows_of t (about pair.0 Opened)
+  pub used : pair.1 ≢ Unused
+  pub outcome : (o : Outcome) → pair.1 ≡ IsDecided o → knows_of t (about pair.0 (Decided o))
 
 -- each is seen by one of these tellers
 abbrev pub AreSeenByOne : List Teller → List (Place × State) → Type 0
-AreSeenByOne tellers sights = (i : ℕ) (sight : Place × State) → slice_get sights i ≡ Some sight →
-    (j : ℕ) × (t : Teller) × (slice_get tellers j ≡ Some t) × IsSeen t sight
+AreSeenByOne tellers states = (i : ℕ) (pair : Place × State) → slice_get states i ≡ Some pair →
+    (j : ℕ) × (t : Teller) × (slice_get tellers j ≡ Some t) × IsSeen t pair

@@ -16,7 +16,7 @@ pub(crate) fn gather(
 {
     let mut crew = Crew {
         answered: 0,
-        sights: Vec::new(alloc),
+        states: Vec::new(alloc),
         hands: Vec::new(alloc),
         tellers: Vec::new(alloc),
     };
@@ -25,10 +25,10 @@ pub(crate) fn gather(
             hand,
             teller,
             answered,
-            sights,
+            states,
         } = result?;
         crew.answered = crew.answered.saturating_add(answered);
-        crew.sights.extend_from_slice(sights.as_slice())?;
+        crew.states.extend_from_slice(states.as_slice())?;
         crew.hands.push(hand)?;
         crew.tellers.push(teller)?;
     }

@@ -77,7 +77,7 @@ fn with_sweeper(crew: Crew, teller: Option<Teller>) -> Result<Crew, AllocError>
     ensures tellers { IfOk result (λ all. all.tellers.items ≡ crew.tellers.items ++ option_to_list teller) }
     ensures hands { IfOk result (λ all. all.hands.items ≡ crew.hands.items) }
     ensures answered { IfOk result (λ all. all.answered ≡ crew.answered) }
-    ensures sights { IfOk result (λ all. all.sights.items ≡ crew.sights.items) }
+    ensures states { IfOk result (λ all. all.states.items ≡ crew.states.items) }
 {
     let mut crew = crew;
     if let Some(teller) = teller {
@@ -113,7 +113,7 @@ pub fn run_crew<R: Threads + Wait + Sync, G: Gate + Sync>(
     ensures parts { IfOk result (λ crew. sum_by parts_of crew.hands.items ≡ sum_by parts_of hands.items) }
     ensures row { IfOk result (λ crew. parts_of_tellers crew.tellers.items ≡ parts_of_tellers (tellers.items ++ sweeper_of sweep)) }
     ensures answered { IfOk result (λ crew. crew.answered ≡ answered_between hub.now.settings hands.items crew.hands.items) }
-    ensures sights { IfOk result (λ crew. AreSeenByOne crew.tellers.items crew.sights.items) }
+    ensures states { IfOk result (λ crew. AreSeenByOne crew.tellers.items crew.states.items) }
 {
     let workers = workers(alloc, hands, tellers)?;
     let (worked, swept) = start(rt, alloc, hub, desk, gate, workers, sweep);

@@ -23,7 +23,7 @@ pub(crate) struct Shift {
     pub(crate) hand: Hand,
     pub(crate) teller: Teller,
     pub(crate) answered: u64,
-    pub(crate) sights: Vec<(Ticket, State)>,
+    pub(crate) states: Vec<(Ticket, State)>,
 }
 
 impl Shift {
@@ -32,30 +32,30 @@ impl Shift {
         ensures hand { result.hand ≡ worker.hand }
         ensures teller { result.teller ≡ worker.teller }
         ensures answered { result.answered ≡ 0 }
-        ensures sights { result.sights.items ≡ [] }
+        ensures states { result.states.items ≡ [] }
     {
         let Worker { hand, teller } = worker;
         Shift {
             hand,
             teller,
             answered: 0,
-            sights: Vec::new(alloc),
+            states: Vec::new(alloc),
         }
     }
 
     /// Peeks at the ticket's transfer and keeps what it sees.
     fn note(&mut self, ticket: Ticket) -> Result<(), AllocError>
         requires opened { knows_of self.old.teller (about ticket Opened) }
-        requires seen { AreSeen self.old.teller self.old.sights.items }
+        requires seen { AreSeen self.old.teller self.old.states.items }
         ensures hand { self.new.hand ≡ self.old.hand }
         ensures of { (hub : Hub) → IsOf hub self.old.teller → IsOf hub self.new.teller }
         ensures knows { KnowsMore self.old.teller self.new.teller }
         ensures answered { self.new.answered ≡ self.old.answered }
-        ensures seen { OnOk result (AreSeen self.new.teller self.new.sights.items) }
+        ensures seen { OnOk result (AreSeen self.new.teller self.new.states.items) }
     {
         mention::<Outcome>();
         let state = self.teller.peek(&ticket);
-        Ok(self.sights.push((ticket, state))?)
+        Ok(self.states.push((ticket, state))?)
     }
 
     /// Puts an ask to the hub, and peeks where there is a ticket.
@@ -68,12 +68,12 @@ impl Shift {
     ) -> Result<(), AllocError>
         requires of { IsOf hub.now self.old.teller }
         requires fits { ask_fits hub.now.settings ask.now ≡ true }
-        requires seen { AreSeen self.old.teller self.old.sights.items }
+        requires seen { AreSeen self.old.teller self.old.states.items }
         ensures hand { self.new.hand ≡ self.old.hand }
         ensures of { IsOf hub.now self.new.teller }
         ensures knows { KnowsMore self.old.teller self.new.teller }
         ensures answered { OnOk result (self.new.answered ≡ min (self.old.answered + 1) (2 ^ 64 - 1)) }
-        ensures seen { OnOk result (AreSeen self.new.teller self.new.sights.items) }
+        ensures seen { OnOk result (AreSeen self.new.teller self.new.states.items) }
     {
         let (_, ticket) = hub.call_with(rt, &mut self.teller, ask, gate)?;
         self.answered = self.answered.saturating_add(1);
@@ -93,7 +93,7 @@ impl Shift {
     ) -> Result<bool, AllocError>
         requires hand { IsHandOf desk.now self.old.hand }
         requires teller { IsOf hub.now self.old.teller }
-        requires seen { AreSeen self.old.teller self.old.sights.items }
+        requires seen { AreSeen self.old.teller self.old.states.items }
         ensures works { OnOk result ((w : Worker) → Works hub.now desk.now w self.old → Works hub.now desk.now w self.new) }
     {
         let Some(job) = desk.take(rt, &mut self.hand) else {

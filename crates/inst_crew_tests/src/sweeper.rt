@@ -36,10 +36,10 @@ fn see<R: Threads + Wait + Sync>(rt: &R, alloc: Global) -> Result<(usize, State,
     fund(rt, &hub, &mut second)?;
     let (desk, hands) = desk(rt, alloc, &[submission()?], 1)?;
     let crew = run_crew(rt, alloc, &hub, &desk, hands, tellers, &Ungated, None)?;
-    let Some((ticket, seen)) = crew.sights.first().copied() else {
+    let Some((ticket, seen)) = crew.states.first().copied() else {
         return Err(Fault::UnknownTransfer);
     };
-    let count = crew.sights.len();
+    let count = crew.states.len();
     let sweep = sweep(&hub, second)?;
     let crew = run_crew(
         rt,

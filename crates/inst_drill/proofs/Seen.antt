@@ -23,14 +23,14 @@ later_at hub (x ∷ ts) (u ∷ us) zero t pairs at =
     (u, refl, subst (λ (y : Teller). KnowsMore y u) (first_is ts x t at) pairs.0.knows)
 later_at hub (x ∷ ts) (u ∷ us) (suc j) t pairs at = later_at hub ts us j t pairs.1 at
 
-pub seen_later : (hub : Hub) (ts us : List Teller) (sights : List (Place × State)) → Pairs (IsLaterTeller hub) ts us → AreSeenByOne ts sights → AreSeenByOne us sights
-seen_later hub ts us sights pairs seen i x at =
+pub seen_later : (hub : Hub) (ts us : List Teller) (states : List (Place × State)) → Pairs (IsLaterTeller hub) ts us → AreSeenByOne ts states → AreSeenByOne us states
+seen_later hub ts us states pairs seen i x at =
     let by = seen i x at in
     let later = later_at hub ts us by.0 by.1 pairs by.2 in
     (by.0, later.0, later.1, seen_more by.1 later.0 x later.2 by.3)
 
-pub none_contradicts : (ts : List Teller) (J : ℕ → List Event) (sights : List (Place × State)) → TellAll ts J → AreSeenByOne ts sights → NoneContradicts J sights
-none_contradicts ts J sights told seen i x at contradicts =
+pub none_contradicts : (ts : List Teller) (J : ℕ → List Event) (states : List (Place × State)) → TellAll ts J → AreSeenByOne ts states → NoneContradicts J states
+none_contradicts ts J states told seen i x at contradicts =
     let by = seen i x at in
     contradicts.2 ((told by.0 by.1 x.0 by.2 by.3.opened).outcome contradicts.0 (by.3.outcome contradicts.0 contradicts.1))
 

@@ -9,9 +9,9 @@ use inst_command::{Outcome, State};
 use inst_hub::Ticket;
 
 /// How many of these transfers the books tell as decided.
-pub(crate) fn decided(books: &Books, sights: &[(Ticket, State)]) -> u64 {
+pub(crate) fn decided(books: &Books, states: &[(Ticket, State)]) -> u64 {
     mention::<Outcome>();
-    sights
+    states
         .iter()
         .filter(|(ticket, _)| matches!(books.told(ticket), State::Decided(_)))
         .count() as u64
@@ -30,11 +30,11 @@ fn contradicts(books: &Books, ticket: &Ticket, seen: State) -> bool
 }
 
 /// How many outcomes were seen that the books don't tell.
-pub(crate) fn contradicted(books: &Books, sights: &[(Ticket, State)]) -> u64
-    ensures { NoneContradicts (histories books.now.books) sights.now → result ≡ 0 }
+pub(crate) fn contradicted(books: &Books, states: &[(Ticket, State)]) -> u64
+    ensures { NoneContradicts (histories books.now.books) states.now → result ≡ 0 }
 {
     let mut count = 0u64;
-    for (ticket, seen) in sights {
+    for (ticket, seen) in states {
         if contradicts(books, ticket, *seen) {
             count = count.saturating_add(1);
         }

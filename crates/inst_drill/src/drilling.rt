@@ -4,6 +4,7 @@ ghost use Rattle.std.specs.Io.KnownBytes.{Appends};
 ghost use Rattle.inst_hub.specs.Calls.{AreOf};
 ghost use Rattle.inst_hub.specs.Opening.{HaveAllParts};
 ghost use Rattle.inst_drill.specs.declared.report.Report.{Report as SomeReport};
+ghost use Rattle.inst_drill.specs.declared.plan.TheConstants.{MOST_DRILL_OPENINGS};
 ghost use Rattle.inst_drill.specs.inner.Chain.{AreAfter, IsOpenedAt};
 ghost use Rattle.inst_drill.specs.Plan.{MayDrill};
 ghost use Rattle.inst_drill.specs.Report.{IsUnited, report_text, reports_text};
@@ -27,7 +28,7 @@ fn open(
     settings: &Settings,
     books: &Option<Books>,
 ) -> Result<(Hub, Vec<Teller>), Fault>
-    requires { (n : ℕ) × (n ≤ 10) × AreAfter settings.now n books.now }
+    requires { (n : ℕ) × (n ≤ MOST_DRILL_OPENINGS) × AreAfter settings.now n books.now }
     ensures settings { IfOk result (λ r. r.0.settings ≡ settings.now) }
     ensures enough { IfOk result (λ r. length r.1.items ≡ 3) }
     ensures of { IfOk result (λ r. AreOf r.0 r.1.items) }

@@ -68,8 +68,8 @@ fn work<R: Threads + Wait + Sync, G: Gate + Sync>(
         tellers,
         jobs: desk.finish(rt, hands).put,
         answered: submitted.answered.saturating_add(confirmed.answered),
-        submitted: submitted.sights,
-        confirmed: confirmed.sights,
+        submitted: submitted.states,
+        confirmed: confirmed.states,
     })
 }
 

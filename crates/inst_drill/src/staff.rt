@@ -44,7 +44,7 @@ pub(crate) struct Work {
     /// How many jobs were answered.
     pub(crate) answered: u64,
     /// What was seen of the transfer of each ticket.
-    pub(crate) sights: Vec<(Ticket, State)>,
+    pub(crate) states: Vec<(Ticket, State)>,
 }
 
 impl Staff {
@@ -102,7 +102,7 @@ impl Staff {
     ) -> Result<Work, AllocError>
         requires { IsStaffOf hub.now desk.now self }
         ensures staff { IfOk result (λ work. IsStaffOf hub.now desk.now work.staff) }
-        ensures sights { IfOk result (λ work. AreSeenByOne (tellers_of work.staff) work.sights.items) }
+        ensures states { IfOk result (λ work. AreSeenByOne (tellers_of work.staff) work.states.items) }
     {
         let Staff {
             mut feeder,
@@ -128,7 +128,7 @@ impl Staff {
                 tellers: crew.tellers,
             },
             answered: crew.answered,
-            sights: crew.sights,
+            states: crew.states,
         })
     }
 
@@ -147,7 +147,7 @@ impl Staff {
         requires plan { IsPlan hub.now.settings plan.now }
         ensures staff { IfOk result (λ work. IsStaffOf hub.now desk.now work.staff) }
         ensures later { IfOk result (λ work. Pairs (IsLaterTeller hub.now) (tellers_of self) (tellers_of work.staff)) }
-        ensures sights { IfOk result (λ work. AreSeenByOne (tellers_of work.staff) work.sights.items) }
+        ensures states { IfOk result (λ work. AreSeenByOne (tellers_of work.staff) work.states.items) }
     {
         let Staff {
             mut feeder,
@@ -183,7 +183,7 @@ impl Staff {
                 tellers,
             },
             answered: crew.answered,
-            sights: crew.sights,
+            states: crew.states,
         })
     }
 

@@ -57,8 +57,8 @@ fn paid(alloc: Global, books: &Books) -> Result<Option<u64>, Fault> {
         return Ok(None);
     }
     for number in 1..=u32::from(TRANSFERS) * u32::from(OPENINGS) {
-        let originator = kept_of(alloc, books.book(A), number)?;
-        let beneficiary = kept_of(alloc, books.book(B), number)?;
+        let originator = kept_of(alloc, books.journal(A), number)?;
+        let beneficiary = kept_of(alloc, books.journal(B), number)?;
         match is_accepted(originator, beneficiary) {
             Some(true) => paid = paid.saturating_add(100),
             Some(false) => {}
@@ -74,7 +74,7 @@ fn are_of(books: &Books, paid: u64) -> bool {
     if books.settings().participants() < 2 {
         return false;
     }
-    let (first, second) = (books.book(A), books.book(B));
+    let (first, second) = (books.journal(A), books.journal(B));
     funded(first) == (9, 20_000)
         && funded(second) == (9, 0)
         && first.position() == u128::from(20_000u64.saturating_sub(paid))

@@ -31,7 +31,7 @@ use Rattle.inst_participant.specs.Answers.{Answered, IsSubmitted, IsTicket}
 use Rattle.inst_participant.specs.declared.follow_up.FollowUp.{FollowUp}
 use Rattle.inst_participant.specs.Following.{follow_up_of, Does}
 use Rattle.inst_participant.specs.Serving.{Serves}
-use Rattle.inst_hub.specs.Calls.{IsCall, Calls, IsLeft, KnowsMore, IsFollowed, knows_of, sights_of}
+use Rattle.inst_hub.specs.Calls.{IsCall, Calls, IsLeft, KnowsMore, IsFollowed, knows_of, fronts_seen}
 use Rattle.inst_hub.specs.inner.Calls.{Asks, Follows}
 
 abbrev Seat : Type 0
@@ -67,7 +67,7 @@ still_knows t mid sight last p h l kept first second = record {
 
 -- what was answered under the lock of the asker
 pub call_of : (h : Hub) (t u : Teller) (ask : Ask) (answer : Reply × Option Place) (x y : Participant) → IsBehind (key_of h.row).words.value ask.who x
-    → GoesOn ask.who x.slot.events t.seat → sights_of u ≡ sights_of t ++ front ask.who x.slot.events ∷ front ask.who y.slot.events ∷ []
+    → GoesOn ask.who x.slot.events t.seat → fronts_seen u ≡ fronts_seen t ++ front ask.who x.slot.events ∷ front ask.who y.slot.events ∷ []
     → IsSound x.slot.settings x.slot.who x.slot.events
     → Serves x ask (Ok answer.0) y
     → Answered x.slot.settings x.slot.who x.slot.events ask answer.0 y.slot.events
@@ -90,7 +90,7 @@ call_of h t u ask answer x y behind goes_on seen sound serves answered ticket =
 
 -- the same at the lock p, which is the asker's
 pub call_at : (h : Hub) (t u : Teller) (ask : Ask) (answer : Reply × Option Place) (x y : Participant) (p : ℕ) → p ≡ ask.who → IsBehind (key_of h.row).words.value p x
-    → GoesOn p x.slot.events t.seat → sights_of u ≡ sights_of t ++ front p x.slot.events ∷ front p y.slot.events ∷ []
+    → GoesOn p x.slot.events t.seat → fronts_seen u ≡ fronts_seen t ++ front p x.slot.events ∷ front p y.slot.events ∷ []
     → IsSound x.slot.settings x.slot.who x.slot.events
     → Serves x ask (Ok answer.0) y
     → Answered x.slot.settings x.slot.who x.slot.events ask answer.0 y.slot.events
@@ -98,11 +98,11 @@ pub call_at : (h : Hub) (t u : Teller) (ask : Ask) (answer : Reply × Option Pla
     → IsCall h t ask answer [] u
 call_at h t u ask answer x y p is behind goes_on seen sound serves answered ticket =
     call_of h t u ask answer x y (subst (λ (n : ℕ). IsBehind (key_of h.row).words.value n x) is behind) (subst (λ (n : ℕ). GoesOn n x.slot.events t.seat) is goes_on)
-    (subst (λ (n : ℕ). sights_of u ≡ sights_of t ++ front n x.slot.events ∷ front n y.slot.events ∷ []) is seen) sound serves answered ticket
+    (subst (λ (n : ℕ). fronts_seen u ≡ fronts_seen t ++ front n x.slot.events ∷ front n y.slot.events ∷ []) is seen) sound serves answered ticket
 
 -- the same, with what is to follow
 pub asks_at : (h : Hub) (t u : Teller) (ask : Ask) (answer : Reply × Option Place) (f : Option FollowUp) (x y : Participant) (p : ℕ) → p ≡ ask.who → IsBehind (key_of h.row).words.value p x
-    → GoesOn p x.slot.events t.seat → sights_of u ≡ sights_of t ++ front p x.slot.events ∷ front p y.slot.events ∷ []
+    → GoesOn p x.slot.events t.seat → fronts_seen u ≡ fronts_seen t ++ front p x.slot.events ∷ front p y.slot.events ∷ []
     → IsSound x.slot.settings x.slot.who x.slot.events
     → Serves x ask (Ok answer.0) y
     → Answered x.slot.settings x.slot.who x.slot.events ask answer.0 y.slot.events
@@ -122,14 +122,14 @@ lock_of h p x y (Some g) behind later fits =
 
 -- what was left where memory was refused
 pub left_at : (h : Hub) (t u : Teller) (ask : Ask) (x y : Participant) (p : ℕ) → p ≡ ask.who → IsBehind (key_of h.row).words.value p x
-    → GoesOn p x.slot.events t.seat → sights_of u ≡ sights_of t ++ front p x.slot.events ∷ front p y.slot.events ∷ []
+    → GoesOn p x.slot.events t.seat → fronts_seen u ≡ fronts_seen t ++ front p x.slot.events ∷ front p y.slot.events ∷ []
     → Serves x ask (Err alloc_error) y → y.slot ≡ x.slot → IsLeft h t ask u
 left_at h t u ask x y p is behind goes_on seen serves same = record {
   found = x;
   left = y;
   behind = subst (λ (n : ℕ). IsBehind (key_of h.row).words.value n x) is behind;
   goes_on = subst (λ (n : ℕ). GoesOn n x.slot.events t.seat) is goes_on;
-  seen = subst (λ (n : ℕ). sights_of u ≡ sights_of t ++ front n x.slot.events ∷ front n y.slot.events ∷ []) is seen;
+  seen = subst (λ (n : ℕ). fronts_seen u ≡ fronts_seen t ++ front n x.slot.events ∷ front n y.slot.events ∷ []) is seen;
   serves = serves;
   same = same;
 }
@@ -143,15 +143,15 @@ pub follows_one : (h : Hub) (f : FollowUp) (t : Teller) (mid last : Seat) (x y :
     → GoesOn f.who x.slot.events t.seat → Sees f.who x.slot.events t.seat mid → Sees f.who y.slot.events mid last → Does f.errand x f.place result y
     → Follows h (Some f) t record { sight = t.sight; seat = last }
 follows_one h f t mid last x y result behind goes_on first second does = record {
-  sights = front f.who x.slot.events ∷ front f.who y.slot.events ∷ [];
+  fronts = front f.who x.slot.events ∷ front f.who y.slot.events ∷ [];
   followed = record { found = x; left = y; behind = behind; goes_on = goes_on; does = (result, does); seen = refl };
   seen = seen_both t.seat mid last f.who x.slot.events y.slot.events first second;
 }
 
 -- what followed goes on from what was seen before the call
-followed_from : (h : Hub) (f : Option FollowUp) (t u : Teller) (sights : List (Front Event)) → KnowsMore t u → IsFollowed h f u sights → IsFollowed h f t sights
-followed_from h None t u sights more done = done
-followed_from h (Some f) t u sights more done = record {
+followed_from : (h : Hub) (f : Option FollowUp) (t u : Teller) (fronts : List (Front Event)) → KnowsMore t u → IsFollowed h f u fronts → IsFollowed h f t fronts
+followed_from h None t u fronts more done = done
+followed_from h (Some f) t u fronts more done = record {
   found = done.found;
   left = done.left;
   behind = done.behind;
@@ -209,16 +209,16 @@ ticket_more S S' more s who command K (Refused f) ticket h = h
 pub call_more : (h : Hub) (t u v : Teller) (ask : Ask) (r : (Reply × Option Place) × Option FollowUp) → Asks h t ask r u → KnowsMore t u → KnowsMore u v → Follows h r.1 u v → Calls h t ask r.0 v
 call_more h t u v ask r asks known more follows =
     let c = asks.0 in
-    let call : IsCall h t ask r.0 follows.sights v = record {
+    let call : IsCall h t ask r.0 follows.fronts v = record {
       found = c.found;
       left = c.left;
       behind = c.behind;
       sound = c.sound;
       goes_on = c.goes_on;
-      seen = follows.seen ∙ (ap (λ (fs : List (Front Event)). fs ++ follows.sights) c.seen
-          ∙ append_assoc (sights_of t) (front ask.who c.found.slot.events ∷ front ask.who c.left.slot.events ∷ []) follows.sights);
+      seen = follows.seen ∙ (ap (λ (fs : List (Front Event)). fs ++ follows.fronts) c.seen
+          ∙ append_assoc (fronts_seen t) (front ask.who c.found.slot.events ∷ front ask.who c.left.slot.events ∷ []) follows.fronts);
       serves = c.serves;
       answered = c.answered;
       ticket = ticket_more (knows_of u) (knows_of v) more.facts h.settings ask.who ask.command c.left.slot.events r.0.0 r.0.1 c.ticket;
     } in
-    (follows.sights, call, subst (λ (f : Option FollowUp). IsFollowed h f t follows.sights) asks.1 (followed_from h r.1 t u follows.sights known follows.followed))
+    (follows.fronts, call, subst (λ (f : Option FollowUp). IsFollowed h f t follows.fronts) asks.1 (followed_from h r.1 t u follows.fronts known follows.followed))

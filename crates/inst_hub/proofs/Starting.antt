@@ -25,7 +25,7 @@ use Rattle.inst_hub.specs.declared.hub.Hub.{Hub}
 use Rattle.inst_participant.specs.Behind.{IsBehind}
 use Rattle.inst_hub.specs.Calls.{AreOf}
 use Rattle.inst_hub.specs.declared.teller.Teller.{Teller}
-use Rattle.inst_hub.specs.Opening.{IsBlank, sights_from, first_sights, IsNew, AreNew, parts_of}
+use Rattle.inst_hub.specs.Opening.{IsBlank, fronts_from, first_fronts, IsNew, AreNew, parts_of}
 use Rattle.inst_hub.specs.inner.Opening.{AreBoards, unboxed, AreBehind, AreParticipants, AreBlank}
 
 none_arrived : (x : Arrival) → Contains [] x → is_some x.index ≡ true
@@ -108,10 +108,10 @@ pub few_before : (before rest all : List Sight) (last : Sight) → before ++ (re
 few_before before rest all last e none =
     sym (length-append before (last ∷ [])) ∙ ap length (ap (λ (l : List Sight). before ++ (l ++ last ∷ [])) (sym none) ∙ e)
 
-pub one_teller : (id : TableId) (key : Outset) (sights : List (Front Event)) (tellers : List Teller) (t : Teller) → AreNew id key sights tellers → IsNew id key sights t → AreNew id key sights (tellers ++ t ∷ [])
-one_teller id key sights tellers t are new i u e = ⊎_elim
+pub one_teller : (id : TableId) (key : Outset) (fronts : List (Front Event)) (tellers : List Teller) (t : Teller) → AreNew id key fronts tellers → IsNew id key fronts t → AreNew id key fronts (tellers ++ t ∷ [])
+one_teller id key fronts tellers t are new i u e = ⊎_elim
     (λ old. are i u old)
-    (λ last. subst (λ (x : Teller). IsNew id key sights x) last.1 new)
+    (λ last. subst (λ (x : Teller). IsNew id key fronts x) last.1 new)
     (snoc_cases tellers t u i e)
 
 pub parts_more : (tellers : List Teller) (t : Teller) → parts_of (tellers ++ t ∷ []) ≡ parts_of tellers + (view_of t.seat).parts
@@ -188,7 +188,7 @@ next_below y xs p below = omega arith
 
 -- what is seen of values with these histories
 sights_match : {A : Type 0} (history : A → List Event) (histories : ℕ → List Event) (a : ℕ) (xs : List (Option A))
-    → ((p : ℕ) → p < length xs → (x : A) × (slice_get xs p ≡ Some (Some x)) × (history x ≡ histories (a + p))) → fronts_of history a xs ≡ sights_from histories a (length xs)
+    → ((p : ℕ) → p < length xs → (x : A) × (slice_get xs p ≡ Some (Some x)) × (history x ≡ histories (a + p))) → fronts_of history a xs ≡ fronts_from histories a (length xs)
 sights_match history histories a [] has = refl
 sights_match history histories a (None ∷ xs) has = let h = has 0 (omega arith) in absurd (first_not h.0 xs h.1)
 sights_match history histories a (Some y ∷ xs) has =
@@ -197,14 +197,14 @@ sights_match history histories a (Some y ∷ xs) has =
     let rest = sights_match history histories (suc a) xs (λ p below. let g = has (suc p) (next_below (Some y) xs p below) in (g.0, g.1, g.2 ∙ ap histories (shifted a p))) in
     λ i. front a (here i) ∷ rest i
 
-pub behind_sights : (w : SharedBoard) (n : ℕ) (histories : ℕ → List Event) (all : List (Option Boxed)) → AreBehind w n histories (unboxed all)
-    → fronts_of (λ (x : Boxed). x.value.slot.events) 0 all ≡ first_sights n histories
-behind_sights w n histories all are =
+pub behind_fronts : (w : SharedBoard) (n : ℕ) (histories : ℕ → List Event) (all : List (Option Boxed)) → AreBehind w n histories (unboxed all)
+    → fronts_of (λ (x : Boxed). x.value.slot.events) 0 all ≡ first_fronts n histories
+behind_fronts w n histories all are =
     sights_match (λ (x : Boxed). x.value.slot.events) histories 0 all (λ p below. let x = behind_values w n histories all are p below in (x.0, x.1, x.3 ∙ ap histories (sym (zero_first p))))
-    ∙ ap (λ (k : ℕ). first_sights k histories) (sym (unboxed_length all) ∙ are.enough)
+    ∙ ap (λ (k : ℕ). first_fronts k histories) (sym (unboxed_length all) ∙ are.enough)
   where
     zero_first : (p : ℕ) → 0 + p ≡ p
     zero_first p = omega arith
 
-pub new_are_of : (h : Hub) (sights : List (Front Event)) (tellers : List Teller) → AreNew (row_id h.row) (key_of h.row) sights tellers → AreOf h tellers
-new_are_of h sights tellers new i t at = let n = new i t at in record { on = n.on; free = n.free; one = n.blank.one }
+pub new_are_of : (h : Hub) (fronts : List (Front Event)) (tellers : List Teller) → AreNew (row_id h.row) (key_of h.row) fronts tellers → AreOf h tellers
+new_are_of h fronts tellers new i t at = let n = new i t at in record { on = n.on; free = n.free; one = n.blank.one }

@@ -11,12 +11,12 @@ use Rattle.inst_participant.specs.Told.{IsToldAll}
 use Rattle.inst_participant.specs.Sweeping.{Sweeps, NothingDue, new_events}
 use Rattle.inst_hub.specs.declared.hub.Hub.{Hub}
 use Rattle.inst_hub.specs.declared.teller.Teller.{Teller}
-use Rattle.inst_hub.specs.Calls.{sights_of}
+use Rattle.inst_hub.specs.Calls.{fronts_seen}
 use Rattle.inst_hub.specs.Sweeping.{IsSweep}
 
 -- the same at the lock p, which is that of `who`
 pub sweep_at : (h : Hub) (t u : Teller) (who at : ℕ) (result : Result ℕ AllocError) (x y : Participant) (p : ℕ) → p ≡ who → IsBehind (key_of h.row).words.value p x
-    → GoesOn p x.slot.events t.seat → sights_of u ≡ sights_of t ++ front p x.slot.events ∷ front p y.slot.events ∷ []
+    → GoesOn p x.slot.events t.seat → fronts_seen u ≡ fronts_seen t ++ front p x.slot.events ∷ front p y.slot.events ∷ []
     → IsToldAll x.slot.events y.slot.events → Sweeps at (is_ok result) x y → IfOk result (λ count. count ≡ new_events x.slot.events y.slot.events)
     → IfOk result (λ count. NothingDue at y) → IsSweep h t who at result u
 sweep_at h t u who at result x y p is behind goes_on seen told sweeps count due = record {
@@ -24,7 +24,7 @@ sweep_at h t u who at result x y p is behind goes_on seen told sweeps count due 
   left = y;
   behind = subst (λ (n : ℕ). IsBehind (key_of h.row).words.value n x) is behind;
   goes_on = subst (λ (n : ℕ). GoesOn n x.slot.events t.seat) is goes_on;
-  seen = subst (λ (n : ℕ). sights_of u ≡ sights_of t ++ front n x.slot.events ∷ front n y.slot.events ∷ []) is seen;
+  seen = subst (λ (n : ℕ). fronts_seen u ≡ fronts_seen t ++ front n x.slot.events ∷ front n y.slot.events ∷ []) is seen;
   told = told;
   sweeps = sweeps;
   count = count;

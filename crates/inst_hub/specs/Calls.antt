@@ -49,26 +49,26 @@ pub record KnowBoth (t other u : Teller) : Type 0 where
   pub parts : (view_of u.seat).parts ≡ (view_of t.seat).parts
 
 -- what the teller has seen behind the locks, in order
-abbrev pub sights_of : Teller → List (Front Event)
-sights_of t = (view_of t.seat).fronts
+abbrev pub fronts_seen : Teller → List (Front Event)
+fronts_seen t = (view_of t.seat).fronts
 
 -- The follow-up was done, under one lock, and nothing else
 -- found, left: what was found behind that lock, and what was left there
 -- goes_on: the history that was found goes on from all that the teller had seen of it
 -- does: what was left is what was found, with the place gone to as the follow-up says
 -- seen: the teller has seen these two histories
-pub record IsDone (h : Hub) (f : FollowUp) (t : Teller) (sights : List (Front Event)) : Type 0 where
+pub record IsDone (h : Hub) (f : FollowUp) (t : Teller) (fronts : List (Front Event)) : Type 0 where
   pub found : Participant
   pub left : Participant
   pub behind : IsBehind (key_of h.row).words.value f.who found
   pub goes_on : GoesOn f.who found.slot.events t.seat
   pub does : (result : Result Bool AllocError) × Does f.errand found f.place result left
-  pub seen : sights ≡ front f.who found.slot.events ∷ front f.who left.slot.events ∷ []
+  pub seen : fronts ≡ front f.who found.slot.events ∷ front f.who left.slot.events ∷ []
 
 -- what is seen of what follows: nothing where nothing follows
 abbrev pub IsFollowed : Hub → Option FollowUp → Teller → List (Front Event) → Type 0
-IsFollowed h None t sights = sights ≡ []
-IsFollowed h (Some f) t sights = IsDone h f t sights
+IsFollowed h None t fronts = fronts ≡ []
+IsFollowed h (Some f) t fronts = IsDone h f t fronts
 
 -- A call of the ask is answered
 -- found, left: what was found behind the asker's lock, and what was left there
@@ -76,21 +76,21 @@ IsFollowed h (Some f) t sights = IsDone h f t sights
 -- seen: the teller has seen these two histories, then what followed, and nothing else
 -- serves: what was left is what was found, after its slot was asked, and nothing else was done to it
 -- answered, ticket: the reply is the model's, with its ticket
-pub record IsCall (h : Hub) (t : Teller) (ask : Ask) (answer : Reply × Option Place) (sights : List (Front Event)) (u : Teller) : Type 0 where
+pub record IsCall (h : Hub) (t : Teller) (ask : Ask) (answer : Reply × Option Place) (fronts : List (Front Event)) (u : Teller) : Type 0 where
   pub found : Participant
   pub left : Participant
   pub behind : IsBehind (key_of h.row).words.value ask.who found
   pub sound : IsSound h.settings ask.who found.slot.events
   pub goes_on : GoesOn ask.who found.slot.events t.seat
-  pub seen : sights_of u ≡ sights_of t ++ front ask.who found.slot.events ∷ front ask.who left.slot.events ∷ sights
+  pub seen : fronts_seen u ≡ fronts_seen t ++ front ask.who found.slot.events ∷ front ask.who left.slot.events ∷ fronts
   pub serves : Serves found ask (Ok answer.0) left
   pub answered : Answered h.settings ask.who found.slot.events ask answer.0 left.slot.events
   pub ticket : IsTicket (knows_of u) h.settings ask.who ask.command left.slot.events answer.0 answer.1
 
 -- a call with what followed from it
 abbrev pub Calls : Hub → Teller → Ask → Reply × Option Place → Teller → Type 0
-Calls h t ask answer u = (sights : List (Front Event)) × (call : IsCall h t ask answer sights u)
-    × IsFollowed h (follow_up_of call.left.slot.events ask.command answer.0 answer.1) t sights
+Calls h t ask answer u = (fronts : List (Front Event)) × (call : IsCall h t ask answer fronts u)
+    × IsFollowed h (follow_up_of call.left.slot.events ask.command answer.0 answer.1) t fronts
 
 -- A call that memory was refused for: the asker's slot was found, and left as it was; at most the place that the ask
 -- decides was looked at
@@ -99,7 +99,7 @@ pub record IsLeft (h : Hub) (t : Teller) (ask : Ask) (u : Teller) : Type 0 where
   pub left : Participant
   pub behind : IsBehind (key_of h.row).words.value ask.who found
   pub goes_on : GoesOn ask.who found.slot.events t.seat
-  pub seen : sights_of u ≡ sights_of t ++ front ask.who found.slot.events ∷ front ask.who left.slot.events ∷ []
+  pub seen : fronts_seen u ≡ fronts_seen t ++ front ask.who found.slot.events ∷ front ask.who left.slot.events ∷ []
   pub serves : Serves found ask (Err alloc_error) left
   pub same : left.slot ≡ found.slot
 

@@ -21,23 +21,23 @@ pub record IsBlank (words : SharedBoard) (t : Sight) : Type 0 where
   pub nothing : (f : Fact) → ¬ sees t f
 
 -- a history for each of n participants, from p on
-abbrev pub sights_from : (ℕ → List Event) → ℕ → ℕ → List (Front Event)
-sights_from J p zero = []
-sights_from J p (suc n) = front p (J p) ∷ sights_from J (suc p) n
+abbrev pub fronts_from : (ℕ → List Event) → ℕ → ℕ → List (Front Event)
+fronts_from J p zero = []
+fronts_from J p (suc n) = front p (J p) ∷ fronts_from J (suc p) n
 
 -- what is seen of n participants with these histories
-abbrev pub first_sights : ℕ → (ℕ → List Event) → List (Front Event)
-first_sights n J = sights_from J 0 n
+abbrev pub first_fronts : ℕ → (ℕ → List Event) → List (Front Event)
+first_fronts n J = fronts_from J 0 n
 
 -- a teller of a hub that opens: it may take a lock, and has seen these histories
-pub record IsNew (id : TableId) (key : Outset) (sights : List (Front Event)) (t : Teller) : Type 0 where
+pub record IsNew (id : TableId) (key : Outset) (fronts : List (Front Event)) (t : Teller) : Type 0 where
   pub on : IsOn id key t.seat
   pub free : IsFree t.seat
-  pub seen : (view_of t.seat).fronts ≡ sights
+  pub seen : (view_of t.seat).fronts ≡ fronts
   pub blank : IsBlank key.words.value t.sight
 
 abbrev pub AreNew : TableId → Outset → List (Front Event) → List Teller → Type 0
-AreNew id key sights tellers = (i : ℕ) (t : Teller) → slice_get tellers i ≡ Some t → IsNew id key sights t
+AreNew id key fronts tellers = (i : ℕ) (t : Teller) → slice_get tellers i ≡ Some t → IsNew id key fronts t
 
 -- the parts of the row that they have
 abbrev pub parts_of : List Teller → ℕ

@@ -11,7 +11,7 @@ use Rattle.inst_participant.specs.Told.{IsToldAll}
 use Rattle.inst_participant.specs.Sweeping.{Sweeps, NothingDue, new_events}
 use Rattle.inst_hub.specs.declared.hub.Hub.{Hub}
 use Rattle.inst_hub.specs.declared.teller.Teller.{Teller}
-use Rattle.inst_hub.specs.Calls.{sights_of}
+use Rattle.inst_hub.specs.Calls.{fronts_seen}
 
 -- A sweep of the participant `who` at the reading
 -- found, left: what was found behind its lock, and what was left there
@@ -25,7 +25,7 @@ pub record IsSweep (h : Hub) (t : Teller) (who at : ℕ) (result : Result ℕ Al
   pub left : Participant
   pub behind : IsBehind (key_of h.row).words.value who found
   pub goes_on : GoesOn who found.slot.events t.seat
-  pub seen : sights_of u ≡ sights_of t ++ front who found.slot.events ∷ front who left.slot.events ∷ []
+  pub seen : fronts_seen u ≡ fronts_seen t ++ front who found.slot.events ∷ front who left.slot.events ∷ []
   pub told : IsToldAll found.slot.events left.slot.events
   pub sweeps : Sweeps at (is_ok result) found left
   pub count : IfOk result (λ count. count ≡ new_events found.slot.events left.slot.events)

@@ -20,7 +20,7 @@ use Rattle.inst_journal.proofs.OwnBookings.{own_unforwarded}
 use Rattle.inst_journal.proofs.Carrying.{carried_push, carried_opened, current_push, current_opened, carried_booked, carried_unbooked}
 use Rattle.inst_journal.proofs.Pushing.{sum_by_push, sum_by-both, list_any_push, first_some_push}
 use Rattle.inst_journal.proofs.Soundness.{sound_induction}
-use Rattle.inst_journal.specs.declared.opening.TheConstants.{MOST_OPENINGS}
+use Rattle.inst_journal.specs.declared.opened.TheConstants.{MOST_OPENINGS}
 
 -- whether the event is a taken submission
 abbrev pub is_submission : Event → Bool

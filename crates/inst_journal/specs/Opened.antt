@@ -5,7 +5,7 @@ use Rattle.std.specs.List.{list_any, filter}
 use Rattle.inst_journal.specs.declared.event.Event.{Event}
 use Rattle.inst_journal.specs.declared.event.Event.TheVariants.{Taken, Forwarded, Opened}
 use Rattle.inst_journal.specs.Booked.{booked}
-use Rattle.inst_journal.specs.declared.opening.TheConstants.{MOST_OPENINGS}
+use Rattle.inst_journal.specs.declared.opened.TheConstants.{MOST_OPENINGS}
 
 abbrev pub is_opening : Event → Bool
 is_opening Opened = true

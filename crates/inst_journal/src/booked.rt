@@ -5,7 +5,7 @@ ghost use Rattle.inst_journal.specs.Booked.{is_taken, is_forwarded, books, booke
 ghost use Rattle.inst_journal.specs.Opened.{takes_live, live_submissions};
 
 use crate::Event;
-use crate::opening::carried;
+use crate::opened::carried;
 use inst_base::Ident;
 use inst_command::Outcome;
 

@@ -4,7 +4,7 @@ ghost use Rattle.inst_journal.specs.Keys.{is_fund_repeat, is_defund_repeat, is_t
 ghost use Rattle.inst_journal.specs.Keys.{refers, has_reference, fundings};
 
 use crate::Event;
-use crate::opening::current;
+use crate::opened::current;
 use inst_base::{Cents, Ident};
 use inst_command::Submission;
 

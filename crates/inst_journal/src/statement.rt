@@ -10,7 +10,7 @@ ghost use Rattle.inst_journal.specs.Statement.{received, paid, accepted, line_of
 
 use crate::booked::is_forwarded;
 use crate::handle::Handled;
-use crate::opening::carried_length;
+use crate::opened::carried_length;
 use crate::{Event, sums};
 use inst_base::{Cents, Fault, Ident, mention};
 use inst_command::{Line, LineKind, Lines, Outcome, Reply};

@@ -72,9 +72,9 @@ fn has_two_live(rt: &impl Abort, journal: &Journal, ids: [Ident; 3]) -> Result<(
     same(rt, journal.openings(), 1);
     same(rt, journal.has_openings_left(), true);
     same(rt, journal.live_submissions(0), 2);
-    same(rt, journal.place_of(0, &first), None);
-    same(rt, journal.place_of(0, &second), Some(0));
-    same(rt, journal.place_of(0, &third), Some(1));
+    same(rt, journal.live_index(0, &first), None);
+    same(rt, journal.live_index(0, &second), Some(0));
+    same(rt, journal.live_index(0, &third), Some(1));
     same(rt, journal.taken_at(0, 0), Some(taken(second)?));
     same(rt, journal.taken_at(0, 1), Some(taken(third)?));
     same(rt, journal.taken_at(0, 2), None);

@@ -18,7 +18,7 @@ use Rattle.inst_model.proofs.Outcomes.{booked_outcome, outcome_stays}
 use Rattle.inst_model.proofs.Rounds.{there_is_a_closing}
 use Rattle.inst_model.proofs.Telling.{same_outcomes}
 use Rattle.inst_model.proofs.Told.{AllTold, all_told}
-use Rattle.inst_journal.specs.declared.opening.TheConstants.{MOST_OPENINGS}
+use Rattle.inst_journal.specs.declared.opened.TheConstants.{MOST_OPENINGS}
 
 -- no step opens a hub
 same_openings : (s : HubSettings) (O : Opening) (L : List Step) (p : ℕ) → openings (history s O L p) ≡ openings (beginning O p)

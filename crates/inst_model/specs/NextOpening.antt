@@ -11,7 +11,7 @@ use Rattle.inst_model.specs.Opening.{Opening, IsOpening, beginning}
 use Rattle.inst_model.specs.Opening.Opening.{First, FromBooks}
 use Rattle.inst_model.specs.Closing.{IsClosing, closing}
 use Rattle.inst_model.specs.Hub.{outcome, history}
-use Rattle.inst_journal.specs.declared.opening.TheConstants.{MOST_OPENINGS}
+use Rattle.inst_journal.specs.declared.opened.TheConstants.{MOST_OPENINGS}
 
 -- the opening from the books of a hub with these steps, the last of which close it
 abbrev pub next_opening : HubSettings → Opening → List Step → Opening

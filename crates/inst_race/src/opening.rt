@@ -38,7 +38,7 @@ fn seated(
     boards: Vec<SharedBoard>,
 ) -> Result<Vec<Participant>, Fault>
     requires lawful { IsSettings settings.now }
-    requires opened { (tellers : List Sight) × AreOpened settings.now 1 boards.items tellers }
+    requires opened { (sights : List Sight) × AreOpened settings.now 1 boards.items sights }
 {
     let mut participants = Vec::new(alloc);
     for (who, board) in boards.into_iter().enumerate() {
@@ -51,6 +51,6 @@ fn seated(
 /// `margin` milliseconds before its deadline on.
 pub(crate) fn open(alloc: Global, places: u16, margin: u32) -> Result<Vec<Participant>, Fault> {
     let settings = settings(alloc, places, margin)?;
-    let (boards, _tellers) = SharedBoard::open(alloc, &settings, 1)?;
+    let (boards, _sights) = SharedBoard::open(alloc, &settings, 1)?;
     seated(alloc, &settings, boards)
 }

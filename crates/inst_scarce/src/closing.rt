@@ -70,9 +70,9 @@ fn read(books: &Books, ticket: &Ticket) -> Result<Said, Flaw> {
     let id = Ident::new("T1")?;
     Ok(Said {
         told: books.told(ticket),
-        has_come: books.book(B).is_forwarded(A, &id),
-        first: books.book(A).position(),
-        second: books.book(B).position(),
+        has_come: books.journal(B).is_forwarded(A, &id),
+        first: books.journal(A).position(),
+        second: books.journal(B).position(),
         net: books.net(),
         sum: books.sum(),
     })

@@ -28,7 +28,7 @@ fn settings(alloc: Global, margin: u32) -> Result<Settings, Fault> {
     Settings::check(codes.to_vec(alloc)?, numbers)
 }
 
-/// The boards of a hub of two, and its teller.
+/// The boards of a hub of two, and the sight of its teller.
 fn open_two(
     alloc: Global,
     margin: u32,
@@ -41,7 +41,7 @@ fn open_two(
     ensures one { IfOk result (λ r. AtOneTable r.0 (board_of r.2)) }
 {
     let settings = settings(alloc, margin)?;
-    let (mut boards, mut tellers) = SharedBoard::open(alloc, &settings, 1)?;
+    let (mut boards, mut sights) = SharedBoard::open(alloc, &settings, 1)?;
     if settings.participants() != 2 || place.index >= settings.places() {
         return Err(Fault::BadSettings);
     }
@@ -51,10 +51,10 @@ fn open_two(
     let Some(first) = boards.pop() else {
         return Err(Fault::BadSettings)
     };
-    let Some(teller) = tellers.pop() else {
+    let Some(sight) = sights.pop() else {
         return Err(Fault::BadSettings)
     };
-    Ok((first, second, teller))
+    Ok((first, second, sight))
 }
 
 fn submit(board: &mut SharedBoard, place: Place, terms: &Terms, deadline: Moment)
@@ -131,12 +131,12 @@ fn seen(
     };
     let deadline = Moment::new(0, 11_000)?;
     let at = Moment::new(0, at)?;
-    let (mut first, mut second, mut teller) = open_two(alloc, margin, place)?;
+    let (mut first, mut second, mut sight) = open_two(alloc, margin, place)?;
     submit(&mut first, place, &terms, deadline);
-    let ticket = first.tell(&mut teller, place);
-    let before = teller.peek(&ticket);
+    let ticket = first.tell(&mut sight, place);
+    let before = sight.peek(&ticket);
     let outcome = answer(&mut second, 1, place, wish, at);
-    Ok((before, outcome, teller.peek(&ticket)))
+    Ok((before, outcome, sight.peek(&ticket)))
 }
 
 #[test]
@@ -194,8 +194,8 @@ fn tellers_are_one_to_sixteen(rt: HostRuntime) -> Result<(), Fault> {
     let settings = settings(rt.alloc(), 0)?;
     for tellers in 0..=MOST_TELLERS + 1 {
         match SharedBoard::open(rt.alloc(), &settings, tellers) {
-            Ok((boards, seats)) => assert!(rt;
-                boards.len() == 2 && seats.len() == usize::from(tellers)
+            Ok((boards, sights)) => assert!(rt;
+                boards.len() == 2 && sights.len() == usize::from(tellers)
             ),
             Err(fault) => {
                 assert_eq!(rt; fault, Fault::BadSettings);

@@ -263,8 +263,8 @@ pub takes_over : (old new : Kept) (w v : Deadlines) (id : List ℕ) (to cents st
 takes_over old new w v id to cents stamp right fits longer adds ok =
     re_listed (takes_right old new (own_ids old.who old.events) (own_ids old.who old.events ++ id ∷ []) w v id to cents stamp right fits refl longer adds ok)
 
-pub own_place : (id : List ℕ) (ids : List (List ℕ)) (r : Option ℕ) → ((k : ℕ) → slice_get ids k ≡ Some id → r ≡ Some k) → ((k : ℕ) → r ≡ Some k → slice_get ids k ≡ Some id) → r ≡ position (is_id id) ids
-own_place id ids r at only = go (position (is_id id) ids) refl r refl
+pub own_index_is : (id : List ℕ) (ids : List (List ℕ)) (r : Option ℕ) → ((k : ℕ) → slice_get ids k ≡ Some id → r ≡ Some k) → ((k : ℕ) → r ≡ Some k → slice_get ids k ≡ Some id) → r ≡ position (is_id id) ids
+own_index_is id ids r at only = go (position (is_id id) ids) refl r refl
   where
     go : (o : Option ℕ) → position (is_id id) ids ≡ o → (f : Option ℕ) → r ≡ f → r ≡ o
     go (Some i) there f e = let x = passes_at (is_id id) ids i there in at i (x.1 ∙ ap (λ (y : List ℕ). Some y) (same x.0 id x.2))

@@ -15,7 +15,7 @@ use Rattle.inst_transfers.specs.declared.transfer.Transfer.{Transfer}
 use Rattle.inst_transfers.specs.State.{State, outcome_in}
 use Rattle.inst_slot.specs.Book.{place_at}
 use Rattle.inst_slot.specs.Asking.{wish_for}
-use Rattle.inst_slot.proofs.OwnIds.{own_place, own_position}
+use Rattle.inst_slot.proofs.OwnIds.{own_index_is, own_position}
 
 -- no place, no request
 pub wish_none : (wish : Wish) (owner : ℕ) (o : Option Outcome) (r : Option ℕ) → r ≡ None → wish_for wish owner o r ≡ None
@@ -30,7 +30,7 @@ none_is (Some x) e = absurd (true≢false e)
 -- an own transfer is live where its place is found
 pub own_position_is : (who : ℕ) (J : List Event) (id : List ℕ) (r : Option ℕ) → ((k : ℕ) → slice_get (own_ids who J) k ≡ Some id → r ≡ Some k) → ((k : ℕ) → r ≡ Some k → slice_get (own_ids who J) k ≡ Some id)
     → position (takes id) (live_taken who J) ≡ r
-own_position_is who J id r at only = sym (own_place id (own_ids who J) r at only ∙ own_position who J id)
+own_position_is who J id r at only = sym (own_index_is id (own_ids who J) r at only ∙ own_position who J id)
 
 -- what isn't in the table wasn't taken
 pub unknown_question : (who : ℕ) (J : List Event) (st : State) (id : List ℕ) → IsRight who J st → st.found (who, id) ≡ None

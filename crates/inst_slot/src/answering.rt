@@ -81,7 +81,7 @@ fn question_about(ledger: &Ledger, id: &Ident) -> Option<Request>
     if found.transfer.outcome.is_some() {
         return None;
     }
-    let index = ledger.own_place(&found)?;
+    let index = ledger.found_index(&found)?;
     let place = Place { owner, index };
     let wish = Wish::Expire;
     Some(Request { found, place, wish })

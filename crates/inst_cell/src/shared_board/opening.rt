@@ -76,7 +76,7 @@ impl SharedBoard {
     /// As many sights, which know as much as this board, which is nothing.
     fn admit(&mut self, alloc: Global, tellers: u8) -> Result<Vec<Sight>, AllocError>
         requires { (f : Fact) → ¬ knows self.old f }
-        ensures tellers { IfOk result (λ all. AreAdmitted self.old tellers all.items) }
+        ensures sights { IfOk result (λ all. AreAdmitted self.old tellers all.items) }
         ensures same { IfOk result (λ _. AtOneTable self.old self.new × (view_of self.new ≡ view_of self.old)) }
     {
         let mut all = Vec::new(alloc);
@@ -96,7 +96,7 @@ impl SharedBoard {
         tellers: u8,
     ) -> Result<(SharedBoard, Vec<Sight>), Fault>
         ensures whole { IfOk result (λ r. IsWhole settings.now r.0) }
-        ensures tellers { IfOk result (λ r. AreAdmitted r.0 tellers r.1.items) }
+        ensures sights { IfOk result (λ r. AreAdmitted r.0 tellers r.1.items) }
         ensures bad { (result ≡ Err Fault.BadSettings) ↔ ¬ MayOpen tellers }
         ensures only { IfErr result (λ e. (e ≡ Fault.Memory) ⊎ (e ≡ Fault.BadSettings)) }
     {

@@ -6,4 +6,4 @@ use Rattle.inst_hub.specs.declared.teller.Teller.{Teller}
 use Rattle.inst_crew.specs.Seen.{IsSeen}
 
 abbrev pub AreSeen : Teller → List (Place × State) → Type 0
-AreSeen t sights = (i : ℕ) (sight : Place × State) → slice_get sights i ≡ Some sight → IsSeen t sight
+AreSeen t states = (i : ℕ) (pair : Place × State) → slice_get states i ≡ Some pair → IsSeen t pair

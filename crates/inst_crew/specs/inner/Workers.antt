@@ -35,21 +35,21 @@ pub record Works (hub : Hub) (d : Desk) (w : Worker) (s : Shift) : Type 0 where
   pub hand : IsLaterHand d w.hand s.hand
   pub teller : IsLaterTeller hub w.teller s.teller
   pub answered : s.answered ≡ min (fitting hub.settings (taken_of s.hand) - fitting hub.settings (taken_of w.hand)) (2 ^ 64 - 1)
-  pub sights : AreSeen s.teller s.sights.items
+  pub states : AreSeen s.teller s.states.items
 
 -- each of these worked, in order, unless memory was refused to it
 pub record AllWork (hub : Hub) (d : Desk) (workers : List Worker) (results : List (Result Shift AllocError)) : Type 0 where
   pub enough : length results ≡ length workers
   pub each : (i : ℕ) (w : Worker) (r : Result Shift AllocError) → slice_get workers i ≡ Some w → slice_get results i ≡ Some r → IfOk r (Works hub d w)
 
--- the sights of all of these
-abbrev pub sights_of : List Shift → List (Place × State)
-sights_of [] = []
-sights_of (s ∷ ss) = s.sights.items ++ sights_of ss
+-- the states of all of these
+abbrev pub states_of : List Shift → List (Place × State)
+states_of [] = []
+states_of (s ∷ ss) = s.states.items ++ states_of ss
 
 -- the crew is what these did together
 pub record IsGathered (shifts : List Shift) (crew : Crew) : Type 0 where
   pub answered : crew.answered ≡ min (sum_by (λ s. s.answered) shifts) (2 ^ 64 - 1)
-  pub sights : crew.sights.items ≡ sights_of shifts
+  pub states : crew.states.items ≡ states_of shifts
   pub hands : crew.hands.items ≡ map (λ s. s.hand) shifts
   pub tellers : crew.tellers.items ≡ map (λ s. s.teller) shifts

@@ -7,15 +7,15 @@ use Rattle.inst_journal.specs.declared.event.Event.{Event}
 use Rattle.inst_row.specs.declared.view.Front.{Front}
 use Rattle.inst_hub.specs.declared.hub.Hub.{Hub}
 use Rattle.inst_hub.specs.declared.teller.Teller.{Teller}
-use Rattle.inst_hub.specs.Calls.{sights_of, IsFollowed, IsCall}
+use Rattle.inst_hub.specs.Calls.{fronts_seen, IsFollowed, IsCall}
 use Rattle.inst_participant.specs.declared.follow_up.FollowUp.{FollowUp}
 use Rattle.inst_participant.specs.Following.{follow_up_of}
 
 -- what followed was seen, nothing else was, and nothing is forgotten
 pub record Follows (h : Hub) (f : Option FollowUp) (t u : Teller) : Type 0 where
-  pub sights : List (Front Event)
-  pub followed : IsFollowed h f t sights
-  pub seen : sights_of u ≡ sights_of t ++ sights
+  pub fronts : List (Front Event)
+  pub followed : IsFollowed h f t fronts
+  pub seen : fronts_seen u ≡ fronts_seen t ++ fronts
 
 -- a call, and what is to follow from it
 abbrev pub Asks : Hub → Teller → Ask → (Reply × Option Place) × Option FollowUp → Teller → Type 0

@@ -11,7 +11,7 @@ ghost use Rattle.inst_world.specs.inner.NextOpening.{IsOpenedBelow};
 ghost use Rattle.inst_row.specs.Row.{row_id, key_of};
 ghost use Rattle.inst_hub.specs.Calls.{AreOf};
 ghost use Rattle.inst_hub.specs.Founding.{HasOpened};
-ghost use Rattle.inst_hub.specs.Opening.{AreNew, first_sights, HaveAllParts};
+ghost use Rattle.inst_hub.specs.Opening.{AreNew, first_fronts, HaveAllParts};
 ghost use Rattle.inst_hub.specs.inner.Opening.{unboxed, AreBehind};
 ghost use Rattle.inst_hub.specs.NextOpening.{histories_from};
 ghost use Rattle.inst_hub.specs.inner.NextOpening.{AreCarried, pairs, seated};
@@ -99,7 +99,7 @@ impl Hub {
         ensures settings { IfOk result (λ r. r.0.settings ≡ settings) }
         ensures enough { IfOk result (λ r. length r.1.items ≡ tellers) }
         ensures of { IfOk result (λ r. AreOf r.0 r.1.items) }
-        ensures new { IfOk result (λ r. AreNew (row_id r.0.row) (key_of r.0.row) (first_sights (participants settings) (histories_from journals.now)) r.1.items) }
+        ensures new { IfOk result (λ r. AreNew (row_id r.0.row) (key_of r.0.row) (first_fronts (participants settings) (histories_from journals.now)) r.1.items) }
         ensures parts { IfOk result (λ r. HaveAllParts r.1.items) }
         ensures opened { IfOk result (λ r. HasOpened (FromBooks (books_of journals.now)) r.0) }
         ensures bad { (result ≡ Err Fault.BadSettings) ↔ ¬ MayOpen tellers }

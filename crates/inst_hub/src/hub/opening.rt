@@ -9,7 +9,7 @@ ghost use Rattle.inst_model.specs.Opening.{First};
 ghost use Rattle.inst_participant.specs.Behind.{IsBehind};
 ghost use Rattle.inst_hub.specs.Founding.{HasOpened};
 ghost use Rattle.inst_hub.specs.Calls.{AreOf};
-ghost use Rattle.inst_hub.specs.Opening.{AreNew, first_sights, HaveAllParts};
+ghost use Rattle.inst_hub.specs.Opening.{AreNew, first_fronts, HaveAllParts};
 ghost use Rattle.inst_hub.specs.inner.Opening.{AreBoards, unboxed, AreParticipants, AreBlank};
 
 use super::Hub;
@@ -101,7 +101,7 @@ impl Hub {
         ensures settings { IfOk result (λ r. r.0.settings ≡ settings) }
         ensures enough { IfOk result (λ r. length r.1.items ≡ tellers) }
         ensures of { IfOk result (λ r. AreOf r.0 r.1.items) }
-        ensures new { IfOk result (λ r. AreNew (row_id r.0.row) (key_of r.0.row) (first_sights (participants settings) (λ p. [])) r.1.items) }
+        ensures new { IfOk result (λ r. AreNew (row_id r.0.row) (key_of r.0.row) (first_fronts (participants settings) (λ p. [])) r.1.items) }
         ensures parts { IfOk result (λ r. HaveAllParts r.1.items) }
         ensures opened { IfOk result (λ r. HasOpened First r.0) }
         ensures bad { (result ≡ Err Fault.BadSettings) ↔ ¬ MayOpen tellers }

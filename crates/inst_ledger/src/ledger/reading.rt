@@ -100,7 +100,7 @@ impl Ledger {
 
     /// The index of the place of the participant's own transfer that was found, where it is live. It looks
     /// nothing up by its key.
-    pub fn own_place(&self, found: &Found) -> Option<u16>
+    pub fn found_index(&self, found: &Found) -> Option<u16>
         requires there { IsFound self.now.table found.now }
         requires own { found.now.from ≡ self.now.book.who }
         ensures at { (k : ℕ) → slice_get (own_ids self.now.book.who self.now.book.events) k ≡ Some found.now.id → result ≡ Some k }

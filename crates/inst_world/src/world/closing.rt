@@ -91,7 +91,7 @@ impl World {
         ensures books { IfOk result (λ books. IfSome books (λ journals. (O : Opening) (L : List Step) → HasRun O L self.old →
             AreCarried self.old.board.settings O L journals.items)) }
         ensures can { IfOk result (λ books. IfSome books (λ journals. CanOpenFrom self.old.board.settings journals.items)) }
-        ensures few { IfOk result (λ books. books ≡ None → (O : Opening) (L : List Step) → HasRun O L self.old →
+        ensures many { IfOk result (λ books. books ≡ None → (O : Opening) (L : List Step) → HasRun O L self.old →
             ¬ ((p : ℕ) → HasOpeningsLeft (history self.old.board.settings O (closing self.old.board.settings ++ L) p))) }
         ensures ran { OnOk result ((O : Opening) (L : List Step) → HasRun O L self.old → HasRun O (closing self.old.board.settings ++ L) self.new) }
         ensures settings { self.new.board.settings ≡ self.old.board.settings }

@@ -26,7 +26,7 @@ together g c =
     let all = c.in_ok-crew.ensures.all in
     let e = c.in_ok-crew-2.ensures in
     ran c.args.hub.now c.args.desk.now c.args.hands.items c.args.tellers.items (sweeper_of c.args.sweep) (option_to_list c.in_ok-sweeper.sweeper) c.in_ok-workers.workers.items c.in_ok-results.results.items
-    c.in_ok-crew.crew c.in_ok-crew-2.crew all.0 c.in_ok-workers.ensures.hands c.in_ok-workers.ensures.tellers worked all.1 all.2 swept e.hands e.tellers e.answered e.sights
+    c.in_ok-crew.crew c.in_ok-crew-2.crew all.0 c.in_ok-workers.ensures.hands c.in_ok-workers.ensures.tellers worked all.1 all.2 swept e.hands e.tellers e.answered e.states
 
 pub returns-clause-hands : goal.returns-clause-hands
 returns-clause-hands g c = (together g c).hands
@@ -43,8 +43,8 @@ returns-clause-parts g c = same_parts _ _ _ (together g c).hands
 pub returns-clause-answered : goal.returns-clause-answered
 returns-clause-answered g c = (together g c).answered
 
-pub returns-clause-sights : goal.returns-clause-sights
-returns-clause-sights g c = (together g c).sights
+pub returns-clause-states : goal.returns-clause-states
+returns-clause-states g c = (together g c).states
 
 pub returns-clause-enough : goal.returns-clause-enough
 returns-clause-enough g c =

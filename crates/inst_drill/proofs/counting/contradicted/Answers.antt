@@ -8,7 +8,7 @@ pub loop-ticket-preserved : goal.loop-ticket-preserved
 loop-ticket-preserved c = λ none.
     let index = c.loop-ticket.ticket-index in
     let item = c.loop-ticket-item.result in
-    let at : slice_get c.args.sights.now index ≡ Some item = slice_get-get_or c.args.sights.now index item c.loop-ticket-test.true ∙ ap (λ x. Some x) (sym c.loop-ticket-item.is) in
+    let at : slice_get c.args.states.now index ≡ Some item = slice_get-get_or c.args.states.now index item c.loop-ticket-test.true ∙ ap (λ x. Some x) (sym c.loop-ticket-item.is) in
     elim c.if-contradicts.branch [
       | then-contradicts w ↦ absurd (none index item at (c.contradicts.ensures.yes w.if-contradicts.true))
       | else-contradicts w ↦ w.count-is ∙ c.loop-ticket.invariant none

@@ -4,4 +4,4 @@ use Rattle.inst_drill.specs.inner.Report.{NoneContradicts}
 use Rattle.inst_drill.proofs.counting.contradicted.Given as goal
 
 abbrev pub invariant-loop-ticket : goal.invariant-loop-ticket
-invariant-loop-ticket l = NoneContradicts (histories l.books.books) l.sights → l.count ≡ 0
+invariant-loop-ticket l = NoneContradicts (histories l.books.books) l.states → l.count ≡ 0

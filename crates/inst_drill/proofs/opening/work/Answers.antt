@@ -28,10 +28,10 @@ returns-clause-parts g c =
 
 pub returns-clause-submitted : goal.returns-clause-submitted
 returns-clause-submitted g c =
-    subst (λ (l : List Teller). AreSeenByOne l c.in_ok-submitted.submitted.sights.items) (sym c.in_ok-hands.ensures.tellers)
-    (seen_later c.args.hub.now _ _ _ c.in_ok-sweep.ensures.later (seen_later c.args.hub.now _ _ _ c.in_ok-confirmed.ensures.later c.in_ok-submitted.ensures.sights))
+    subst (λ (l : List Teller). AreSeenByOne l c.in_ok-submitted.submitted.states.items) (sym c.in_ok-hands.ensures.tellers)
+    (seen_later c.args.hub.now _ _ _ c.in_ok-sweep.ensures.later (seen_later c.args.hub.now _ _ _ c.in_ok-confirmed.ensures.later c.in_ok-submitted.ensures.states))
 
 pub returns-clause-confirmed : goal.returns-clause-confirmed
 returns-clause-confirmed g c =
-    subst (λ (l : List Teller). AreSeenByOne l c.in_ok-confirmed.confirmed.sights.items) (sym c.in_ok-hands.ensures.tellers)
-    (seen_later c.args.hub.now _ _ _ c.in_ok-sweep.ensures.later c.in_ok-confirmed.ensures.sights)
+    subst (λ (l : List Teller). AreSeenByOne l c.in_ok-confirmed.confirmed.states.items) (sym c.in_ok-hands.ensures.tellers)
+    (seen_later c.args.hub.now _ _ _ c.in_ok-sweep.ensures.later c.in_ok-confirmed.ensures.states)

@@ -26,7 +26,7 @@ returns-in_err-index c =
     let id = c.args.id.now in
     let found = c.in_ok-found.ensures.found in
     let at = own_position_is kept.who kept.events id None
-    (λ k there. let was : c.own_place.result ≡ None = c.in_err-index.was in let at : c.own_place.result ≡ Some k = c.own_place.ensures.at k (there ∙ ap (λ (x : List ℕ). Some x) (sym found.1)) in sym was ∙ at)
+    (λ k there. let was : c.found_index.result ≡ None = c.in_err-index.was in let at : c.found_index.result ≡ Some k = c.found_index.ensures.at k (there ∙ ap (λ (x : List ℕ). Some x) (sym found.1)) in sym was ∙ at)
     (λ k e. let no : ⊥ = cc in absurd no) in
     subst (λ (r : Option Request). Gives c.args.ledger.now (wish_for Expire kept.who (booked kept.who id kept.events) (position (takes id) (live_taken kept.who kept.events))) id r) (sym c.from_residual-in_err-index.ensures)
     (wish_none Expire kept.who (booked kept.who id kept.events) (position (takes id) (live_taken kept.who kept.events)) at)
@@ -43,11 +43,11 @@ returns c =
     let there = ap (λ (n : ℕ). found_at l.table.entries (n, id)) (sym mine) ∙ ap (λ (i : List ℕ). found_at l.table.entries (f.from, i)) (sym named) ∙ found.2.transfer in
     let none = sym c.is_some.ensures ∙ c.if-is_some.false in
     let index = c.in_ok-index.index in
-    let was : c.own_place.result ≡ Some index = c.in_ok-index.was in
-    let place : (k : ℕ) → slice_get (own_ids kept.who kept.events) k ≡ Some f.id → Some index ≡ Some k = λ k here. sym was ∙ c.own_place.ensures.at k here in
+    let was : c.found_index.result ≡ Some index = c.in_ok-index.was in
+    let place : (k : ℕ) → slice_get (own_ids kept.who kept.events) k ≡ Some f.id → Some index ≡ Some k = λ k here. sym was ∙ c.found_index.ensures.at k here in
     let at = own_position_is kept.who kept.events id (Some index)
     (λ k here. place k (here ∙ ap (λ (x : List ℕ). Some x) (sym named)))
-    (λ k e. c.own_place.ensures.only k (was ∙ e) ∙ ap (λ (x : List ℕ). Some x) named) in
+    (λ k e. c.found_index.ensures.only k (was ∙ e) ∙ ap (λ (x : List ℕ). Some x) named) in
     record {
       is = known_question kept.who kept.events (state_in l.table) id f.transfer index c.in_ok-found.ensures.right there none at ∙ ap (λ (n : ℕ). Some (place_at n index, Expire)) (sym c.who-owner.ensures);
       there = found.2;
@@ -55,7 +55,7 @@ returns c =
       id_is = named;
       expiring = λ h. record {
         own = c.who-owner.ensures;
-        at = c.own_place.ensures.only index was ∙ ap (λ (x : List ℕ). Some x) named;
+        at = c.found_index.ensures.only index was ∙ ap (λ (x : List ℕ). Some x) named;
         only = λ k here. let both = place k (here ∙ ap (λ (x : List ℕ). Some x) (sym named)) in cc;
       };
     }

@@ -22,6 +22,6 @@ returns-clause-staff g c =
       parts = ap parts_of (sym c.in-Some.ensures.items) ∙ (crew.row ∙ before.parts);
     }
 
-pub returns-clause-sights : goal.returns-clause-sights
-returns-clause-sights g c =
-    subst (λ (l : List Teller). AreSeenByOne l c.in_ok-crew.crew.sights.items) c.in-Some.ensures.items c.in_ok-crew.ensures.sights
+pub returns-clause-states : goal.returns-clause-states
+returns-clause-states g c =
+    subst (λ (l : List Teller). AreSeenByOne l c.in_ok-crew.crew.states.items) c.in-Some.ensures.items c.in_ok-crew.ensures.states

@@ -7,7 +7,7 @@ use Rattle.inst_settings.specs.Settings.{participants}
 use Rattle.inst_hub.specs.Founding.{outset_of}
 use Rattle.inst_hub.specs.Opening.{AreNew}
 use Rattle.inst_hub.specs.inner.Opening.{unboxed}
-use Rattle.inst_hub.proofs.Starting.{unboxed_length, opened_behind, behind_sights, new_are_of}
+use Rattle.inst_hub.proofs.Starting.{unboxed_length, opened_behind, behind_fronts, new_are_of}
 use Rattle.inst_hub.proofs.Founding.{first_since, first_carried}
 use Rattle.inst_hub.proofs.hub.Hub.open.Goals as goal
 
@@ -30,7 +30,7 @@ returns-clause-new c =
     let at : slice_get c.in_ok-boards.boards.items 0 ≡ Some c.in-Some.first.now = search rules in
     let is : c.of-words.result.value ≡ c.in-Some.first.now = search rules in
     let are = opened_behind c.args.settings c.args.tellers c.in_ok-boards.boards.items c.in_ok-boards.sights.items (unboxed c.in_ok-all.all.items) c.in-Some.first.now c.of-words.result.value c.in_ok-boards.ensures.ok c.in_ok-all.ensures.ok at is in
-    subst (λ (fs : List (Front Event)). AreNew (row_id c.in_ok-row.row) (key_of c.in_ok-row.row) fs c.in_ok-tellers.tellers.items) (c.in_ok-row.ensures.seen ∙ behind_sights _ _ _ c.in_ok-all.all.items are) c.in_ok-tellers.ensures.new
+    subst (λ (fs : List (Front Event)). AreNew (row_id c.in_ok-row.row) (key_of c.in_ok-row.row) fs c.in_ok-tellers.tellers.items) (c.in_ok-row.ensures.seen ∙ behind_fronts _ _ _ c.in_ok-all.all.items are) c.in_ok-tellers.ensures.new
 
 pub returns-clause-opened : goal.returns-clause-opened
 returns-clause-opened c = λ p below.

@@ -9,7 +9,7 @@ use Rattle.inst_journal.proofs.Carrying.{carried_opened}
 use Rattle.inst_hub.specs.Founding.{outset_of}
 use Rattle.inst_hub.specs.Opening.{AreNew}
 use Rattle.inst_hub.specs.NextOpening.{histories_from}
-use Rattle.inst_hub.proofs.Starting.{unboxed_length, behind_sights, new_are_of}
+use Rattle.inst_hub.proofs.Starting.{unboxed_length, behind_fronts, new_are_of}
 use Rattle.inst_hub.proofs.Reopening.{may_open, blank_admitted}
 use Rattle.inst_hub.proofs.Founding.{first_since, first_carried}
 use Rattle.inst_hub.proofs.hub.Hub.open_from.Goals as goal
@@ -22,7 +22,7 @@ open-requires c = record {
 pub admit-requires-clause-sights : goal.admit-requires-clause-sights
 admit-requires-clause-sights c =
     let words : (key_of c.in_ok-row.row).words.value ≡ c.in_ok-whole.whole = ap (λ k. k.words.value) c.in_ok-row.ensures.row.1 ∙ c.of-words.ensures in
-    let are = c.in_ok-whole.ensures.tellers in (
+    let are = c.in_ok-whole.ensures.sights in (
       subst (λ (n : ℕ). MayOpen n) (sym are.enough) (may_open c.open_whole.result _ _ c.args.tellers c.in_ok-whole.was c.open_whole.ensures.bad.1),
       blank_admitted c.in_ok-whole.whole (key_of c.in_ok-row.row).words.value c.args.tellers c.in_ok-whole.sights.items are words,
     )
@@ -36,7 +36,7 @@ returns-clause-of c = new_are_of _ _ c.in_ok-tellers.tellers.items c.in_ok-telle
 pub returns-clause-new : goal.returns-clause-new
 returns-clause-new c =
     subst (λ (fs : List (Front Event)). AreNew (row_id c.in_ok-row.row) (key_of c.in_ok-row.row) fs c.in_ok-tellers.tellers.items)
-    (c.in_ok-row.ensures.seen ∙ behind_sights c.in_ok-whole.whole (participants c.args.settings) (histories_from c.args.journals.now) c.in_ok-all.all.items c.in_ok-all.ensures.ok) c.in_ok-tellers.ensures.new
+    (c.in_ok-row.ensures.seen ∙ behind_fronts c.in_ok-whole.whole (participants c.args.settings) (histories_from c.args.journals.now) c.in_ok-all.all.items c.in_ok-all.ensures.ok) c.in_ok-tellers.ensures.new
 
 pub returns-clause-opened : goal.returns-clause-opened
 returns-clause-opened c = λ p below.

@@ -12,8 +12,8 @@ returns-clause-can c =
     let few = subst (λ (js : List History). (p : ℕ) → HasOpeningsLeft (books_of js p)) c.deref.ensures.value (c.may_open.ensures.few c.if-not-may_open.false) in
     subst (λ (t : HubSettings). CanOpenFrom t journals) c.in_ok-close.ensures.settings (closed_can c.close.new.self journals c.in_ok-close.ensures.closed c.in_ok-journals.ensures.ok few)
 
-pub returns-then-not-may_open-clause-few : goal.returns-then-not-may_open-clause-few
-returns-then-not-may_open-clause-few c = λ none O L run few.
+pub returns-then-not-may_open-clause-many : goal.returns-then-not-may_open-clause-many
+returns-then-not-may_open-clause-many c = λ none O L run few.
     let journals : List History = c.in_ok-journals.journals.items in
     c.may_open.ensures.many c.if-not-may_open.true
     (subst (λ (js : List History). (p : ℕ) → HasOpeningsLeft (books_of js p)) (sym c.deref.ensures.value)

@@ -3,7 +3,7 @@ use Rattle.std.specs.Prelude.{slice_get}
 use Rattle.inst_ledger.specs.Book.{BookAndRoom}
 use Rattle.inst_ledger.specs.Right.{own_ids}
 use Rattle.inst_ledger.proofs.Beside.{few_live}
-use Rattle.inst_ledger.proofs.ledger.Ledger.own_place.Goals as goal
+use Rattle.inst_ledger.proofs.ledger.Ledger.found_index.Goals as goal
 
 pub overflow_cast-result : goal.overflow_cast-result
 overflow_cast-result c =
