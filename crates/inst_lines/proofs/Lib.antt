@@ -2,7 +2,6 @@ pub mod LinesLemmas
 pub mod AnswersLemmas
 pub mod ProgressLemmas
 pub mod BufferLemmas
-pub mod WriteLemmas
 pub mod SessionLemmas
 pub mod RunLemmas
 pub mod Writing

@@ -1,43 +1,18 @@
 -- How far a run has come, after each of its steps, at any world.
-use Rattle.std.proofs.Common.{◌≡◌, ℕ, ◌+◌, ◌<◌, ◌≤◌, Bool, true, false, cond, List, [], ◌∷◌, ◌++◌, ◌⊎◌, inl, inr, ⊎_elim, Option, Some, None, length, take, refl, sym, ap, subst, ◌∙◌, arith, append_assoc, length-append}
+use Rattle.std.proofs.Common.{◌≡◌, ℕ, ◌+◌, ◌<◌, ◌≤◌, Bool, true, false, cond, List, [], ◌∷◌, ◌++◌, ◌⊎◌, inl, inr, ⊎_elim, Option, length, take, refl, sym, ap, subst, ◌∙◌, arith, append_assoc, length-append}
 use Rattle.std.proofs.lemmas.List.{append-nil, take_all, take_at}
 use Rattle.std.proofs.lemmas.Bool.{false≢true}
-use Rattle.std.specs.Io.KnownBytes.{Appends, Consumes, Keeps}
-use Rattle.inst_lines.specs.Lines.{newline, lines_of, whole_lines_of, whole_lines_within, NoNewline}
+use Rattle.std.specs.Io.KnownBytes.{Appends}
+use Rattle.inst_bytes.specs.Newline.{newline, NoNewline}
+use Rattle.inst_lines.specs.Lines.{lines_of, whole_lines_of, whole_lines_within}
 use Rattle.inst_lines.specs.Limits.{most_line_bytes, most_lines, most_bytes}
 use Rattle.inst_lines.specs.Answers.{Answerer, reply_to, state_after_line, is_refused, output, state_after, refusals, IsFront, MakesRoom}
-use Rattle.inst_lines.specs.Replies.{WritesPart, WritesFirst}
+use Rattle.inst_bytes.specs.Handing.{WritesPart, WritesFirst}
 use Rattle.inst_lines.specs.Progress.{Splits, Progress, Stopped, Finished, CutOff}
-use Rattle.inst_lines.proofs.LinesLemmas.{lines_of-line, whole_lines_of-line, lines_of-part, whole_lines_of-part, NoNewline-append}
+use Rattle.inst_bytes.proofs.Searching.{NoNewline-append}
+use Rattle.inst_bytes.proofs.Streams.{Appends-append, Appends-keeps, Keeps-same}
+use Rattle.inst_lines.proofs.LinesLemmas.{lines_of-line, whole_lines_of-line, lines_of-part, whole_lines_of-part}
 use Rattle.inst_lines.proofs.AnswersLemmas.{output-append, output-push, state_after-push, refusals-push}
-
--- two reads in turn
-pub Consumes-append : (x y z : Option (List ℕ)) (p q : List ℕ) → Consumes x y p → Consumes y z q → Consumes x z (p ++ q)
-Consumes-append None y z p q h k = tt
-Consumes-append (Some x) None z p q h k = absurd h
-Consumes-append (Some x) (Some y) None p q h k = absurd k
-Consumes-append (Some x) (Some y) (Some z) p q h k = h ∙ ap (λ (t : List ℕ). p ++ t) k ∙ sym (append_assoc p q z)
-
--- two writes in turn
-pub Appends-append : (x y z : Option (List ℕ)) (p q : List ℕ) → Appends x y p → Appends y z q → Appends x z (p ++ q)
-Appends-append None y z p q h k = tt
-Appends-append (Some x) None z p q h k = absurd h
-Appends-append (Some x) (Some y) None p q h k = absurd k
-Appends-append (Some x) (Some y) (Some z) p q h k = k ∙ ap (λ (t : List ℕ). t ++ q) h ∙ append_assoc x p q
-
-pub Appends-keeps : (x y : Option (List ℕ)) → Keeps x y → Appends x y []
-Appends-keeps None y h = tt
-Appends-keeps (Some x) None h = absurd h
-Appends-keeps (Some x) (Some y) h = h ∙ sym (append-nil x)
-
-pub Consumes-keeps : (x y : Option (List ℕ)) → Keeps x y → Consumes x y []
-Consumes-keeps None y h = tt
-Consumes-keeps (Some x) None h = absurd h
-Consumes-keeps (Some x) (Some y) h = sym h
-
-pub Keeps-same : (x : Option (List ℕ)) → Keeps x x
-Keeps-same None = tt
-Keeps-same (Some x) = refl
 
 Splits-none : Splits [] [] []
 Splits-none = record { lines = λ more. refl; whole = λ more. refl }

@@ -12,7 +12,8 @@ use Rattle.inst_lines.specs.Answers.{Answerer, output, state_after, refusals}
 use Rattle.inst_lines.specs.LineBuffer.{held}
 use Rattle.inst_lines.specs.Progress.{Progress, Finished}
 use Rattle.inst_lines.specs.Session.{Reached, IsReady, Turns, Ends, Fails, FailsAfter}
-use Rattle.inst_lines.proofs.ProgressLemmas.{Consumes-append, Consumes-keeps, Keeps-same, Appends-keeps, progress-start}
+use Rattle.inst_bytes.proofs.Streams.{Consumes-append, Consumes-keeps, Keeps-same, Appends-keeps}
+use Rattle.inst_lines.proofs.ProgressLemmas.{progress-start}
 
 -- the session is ready for its next read, and has come this far in what the reader gave
 pub record Reads {S W : Type 0} (a : Answerer S) (holds : S → W → Type 0) (start : S) (before : Option (List ℕ)) (left : Option (List ℕ)) (session : Session) (world : W) (now : Option (List ℕ)) (left' : Option (List ℕ)) : Type 0 where

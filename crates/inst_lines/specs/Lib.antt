@@ -4,7 +4,6 @@ pub mod Lines
 pub mod Answers
 pub mod Answering
 pub mod LineBuffer
-pub mod Replies
 pub mod Progress
 pub mod Session
 pub mod Headline

@@ -1,10 +1,7 @@
 -- The lines of a text of bytes, and how many a run may have. This hub's own choice.
-use Rattle.std.specs.Prelude.{◌≡◌, ◌≢◌, ℕ, ◌+◌, ◌<◌, ◌≤◌, List, [], ◌∷◌, ◌++◌, length, take, drop, ◌==◌, if◌then◌else◌}
+use Rattle.std.specs.Prelude.{ℕ, ◌≤◌, List, [], ◌∷◌, length, take, ◌==◌, if◌then◌else◌}
+use Rattle.inst_bytes.specs.Newline.{newline, onto_whole}
 use Rattle.inst_lines.specs.Limits.{most_lines, most_bytes}
-
--- the byte that ends a line
-abbrev pub newline : ℕ
-newline = 10
 
 -- the byte goes onto the front of the first line, which is a new one where there is none
 abbrev pub onto_first : ℕ → List (List ℕ) → List (List ℕ)
@@ -15,11 +12,6 @@ onto_first b (line ∷ lines) = (b ∷ line) ∷ lines
 abbrev pub lines_of : List ℕ → List (List ℕ)
 lines_of [] = []
 lines_of (b ∷ bytes) = if b == newline then [] ∷ lines_of bytes else onto_first b (lines_of bytes)
-
--- the byte goes onto the front of the first line, where there is one
-abbrev pub onto_whole : ℕ → List (List ℕ) → List (List ℕ)
-onto_whole b [] = []
-onto_whole b (line ∷ lines) = (b ∷ line) ∷ lines
 
 -- the lines that end by a newline
 abbrev pub whole_lines_of : List ℕ → List (List ℕ)
@@ -35,14 +27,3 @@ whole_lines_within bytes = take most_lines (whole_lines_of (take most_bytes byte
 pub record IsWithinLimits (bytes : List ℕ) : Type 0 where
   pub bytes_fit : length bytes ≤ most_bytes
   pub lines_fit : length (lines_of bytes) ≤ most_lines
-
--- no byte is a newline
-abbrev pub NoNewline : List ℕ → Type 0
-NoNewline [] = Unit {0}
-NoNewline (b ∷ bytes) = (b ≢ newline) × NoNewline bytes
-
--- the first newline stands at n
-pub record BreaksAt (bytes : List ℕ) (n : ℕ) : Type 0 where
-  pub within : n < length bytes
-  pub line : NoNewline (take n bytes)
-  pub rest : bytes ≡ take n bytes ++ newline ∷ drop (n + 1) bytes

@@ -4,9 +4,9 @@ ghost use Rattle.std.specs.Io.KnownBytes.{Appends, IsAtEnd};
 ghost use Rattle.inst_lines.specs.Check.{refusal_of, refusal_text, field_text, told_line, told_of, TellsPart};
 
 use crate::limits::MOST_LINE_BYTES;
-use crate::line_buffer::find_newline;
 use crate::replies::ReplyBuffer;
 use inst_base::Fault;
+use inst_bytes::find_newline;
 use inst_json::piece::{push_number, push_text};
 use inst_json::{LineReader, Name, Refusal};
 use inst_settings::Settings;

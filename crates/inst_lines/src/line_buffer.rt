@@ -1,14 +1,13 @@
 //! The part of the input that is held, and where its lines end.
-ghost use Rattle.std.specs.Prelude.{◌≡◌, ◌≤◌, ◌<◌, ◌+◌, [], ◌||◌, nat_lt, MatchOption, IfOk, IsErrOf};
+ghost use Rattle.std.specs.Prelude.{◌≡◌, ◌≤◌, ◌<◌, ◌+◌, [], ◌||◌, nat_lt, IfOk, IsErrOf};
 ghost use Rattle.std.specs.Prelude.{OnErr, false, length, drop, vec_len};
 ghost use Rattle.std.specs.Io.{ReadsAtMost};
 ghost use Rattle.std.specs.Io.KnownBytes.{ReadConsumes};
 ghost use Rattle.inst_lines.specs.Limits.{most_bytes, most_line_bytes, buffer_bytes};
-ghost use Rattle.inst_lines.specs.Lines.{NoNewline, BreaksAt};
+ghost use Rattle.inst_bytes.specs.Newline.{NoNewline};
 
 use crate::limits::{BUFFER_BYTES, MOST_BYTES, MOST_LINE_BYTES};
 use inst_base::Fault;
-use memchr::memchr;
 use std::alloc::{AllocError, Global};
 use std::io::Read;
 
@@ -139,11 +138,4 @@ fn read_bytes<R: Read>(reader: &mut R, buf: &mut [u8]) -> Result<usize, Fault>
     ensures fault { OnErr result (IsErrOf result Fault.ReadFault) }
 {
     reader.read(buf).map_err(|_| Fault::ReadFault)
-}
-
-/// Where the first newline stands.
-pub fn find_newline(bytes: &[u8]) -> Option<usize>
-    ensures { MatchOption result (NoNewline bytes.now) (λ n. BreaksAt bytes.now n) }
-{
-    memchr(b'\n', bytes)
 }

@@ -2,10 +2,11 @@
 ghost use Rattle.std.specs.Prelude.{◌≡◌, ◌<◌, ◌||◌, [], true, false, nat_lt, length, OnOk, OnErr, IsErrOf};
 ghost use Rattle.std.specs.Io.KnownBytes.{Appends};
 ghost use Rattle.inst_lines.specs.Limits.{buffer_bytes};
-ghost use Rattle.inst_lines.specs.Replies.{WritesPart, WritesFirst};
+ghost use Rattle.inst_bytes.specs.Handing.{WritesPart, WritesFirst};
 
 use crate::limits::BUFFER_BYTES;
 use inst_base::Fault;
+use inst_bytes::write_bytes;
 use std::alloc::Global;
 use std::io::Write;
 
@@ -37,7 +38,7 @@ impl ReplyBuffer {
         ensures fault { OnErr result (IsErrOf result Fault.WriteFault) }
     {
         self.is_unflushed = self.is_unflushed || !self.bytes.is_empty();
-        write_bytes(writer, self.bytes.as_slice())?;
+        write_bytes(writer, self.bytes.as_slice()).map_err(|_| Fault::WriteFault)?;
         self.bytes.clear();
         Ok(())
     }
@@ -72,21 +73,4 @@ impl ReplyBuffer {
         }
         Ok(())
     }
-}
-
-/// Writes these bytes. `WriteFault` comes where a write fails or takes no byte; a front of them was
-/// written then.
-fn write_bytes<W: Write>(writer: &mut W, bytes: &[u8]) -> Result<(), Fault>
-    ensures ok { OnOk result (Appends (W.contents writer.old) (W.contents writer.new) bytes.now) }
-    ensures err { OnErr result (WritesPart (W.contents writer.old) (W.contents writer.new) bytes.now) }
-    ensures fault { OnErr result (IsErrOf result Fault.WriteFault) }
-{
-    let mut rest = bytes;
-    while !rest.is_empty() {
-        match writer.write(rest) {
-            Ok(0) | Err(_) => return Err(Fault::WriteFault),
-            Ok(count) => rest = &rest[count..],
-        }
-    }
-    Ok(())
 }

@@ -4,11 +4,12 @@ ghost use Rattle.std.specs.Prelude.{◌≡◌, ◌≤◌, ◌<◌, ◌⊎◌, []
 
 use crate::answer::answer_part;
 use crate::limits::MOST_LINES;
-use crate::line_buffer::{LineBuffer, find_newline};
+use crate::line_buffer::LineBuffer;
 use crate::mode::Mode;
 use crate::replies::ReplyBuffer;
 use inst_agenda::Runner;
 use inst_base::Fault;
+use inst_bytes::find_newline;
 use inst_json::LineReader;
 use std::alloc::Global;
 use std::io::{Read, Write};
@@ -34,7 +35,7 @@ pub struct Session {
 }
 
 impl Session {
-    ghost use Rattle.inst_lines.specs.Lines.{NoNewline};
+    ghost use Rattle.inst_bytes.specs.Newline.{NoNewline};
     ghost use Rattle.inst_lines.specs.Limits.{most_lines};
     ghost use Rattle.inst_lines.specs.Answering.{answering, Keeps};
     ghost use Rattle.inst_lines.specs.LineBuffer.{held};

@@ -1,9 +1,10 @@
-//! Bytes are handed to a writer, and what was handed to it before a failure is known.
-ghost use Rattle.std.specs.Prelude.{OnOk, OnErr, IsOkUnless};
+//! Replies are handed to a writer, and what was handed to it before a failure is known.
+ghost use Rattle.std.specs.Prelude.{OnOk, IsOkUnless};
 ghost use Rattle.std.specs.Io.KnownBytes.{Appends};
-ghost use Rattle.inst_log.specs.Serving.{WritesPart};
+ghost use Rattle.inst_bytes.specs.Handing.{WritesPart};
 
 use crate::LogError;
+use inst_bytes::write_bytes;
 use std::io::Write;
 
 /// Writes these bytes, and flushes. At `Err` a front of them was written.
@@ -12,25 +13,6 @@ pub fn deliver<W: Write>(writer: &mut W, bytes: &[u8]) -> Result<(), LogError>
     ensures part { WritesPart (W.Write.contents writer.old) (W.Write.contents writer.new) bytes.now }
     ensures only { IsOkUnless result LogError.Write }
 {
-    write_bytes(writer, bytes)?;
-    match writer.flush() {
-        Ok(()) => Ok(()),
-        Err(_) => Err(LogError::Write),
-    }
-}
-
-/// Writes these bytes.
-fn write_bytes<W: Write>(writer: &mut W, bytes: &[u8]) -> Result<(), LogError>
-    ensures ok { OnOk result (Appends (W.Write.contents writer.old) (W.Write.contents writer.new) bytes.now) }
-    ensures err { OnErr result (WritesPart (W.Write.contents writer.old) (W.Write.contents writer.new) bytes.now) }
-    ensures only { IsOkUnless result LogError.Write }
-{
-    let mut rest = bytes;
-    while !rest.is_empty() {
-        match writer.write(rest) {
-            Ok(0) | Err(_) => return Err(LogError::Write),
-            Ok(count) => rest = &rest[count..],
-        }
-    }
-    Ok(())
+    write_bytes(writer, bytes).map_err(|_| LogError::Write)?;
+    writer.flush().map_err(|_| LogError::Write)
 }

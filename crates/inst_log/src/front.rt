@@ -1,8 +1,8 @@
 //! The lines with which bytes begin, and where they end.
 ghost use Rattle.std.specs.Prelude.{◌≡◌, ◌≢◌, ◌⊎◌, ◌<◌, ◌≤◌, [], length, slice_index, MatchBool, MatchOption};
-ghost use Rattle.inst_log.specs.Layout.{recovered, blocks, IsFirstLine, NoNewline, BreaksAt};
+ghost use Rattle.inst_log.specs.Layout.{recovered, blocks, IsFirstLine};
 
-use memchr::memchr;
+use inst_bytes::find_newline;
 
 /// The whole lines with which bytes begin, each with its newline.
 pub fn whole_lines(bytes: &[u8]) -> &[u8]
@@ -34,13 +34,6 @@ pub fn first_line(bytes: &[u8]) -> Option<usize>
         Some(newline) => Some(newline + 1),
         None => None,
     }
-}
-
-/// Where the first newline stands.
-pub fn find_newline(bytes: &[u8]) -> Option<usize>
-    ensures { MatchOption result (NoNewline bytes.now) (λ n. BreaksAt bytes.now n) }
-{
-    memchr(b'\n', bytes)
 }
 
 /// A byte that is closed stands at `end`.

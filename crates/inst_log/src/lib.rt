@@ -18,7 +18,7 @@ pub use answers::Answers;
 pub use batch::{close_batch, line_comes_back, line_of, push_line};
 pub use delivery::deliver;
 pub use error::LogError;
-pub use front::{find_newline, first_line, whole_lines};
+pub use front::{first_line, whole_lines};
 pub use log::Log;
 pub use opening::read_file;
 pub use reading::{Reading, count_lines, read};

@@ -3,7 +3,8 @@ ghost use Rattle.std.specs.Prelude.{◌<◌, length, IfOk, IsTrue, OnOk};
 ghost use Rattle.sqlite_disk.specs.Disk.{Only};
 ghost use Rattle.inst_log.specs.Layout.{recovered, IsBatch, IsWhole};
 
-use inst_log::{close_batch, find_newline, push_line};
+use inst_bytes::find_newline;
+use inst_log::{close_batch, push_line};
 use sqlite_disk::Disk;
 use std::io;
 use std::process::Abort;

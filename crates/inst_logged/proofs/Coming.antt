@@ -4,12 +4,11 @@ use Rattle.std.proofs.Math.Seq.{take-append-add}
 use Rattle.std.proofs.lemmas.List.{append-nil, map-append}
 use Rattle.std.specs.Io.KnownBytes.{Consumes}
 use Rattle.inst_lines.specs.Lines.{lines_of, whole_lines_of}
-use Rattle.inst_lines.proofs.ProgressLemmas.{Consumes-append, Consumes-keeps}
+use Rattle.inst_bytes.proofs.Streams.{Consumes-append, Consumes-keeps, Appends-append, Appends-keeps, Keeps-same}
 use Rattle.inst_log.specs.Layout.{recovered}
 use Rattle.inst_log.specs.Log.{IsSettled}
 use Rattle.inst_log.specs.Serving.{Replies, Tells, TellsKept, SaysOn}
 use Rattle.inst_log.specs.declared.recorder.Recorder.{Recorder}
-use Rattle.inst_log.proofs.WriteLemmas.{Appends-append, Appends-keeps, Keeps-same}
 use Rattle.inst_log.proofs.Serve.{on_more, tells_more, kept_after}
 use Rattle.inst_logged.specs.Answering.{SaysLines}
 use Rattle.inst_logged.specs.Intake.{held}

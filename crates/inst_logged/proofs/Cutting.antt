@@ -3,9 +3,10 @@ use Rattle.std.proofs.Common.{◌≡◌, ◌≢◌, ℕ, zero, suc, true, false,
 use Rattle.std.proofs.lemmas.Bool.{cases_Bool, ne_eqb, eq-eqb, eqb-true}
 use Rattle.std.proofs.lemmas.Bool.{true≢false}
 use Rattle.std.proofs.lemmas.List.{append-nil}
-use Rattle.inst_lines.specs.Lines.{newline, lines_of, whole_lines_of, NoNewline as HasNone}
+use Rattle.inst_bytes.specs.Newline.{newline, NoNewline}
+use Rattle.inst_lines.specs.Lines.{lines_of, whole_lines_of}
+use Rattle.inst_bytes.proofs.Searching.{NoNewline-append}
 use Rattle.inst_lines.proofs.LinesLemmas.{lines_of-line, whole_lines_of-line, lines_of-part, whole_lines_of-part}
-use Rattle.inst_log.specs.Layout.{NoNewline}
 use Rattle.inst_log.specs.Escape.{raw_of}
 use Rattle.inst_logged.specs.Input.{cut, logged}
 use Rattle.inst_logged.specs.inner.Input.{lines_from, rest_from, last_line}
@@ -91,11 +92,6 @@ rest_alike p q (b ∷ bytes) same =
       | false ↦ rest_alike (p ++ b ∷ []) (q ++ b ∷ []) bytes (cut_alike p q (b ∷ []) same)
     ]
 
--- no newline
-pub NoNewline-append : (xs ys : List ℕ) → NoNewline xs → NoNewline ys → NoNewline (xs ++ ys)
-NoNewline-append [] ys p q = q
-NoNewline-append (x ∷ xs) ys p q = (p.0, NoNewline-append xs ys p.1 q)
-
 pub NoNewline-take : (n : ℕ) (xs : List ℕ) → NoNewline xs → NoNewline (take n xs)
 NoNewline-take zero xs none = tt
 NoNewline-take (suc n) [] none = tt
@@ -114,31 +110,27 @@ NoNewline-rest part (b ∷ bytes) none = elim (cases_Bool (b == newline)) [
 pub quiet_held : (bytes held : List ℕ) → held ≡ cut (rest_from [] bytes) → NoNewline held
 quiet_held bytes held is = subst NoNewline (sym is) (NoNewline-take 4097 (rest_from [] bytes) (NoNewline-rest [] bytes tt))
 
-has_none : (bytes : List ℕ) → NoNewline bytes → HasNone bytes
-has_none [] none = tt
-has_none (b ∷ bytes) none = (none.0, has_none bytes none.1)
-
 -- all lines of a text
 last_is : (part : List ℕ) → NoNewline part → lines_of part ≡ last_line part
 last_is [] none = refl
-last_is (b ∷ part) none = lines_of-part (b ∷ part) (has_none (b ∷ part) none) (omega arith)
+last_is (b ∷ part) none = lines_of-part (b ∷ part) none (omega arith)
 
 pub lines_of-from : (part bytes : List ℕ) → NoNewline part → lines_of (part ++ bytes) ≡ lines_from part bytes ++ last_line (rest_from part bytes)
 lines_of-from part [] none = ap lines_of (append-nil part) ∙ last_is part none
 lines_of-from part (b ∷ bytes) none = elim (cases_Bool (b == newline)) [
   | inl is ↦
       let break : b ≡ newline = eqb-true b newline is in
-      rw is (ap (λ (c : ℕ). lines_of (part ++ c ∷ bytes)) break ∙ lines_of-line part bytes (has_none part none) ∙ ap (λ (ls : List (List ℕ)). part ∷ ls) (lines_of-from [] bytes tt))
+      rw is (ap (λ (c : ℕ). lines_of (part ++ c ∷ bytes)) break ∙ lines_of-line part bytes none ∙ ap (λ (ls : List (List ℕ)). part ∷ ls) (lines_of-from [] bytes tt))
   | inr is ↦
       rw is (ap lines_of (sym (append_assoc part (b ∷ []) bytes)) ∙ lines_of-from (part ++ b ∷ []) bytes (NoNewline-append part (b ∷ []) none (no_break b is, tt)))
 ]
 
 pub whole_lines_of-from : (part bytes : List ℕ) → NoNewline part → whole_lines_of (part ++ bytes) ≡ lines_from part bytes
-whole_lines_of-from part [] none = ap whole_lines_of (append-nil part) ∙ whole_lines_of-part part (has_none part none)
+whole_lines_of-from part [] none = ap whole_lines_of (append-nil part) ∙ whole_lines_of-part part none
 whole_lines_of-from part (b ∷ bytes) none = elim (cases_Bool (b == newline)) [
   | inl is ↦
       let break : b ≡ newline = eqb-true b newline is in
-      rw is (ap (λ (c : ℕ). whole_lines_of (part ++ c ∷ bytes)) break ∙ whole_lines_of-line part bytes (has_none part none) ∙ ap (λ (ls : List (List ℕ)). part ∷ ls) (whole_lines_of-from [] bytes tt))
+      rw is (ap (λ (c : ℕ). whole_lines_of (part ++ c ∷ bytes)) break ∙ whole_lines_of-line part bytes none ∙ ap (λ (ls : List (List ℕ)). part ∷ ls) (whole_lines_of-from [] bytes tt))
   | inr is ↦
       rw is (ap whole_lines_of (sym (append_assoc part (b ∷ []) bytes)) ∙ whole_lines_of-from (part ++ b ∷ []) bytes (NoNewline-append part (b ∷ []) none (no_break b is, tt)))
 ]

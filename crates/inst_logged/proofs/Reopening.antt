@@ -4,7 +4,8 @@ use Rattle.std.specs.Io.KnownBytes.{Appends}
 use Rattle.inst_lines.specs.declared.mode.Mode.{Mode}
 use Rattle.inst_lines.specs.Answering.{Past, Keeps}
 use Rattle.inst_agenda.specs.declared.runner.Runner.{Runner}
-use Rattle.inst_log.specs.Serving.{Replies, Tells, SaysOn, WritesPart}
+use Rattle.inst_bytes.specs.Handing.{WritesPart}
+use Rattle.inst_log.specs.Serving.{Replies, Tells, SaysOn}
 use Rattle.inst_log.specs.inner.Serving.{TellsPart}
 use Rattle.inst_logged.specs.Answering.{replies_at, SaysLines}
 use Rattle.inst_logged.specs.inner.Answering.{AnswersLines}

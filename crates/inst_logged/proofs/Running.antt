@@ -3,13 +3,12 @@ use Rattle.std.proofs.Common.{◌≡◌, inl, ℕ, List, [], ◌++◌, Option, a
 use Rattle.std.specs.Io.KnownBytes.{Appends}
 use Rattle.inst_lines.specs.declared.mode.Mode.{Mode}
 use Rattle.inst_lines.specs.Answering.{Past}
-use Rattle.inst_lines.proofs.ProgressLemmas.{Consumes-keeps}
+use Rattle.inst_bytes.proofs.Streams.{Consumes-keeps, Appends-append, Keeps-same}
 use Rattle.inst_log.specs.Layout.{recovered}
 use Rattle.inst_log.specs.Opening.{kept}
 use Rattle.inst_log.specs.Serving.{Replies, Tells, TellsKept, SaysOn}
 use Rattle.inst_log.specs.inner.Serving.{TellsPart}
 use Rattle.inst_log.specs.declared.recorder.Recorder.{Recorder}
-use Rattle.inst_log.proofs.WriteLemmas.{Appends-append, Keeps-same}
 use Rattle.inst_log.proofs.Serve.{run_kept, reopen_kept}
 use Rattle.inst_logged.specs.Answering.{SaysLines, told_of}
 use Rattle.inst_logged.specs.Logged.{Are, owed, HasLogged, SurvivesACrash}

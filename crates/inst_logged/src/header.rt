@@ -8,9 +8,10 @@ ghost use Rattle.inst_world.specs.NextOpening.{CanOpenFrom};
 ghost use Rattle.inst_logged.specs.Header.{header, header_from, header_line, books_field, field, mode_field, participants_field, mode_word, listed, comma_if, quoted};
 
 use inst_books::append_books;
+use inst_bytes::find_newline;
 use inst_journal::Journal;
 use inst_lines::Mode;
-use inst_log::{close_batch, count_lines, find_newline, push_line, whole_lines};
+use inst_log::{close_batch, count_lines, push_line, whole_lines};
 use inst_settings::Settings;
 use std::alloc::{AllocError, Global};
 

@@ -2,7 +2,8 @@
 ghost use Rattle.std.specs.Prelude.{◌≡◌, ◌++◌, [], List, ℕ, IsTrue, IfOk, IfErr, OnOk, MatchBool};
 ghost use Rattle.std.specs.Io.KnownBytes.{IsAtEnd};
 ghost use Rattle.sqlite_disk.specs.Disk.{Only};
-ghost use Rattle.inst_log.specs.Layout.{recovered, IsBatch, NoNewline};
+ghost use Rattle.inst_bytes.specs.Newline.{NoNewline};
+ghost use Rattle.inst_log.specs.Layout.{recovered, IsBatch};
 ghost use Rattle.inst_log.specs.Log.{IsSettled};
 ghost use Rattle.inst_log.specs.Opening.{kept, Opens, OpensAlike};
 ghost use Rattle.inst_log.specs.Serving.{Tells, SaysOn};

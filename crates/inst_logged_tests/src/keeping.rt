@@ -2,8 +2,8 @@
 ghost use Rattle.std.specs.Prelude.{◌≤◌, length, OnOk, IfSome, IsTrue};
 ghost use Rattle.sqlite_disk.specs.Disk.{Only};
 
+use inst_bytes::find_newline;
 use inst_lines::{Mode, play_lines, run_lines};
-use inst_log::find_newline;
 use inst_logged::{LoggedError, LoggedHub};
 use inst_settings::Settings;
 use sqlite_disk::{Disk, Memory};

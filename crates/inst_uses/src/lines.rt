@@ -1,10 +1,11 @@
-//! The hub in one thread: step by step, and line by line.
+//! Bytes of lines, and the hub in one thread: step by step, and line by line.
 ghost use Rattle.std.specs.Prelude.{◌≡◌, true, IfOk};
 ghost use Rattle.inst_command.specs.Ask.{ask_fits};
 ghost use Rattle.inst_world.specs.HasRun.{IsOfModel};
 
 use inst_agenda::{Runner, follow_up};
 use inst_base::Fault;
+use inst_bytes::{Unwritten, find_newline, write_bytes};
 use inst_command::{Answer, Ask, Reply, Step};
 use inst_json::{read_command, write_reply};
 use inst_lines::{Counts, run_lines};
@@ -12,6 +13,16 @@ use inst_settings::Settings;
 use inst_world::World;
 use std::alloc::{AllocError, Global};
 use std::io::{Read, Write};
+
+/// Hands the first line of some bytes to a writer, and says how long it is.
+pub fn bytes<W: Write>(bytes: &[u8], writer: &mut W) -> Result<usize, Unwritten> {
+    let end = match find_newline(bytes) {
+        Some(newline) => newline + 1,
+        None => bytes.len(),
+    };
+    write_bytes(writer, &bytes[..end])?; // at `Unwritten` a front of the line was written
+    Ok(end)
+}
 
 /// The ask of a line, and the line of a refusal.
 pub fn json(alloc: Global, settings: &Settings, line: &[u8]) -> Result<(Ask, Vec<u8>), Fault>

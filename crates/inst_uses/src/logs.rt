@@ -1,7 +1,8 @@
 //! Logs of lines over any disk.
 ghost use Rattle.std.specs.Prelude.{IsTrue};
 ghost use Rattle.sqlite_disk.specs.Disk.{Only};
-ghost use Rattle.inst_log.specs.Layout.{IsBatch, NoNewline};
+ghost use Rattle.inst_bytes.specs.Newline.{NoNewline};
+ghost use Rattle.inst_log.specs.Layout.{IsBatch};
 ghost use Rattle.inst_log.specs.Serving.{Replies, AllBatches};
 ghost use Rattle.inst_log_restart.specs.Restart.{Begins};
 

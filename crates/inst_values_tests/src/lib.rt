@@ -1,8 +1,10 @@
-//! Tests of the values below the books: amounts, settings, statement lines, words, boards and deadlines.
+//! Tests of the values below the books: amounts, settings, statement lines, words, boards, deadlines and bytes.
 #![tactic(auto)]
 
 #[cfg(test)]
 mod boards;
+#[cfg(test)]
+mod bytes;
 #[cfg(test)]
 mod comparing;
 #[cfg(test)]

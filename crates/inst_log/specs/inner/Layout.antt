@@ -1,6 +1,7 @@
 -- The file of a log whose end isn't closed.
 use Rattle.std.specs.Prelude.{◌≡◌, ℕ, List, ◌++◌, length}
-use Rattle.inst_log.specs.Layout.{recovered, blocks, NoNewline}
+use Rattle.inst_bytes.specs.Newline.{NoNewline}
+use Rattle.inst_log.specs.Layout.{recovered, blocks}
 
 -- behind its lines the file has no further newline
 pub record IsUnclosed (file : List ℕ) (end : ℕ) : Type 0 where

@@ -10,12 +10,6 @@ pub record TellsPart (says : Replies → Type 0) (lines : List (List ℕ)) (befo
   pub handed : Appends before now told
   pub front : (replies : Replies) → says replies → (rest : List ℕ) × (replies lines ≡ told ++ rest)
 
--- some first bytes were written, and the others are left
-pub record WritesFirst (before after : Option (List ℕ)) (old new : List ℕ) : Type 0 where
-  pub part : List ℕ
-  pub whole : old ≡ part ++ new
-  pub appends : Appends before after part
-
 -- the batches are answered but for those that are left
 pub record Served (keeps : List (List ℕ) → Type 0) (old now : Replies → Type 0) (before after : Option (List ℕ))
     (batches left : List (Vec ℕ Global)) : Type 0 where

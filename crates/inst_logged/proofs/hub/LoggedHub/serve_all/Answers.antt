@@ -1,6 +1,6 @@
 use Rattle.std.proofs.Common.{[], ◌∙◌, refl, sym, subst, IsTrue}
 use Rattle.std.proofs.lemmas.Bool.{MatchBool-at_true, MatchBool-at_false}
-use Rattle.inst_log.specs.Layout.{NoNewline}
+use Rattle.inst_bytes.specs.Newline.{NoNewline}
 use Rattle.inst_logged.specs.inner.Input.{rest_from}
 use Rattle.inst_logged.proofs.Coming.{come_none, come_more, come_end, come_kept, come_so_far, served_as}
 use Rattle.inst_logged.proofs.hub.LoggedHub.serve_all.Goals as goal

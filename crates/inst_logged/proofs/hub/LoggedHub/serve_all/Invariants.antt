@@ -1,5 +1,5 @@
 use Rattle.std.proofs.Common.{◌≡◌, IsTrue}
-use Rattle.inst_log.specs.Layout.{NoNewline}
+use Rattle.inst_bytes.specs.Newline.{NoNewline}
 use Rattle.inst_logged.specs.Intake.{held}
 use Rattle.inst_logged.specs.inner.Logged.{HasCome}
 use Rattle.inst_logged.proofs.hub.LoggedHub.serve_all.Given as goal

@@ -1,4 +1,4 @@
--- What writes leave of bytes.
+-- What a writer was handed of some bytes. This hub's own choice.
 use Rattle.std.specs.Prelude.{◌≡◌, ℕ, List, ◌++◌, Option}
 use Rattle.std.specs.Io.KnownBytes.{Appends}
 

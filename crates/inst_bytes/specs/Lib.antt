@@ -1,0 +1,2 @@
+pub mod Newline
+pub mod Handing

@@ -1,5 +1,0 @@
-use Rattle.inst_lines.proofs.LinesLemmas.{breaks_from_search}
-use Rattle.inst_lines.proofs.line_buffer.find_newline.Goals as goal
-
-pub returns : goal.returns
-returns c = breaks_from_search c.args.bytes.now c.memchr.result c.memchr.ensures

@@ -1,0 +1,23 @@
+//! Where a line ends, and how it comes to a writer.
+use crate::comparing::same;
+use inst_bytes::{find_newline, write_bytes};
+use std::process::Abort;
+use std::test::Fail;
+
+/// The first newline of several, and none.
+fn newlines_are_found(rt: &impl Abort) {
+    same(rt, find_newline(b"ab\nc\n"), Some(2));
+    same(rt, find_newline(b"\n"), Some(0));
+    same(rt, find_newline(b"abc"), None);
+    same(rt, find_newline(b""), None);
+}
+
+#[test]
+fn a_line_is_found_and_written(rt: HostRuntime) -> Result<(), Fail> {
+    newlines_are_found(&rt);
+    let mut out = Vec::new(rt.alloc());
+    out.extend_from_slice(b"x")?;
+    same(&rt, write_bytes(&mut out, b"ab\n"), Ok(()));
+    same(&rt, out.as_slice(), b"xab\n".as_slice());
+    Ok(())
+}
