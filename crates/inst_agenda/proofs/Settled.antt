@@ -19,7 +19,7 @@ use Rattle.inst_journal.specs.declared.event.Event.TheVariants.{Funded, Defunded
 use Rattle.inst_journal.specs.Booked.{is_forwarded, forwards, booked, or_else, same_transfer}
 use Rattle.inst_journal.specs.Opened.{is_live}
 use Rattle.inst_journal.specs.Sound.{IsSound}
-use Rattle.inst_journal.proofs.Pushing.{list_any_push}
+use Rattle.inst_journal.proofs.Pushing.{list_any_push, or-false, or_else-none}
 use Rattle.inst_model.specs.Opening.{Opening, IsOpening}
 use Rattle.inst_model.specs.Interleaving.{IsInterleaving}
 use Rattle.inst_model.specs.Transfer.{Transfer, transfer, live_transfers, at_place, deadline, is_named}
@@ -27,14 +27,13 @@ use Rattle.inst_model.specs.View.{news, comes, tells, sees}
 use Rattle.inst_model.specs.View.Seen.{Came}
 use Rattle.inst_model.specs.Wants.{ask_wants, taken_wants}
 use Rattle.inst_model.specs.Hub.{decided, outcome, history}
-use Rattle.inst_model.proofs.Basics.{or_else_none, or_else_kept, same_text-true, same_transfer-true}
+use Rattle.inst_model.proofs.Basics.{or_else_kept, same_text-true, same_transfer-true}
 use Rattle.inst_model.proofs.Growing.{booked_kept, forwarded_kept}
 use Rattle.inst_model.proofs.Histories.{by_step, persists_step}
 use Rattle.inst_model.proofs.Learnt.{learning_books, expiry_books, delivery_forwards}
 use Rattle.inst_model.proofs.Naming.{live_grown}
 use Rattle.inst_model.proofs.Outcomes.{outcome_stays}
-use Rattle.inst_model.proofs.Progress.{or-false}
-use Rattle.inst_model.proofs.Telling.{same_outcome}
+use Rattle.inst_model.proofs.Telling.{same_outcome, none_taken}
 use Rattle.inst_model.proofs.Together.{together}
 use Rattle.inst_model.proofs.Transfers.{place_found, transfer_kept}
 use Rattle.inst_agenda.specs.FollowUps.{of_transfer}
@@ -45,7 +44,7 @@ use Rattle.inst_world.proofs.Asking.{unwanted}
 use Rattle.inst_world.proofs.Boarding.{board_stays}
 use Rattle.inst_world.proofs.Finding.{to_participant}
 use Rattle.inst_agenda.proofs.Following.{of_transfer_no_ask, same_after}
-use Rattle.inst_world.proofs.Placing.{places_apart, live_kept, actor, others_stay, sees_this, if_own}
+use Rattle.inst_world.proofs.Placing.{places_apart, actor, others_stay, sees_this, if_own}
 use Rattle.inst_world.proofs.Telling.{takes_none, no_ask_deliver, no_ask_learn, no_ask_expire}
 
 -- a step leaves what is booked and forwarded, and forwards nothing that is decided
@@ -153,15 +152,15 @@ module _ (s : HubSettings) (O : Opening) (L : List Step) (ask : AskValue) (p ind
     | inr other ↦ ap (λ (J : List Event). at_place p J index) (sym (others_stay s O (Ask ask) L p other)) ∙ there
     | inl same ↦ by_step s O (Ask ask) L p (λ K. at_place p K index ≡ Some x → at_place p (history s O L p) index ≡ Some x) (record {
       nothing = λ e. e;
-      funds = λ a reference cents is command why. stood_alike (Funded reference cents) (live_kept p (history s O L p) (Funded reference cents) refl refl);
-      defunds = λ a reference cents is command why cover. stood_alike (Defunded reference cents) (live_kept p (history s O L p) (Defunded reference cents) refl refl);
+      funds = λ a reference cents is command why. stood_alike (Funded reference cents) (none_taken p (history s O L p) (Funded reference cents) refl refl);
+      defunds = λ a reference cents is command why cover. stood_alike (Defunded reference cents) (none_taken p (history s O L p) (Defunded reference cents) refl refl);
       takes = λ a id to cents stamp is command why.
           let this : ask ≡ a = cc in
           stood_or_named (sym same) differs id to cents stamp (ap (λ (c : AskValue). c.command) this ∙ command);
-      forwards = λ from n y is why. stood_alike (Forwarded from y.id y.cents (deadline s y)) (live_kept p (history s O L p) (Forwarded from y.id y.cents (deadline s y)) refl refl);
-      books = λ from id o why. stood_alike (Booked from id o) (live_kept p (history s O L p) (Booked from id o) refl refl);
+      forwards = λ from n y is why. stood_alike (Forwarded from y.id y.cents (deadline s y)) (none_taken p (history s O L p) (Forwarded from y.id y.cents (deadline s y)) refl refl);
+      books = λ from id o why. stood_alike (Booked from id o) (none_taken p (history s O L p) (Booked from id o) refl refl);
       hands_out = λ a max entry entries is command some.
-          stood_alike (Fetched (length (entry ∷ entries))) (live_kept p (history s O L p) (Fetched (length (entry ∷ entries))) refl refl);
+          stood_alike (Fetched (length (entry ∷ entries))) (none_taken p (history s O L p) (Fetched (length (entry ∷ entries))) refl refl);
     }) there
   ]
 
@@ -178,7 +177,7 @@ module _ (s : HubSettings) (O : Opening) (q n t : ℕ) (L : List Step) where
   unexpired : (p : ℕ) (id : List ℕ)
       → ((y z : Transfer) → transfer id (history s O L p) ≡ Some y → q ≡ p → at_place p (history s O L p) n ≡ Some z → z.id ≡ id → expired (deadline s y) t ≡ None)
       → outcome s O (Expire q n t ∷ L) p id ≡ outcome s O L p id
-  unexpired p id none = ap (or_else (outcome s O L p id)) (go (transfer id (history s O L p)) refl) ∙ or_else_none (outcome s O L p id)
+  unexpired p id none = ap (or_else (outcome s O L p id)) (go (transfer id (history s O L p)) refl) ∙ or_else-none (outcome s O L p id)
     where
       named : Bool
       named = (q == p) && is_named id (at_place p (history s O L p) n)

@@ -27,9 +27,9 @@ use Rattle.inst_ledger.specs.declared.sending.Sending.{Sending}
 use Rattle.inst_ledger.specs.Kept.{sending_of, forwarding_of}
 use Rattle.inst_ledger.specs.inner.Transfers.{same_key}
 use Rattle.inst_ledger.proofs.Forwards.{forwarding_absent, forwarded_found}
-use Rattle.inst_ledger.proofs.Tables.{sending_absent}
 use Rattle.inst_world.proofs.Promising.{fitting}
 use Rattle.inst_audit.specs.inner.Agreeing.{IsReleased, IsReceived, IsSent, Agrees}
+use Rattle.inst_ledger.proofs.Amounts.{once_new}
 
 -- what is found first is what one of the elements gives
 first_there : {A B : Type 0} (f : A → Option B) (xs : List A) (y : B) → first_some f xs ≡ Some y → (x : A) × Contains xs x × (f x ≡ Some y)
@@ -53,23 +53,10 @@ module _ (s : HubSettings) (who : ℕ) {V : Type 0} (gives : Event → Option V)
         | inr now ↦ newest J last now (fresh J last fits)
       ])
 
-sending_fresh : (s : HubSettings) (who : ℕ) (id : List ℕ) (J : List Event) (event : Event) → Fits s who J event → (sending_of id event ≡ None) ⊎ (first_some (sending_of id) J ≡ None)
-sending_fresh s who id J (Taken other to cents stamp) fits = by (same_text other id) refl
-  where
-    by : (b : Bool) → same_text other id ≡ b → (sending_of id (Taken other to cents stamp) ≡ None) ⊎ (first_some (sending_of id) J ≡ None)
-    by true same = inr (sending_absent other id J fits.new same)
-    by false same = inl (ap (λ b. cond {A = Option Sending} b (Some (record { to = to; cents = cents; stamp = stamp })) None) same)
-sending_fresh s who id J (Funded reference cents) fits = inl refl
-sending_fresh s who id J (Defunded reference cents) fits = inl refl
-sending_fresh s who id J (Forwarded from other cents deadline) fits = inl refl
-sending_fresh s who id J (Booked from other outcome) fits = inl refl
-sending_fresh s who id J (Fetched count) fits = inl refl
-sending_fresh s who id J Opened fits = inl refl
-
 -- a submission is found by its identifier
 sending_found : (s : HubSettings) (who : ℕ) (J : List Event) (id : List ℕ) (to cents stamp : ℕ) → IsSound s who J → Contains J (Taken id to cents stamp) → first_some (sending_of id) J ≡ Some (record { to = to; cents = cents; stamp = stamp })
 sending_found s who J id to cents stamp sound there =
-    first_found s who (sending_of id) (sending_fresh s who id) (Taken id to cents stamp) (record { to = to; cents = cents; stamp = stamp })
+    first_found s who (sending_of id) (once_new s who id) (Taken id to cents stamp) (record { to = to; cents = cents; stamp = stamp })
     (ap (λ b. cond {A = Option Sending} b (Some (record { to = to; cents = cents; stamp = stamp })) None) (same_text_refl id)) J sound there
 
 sending_event : (id : List ℕ) (event : Event) (t : Sending) → sending_of id event ≡ Some t → event ≡ Taken id t.to t.cents t.stamp

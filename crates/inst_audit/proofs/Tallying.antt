@@ -9,16 +9,15 @@ use Rattle.inst_journal.specs.declared.event.Event.TheVariants.{Funded, Defunded
 use Rattle.inst_journal.specs.Booked.{or_else, forwards, is_forwarded, books, booked}
 use Rattle.inst_journal.specs.Opened.{is_opening, openings, carried, forwards_live, live_forwarded}
 use Rattle.inst_journal.specs.Sound.{Fits, IsSound}
-use Rattle.inst_journal.proofs.Carrying.{carried_push, carried_opened, carried_unbooked}
-use Rattle.inst_journal.proofs.Counting.{count_push}
+use Rattle.inst_journal.proofs.Carrying.{carried_opened, carried_unbooked}
+use Rattle.inst_journal.proofs.Counting.{count_push, forwarded_step}
 use Rattle.inst_journal.proofs.KeyOnce.{forwarded_once}
 use Rattle.inst_journal.proofs.Places.{sum_same}
-use Rattle.inst_journal.proofs.Pushing.{first_some_push, sum_by-both}
+use Rattle.inst_journal.proofs.Pushing.{first_some_push, sum_by-both, or_else-none}
 use Rattle.inst_journal.proofs.Walking.{front_fits}
 use Rattle.inst_ledger.specs.Book.{Book, with_event}
 use Rattle.inst_ledger.proofs.Forwards.{unforwarded_unbooked}
 use Rattle.inst_ledger.proofs.Live.{one_counted}
-use Rattle.inst_ledger.proofs.Tables.{or_else_none}
 use Rattle.inst_audit.specs.declared.tally.Tally.{Tally}
 use Rattle.inst_audit.specs.Tally.{waiting_from, IsTally}
 
@@ -28,7 +27,7 @@ one_if b = cond b 1 0
 -- an event that books nothing of this originator leaves what waits for an outcome
 module _ (from : ℕ) (J : List Event) (new : Event) (quiet : (id : List ℕ) → books from id new ≡ None) where
   quiet_booked : (id : List ℕ) → booked from id (J ++ new ∷ []) ≡ booked from id J
-  quiet_booked id = first_some_push (books from id) J new ∙ ap (or_else (booked from id J)) (quiet id) ∙ or_else_none (booked from id J)
+  quiet_booked id = first_some_push (books from id) J new ∙ ap (or_else (booked from id J)) (quiet id) ∙ or_else-none (booked from id J)
 
   same_waiting : (event : Event) → one_if (forwards_live from (J ++ new ∷ []) event) ≡ one_if (forwards_live from J event)
   same_waiting (Forwarded other id cents deadline) = ap (λ o. one_if ((other == from) && is_none o)) (quiet_booked id)
@@ -44,10 +43,6 @@ module _ (from : ℕ) (J : List Event) (new : Event) (quiet : (id : List ℕ) �
       count_push (forwards_live from (J ++ new ∷ [])) J new
       ∙ ap (λ n. n + cond (forwards_live from (J ++ new ∷ []) new) 1 0) (sum_same _ _ J same_waiting)
       ∙ ap (λ n. waiting_from from J + n) (same_waiting new)
-
--- an event that is no opening makes what it brings live
-live_push : (from : ℕ) (J : List Event) (event : Event) → is_opening event ≡ false → live_forwarded from (J ++ event ∷ []) ≡ live_forwarded from J + cond (forwards_live from (carried J) event) 1 0
-live_push from J event other = ap (λ C. count_by (forwards_live from C) (J ++ event ∷ [])) (carried_push J event other) ∙ count_push (forwards_live from (carried J)) J event
 
 -- the outcome of a transfer that came is booked
 module _ (s : HubSettings) (who from : ℕ) (J : List Event) (id : List ℕ) (outcome : Outcome) (sound : IsSound s who J) (came : is_forwarded from id J ≡ true) (fits : booked from id J ≡ None) where
@@ -65,7 +60,7 @@ module _ (s : HubSettings) (who from : ℕ) (J : List Event) (id : List ℕ) (ou
 
   waited_at : (o : Option Outcome) (b : Bool) → (b ≡ true → o ≡ None) → one_if (is_none o) ≡ one_if (is_none (or_else o (pick b))) + one_if b
   waited_at o true none = rw (none refl) (omega arith)
-  waited_at o false none = rw (or_else_none o) (omega arith)
+  waited_at o false none = rw (or_else-none o) (omega arith)
 
   none_at : (other : List ℕ) → same_text other id ≡ true → booked from other J ≡ None
   none_at other same = ap (λ (i : List ℕ). booked from i J) (text_same other id (sym same)) ∙ fits
@@ -97,7 +92,7 @@ module _ (s : HubSettings) (who from : ℕ) (J : List Event) (id : List ℕ) (ou
 pub as_before : (who : ℕ) (J : List Event) (event : Event) (t : Tally) → is_opening event ≡ false → ((from : ℕ) → from ≢ who → (id : List ℕ) → books from id event ≡ None)
     → ((from : ℕ) (C : List Event) → forwards_live from C event ≡ false) → IsTally who J t → IsTally who (J ++ event ∷ []) t
 as_before who J event t other quiet brings_none is = record {
-  live = λ from below another. omega (arith, is.live from below another, live_push from J event other, ap {B = ℕ} (λ b. cond b 1 0) (brings_none from (carried J)));
+  live = λ from below another. omega (arith, is.live from below another, forwarded_step from J event other, ap {B = ℕ} (λ b. cond b 1 0) (brings_none from (carried J)));
   waiting = λ from below another. omega (arith, is.waiting from below another, quiet_waiting from J event (quiet from another), ap {B = ℕ} (λ b. cond b 1 0) (brings_none from J));
   opened = omega (arith, is.opened, count_push is_opening J event, ap {B = ℕ} (λ b. cond b 1 0) other);
 }
@@ -136,10 +131,10 @@ module _ (s : HubSettings) (who : ℕ) (J : List Event) (t u : Tally) (sound : I
           let inside : from < length t.live = omega (arith, below, same, long) in
           let put : get_or u.live q 0 ≡ get_or t.live from 0 + 1 =
           ap (λ (l : List ℕ). get_or l q 0) live ∙ ap (λ (n : ℕ). get_or (set t.live from (get_or t.live from 0 + 1)) n 0) (sym same) ∙ get_or-set_same t.live from (get_or t.live from 0 + 1) 0 inside in
-          omega (arith, put, ap (λ (n : ℕ). get_or t.live n 0) same, is.live q below another, live_push q J event refl, comes (carried J) (carried_unbooked from id J none) q same)
+          omega (arith, put, ap (λ (n : ℕ). get_or t.live n 0) same, is.live q below another, forwarded_step q J event refl, comes (carried J) (carried_unbooked from id J none) q same)
       at_live q below another (inr other) =
           let kept : get_or u.live q 0 ≡ get_or t.live q 0 = ap (λ (l : List ℕ). get_or l q 0) live ∙ get_or-set_other t.live from q (get_or t.live from 0 + 1) 0 (λ same. other (sym same)) in
-          omega (arith, kept, is.live q below another, live_push q J event refl, comes_not (carried J) q other)
+          omega (arith, kept, is.live q below another, forwarded_step q J event refl, comes_not (carried J) q other)
 
       at_waiting : (q : ℕ) → q < 256 → q ≢ who → (from ≡ q) ⊎ (from ≢ q) → get_or u.waiting q 0 ≡ waiting_from q (J ++ event ∷ [])
       at_waiting q below another (inl same) =
@@ -162,7 +157,7 @@ module _ (s : HubSettings) (who : ℕ) (J : List Event) (t u : Tally) (sound : I
   pub one_booked : (from : ℕ) (id : List ℕ) (outcome : Outcome) → length t.waiting ≡ 256 → from ≢ who → Fits s who J (Booked from id outcome)
       → u.live ≡ t.live → u.waiting ≡ set t.waiting from (get_or t.waiting from 0 - 1) → u.openings ≡ t.openings → IsTally who (J ++ Booked from id outcome ∷ []) u
   one_booked from id outcome wide others fits live waiting opened = record {
-    live = λ q below another. omega (arith, ap (λ (l : List ℕ). get_or l q 0) live, is.live q below another, live_push q J event refl);
+    live = λ q below another. omega (arith, ap (λ (l : List ℕ). get_or l q 0) live, is.live q below another, forwarded_step q J event refl);
     waiting = λ q below another. at_waiting q below another (cases_eq from q);
     opened = omega (arith, opened, is.opened, count_push is_opening J event);
   }

@@ -21,6 +21,7 @@ use Rattle.inst_books.specs.Events.{event_data, outcome_data, event_can_be_writt
 use Rattle.inst_books.specs.Reading.{identifier_in, amount_in, moment_in, participant_in, outcome_in, funded_in, defunded_in, taken_in, forwarded_in, booked_in, fetched_in, entry_in}
 use Rattle.inst_books.specs.Laws.{event_has_form, outcome_has_form}
 use Rattle.inst_books.proofs.Forms.{code_has_form, code_tells}
+use Rattle.inst_json.proofs.Telling.{past_base}
 
 -- ---- what stands under a name
 
@@ -31,9 +32,6 @@ identifier_again id h = ap (λ b. if b then Ok id else Err BadIdentifier) h
 amount_again : (cents : ℕ) → is_amount cents ≡ true → amount_in (whole cents) ≡ Ok cents
 unfolding amount_in
 amount_again cents h = ap (λ b. if b then Ok cents else Err BadAmount) h
-
-past_base : (base moment : ℕ) → (base + moment) - base ≡ moment
-past_base base moment = omega arith
 
 not_below : (base moment : ℕ) → nat_le base (base + moment) ≡ true
 not_below base moment = grind (arith, nat_tests)

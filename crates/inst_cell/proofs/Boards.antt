@@ -258,11 +258,6 @@ moment_own margin (pending t d) w o want m at n e f is can word own = let no : �
 moment_own margin (decided t d z l) w o want m at n e f is can word own =
     let same : DecidedWord z l ≡ DecidedWord want at = words_apart (DecidedWord z l) (DecidedWord want at) can.3 word (sym is ∙ own) in cc
 
-pub same_reading : (p : Standing) (m n : ℕ) → Says p (DecidedAt m) → Says p (DecidedAt n) → m ≡ n
-same_reading unused m n h g = absurd h
-same_reading (pending t d) m n h g = absurd h
-same_reading (decided t d o x) m n h g = h ∙ sym g
-
 pub settled : (p : Standing) (w : Word) (d n : ℕ) → Says p (Due d) → w ≡ word_of p → n ≡ encode p → n ≢ number d 0 0 → (o : Outcome) × (m : ℕ) × (w ≡ DecidedWord o m)
 settled unused w d n says e is moved = absurd says
 settled (pending t c) w d n says e is moved = absurd (moved (is ∙ ap (λ (x : ℕ). number x 0 0) (sym says)))

@@ -127,7 +127,7 @@ same_decided unused o z h g = absurd h
 same_decided (pending t d) o z h g = absurd h
 same_decided (decided t d x m) o z h g = h ∙ sym g
 
-same_moment : (p : Standing) (m n : ℕ) → Says p (DecidedAt m) → Says p (DecidedAt n) → m ≡ n
+pub same_moment : (p : Standing) (m n : ℕ) → Says p (DecidedAt m) → Says p (DecidedAt n) → m ≡ n
 same_moment unused m n h g = absurd h
 same_moment (pending t d) m n h g = absurd h
 same_moment (decided t d o x) m n h g = h ∙ sym g

@@ -1,6 +1,6 @@
 mod Tally
 mod Stepping
-mod Knowing
+pub mod Knowing
 mod Moving
 mod Numbers
 mod Boards

@@ -92,7 +92,7 @@ before_space-code (x ∷ text) n h =
     let parts = and_parts (is_code_character x) (list_all is_code_character text) h in
     rw (ne_eqb x 32 (space_no_code x parts.0)) (ap (λ rest. x ∷ rest) (before_space-code text n parts.1))
 
-all_at : (codes : List (List ℕ)) (i : ℕ) → list_all is_code codes ≡ true → nat_lt i (length codes) ≡ true → is_code (unwrap_or (slice_get codes i) []) ≡ true
+pub all_at : (codes : List (List ℕ)) (i : ℕ) → list_all is_code codes ≡ true → nat_lt i (length codes) ≡ true → is_code (unwrap_or (slice_get codes i) []) ≡ true
 all_at [] i all below = absurd (let h = below in grind (arith, nat_tests))
 all_at (first ∷ rest) zero all below = (and_parts (is_code first) (list_all is_code rest) all).0
 all_at (first ∷ rest) (suc i) all below = all_at rest i (and_parts (is_code first) (list_all is_code rest) all).1 (let h = below in grind (arith, nat_tests))

@@ -1,5 +1,5 @@
 -- The seats of all tellers are joined to one, and what lay behind the locks is taken out, one after the other.
-use Rattle.std.proofs.Common.{◌≡◌, ℕ, zero, suc, ◌+◌, arith, List, [], ◌∷◌, ◌++◌, length, length-append, append_assoc, append-nil, inl, inr, ◌⊎◌, ⊎_elim, refl, sym, ap, ◌∙◌, subst, Some}
+use Rattle.std.proofs.Common.{◌≡◌, ℕ, ◌+◌, arith, List, [], ◌∷◌, ◌++◌, length, length-append, append_assoc, append-nil, inl, inr, ◌⊎◌, ⊎_elim, refl, sym, ap, ◌∙◌, subst, Some}
 use Rattle.std.specs.Prelude.{slice_get, map}
 use Rattle.std.specs.Global.{Box}
 use Rattle.std.proofs.lemmas.List.{map-append}
@@ -18,6 +18,7 @@ use Rattle.inst_hub.specs.declared.teller.Teller.{Teller}
 use Rattle.inst_hub.specs.inner.Closing.{IsSeated, AreSeated, IsTakenOut, AreTakenOut}
 use Rattle.inst_hub.specs.Opening.{parts_of}
 use Rattle.inst_hub.proofs.Starting.{parts_more}
+use Rattle.inst_parts.proofs.Joining.{got_last, got_only}
 
 abbrev pub Seat : Type 0
 Seat = RowSeat (Box Participant) Event Outset
@@ -33,14 +34,6 @@ pub record Gathered (id : TableId) (key : Outset) (all done rest : List Teller) 
   pub parts : (view_of seat).parts ≡ parts_of done
   pub seen : (i : ℕ) (t : Teller) (p : ℕ) (h : List Event) → slice_get done i ≡ Some t → HasSeen p h t.seat → HasSeen p h seat
   pub sights_are : sights ≡ map sight_of done
-
-got_last : {A : Type 0} (done rest : List A) (x : A) (all : List A) → done ++ x ∷ rest ≡ all → slice_get all (length done) ≡ Some x
-got_last [] rest x all e = ap (λ l. slice_get l 0) (sym e)
-got_last (y ∷ done) rest x all e = ap (λ l. slice_get l (suc (length done))) (sym e) ∙ got_last done rest x (done ++ x ∷ rest) refl
-
-got_only : {A : Type 0} (x y : A) (p : ℕ) → slice_get (x ∷ []) p ≡ Some y → x ≡ y
-got_only x y zero e = cc
-got_only x y (suc p) e = let no : ⊥ = cc in absurd no
 
 pub first_gathered : (id : TableId) (key : Outset) (all rest : List Teller) (t : Teller) (sights new : List Sight) → AreSeated id key all → all ≡ t ∷ rest → sights ≡ [] → new ≡ sights ++ t.sight ∷ [] → Gathered id key all (t ∷ []) rest t.seat new
 first_gathered id key all rest t sights new seated e none pushed =

@@ -5,15 +5,12 @@ use Rattle.std.proofs.lemmas.Bool.{false≢true}
 use Rattle.inst_command.specs.declared.outcome.Outcome.{Outcome}
 use Rattle.inst_journal.specs.declared.event.Event.{Event}
 use Rattle.inst_journal.specs.declared.event.Event.TheVariants.{Funded, Defunded, Taken, Forwarded, Booked, Fetched, Opened}
-use Rattle.inst_journal.specs.Booked.{or_else, books, booked, first_some}
+use Rattle.inst_journal.specs.Booked.{or_else, books, booked}
 use Rattle.inst_journal.specs.Opened.{is_opening, has_opening, carried, current}
-use Rattle.inst_journal.proofs.Pushing.{list_any_push}
+use Rattle.inst_journal.proofs.Pushing.{list_any_push, or-false}
+use Rattle.inst_journal.proofs.FirstSome.{first_some-append}
 
-or-false : (b : Bool) → (b || false) ≡ b
-or-false true = refl
-or-false false = refl
-
-or-true : (b : Bool) → (b || true) ≡ true
+pub or-true : (b : Bool) → (b || true) ≡ true
 or-true true = refl
 or-true false = refl
 
@@ -55,13 +52,6 @@ front_either false x J C K same = refl
 pub carried_front : (J : List Event) → carried J ++ current J ≡ J
 carried_front [] = refl
 carried_front (x ∷ J) = front_either (has_opening (x ∷ J)) x J (carried J) (current J) (carried_front J)
-
-first_some-append : {A B : Type 0} (f : A → Option B) (xs ys : List A) → first_some f (xs ++ ys) ≡ or_else (first_some f xs) (first_some f ys)
-first_some-append f [] ys = refl
-first_some-append f (x ∷ xs) ys = elim (f x) as (λ o. or_else o (first_some f (xs ++ ys)) ≡ or_else (or_else o (first_some f xs)) (first_some f ys)) [
-  | None ↦ first_some-append f xs ys
-  | Some y ↦ refl
-]
 
 -- what was booked before the last opening is booked
 pub carried_booked : (from : ℕ) (id : List ℕ) (J : List Event) (o : Outcome) → booked from id (carried J) ≡ Some o → booked from id J ≡ Some o

@@ -21,6 +21,7 @@ use Rattle.inst_journal.proofs.Carrying.{carried_push, carried_opened, current_p
 use Rattle.inst_journal.proofs.Pushing.{sum_by_push, sum_by-both, list_any_push, first_some_push}
 use Rattle.inst_journal.proofs.Soundness.{sound_induction}
 use Rattle.inst_journal.specs.declared.opened.TheConstants.{MOST_OPENINGS}
+use Rattle.inst_journal.proofs.Counting.{cond_le as booking_le}
 
 -- whether the event is a taken submission
 abbrev pub is_submission : Event → Bool
@@ -57,10 +58,10 @@ pub openings_within : (s : HubSettings) (who : ℕ) (J : List Event) → IsSound
 openings_within s who = sound_induction s who (λ J. openings J ≤ MOST_OPENINGS) (omega arith)
     (λ J event sound fits before. omega (arith, count_push is_opening J event, most_openings s who J event fits before))
 
-fundings_step : (J : List Event) (event : Event) → is_opening event ≡ false → fundings (J ++ event ∷ []) ≡ fundings J + cond (is_funding event) 1 0
+pub fundings_step : (J : List Event) (event : Event) → is_opening event ≡ false → fundings (J ++ event ∷ []) ≡ fundings J + cond (is_funding event) 1 0
 fundings_step J event other = ap (count_by is_funding) (current_push J event other) ∙ count_push is_funding (current J) event
 
-fundings_opened : (J : List Event) → fundings (J ++ Opened ∷ []) ≡ 0
+pub fundings_opened : (J : List Event) → fundings (J ++ Opened ∷ []) ≡ 0
 fundings_opened J = ap (count_by is_funding) (current_opened J)
 
 fundings_push : (s : HubSettings) (who : ℕ) (J : List Event) (event : Event) → Fits s who J event → fundings J ≤ s.fundings → fundings (J ++ event ∷ []) ≤ s.fundings
@@ -76,7 +77,7 @@ fundings_push s who J Opened fits before = omega (arith, fundings_opened J)
 pub fundings_within : (s : HubSettings) (who : ℕ) (J : List Event) → IsSound s who J → fundings J ≤ s.fundings
 fundings_within s who = sound_induction s who (λ J. fundings J ≤ s.fundings) (omega arith) (λ J event sound fits before. fundings_push s who J event fits before)
 
-one_more : (n m : ℕ) → (n + 1) * m ≡ n * m + m
+pub one_more : (n m : ℕ) → (n + 1) * m ≡ n * m + m
 one_more n m = grind arith
 
 -- another event within an opening, and another opening
@@ -115,7 +116,7 @@ pub all_fundings_few : (s : HubSettings) (who : ℕ) (J : List Event) → IsSoun
 all_fundings_few s who = sound_induction s who (FundingsFew s) (omega arith) (λ J event sound fits before. fundings_few_push s J event (fundings_within s who J sound) before)
 
 -- a transfer that is none of the participant's isn't booked
-first_false : (a b : Bool) → (a || b) ≡ false → a ≡ false
+pub first_false : (a b : Bool) → (a || b) ≡ false → a ≡ false
 first_false true b e = e
 first_false false b e = refl
 
@@ -173,7 +174,7 @@ submissions_opened who J =
     let fewer : count_by (takes_live who (J ++ Opened ∷ [])) J ≤ live_submissions who J = sum_by-le-sum_by _ _ J (live_le who J) in
     omega (arith, opened, fewer)
 
-cond_le : (b : Bool) → cond b 1 0 ≤ 1
+pub cond_le : (b : Bool) → cond b 1 0 ≤ 1
 cond_le true = omega arith
 cond_le false = omega arith
 
@@ -226,7 +227,7 @@ submissions_few_push s who J event sound fits few true opened =
 pub all_submissions_few : (s : HubSettings) (who : ℕ) (J : List Event) → IsSound s who J → SubmissionsFew s who J
 all_submissions_few s who = sound_induction s who (SubmissionsFew s who) (omega arith) (λ J event sound fits before. submissions_few_push s who J event sound fits before (is_opening event) refl)
 
-forwarded_step : (from : ℕ) (J : List Event) (event : Event) → is_opening event ≡ false → live_forwarded from (J ++ event ∷ []) ≡ live_forwarded from J + cond (forwards_live from (carried J) event) 1 0
+pub forwarded_step : (from : ℕ) (J : List Event) (event : Event) → is_opening event ≡ false → live_forwarded from (J ++ event ∷ []) ≡ live_forwarded from J + cond (forwards_live from (carried J) event) 1 0
 forwarded_step from J event other = ap (λ C. count_by (forwards_live from C) (J ++ event ∷ [])) (carried_push J event other) ∙ count_push (forwards_live from (carried J)) J event
 
 and_le : (b before now : Bool) → cond now 1 0 ≤ cond before 1 0 → cond (b && now) 1 0 ≤ cond (b && before) 1 0
@@ -360,7 +361,7 @@ none_below (event ∷ events) =
     let first : cond (forwards_below 0 event) 1 0 ≡ none = ap (λ b. cond b 1 0) (no_forwarding event) in
     omega (arith, sum_by-cons (λ e. cond (forwards_below 0 e) 1 0) event events, first, none_below events)
 
-suc_times : (n m : ℕ) → suc n * m ≡ n * m + m
+pub suc_times : (n m : ℕ) → suc n * m ≡ n * m + m
 suc_times n m = grind arith
 
 -- no more transfers of the first n originators than they have places
@@ -407,10 +408,6 @@ unbooked_none from id (event ∷ events) none =
     let first : books from id event ≡ None = first_none (books from id event) (booked from id events) none in
     let others : booked from id events ≡ None = ap (λ o. or_else o (booked from id events)) (sym first) ∙ none in
     omega (arith, sum_by-cons (λ e. cond (booking from id e) 1 0) event events, unbooked_none from id events others, ap {B = ℕ} (λ o. cond (is_some o) 1 0) first)
-
-booking_le : (b : Bool) → cond b 1 0 ≤ 1
-booking_le true = omega arith
-booking_le false = omega arith
 
 booked_push : (s : HubSettings) (who from : ℕ) (id : List ℕ) (J : List Event) (event : Event) → Fits s who J event → count_by (booking from id) J ≤ 1 → count_by (booking from id) J + cond (booking from id event) 1 0 ≤ 1
 booked_push s who from id J (Booked other_from other outcome) fits before = elim (cases_Bool (same_transfer from id other_from other)) [

@@ -11,12 +11,8 @@ use Rattle.inst_journal.specs.Booked.{takes, is_taken, forwards, is_forwarded}
 use Rattle.inst_journal.specs.Keys.{refers, has_reference}
 use Rattle.inst_journal.specs.Repeats.{KeepsAKeyOnce}
 use Rattle.inst_journal.specs.Sound.{Fits, IsSound}
-use Rattle.inst_journal.proofs.Counting.{count_push}
+use Rattle.inst_journal.proofs.Counting.{count_push, first_false, cond_le}
 use Rattle.inst_journal.proofs.Soundness.{sound_induction}
-
-first_false : (a b : Bool) → (a || b) ≡ false → a ≡ false
-first_false true b e = e
-first_false false b e = refl
 
 second_false : (a b : Bool) → (a || b) ≡ false → b ≡ false
 second_false true b e = absurd (cc)
@@ -33,14 +29,10 @@ none_counted p (event ∷ J) none =
       ap {B = ℕ} (λ b. cond b 1 0) (first_false (p event) (list_any p J) none),
     )
 
-one_at_most : (b : Bool) → cond b 1 0 ≤ 1
-one_at_most true = omega arith
-one_at_most false = omega arith
-
 -- one more event with a key that wasn't there
 counted : (p : Event → Bool) (J : List Event) (event : Event) → (p event ≡ true → list_any p J ≡ false) → count_by p J ≤ 1 → count_by p J + cond (p event) 1 0 ≤ 1
 counted p J event new before = elim (cases_Bool (p event)) [
-  | inl same ↦ omega (arith, none_counted p J (new same), one_at_most (p event))
+  | inl same ↦ omega (arith, none_counted p J (new same), cond_le (p event))
   | inr other ↦ omega (arith, before, ap {B = ℕ} (λ b. cond b 1 0) other)
 ]
 

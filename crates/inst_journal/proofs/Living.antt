@@ -1,11 +1,11 @@
 -- What an opening leaves as it was, and what it gives back.
-use Rattle.std.proofs.Common.{◌≡◌, ℕ, ◌+◌, ◌-◌, Bool, true, false, ◌||◌, ◌&&◌, not, cond, List, [], ◌∷◌, ◌++◌, Option, Some, None, is_none, sum_by, count_by, refl, ap, ◌∙◌, add-zero}
+use Rattle.std.proofs.Common.{◌≡◌, ℕ, ◌+◌, ◌-◌, Bool, false, ◌||◌, ◌&&◌, not, cond, List, [], ◌∷◌, ◌++◌, Some, None, is_none, sum_by, count_by, refl, ap, ◌∙◌, add-zero}
 use Rattle.std.specs.List.{list_any}
 use Rattle.std.proofs.lemmas.Bool.{eq-eqb}
 use Rattle.inst_settings.specs.Settings.{HubSettings, same_text}
 use Rattle.inst_journal.specs.declared.event.Event.{Event}
 use Rattle.inst_journal.specs.declared.event.Event.TheVariants.{Funded, Defunded, Taken, Forwarded, Booked, Fetched, Opened}
-use Rattle.inst_journal.specs.Booked.{or_else, first_some, takes, is_forwarded, forwards, books, booked, books_own, own_booked}
+use Rattle.inst_journal.specs.Booked.{first_some, takes, is_forwarded, forwards, books, booked, books_own, own_booked}
 use Rattle.inst_journal.specs.Keys.{is_this_fund, is_this_defund, is_this_submission, refers, is_funding}
 use Rattle.inst_journal.specs.Living.{IsLivingWithin, SameMoney, SameKeys, BeginsAnew}
 use Rattle.inst_journal.specs.Money.{reserved, position}
@@ -14,15 +14,7 @@ use Rattle.inst_journal.specs.Sound.{IsSound}
 use Rattle.inst_journal.specs.Sums.{funding, defunding, funded, defunded, if_accepted, if_unbooked, credit, debit, reservation, credits, debits}
 use Rattle.inst_journal.proofs.Carrying.{carried_opened, current_opened, carried_unbooked}
 use Rattle.inst_journal.proofs.Counting.{submissions_within, forwarded_within}
-use Rattle.inst_journal.proofs.Pushing.{list_any_push, sum_by_push, first_some_push}
-
-or-false : (b : Bool) → (b || false) ≡ b
-or-false true = refl
-or-false false = refl
-
-or_else-none : {A : Type 0} (o : Option A) → or_else o None ≡ o
-or_else-none None = refl
-or_else-none (Some x) = refl
+use Rattle.inst_journal.proofs.Pushing.{list_any_push, sum_by_push, first_some_push, or-false, or_else-none}
 
 -- what isn't booked is live, and no more than there are places
 pub living_within : (s : HubSettings) (who : ℕ) (J : List Event) → IsSound s who J → IsLivingWithin s who J

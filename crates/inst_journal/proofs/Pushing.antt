@@ -6,11 +6,11 @@ use Rattle.std.proofs.lemmas.List.Folds.{list_any-append}
 use Rattle.inst_journal.specs.Booked.{or_else, first_some}
 use Rattle.inst_journal.proofs.FirstSome.{first_some-append}
 
-or-false : (b : Bool) → (b || false) ≡ b
+pub or-false : (b : Bool) → (b || false) ≡ b
 or-false true = refl
 or-false false = refl
 
-or_else-none : {A : Type 0} (o : Option A) → or_else o None ≡ o
+pub or_else-none : {A : Type 0} (o : Option A) → or_else o None ≡ o
 or_else-none None = refl
 or_else-none (Some x) = refl
 

@@ -140,7 +140,7 @@ content_in s d =
 
 -- ---- it is what the reply tells
 
-past_base : (base moment : ℕ) → (base + moment) - base ≡ moment
+pub past_base : (base moment : ℕ) → (base + moment) - base ≡ moment
 past_base base moment = omega arith
 
 entries_again : (s : HubSettings) (entries : List Entry) → IsSettings s → list_all (λ entry. is_participant s entry.from) entries ≡ true → entries_in s (items (map (entry_data s) entries)) ≡ entries

@@ -15,7 +15,7 @@ use Rattle.inst_journal.specs.Sums.{if_accepted, if_unbooked, credit, debit, res
 use Rattle.inst_journal.specs.Keys.{is_this_submission, is_submission_repeat}
 use Rattle.inst_journal.specs.Money.{reserved}
 use Rattle.inst_journal.specs.Sound.{Fits, IsSound}
-use Rattle.inst_journal.proofs.Pushing.{sum_by_push, sum_by-both, first_some_push, list_any_push}
+use Rattle.inst_journal.proofs.Pushing.{sum_by_push, sum_by-both, first_some_push, list_any_push, or_else-none}
 use Rattle.inst_journal.proofs.Soundness.{sound_induction}
 use Rattle.inst_journal.proofs.OwnBookings.{own_unforwarded, own_booked-booked}
 use Rattle.inst_journal.proofs.Covering.{own_push}
@@ -23,12 +23,12 @@ use Rattle.inst_journal.proofs.Places.{sum_same}
 use Rattle.inst_ledger.specs.declared.sending.Sending.{Sending}
 use Rattle.inst_ledger.specs.Kept.{sending_of}
 use Rattle.inst_ledger.specs.inner.Kept.{cents_of, is_sending}
-use Rattle.inst_ledger.proofs.Tables.{or_else_none, sending_absent}
+use Rattle.inst_ledger.proofs.Tables.{sending_absent}
 
 -- an event that books nothing of the participant's own leaves what each taken transfer counts for
 module _ (s : HubSettings) (who : ℕ) (J : List Event) (new : Event) (sound : IsSound s who J) (fits : Fits s who J new) (quiet : (id : List ℕ) → books who id new ≡ None) where
   pub quiet_own : (id : List ℕ) → own_booked id (J ++ new ∷ []) ≡ own_booked id J
-  quiet_own id = own_push s who J new id sound fits ∙ ap (or_else (own_booked id J)) (quiet id) ∙ or_else_none (own_booked id J)
+  quiet_own id = own_push s who J new id sound fits ∙ ap (or_else (own_booked id J)) (quiet id) ∙ or_else-none (own_booked id J)
 
   quiet_debit : (event : Event) → debit (J ++ new ∷ []) event ≡ debit J event
   quiet_debit (Taken id to cents stamp) = ap (λ o. if_accepted o cents) (quiet_own id)
@@ -57,7 +57,7 @@ module _ (s : HubSettings) (who : ℕ) (J : List Event) (new : Event) (sound : I
 -- an event that books nothing leaves what each forwarded transfer counts for
 module _ (J : List Event) (new : Event) (quiet : (from : ℕ) (id : List ℕ) → books from id new ≡ None) where
   pub quiet_booked : (from : ℕ) (id : List ℕ) → booked from id (J ++ new ∷ []) ≡ booked from id J
-  quiet_booked from id = first_some_push (books from id) J new ∙ ap (or_else (booked from id J)) (quiet from id) ∙ or_else_none (booked from id J)
+  quiet_booked from id = first_some_push (books from id) J new ∙ ap (or_else (booked from id J)) (quiet from id) ∙ or_else-none (booked from id J)
 
   quiet_credit : (event : Event) → credit (J ++ new ∷ []) event ≡ credit J event
   quiet_credit (Forwarded from id cents deadline) = ap (λ o. if_accepted o cents) (quiet_booked from id)
@@ -116,11 +116,11 @@ at id event = cents_of (sending_of id event)
 cents_or : (o p : Option Sending) → (p ≡ None) ⊎ (o ≡ None) → cents_of (or_else o p) ≡ cents_of o + cents_of p
 cents_or o p either = elim either [
   | inl none ↦
-      ap (λ p'. cents_of (or_else o p')) none ∙ ap cents_of (or_else_none o) ∙ sym (add-zero (cents_of o)) ∙ ap (λ p'. cents_of o + cents_of p') (sym none)
+      ap (λ p'. cents_of (or_else o p')) none ∙ ap cents_of (or_else-none o) ∙ sym (add-zero (cents_of o)) ∙ ap (λ p'. cents_of o + cents_of p') (sym none)
   | inr none ↦ ap (λ o'. cents_of (or_else o' p)) none ∙ omega (arith, ap cents_of none)
 ]
 
-once_new : (s : HubSettings) (who : ℕ) (id : List ℕ) (J : List Event) (event : Event) → Fits s who J event → (sending_of id event ≡ None) ⊎ (first_some (sending_of id) J ≡ None)
+pub once_new : (s : HubSettings) (who : ℕ) (id : List ℕ) (J : List Event) (event : Event) → Fits s who J event → (sending_of id event ≡ None) ⊎ (first_some (sending_of id) J ≡ None)
 once_new s who id J (Taken other to cents stamp) fits = by (same_text other id) refl
   where
     by : (b : Bool) → same_text other id ≡ b → (sending_of id (Taken other to cents stamp) ≡ None) ⊎ (first_some (sending_of id) J ≡ None)
@@ -142,7 +142,7 @@ taken_once s who id = sound_induction s who (λ J. sum_by (at id) J ≡ cents_of
 -- a submission is a repeat where the very same is found to be sent
 repeat_or : (x : Submission) (o p : Option Sending) → (p ≡ None) ⊎ (o ≡ None) → (is_sending x o || is_sending x p) ≡ is_sending x (or_else o p)
 repeat_or x o p either = elim either [
-  | inl none ↦ ap (λ p'. is_sending x o || is_sending x p') none ∙ off (is_sending x o) ∙ sym (ap (λ p'. is_sending x (or_else o p')) none ∙ ap (is_sending x) (or_else_none o))
+  | inl none ↦ ap (λ p'. is_sending x o || is_sending x p') none ∙ off (is_sending x o) ∙ sym (ap (λ p'. is_sending x (or_else o p')) none ∙ ap (is_sending x) (or_else-none o))
   | inr none ↦ ap (λ o'. is_sending x o' || is_sending x p) none ∙ sym (ap (λ o'. is_sending x (or_else o' p)) none)
 ]
   where
@@ -207,11 +207,11 @@ module _ (s : HubSettings) (who : ℕ) (J : List Event) (id : List ℕ) (outcome
 
   reserved_at : (other : List ℕ) (cents : ℕ) (b : Bool) → (b ≡ true → own_booked other J ≡ None) → if_unbooked (own_booked other J) cents ≡ if_unbooked (or_else (own_booked other J) (pick b)) cents + cond b cents 0
   reserved_at other cents true none = rw (none refl) (omega arith)
-  reserved_at other cents false none = rw (or_else_none (own_booked other J)) (omega arith)
+  reserved_at other cents false none = rw (or_else-none (own_booked other J)) (omega arith)
 
   debited_at : (other : List ℕ) (cents : ℕ) (b : Bool) → (b ≡ true → own_booked other J ≡ None) → if_accepted (or_else (own_booked other J) (pick b)) cents ≡ if_accepted (own_booked other J) cents + if_accepted (Some outcome) (cond b cents 0)
   debited_at other cents true none = rw (none refl) (omega arith)
-  debited_at other cents false none = rw (or_else_none (own_booked other J), accepted_none outcome) (omega arith)
+  debited_at other cents false none = rw (or_else-none (own_booked other J), accepted_none outcome) (omega arith)
 
   none_at : (other : List ℕ) → same_text other id ≡ true → own_booked other J ≡ None
   none_at other same = ap (λ i. own_booked i J) (text_same other id (sym same)) ∙ nothing
@@ -266,7 +266,7 @@ module _ (s : HubSettings) (who : ℕ) (J : List Event) (id : List ℕ) (outcome
   uncredited (Forwarded from other cents deadline ∷ xs) none =
       let parts = or_parts (forwards who id (Forwarded from other cents deadline)) (is_forwarded who id xs) none in
       let key : ((who == from) && same_text id other) ≡ false = ap (λ b. b && same_text id other) (eq_flip who from) ∙ ap (λ b. (from == who) && b) (nat_list_eq_equiv.symm id other) ∙ parts.0 in
-      let here : booked from other (J ++ new ∷ []) ≡ booked from other J = first_some_push (books from other) J new ∙ ap (λ b. or_else (booked from other J) (pick b)) key ∙ or_else_none (booked from other J) in
+      let here : booked from other (J ++ new ∷ []) ≡ booked from other J = first_some_push (books from other) J new ∙ ap (λ b. or_else (booked from other J) (pick b)) key ∙ or_else-none (booked from other J) in
       let same : credit (J ++ new ∷ []) (Forwarded from other cents deadline) ≡ credit J (Forwarded from other cents deadline) = ap (λ o. if_accepted o cents) here in
       omega (arith, sum_by-cons (credit (J ++ new ∷ [])) (Forwarded from other cents deadline) xs, sum_by-cons (credit J) (Forwarded from other cents deadline) xs, same, uncredited xs parts.1)
   uncredited (Taken other to cents stamp ∷ xs) none = uncredited xs none

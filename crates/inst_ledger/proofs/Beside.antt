@@ -17,7 +17,7 @@ use Rattle.inst_journal.specs.Opened.{is_opening, carried, takes_live, live_take
 use Rattle.inst_journal.specs.Reply.{inbox, handed_out}
 use Rattle.inst_journal.specs.Sound.{Fits, IsSound}
 use Rattle.inst_journal.specs.Sums.{if_accepted, funding, funded, defunding, credit, credits}
-use Rattle.inst_journal.proofs.Counting.{position_fits, submissions_within}
+use Rattle.inst_journal.proofs.Counting.{position_fits, submissions_within, fundings_step, fundings_opened}
 use Rattle.inst_journal.proofs.Covering.{covered}
 use Rattle.inst_journal.proofs.OwnBookings.{own_unforwarded}
 use Rattle.inst_journal.proofs.Pushing.{sum_by_push, sum_by-both}
@@ -40,9 +40,10 @@ use Rattle.inst_ledger.proofs.Amounts.{own_reserved}
 use Rattle.inst_ledger.proofs.Forwards.{forwarded_found}
 use Rattle.inst_ledger.proofs.Funded.{funded_put, defunded_put}
 use Rattle.inst_ledger.proofs.Inbox.{read_same, read_on, read_more}
-use Rattle.inst_ledger.proofs.Live.{fundings_more, fundings_none, one_less}
+use Rattle.inst_ledger.proofs.Live.{one_less}
 use Rattle.inst_ledger.proofs.Right.{right_push, booked_there, own_party}
-use Rattle.inst_ledger.proofs.Tables.{none_of, table_keep, taken_found}
+use Rattle.inst_ledger.proofs.Tables.{table_keep, taken_found}
+use Rattle.inst_statement.proofs.Found.{none_of}
 
 longer : (J : List Event) (event : Event) → length (J ++ event ∷ []) ≡ length J + 1
 longer J event = length-append J (event ∷ [])
@@ -134,7 +135,7 @@ module _ (s : HubSettings) (who : ℕ) (J : List Event) (t : Totals) (table : He
       → IsBeside s who (J ++ event ∷ []) t after R since positions read
   quiet_pushes event after fits same is few no_funds no_defunds no_reference other no_funding no_forwarding none no_amount =
       pushes event t after R since positions read fits same is (omega (arith, no_funds)) (omega (arith, no_defunds)) (omega (arith, few)) (table_keep funding_of J event R b.referred no_reference)
-      (omega (arith, b.fundings, fundings_more J event other, ap (λ (x : Bool). cond {A = ℕ} x 1 0) no_funding)) (read_same who J event positions read no_forwarding none b.inboxed) (omega (arith, no_amount))
+      (omega (arith, b.fundings, fundings_step J event other, ap (λ (x : Bool). cond {A = ℕ} x 1 0) no_funding)) (read_same who J event positions read no_forwarding none b.inboxed) (omega (arith, no_amount))
 
   pub taken_beside : (id : List ℕ) (to cents stamp : ℕ) (after : Held) → Fits s who J (Taken id to cents stamp) → after.who ≡ table.who → state_in after ≡ step table.who (state_in table) (Taken id to cents stamp)
       → IsBeside s who (J ++ Taken id to cents stamp ∷ []) t after R since positions read
@@ -147,19 +148,19 @@ module _ (s : HubSettings) (who : ℕ) (J : List Event) (t : Totals) (table : He
       let event : Event = Forwarded from id cents deadline in
       let last : position ≡ length (rows_of who J) = at ∙ sym (length-map table.entries _) ∙ ap length b.right.rows in
       pushes event t after R since (positions ++ position ∷ []) read fits same is (omega arith) (omega arith) (omega (arith, ap (λ (st : State). st.credits) is)) (table_keep funding_of J event R b.referred (λ _. refl))
-      (omega (arith, b.fundings, fundings_more J event refl))
+      (omega (arith, b.fundings, fundings_step J event refl))
       (read_more who J from id cents deadline position positions read last b.inboxed)
       (omega (arith, most))
 
   pub fetched_beside : (count : ℕ) → Fits s who J (Fetched count) → IsBeside s who (J ++ Fetched count ∷ []) t table R since positions (read + count)
   fetched_beside count fits =
       let event : Event = Fetched count in
-      pushes event t table R since positions (read + count) fits refl refl (omega arith) (omega arith) (omega arith) (table_keep funding_of J event R b.referred (λ _. refl)) (omega (arith, b.fundings, fundings_more J event refl))
+      pushes event t table R since positions (read + count) fits refl refl (omega arith) (omega arith) (omega arith) (table_keep funding_of J event R b.referred (λ _. refl)) (omega (arith, b.fundings, fundings_step J event refl))
       (read_on who J count positions read b.inboxed) (omega arith)
 
   pub opened_beside : (after : Held) → Fits s who J Opened → after.who ≡ table.who → state_in after ≡ step table.who (state_in table) Opened → IsBeside s who (J ++ Opened ∷ []) t after R 0 positions read
   opened_beside after fits same is =
-      pushes Opened t after R 0 positions read fits same is (omega arith) (omega arith) (omega (arith, ap (λ (st : State). st.credits) is)) (table_keep funding_of J Opened R b.referred (λ _. refl)) (sym (fundings_none J))
+      pushes Opened t after R 0 positions read fits same is (omega arith) (omega arith) (omega (arith, ap (λ (st : State). st.credits) is)) (table_keep funding_of J Opened R b.referred (λ _. refl)) (sym (fundings_opened J))
       (read_same who J Opened positions read refl refl b.inboxed) (omega arith)
 
   pub funded_beside : (reference : List ℕ) (cents added : ℕ) (after : List ℕ → Option KeptFunding) → added ≡ cents → Fits s who J (Funded reference cents) → cents ≤ MOST_CENTS
@@ -168,7 +169,7 @@ module _ (s : HubSettings) (who : ℕ) (J : List Event) (t : Totals) (table : He
   funded_beside reference cents added after same fits most put =
       let event : Event = Funded reference cents in
       pushes event _ table after (since + 1) positions read fits refl refl (omega (arith, same)) (omega arith) (omega (arith, same, most)) (funded_put J reference cents R after fits.new b.referred put)
-      (omega (arith, b.fundings, fundings_more J event refl)) (read_same who J event positions read refl refl b.inboxed) (omega (arith, most))
+      (omega (arith, b.fundings, fundings_step J event refl)) (read_same who J event positions read refl refl b.inboxed) (omega (arith, most))
 
   pub defunded_beside : (reference : List ℕ) (cents added : ℕ) (after : List ℕ → Option KeptFunding) → added ≡ cents → Fits s who J (Defunded reference cents)
       → ((q : List ℕ) → after q ≡ cond (same_text reference q) (Some (record { is_defunding = true; cents = cents })) (R q))
@@ -176,7 +177,7 @@ module _ (s : HubSettings) (who : ℕ) (J : List Event) (t : Totals) (table : He
   defunded_beside reference cents added after same fits put =
       let event : Event = Defunded reference cents in
       pushes event _ table after (since + 1) positions read fits refl refl (omega arith) (omega (arith, same)) (omega arith) (defunded_put J reference cents R after fits.funding.new b.referred put)
-      (omega (arith, b.fundings, fundings_more J event refl)) (read_same who J event positions read refl refl b.inboxed) (omega arith)
+      (omega (arith, b.fundings, fundings_step J event refl)) (read_same who J event positions read refl refl b.inboxed) (omega arith)
 
   -- a transfer that was neither taken nor forwarded isn't in the table
   unknown : (o : Option Transfer) → sending_in o ≡ None → forwarding_in o ≡ None → o ≡ None

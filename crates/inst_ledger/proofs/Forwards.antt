@@ -10,15 +10,15 @@ use Rattle.inst_journal.specs.declared.event.Event.TheVariants.{Funded, Defunded
 use Rattle.inst_journal.specs.Booked.{or_else, first_some, forwards, is_forwarded, books, booked}
 use Rattle.inst_journal.specs.Sums.{if_accepted, credit, credits}
 use Rattle.inst_journal.specs.Sound.{Fits, IsSound}
-use Rattle.inst_journal.proofs.Pushing.{sum_by_push, sum_by-both, first_some_push, list_any_push}
+use Rattle.inst_journal.proofs.Pushing.{sum_by_push, sum_by-both, first_some_push, list_any_push, or_else-none}
 use Rattle.inst_journal.proofs.Soundness.{sound_induction}
 use Rattle.inst_ledger.specs.declared.sending.Forwarding.{Forwarding}
 use Rattle.inst_ledger.specs.Kept.{forwarding_of}
 use Rattle.inst_ledger.specs.inner.Kept.{credit_of}
 use Rattle.inst_ledger.specs.inner.Transfers.{same_key}
-use Rattle.inst_ledger.proofs.Tables.{or_else_none, none_of, any_first, some_cond}
 use Rattle.inst_journal.proofs.Places.{sum_same}
 use Rattle.inst_ledger.proofs.Amounts.{or_parts, accepted_none, sum_accepted}
+use Rattle.inst_statement.proofs.Found.{some_cond, none_of, any_first}
 
 pub key_is : (x y : ℕ × List ℕ) → same_key x y ≡ true → (x.0 ≡ y.0) × (x.1 ≡ y.1)
 key_is x y same = let key = and_parts (x.0 == y.0) (same_text x.1 y.1) same in (eqb-true x.0 y.0 key.0, text_same x.1 y.1 (sym key.1))
@@ -69,7 +69,7 @@ at key event = credit_of (forwarding_of key event)
 
 credit_or : (o p : Option Forwarding) → (p ≡ None) ⊎ (o ≡ None) → credit_of (or_else o p) ≡ credit_of o + credit_of p
 credit_or o p either = elim either [
-  | inl none ↦ rw (none, or_else_none o) (omega arith)
+  | inl none ↦ rw (none, or_else-none o) (omega arith)
   | inr none ↦ rw none (omega arith)
 ]
 
@@ -105,7 +105,7 @@ module _ (s : HubSettings) (who : ℕ) (J : List Event) (from : ℕ) (id : List 
 
   credited_at : (o : Option Outcome) (cents : ℕ) (b : Bool) → (b ≡ true → o ≡ None) → if_accepted (or_else o (pick b)) cents ≡ if_accepted o cents + if_accepted (Some outcome) (cond b cents 0)
   credited_at o cents true none = rw (none refl) (omega arith)
-  credited_at o cents false none = rw (or_else_none o, accepted_none outcome) (omega arith)
+  credited_at o cents false none = rw (or_else-none o, accepted_none outcome) (omega arith)
 
   at_cond : (b : Bool) (cents deadline : ℕ) → cond b cents 0 ≡ credit_of (cond b (Some (record { cents = cents; deadline = deadline })) None)
   at_cond true cents deadline = refl

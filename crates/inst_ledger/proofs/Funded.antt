@@ -7,13 +7,14 @@ use Rattle.inst_journal.specs.declared.event.Event.TheVariants.{Funded, Defunded
 use Rattle.inst_journal.specs.Booked.{or_else, first_some}
 use Rattle.inst_journal.specs.Keys.{is_this_fund, is_this_defund, refers, is_fund_repeat, is_defund_repeat, has_reference}
 use Rattle.inst_journal.specs.Sound.{Fits, IsSound}
-use Rattle.inst_journal.proofs.Pushing.{first_some_push, list_any_push}
+use Rattle.inst_journal.proofs.Pushing.{first_some_push, list_any_push, or-false, or_else-none}
 use Rattle.inst_journal.proofs.Soundness.{sound_induction}
 use Rattle.inst_ledger.specs.declared.references.KeptFunding.{KeptFunding}
 use Rattle.inst_ledger.specs.Kept.{IsTable}
 use Rattle.inst_ledger.specs.Beside.{funding_of}
 use Rattle.inst_ledger.specs.inner.Beside.{is_funding_of}
-use Rattle.inst_ledger.proofs.Tables.{or_else_none, table_put, none_of, any_first, some_cond}
+use Rattle.inst_ledger.proofs.Tables.{table_put}
+use Rattle.inst_statement.proofs.Found.{some_cond, none_of, any_first}
 
 refers_funding : (reference : List ℕ) (event : Event) → refers reference event ≡ is_some (funding_of reference event)
 refers_funding reference (Funded other cents) = some_cond {A = KeptFunding} (same_text other reference) (record { is_defunding = false; cents = cents })
@@ -47,14 +48,10 @@ once_new s who reference J (Booked from id outcome) fits = inl refl
 once_new s who reference J (Fetched count) fits = inl refl
 once_new s who reference J Opened fits = inl refl
 
-or_false : (b : Bool) → (b || false) ≡ b
-or_false true = refl
-or_false false = refl
-
 repeat_or : (is_defunding : Bool) (cents : ℕ) (o p : Option KeptFunding) → (p ≡ None) ⊎ (o ≡ None) → (is_funding_of is_defunding cents o || is_funding_of is_defunding cents p) ≡ is_funding_of is_defunding cents (or_else o p)
 repeat_or is_defunding cents o p either = elim either [
-  | inl none ↦ ap (λ p'. is_funding_of is_defunding cents o || is_funding_of is_defunding cents p') none ∙ or_false (is_funding_of is_defunding cents o)
-      ∙ sym (ap (λ p'. is_funding_of is_defunding cents (or_else o p')) none ∙ ap (is_funding_of is_defunding cents) (or_else_none o))
+  | inl none ↦ ap (λ p'. is_funding_of is_defunding cents o || is_funding_of is_defunding cents p') none ∙ or-false (is_funding_of is_defunding cents o)
+      ∙ sym (ap (λ p'. is_funding_of is_defunding cents (or_else o p')) none ∙ ap (is_funding_of is_defunding cents) (or_else-none o))
   | inr none ↦ ap (λ o'. is_funding_of is_defunding cents o' || is_funding_of is_defunding cents p) none ∙ sym (ap (λ o'. is_funding_of is_defunding cents (or_else o' p)) none)
 ]
 

@@ -9,23 +9,15 @@ use Rattle.inst_command.specs.declared.outcome.Outcome.{Outcome}
 use Rattle.inst_journal.specs.declared.event.Event.{Event}
 use Rattle.inst_journal.specs.declared.event.Event.TheVariants.{Funded, Defunded, Taken, Forwarded, Booked, Fetched, Opened}
 use Rattle.inst_journal.specs.Booked.{or_else, takes, is_taken, books, booked}
-use Rattle.inst_journal.specs.Keys.{is_funding, fundings}
-use Rattle.inst_journal.specs.Opened.{is_opening, carried, current, takes_live}
+use Rattle.inst_journal.specs.Opened.{carried, takes_live}
 use Rattle.inst_journal.specs.Sound.{IsSound}
-use Rattle.inst_journal.proofs.Carrying.{current_push, current_opened, carried_unbooked}
+use Rattle.inst_journal.proofs.Carrying.{carried_unbooked}
 use Rattle.inst_journal.proofs.Counting.{count_push}
 use Rattle.inst_journal.proofs.KeyOnce.{taken_once}
 use Rattle.inst_journal.proofs.Places.{sum_same}
-use Rattle.inst_journal.proofs.Pushing.{first_some_push, sum_by-both}
+use Rattle.inst_journal.proofs.Pushing.{first_some_push, sum_by-both, or_else-none}
 use Rattle.inst_ledger.specs.Right.{unbooked}
 use Rattle.inst_ledger.proofs.Amounts.{untaken_unbooked}
-use Rattle.inst_ledger.proofs.Tables.{or_else_none}
-
-pub fundings_more : (J : List Event) (event : Event) → is_opening event ≡ false → fundings (J ++ event ∷ []) ≡ fundings J + cond (is_funding event) 1 0
-fundings_more J event other = ap (count_by is_funding) (current_push J event other) ∙ count_push is_funding (current J) event
-
-pub fundings_none : (J : List Event) → fundings (J ++ Opened ∷ []) ≡ 0
-fundings_none J = ap (count_by is_funding) (current_opened J)
 
 -- a new submission is live
 pub new_lives : (s : HubSettings) (who : ℕ) (J : List Event) (id : List ℕ) (to cents stamp : ℕ) → IsSound s who J → is_taken id J ≡ false → takes_live who (carried J) (Taken id to cents stamp) ≡ true
@@ -37,7 +29,7 @@ one_if b = cond b 1 0
 -- an event that books nothing of the participant's own leaves what waits for an outcome
 module _ (who : ℕ) (J : List Event) (new : Event) (quiet : (id : List ℕ) → books who id new ≡ None) where
   quiet_own : (id : List ℕ) → booked who id (J ++ new ∷ []) ≡ booked who id J
-  quiet_own id = first_some_push (books who id) J new ∙ ap (or_else (booked who id J)) (quiet id) ∙ or_else_none (booked who id J)
+  quiet_own id = first_some_push (books who id) J new ∙ ap (or_else (booked who id J)) (quiet id) ∙ or_else-none (booked who id J)
 
   same_waiting : (event : Event) → one_if (takes_live who (J ++ new ∷ []) event) ≡ one_if (takes_live who J event)
   same_waiting (Taken id to cents stamp) = ap (λ o. one_if (is_none o)) (quiet_own id)
@@ -82,7 +74,7 @@ module _ (s : HubSettings) (who : ℕ) (J : List Event) (id : List ℕ) (outcome
 
   waited_at : (o : Option Outcome) (b : Bool) → (b ≡ true → o ≡ None) → one_if (is_none o) ≡ one_if (is_none (or_else o (pick b))) + one_if b
   waited_at o true none = rw (none refl) (omega arith)
-  waited_at o false none = rw (or_else_none o) (omega arith)
+  waited_at o false none = rw (or_else-none o) (omega arith)
 
   none_at : (other : List ℕ) → same_text other id ≡ true → booked who other J ≡ None
   none_at other same = ap (λ (i : List ℕ). booked who i J) (text_same other id (sym same)) ∙ fits

@@ -21,10 +21,10 @@ or_right : (a b : Bool) → b ≡ true → (a || b) ≡ true
 or_right true b h = refl
 or_right false b h = h
 
-filter_push : {A : Type 0} (p : A → Bool) (xs : List A) (x : A) (b : Bool) → p x ≡ b → filter p (xs ++ x ∷ []) ≡ filter p xs ++ cond b (x ∷ []) []
+pub filter_push : {A : Type 0} (p : A → Bool) (xs : List A) (x : A) (b : Bool) → p x ≡ b → filter p (xs ++ x ∷ []) ≡ filter p xs ++ cond b (x ∷ []) []
 filter_push p xs x b here = filter-append p xs (x ∷ []) ∙ ap (λ (c : Bool). filter p xs ++ cond c (x ∷ []) []) here
 
-live_taken_push : (who : ℕ) (J : List Event) (e : Event) (b : Bool) → is_opening e ≡ false → takes_live who (carried J) e ≡ b → live_taken who (J ++ e ∷ []) ≡ live_taken who J ++ cond b (e ∷ []) []
+pub live_taken_push : (who : ℕ) (J : List Event) (e : Event) (b : Bool) → is_opening e ≡ false → takes_live who (carried J) e ≡ b → live_taken who (J ++ e ∷ []) ≡ live_taken who J ++ cond b (e ∷ []) []
 live_taken_push who J e b other here = ap (λ (C : List Event). filter (takes_live who C) (J ++ e ∷ [])) (carried_push J e other) ∙ filter_push (takes_live who (carried J)) J e b here
 
 pub own_same : (who : ℕ) (J : List Event) (e : Event) → is_opening e ≡ false → takes_live who (carried J) e ≡ false → own_ids who (J ++ e ∷ []) ≡ own_ids who J

@@ -1,23 +1,15 @@
 -- What one more event does to a table, and what a table tells of the history.
 use Rattle.std.proofs.Common.{◌≡◌, ℕ, Bool, true, false, ◌||◌, cond, List, [], ◌∷◌, ◌++◌, Option, Some, None, is_some, refl, sym, ap, ◌∙◌}
-use Rattle.std.specs.List.{list_any}
 use Rattle.std.specs.Cmp.Lexicographic.{same_text as text_same}
-use Rattle.std.proofs.lemmas.Bool.{true≢false}
 use Rattle.inst_settings.specs.Settings.{same_text}
 use Rattle.inst_journal.specs.declared.event.Event.{Event}
 use Rattle.inst_journal.specs.declared.event.Event.TheVariants.{Funded, Defunded, Taken, Forwarded, Booked, Fetched, Opened}
 use Rattle.inst_journal.specs.Booked.{or_else, first_some, takes, is_taken}
-use Rattle.inst_journal.proofs.Pushing.{first_some_push}
+use Rattle.inst_journal.proofs.Pushing.{first_some_push, or_else-none}
 use Rattle.inst_ledger.specs.declared.sending.Sending.{Sending}
 use Rattle.inst_ledger.specs.Kept.{sending_of, IsTable}
-
-pub or_else_none : {A : Type 0} (o : Option A) → or_else o None ≡ o
-or_else_none None = refl
-or_else_none (Some x) = refl
-
-put_first : {V : Type 0} (b : Bool) (o : Option V) (v : V) → (b ≡ true → o ≡ None) → or_else o (cond b (Some v) None) ≡ cond b (Some v) o
-put_first true o v absent = ap (λ p. or_else p (Some v)) (absent refl)
-put_first false o v absent = or_else_none o
+use Rattle.inst_statement.proofs.Found.{some_cond, none_of, any_first}
+use Rattle.inst_statement.proofs.Tables.{put_first}
 
 -- an event of a new key, put into the table
 pub table_put : {K V : Type 0} (eq : K → K → Bool) (gives : K → Event → Option V) (J : List Event) (event : Event) (k : K) (v : V) (old new : K → Option V) → IsTable gives J old
@@ -31,24 +23,7 @@ table_put eq gives J event k v old new before put at absent q =
 pub table_keep : {K V : Type 0} (gives : K → Event → Option V) (J : List Event) (event : Event) (found : K → Option V) → IsTable gives J found
     → ((q : K) → gives q event ≡ None) → IsTable gives (J ++ event ∷ []) found
 table_keep gives J event found before none q =
-    before q ∙ sym (first_some_push (gives q) J event ∙ ap (or_else (first_some (gives q) J)) (none q) ∙ or_else_none (first_some (gives q) J))
-
-pub none_of : {A : Type 0} (o : Option A) → is_some o ≡ false → o ≡ None
-none_of None h = refl
-none_of (Some x) h = absurd (true≢false h)
-
-some_or : {A : Type 0} (o p : Option A) → (is_some o || is_some p) ≡ is_some (or_else o p)
-some_or None p = refl
-some_or (Some x) p = refl
-
--- a test and a function that agree find together
-pub any_first : {A B : Type 0} (p : A → Bool) (f : A → Option B) → ((x : A) → p x ≡ is_some (f x)) → (xs : List A) → list_any p xs ≡ is_some (first_some f xs)
-any_first p f same [] = refl
-any_first p f same (x ∷ xs) = ap (λ b. b || list_any p xs) (same x) ∙ ap (λ b. is_some (f x) || b) (any_first p f same xs) ∙ some_or (f x) (first_some f xs)
-
-pub some_cond : {A : Type 0} (b : Bool) (x : A) → b ≡ is_some (cond b (Some x) None)
-some_cond true x = refl
-some_cond false x = refl
+    before q ∙ sym (first_some_push (gives q) J event ∙ ap (or_else (first_some (gives q) J)) (none q) ∙ or_else-none (first_some (gives q) J))
 
 takes_sending : (id : List ℕ) (event : Event) → takes id event ≡ is_some (sending_of id event)
 takes_sending id (Taken other to cents stamp) = some_cond {A = Sending} (same_text other id) (record { to = to; cents = cents; stamp = stamp })

@@ -8,6 +8,8 @@ use Rattle.std.proofs.lemmas.Option.{same_Some}
 use Rattle.inst_settings.specs.Settings.{same_text}
 pub use Rattle.inst_settings.proofs.Numbering.{same_text_refl}
 use Rattle.inst_journal.specs.Booked.{or_else, first_some, same_transfer}
+use Rattle.inst_journal.proofs.Pushing.{or_else-none}
+use Rattle.inst_journal.proofs.FirstSome.{first_some-append}
 
 -- texts that test the same are equal
 pub same_text-true : (a b : List ℕ) → same_text a b ≡ true → a ≡ b
@@ -25,20 +27,8 @@ same_transfer-true from id other_from other e =
 pub same_transfer_refl : (from : ℕ) (id : List ℕ) → same_transfer from id from id ≡ true
 same_transfer_refl from id = and_from (eqb from from) (same_text id id) (eqb_refl from) (same_text_refl id)
 
-pub first_some-append : {A B : Type 0} (f : A → Option B) (xs ys : List A) → first_some f (xs ++ ys) ≡ or_else (first_some f xs) (first_some f ys)
-first_some-append f [] ys = refl
-first_some-append f (x ∷ xs) ys =
-    elim (f x) as (λ o. or_else o (first_some f (xs ++ ys)) ≡ or_else (or_else o (first_some f xs)) (first_some f ys)) [
-      | None ↦ first_some-append f xs ys
-      | Some y ↦ refl
-    ]
-
-pub or_else_none : {A : Type 0} (o : Option A) → or_else o None ≡ o
-or_else_none None = refl
-or_else_none (Some x) = refl
-
 pub first_some_push : {A B : Type 0} (f : A → Option B) (xs : List A) (x : A) → first_some f (xs ++ x ∷ []) ≡ or_else (first_some f xs) (f x)
-first_some_push f xs x = first_some-append f xs (x ∷ []) ∙ ap (or_else (first_some f xs)) (or_else_none (f x))
+first_some_push f xs x = first_some-append f xs (x ∷ []) ∙ ap (or_else (first_some f xs)) (or_else-none (f x))
 
 -- what stands stays
 pub or_else_kept : {A : Type 0} (o p : Option A) (x : A) → o ≡ Some x → or_else o p ≡ Some x

@@ -53,7 +53,7 @@ signed_conserved s J out agree =
     signed_balance (total s (λ p. position (J p))) (total s (λ p. defunded (J p))) (total s (λ p. funded (J p))) (total s (untold_in J out)) (conserved s J out agree)
     ∙ ap (λ z. z +ℤ pos (total s (untold_in J out))) (sym (signed_sum_is (participants s) (λ p. funded (J p)) (λ p. defunded (J p))))
 
-plus_nothing : (z : ℤ) (n : ℕ) → n ≡ 0 → (z +ℤ pos n) ≡ z
+pub plus_nothing : (z : ℤ) (n : ℕ) → n ≡ 0 → (z +ℤ pos n) ≡ z
 plus_nothing z n e = omega (arith, ints)
 
 -- where nothing is untold

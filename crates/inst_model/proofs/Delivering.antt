@@ -9,7 +9,7 @@ use Rattle.inst_command.specs.declared.step.Step.TheVariants.{Ask, Deliver, Lear
 use Rattle.inst_journal.specs.declared.event.Event.{Event}
 use Rattle.inst_journal.specs.declared.event.Event.TheVariants.{Forwarded}
 use Rattle.inst_journal.specs.Booked.{or_else, is_forwarded, forwards, same_transfer}
-use Rattle.inst_journal.proofs.Pushing.{list_any_push}
+use Rattle.inst_journal.proofs.Pushing.{list_any_push, or-false, or_else-none}
 use Rattle.inst_model.specs.Transfer.{Transfer, at_place, transfer, deadline, is_named}
 use Rattle.inst_model.specs.Wants.{step_wants}
 use Rattle.inst_model.specs.View.{comes}
@@ -18,11 +18,11 @@ use Rattle.inst_model.specs.Kept.{with_entries}
 use Rattle.inst_model.specs.Hub.{decided}
 use Rattle.inst_model.specs.Locality.{step_on}
 use Rattle.inst_model.specs.Locality.Touch.{Delivers, Expires}
-use Rattle.inst_model.proofs.Basics.{or_else_none, same_transfer-true}
+use Rattle.inst_model.proofs.Basics.{same_transfer-true}
 use Rattle.inst_model.proofs.Histories.{next}
 use Rattle.inst_model.proofs.Transfers.{place_found}
 use Rattle.inst_model.proofs.Mirror.{Together}
-use Rattle.inst_model.proofs.Progress.{Says, progress, or-false, unforwarded_next, timing, silent, at_ask, with_forwarded}
+use Rattle.inst_model.proofs.Progress.{Says, progress, unforwarded_next, timing, silent, at_ask, with_forwarded}
 
 coming_forwarded : (s : HubSettings) (q p : ℕ) (id : List ℕ) (J : List Event) (from : ℕ) (y : Transfer) (d : ℕ) (c : Bool)
     → is_forwarded p id (with_entries s q J (cond c (Came from y.id y.cents d ∷ []) [])) ≡ (is_forwarded p id J || (c && same_transfer p id from y.id))
@@ -89,8 +89,8 @@ one_step s J before (Deliver from index to) p id x t found =
     (is_forwarded p id (next s J before (Deliver from index to) x.to)) (delivered s J before from index p id x t found (eqb to x.to) (at_place from (J from) index) refl)
   where
     deliver_says : (b there : Bool) (decided : Option Outcome) (now : Bool) → now ≡ cond b (there || is_none decided) there → Says s now (or_else decided None) (progress s x (record { forwarded = there; decided = decided }) (cond b (Delivers ∷ []) []))
-    deliver_says true there decided now e = record { forwarded_is = e; decided_is = or_else_none decided }
-    deliver_says false there decided now e = record { forwarded_is = e; decided_is = or_else_none decided }
+    deliver_says true there decided now e = record { forwarded_is = e; decided_is = or_else-none decided }
+    deliver_says false there decided now e = record { forwarded_is = e; decided_is = or_else-none decided }
 one_step s J before (Learn who from index) p id x t found =
     with_forwarded s (is_forwarded p id (J x.to)) _ _ _ (unforwarded_next s J before (Learn who from index) x.to p id (λ o k e. absurd cc)) (silent s x (is_forwarded p id (J x.to)) (before p id))
 one_step s J before (Expire who index at) p id x t found =

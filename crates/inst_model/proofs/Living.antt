@@ -10,7 +10,7 @@ use Rattle.inst_journal.specs.Booked.{is_forwarded, forwards, booked, same_trans
 use Rattle.inst_journal.specs.Opened.{carried, takes_live, live_submissions, forwards_live, live_forwarded}
 use Rattle.inst_journal.proofs.Counting.{submissions_within, stranger_unbooked}
 use Rattle.inst_journal.proofs.Carrying.{carried_push, carried_unbooked}
-use Rattle.inst_journal.proofs.Pushing.{list_any_push}
+use Rattle.inst_journal.proofs.Pushing.{list_any_push, or-false}
 use Rattle.inst_command.specs.declared.step.Step.{Step}
 use Rattle.std.proofs.lemmas.Bool.{or_cases}
 use Rattle.inst_model.proofs.Basics.{same_transfer-true}
@@ -86,10 +86,6 @@ place_left s J p from k x t living there new =
 
 carried_next : (s : HubSettings) (J : ℕ → List Event) (before : ℕ → List ℕ → Option Outcome) (step : Step) (p : ℕ) → carried (next s J before step p) ≡ carried (J p)
 carried_next s J before step p = persists_within s J before step p (λ K. carried K ≡ carried (J p)) (λ K event other here. carried_push K event other ∙ here) refl
-
-or-false : (b : Bool) → (b || false) ≡ b
-or-false true = refl
-or-false false = refl
 
 pub living_next : (s : HubSettings) (J : ℕ → List Event) (before : ℕ → List ℕ → Option Outcome) (step : Step) → Together s J → Living J → Living (next s J before step)
 living_next s J before step t living q from id e =

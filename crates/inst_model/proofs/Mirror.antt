@@ -10,7 +10,7 @@ use Rattle.inst_journal.specs.declared.event.Event.{Event}
 use Rattle.inst_journal.specs.declared.event.Event.TheVariants.{Funded, Defunded, Taken, Forwarded, Booked, Fetched, Opened}
 use Rattle.inst_journal.specs.Booked.{or_else, is_taken, is_forwarded, forwards, same_transfer}
 use Rattle.inst_journal.specs.Sound.{Fits, IsSound}
-use Rattle.inst_journal.proofs.Pushing.{list_any_push, sum_by-both}
+use Rattle.inst_journal.proofs.Pushing.{list_any_push, sum_by-both, or-false}
 use Rattle.inst_journal.proofs.Soundness.{sound_induction}
 use Rattle.inst_model.specs.Transfer.{Transfer, terms, terms_named, transfers, transfer, deadline}
 use Rattle.inst_model.proofs.Basics.{same_text-true, same_text_refl, same_transfer-true}
@@ -102,10 +102,6 @@ weighed_there g from J x = cond (is_forwarded from x.id J) (g x.id x.cents) 0
 -- the forwarded transfers of an originator in J measure as its taken ones, the list T, that are forwarded in J
 abbrev pub Mirrors : ℕ → List Event → List Transfer → Type 0
 Mirrors from J T = (g : List ℕ → ℕ → ℕ) → sum_by (weighed g from) J ≡ sum_by (weighed_there g from J) T
-
-or-false : (b : Bool) → (b || false) ≡ b
-or-false true = refl
-or-false false = refl
 
 forwarded_push : (from : ℕ) (id : List ℕ) (J : List Event) (event : Event) → is_forwarded from id (J ++ event ∷ []) ≡ (is_forwarded from id J || forwards from id event)
 forwarded_push from id J event = list_any_push (forwards from id) J event

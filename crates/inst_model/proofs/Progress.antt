@@ -11,7 +11,7 @@ use Rattle.inst_command.specs.declared.step.Step.TheVariants.{Deliver}
 use Rattle.inst_journal.specs.declared.event.Event.{Event}
 use Rattle.inst_journal.specs.declared.event.Event.TheVariants.{Funded, Defunded, Taken, Booked, Fetched}
 use Rattle.inst_journal.specs.Booked.{or_else, is_forwarded, forwards, same_transfer}
-use Rattle.inst_journal.proofs.Pushing.{list_any_push}
+use Rattle.inst_journal.proofs.Pushing.{list_any_push, or-false, or_else-none}
 use Rattle.inst_model.specs.Transfer.{Transfer, deadline}
 use Rattle.inst_base.specs.TimeLimit.{is_in_time_to_accept}
 use Rattle.inst_command.specs.Deciding.{timed_out_or, confirmed, rejected}
@@ -19,7 +19,6 @@ use Rattle.inst_model.specs.Wants.{ask_wants}
 use Rattle.inst_model.specs.Hub.{decided}
 use Rattle.inst_model.specs.Locality.{Touch, ask_on}
 use Rattle.inst_model.specs.Locality.Touch.{Delivers, Confirms, Rejects, Investigates, Expires}
-use Rattle.inst_model.proofs.Basics.{or_else_none}
 use Rattle.inst_model.proofs.Histories.{next, grows}
 
 -- how far a transfer has come
@@ -44,10 +43,6 @@ progress s x g (t ∷ ts) = progress s x (after_touch s x g t) ts
 pub progress-append : (s : HubSettings) (x : Transfer) (g : Progress) (ts us : List Touch) → progress s x g (ts ++ us) ≡ progress s x (progress s x g ts) us
 progress-append s x g [] us = refl
 progress-append s x g (t ∷ ts) us = progress-append s x (after_touch s x g t) ts us
-
-pub or-false : (b : Bool) → (b || false) ≡ b
-or-false true = refl
-or-false false = refl
 
 -- a step that delivers nothing forwards nothing
 pub unforwarded_next : (s : HubSettings) (J : ℕ → List Event) (before : ℕ → List ℕ → Option Outcome) (step : Step) (q p : ℕ) (id : List ℕ) → ((from index : ℕ) → step ≡ Deliver from index q → ⊥) → is_forwarded p id (next s J before step q) ≡ is_forwarded p id (J q)
@@ -79,7 +74,7 @@ deciding s x early at touch true here there before is same =
       forwarded_is = sym (ap (λ (g : Progress). g.forwarded) end);
       decided_is = ap (λ b. or_else before (cond b (timed_out_or (deadline s x) at early) None)) (same refl) ∙ sym (ap (λ (g : Progress). g.decided) end);
     }
-deciding s x early at touch false here there before is same = record { forwarded_is = refl; decided_is = or_else_none before }
+deciding s x early at touch false here there before is same = record { forwarded_is = refl; decided_is = or_else-none before }
 
 -- an investigation or expiry
 pub timing : (s : HubSettings) (x : Transfer) (at : ℕ) (touch : Touch) (named there : Bool) (before : Option Outcome)
@@ -88,10 +83,10 @@ pub timing : (s : HubSettings) (x : Transfer) (at : ℕ) (touch : Touch) (named 
 timing s x at touch true there before is =
     let end : progress s x (record { forwarded = there; decided = before }) (touch ∷ []) ≡ wanting (record { forwarded = there; decided = before }) (timed_out_or (deadline s x) at None) = is (record { forwarded = there; decided = before }) in
     record { forwarded_is = sym (ap (λ (g : Progress). g.forwarded) end); decided_is = sym (ap (λ (g : Progress). g.decided) end) }
-timing s x at touch false there before is = record { forwarded_is = refl; decided_is = or_else_none before }
+timing s x at touch false there before is = record { forwarded_is = refl; decided_is = or_else-none before }
 
 pub silent : (s : HubSettings) (x : Transfer) (there : Bool) (before : Option Outcome) → Says s there (or_else before None) (progress s x (record { forwarded = there; decided = before }) [])
-silent s x there before = record { forwarded_is = refl; decided_is = or_else_none before }
+silent s x there before = record { forwarded_is = refl; decided_is = or_else-none before }
 
 pub at_ask : (s : HubSettings) (J : ℕ → List Event) (who at p : ℕ) (id : List ℕ) (x : Transfer) (before : Option Outcome) (command : Command)
     → Says s (is_forwarded p id (J x.to)) (or_else before (ask_wants s J who command at p id x)) (progress s x (record { forwarded = is_forwarded p id (J x.to); decided = before }) (ask_on who command at p id x))

@@ -34,7 +34,7 @@ another s who p one none = elim (cases_Bool (eqb who p)) [
   | inr other ↦ other
 ]
 
-unseen : {A : Type 0} (b : Bool) (x : List A) → b ≡ false → cond b x [] ≡ []
+pub unseen : {A : Type 0} (b : Bool) (x : List A) → b ≡ false → cond b x [] ≡ []
 unseen b x e = ap (λ c. cond c x []) e
 
 -- a number that no participant has sees nothing

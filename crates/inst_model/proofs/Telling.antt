@@ -11,16 +11,15 @@ use Rattle.inst_journal.specs.declared.event.Event.{Event}
 use Rattle.inst_journal.specs.declared.event.Event.TheVariants.{Forwarded, Booked}
 use Rattle.inst_journal.specs.Booked.{or_else, is_forwarded, forwards, same_transfer}
 use Rattle.inst_journal.specs.Opened.{is_opening, is_live}
-use Rattle.inst_journal.proofs.Pushing.{list_any_push}
+use Rattle.inst_journal.proofs.Pushing.{list_any_push, or-false, or_else-none}
 use Rattle.inst_model.specs.Closing.{is_telling, is_told, OnlyTold}
 use Rattle.inst_model.specs.Opening.{Opening}
 use Rattle.inst_model.specs.Transfer.{Transfer, transfer, terms, live_transfers, deadline}
 use Rattle.inst_model.specs.Wants.{taken_wants}
 use Rattle.inst_model.specs.Hub.{outcome, history}
-use Rattle.inst_model.proofs.Basics.{Each, Each_push, or_else_none, same_transfer-true}
+use Rattle.inst_model.proofs.Basics.{Each, Each_push, same_transfer-true}
 use Rattle.inst_model.proofs.Histories.{Books, by_step}
 use Rattle.inst_model.proofs.Naming.{live_grown}
-use Rattle.inst_model.proofs.Progress.{or-false}
 use Rattle.inst_model.proofs.Steps.{Comes}
 
 -- the steps only tell
@@ -36,7 +35,7 @@ nothing_wanted s J (Expire who index at) p id (Some x) tells = absurd (false≢t
 
 pub same_outcome : (s : HubSettings) (O : Opening) (step : Step) (past : List Step) → is_telling step ≡ true → (p : ℕ) (id : List ℕ) → outcome s O (step ∷ past) p id ≡ outcome s O past p id
 same_outcome s O step past tells p id =
-    ap (or_else (outcome s O past p id)) (nothing_wanted s (history s O past) step p id (transfer id (history s O past p)) tells) ∙ or_else_none (outcome s O past p id)
+    ap (or_else (outcome s O past p id)) (nothing_wanted s (history s O past) step p id (transfer id (history s O past p)) tells) ∙ or_else-none (outcome s O past p id)
 
 pub same_outcomes : (s : HubSettings) (O : Opening) (L M : List Step) → OnlyTells M → (p : ℕ) (id : List ℕ) → outcome s O (M ++ L) p id ≡ outcome s O L p id
 same_outcomes s O L [] tells p id = refl
@@ -62,7 +61,7 @@ by_telling s O step past p tells Q nothing forwards books =
     })
 
 -- an event that takes nothing leaves the live transfers
-none_taken : (p : ℕ) (J : List Event) (event : Event) → is_opening event ≡ false → terms event ≡ None → live_transfers p (J ++ event ∷ []) ≡ live_transfers p J
+pub none_taken : (p : ℕ) (J : List Event) (event : Event) → is_opening event ≡ false → terms event ≡ None → live_transfers p (J ++ event ∷ []) ≡ live_transfers p J
 none_taken p J event no_opening none =
     live_grown p J event no_opening
     ∙ ap (λ (o : Option Transfer). live_transfers p J ++ filter (λ (y : Transfer). is_live p y.id J) (cons_option o [])) none

@@ -35,10 +35,7 @@ use Rattle.inst_participant.specs.Told.{IsToldAll}
 use Rattle.inst_participant.specs.Sweeping.{LetsExpire, NothingDue}
 use Rattle.inst_participant.specs.Sweeping.LetsExpire.{none_left, then_next}
 use Rattle.inst_participant.proofs.Answering.{nothing_wanted}
-
-not_true : (b : Bool) → not b ≡ true → b ≡ false
-not_true true h = absurd (false≢true h)
-not_true false h = refl
+use Rattle.inst_slot.proofs.Delivering.{not_true}
 
 -- what waits after one more event waited before it, and isn't what the event books
 waited : (s : HubSettings) (who : ℕ) (J : List Event) (e : Event) (d k : ℕ) → is_opening e ≡ false → takes_live who (carried J) e ≡ false → waits s who (J ++ e ∷ []) d k ≡ true

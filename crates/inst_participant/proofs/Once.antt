@@ -1,8 +1,8 @@
 -- A history forwards and takes each transfer once, so that two such events of one transfer are the same; and each
 -- arrival was forwarded.
-use Rattle.std.proofs.Common.{◌≡◌, ℕ, zero, suc, ◌+◌, ◌≤◌, Bool, true, false, cond, List, [], ◌∷◌, count_by, inl, inr, ◌⊎◌, refl, sym, ap, ◌∙◌, subst, arith, Option, Some, None}
+use Rattle.std.proofs.Common.{◌≡◌, ℕ, zero, suc, ◌+◌, ◌≤◌, Bool, true, false, cond, List, [], ◌∷◌, count_by, inl, inr, ◌⊎◌, refl, sym, ap, ◌∙◌, subst, arith, Some}
 use Rattle.std.specs.Prelude.{Contains, map, slice_get}
-use Rattle.std.specs.List.{filter, cons_option}
+use Rattle.std.specs.List.{filter}
 use Rattle.std.proofs.lemmas.List.Elements.{Contains-append_right}
 use Rattle.std.proofs.lemmas.List.Sums.{sum_by-cons}
 use Rattle.std.proofs.lemmas.Option.{slice_get-get_or}
@@ -17,6 +17,7 @@ use Rattle.inst_slot.specs.declared.arrival.Arrival.{Arrival}
 use Rattle.inst_slot.specs.Book.{Book}
 use Rattle.inst_slot.specs.LawfulBoard.{IsLawfulBoard}
 use Rattle.inst_slot.proofs.Growing.{filtered}
+use Rattle.inst_slot.proofs.Learning.{in_cons}
 
 module _ {A : Type 0} (p : A → Bool) where
   counted_first : (y : A) (ys : List A) → p y ≡ true → count_by p (y ∷ ys) ≡ 1 + count_by p ys
@@ -87,11 +88,6 @@ forwarded_entry (Defunded reference cents) x h = let none : ⊥ = cc in absurd n
 forwarded_entry (Booked from id o) x h = let none : ⊥ = cc in absurd none
 forwarded_entry (Fetched n) x h = let none : ⊥ = cc in absurd none
 forwarded_entry Opened x h = let none : ⊥ = cc in absurd none
-
-in_cons : (o : Option Entry) (rest : List Entry) (x : Entry) → Contains (cons_option o rest) x → (o ≡ Some x) ⊎ Contains rest x
-in_cons None rest x h = inr h
-in_cons (Some y) rest x (zero, below, is) = inl (ap (λ (z : Entry). Some z) is)
-in_cons (Some y) rest x (suc i, below, is) = inr (i, omega arith, is)
 
 -- each entry of the inbox was forwarded so
 in_inbox : (J : List Event) (x : Entry) → Contains (inbox J) x → Contains J (Forwarded x.from x.id x.cents x.deadline)

@@ -62,7 +62,7 @@ module _ (a other new : SharedBoard) (both : KnowsBoth a other new) (truth : Kno
   }
 
 -- one after the other
-got_last : {A : Type 0} (done rest : List A) (x : A) (all : List A) → done ++ x ∷ rest ≡ all → slice_get all (length done) ≡ Some x
+pub got_last : {A : Type 0} (done rest : List A) (x : A) (all : List A) → done ++ x ∷ rest ≡ all → slice_get all (length done) ≡ Some x
 got_last [] rest x all e = ap (λ l. slice_get l 0) (sym e)
 got_last (y ∷ done) rest x all e = ap (λ l. slice_get l (suc (length done))) (sym e) ∙ got_last done rest x (done ++ x ∷ rest) refl
 
@@ -72,7 +72,7 @@ got_snoc [] x y (suc p) e = let no : ⊥ = cc in absurd no
 got_snoc (z ∷ done) x y zero e = inl e
 got_snoc (z ∷ done) x y (suc p) e = ⊎_elim (λ old. inl old) (λ new. inr (ap suc new.0, new.1)) (got_snoc done x y p e)
 
-got_only : {A : Type 0} (x y : A) (p : ℕ) → slice_get (x ∷ []) p ≡ Some y → x ≡ y
+pub got_only : {A : Type 0} (x y : A) (p : ℕ) → slice_get (x ∷ []) p ≡ Some y → x ≡ y
 got_only x y zero e = cc
 got_only x y (suc p) e = let no : ⊥ = cc in absurd no
 

@@ -19,6 +19,7 @@ use Rattle.inst_journal.proofs.Pushing.{first_some_push}
 use Rattle.inst_slot.specs.Telling.{taken_by}
 use Rattle.inst_slot.specs.Waiting.{takes_waiting, deadline_in}
 use Rattle.inst_slot.specs.inner.Waiting.{AreTimed, books_own}
+use Rattle.inst_journal.proofs.OwnBookings.{and-false}
 
 -- what one more event leaves of what waits
 none_or : (a b : Option Outcome) → is_none (or_else a b) ≡ (is_none a && is_none b)
@@ -146,10 +147,6 @@ pub and_true_is : (b : Bool) → b ≡ (b && true)
 and_true_is true = refl
 and_true_is false = refl
 
-and_false_is : (b : Bool) → (b && false) ≡ false
-and_false_is true = refl
-and_false_is false = refl
-
 or_false_is : (b : Bool) → b ≡ (b || false)
 or_false_is true = refl
 or_false_is false = refl
@@ -169,10 +166,10 @@ suc_same m n = grind (arith, nat_tests)
 pub at_end : (s : HubSettings) (who : ℕ) (K : List Event) (d : ℕ) (e : Event) (L : List Event) (k : ℕ)
     → takes_waiting s who K d (slice_get (L ++ e ∷ []) k) ≡ (takes_waiting s who K d (slice_get L k) || (takes_waiting s who K d (Some e) && nat_eq k (length L)))
 at_end s who K d e [] zero = and_true_is (takes_waiting s who K d (Some e))
-at_end s who K d e [] (suc k) = sym (ap (λ (b : Bool). takes_waiting s who K d (Some e) && b) (suc_apart k) ∙ and_false_is (takes_waiting s who K d (Some e)))
+at_end s who K d e [] (suc k) = sym (ap (λ (b : Bool). takes_waiting s who K d (Some e) && b) (suc_apart k) ∙ and-false (takes_waiting s who K d (Some e)))
 at_end s who K d e (x ∷ L) zero =
     or_false_is (takes_waiting s who K d (Some x))
-    ∙ ap (λ (b : Bool). takes_waiting s who K d (Some x) || b) (sym (ap (λ (b : Bool). takes_waiting s who K d (Some e) && b) (zero_apart (length L)) ∙ and_false_is (takes_waiting s who K d (Some e))))
+    ∙ ap (λ (b : Bool). takes_waiting s who K d (Some x) || b) (sym (ap (λ (b : Bool). takes_waiting s who K d (Some e) && b) (zero_apart (length L)) ∙ and-false (takes_waiting s who K d (Some e))))
 at_end s who K d e (x ∷ L) (suc k) =
     at_end s who K d e L k ∙ ap (λ (b : Bool). takes_waiting s who K d (slice_get L k) || (takes_waiting s who K d (Some e) && b)) (sym (suc_same k (length L)))
 
@@ -190,9 +187,9 @@ at_deadline d (Some x) = nat_eq d x
 
 pub deadline_more : (d x : ℕ) (D : List ℕ) (k : ℕ) → at_deadline d (slice_get (D ++ x ∷ []) k) ≡ (at_deadline d (slice_get D k) || (nat_eq d x && nat_eq k (length D)))
 deadline_more d x [] zero = and_true_is (nat_eq d x)
-deadline_more d x [] (suc k) = sym (ap (λ (b : Bool). nat_eq d x && b) (suc_apart k) ∙ and_false_is (nat_eq d x))
+deadline_more d x [] (suc k) = sym (ap (λ (b : Bool). nat_eq d x && b) (suc_apart k) ∙ and-false (nat_eq d x))
 deadline_more d x (y ∷ D) zero =
-    or_false_is (nat_eq d y) ∙ ap (λ (b : Bool). nat_eq d y || b) (sym (ap (λ (b : Bool). nat_eq d x && b) (zero_apart (length D)) ∙ and_false_is (nat_eq d x)))
+    or_false_is (nat_eq d y) ∙ ap (λ (b : Bool). nat_eq d y || b) (sym (ap (λ (b : Bool). nat_eq d x && b) (zero_apart (length D)) ∙ and-false (nat_eq d x)))
 deadline_more d x (y ∷ D) (suc k) = deadline_more d x D k ∙ ap (λ (b : Bool). at_deadline d (slice_get D k) || (nat_eq d x && b)) (sym (suc_same k (length D)))
 
 live_step : (s : HubSettings) (who : ℕ) (J : List Event) (d : ℕ) (e : Event) (L : List Event) (b : Bool) → (b ≡ true → nat_eq d (deadline_in s e) ≡ takes_waiting s who J d (Some e))

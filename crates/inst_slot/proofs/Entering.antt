@@ -38,8 +38,9 @@ use Rattle.inst_journal.proofs.OwnBookings.{own_unforwarded}
 use Rattle.inst_slot.specs.Book.{Book, place_at, terms_to}
 use Rattle.inst_slot.specs.LawfulBoard.{IsLawfulBoard}
 use Rattle.inst_slot.specs.Asking.{handle_ask, Opens, Enters}
-use Rattle.inst_slot.proofs.Growing.{snoc_cases, live_taken_push, live_inbox_still, live_push, still_booked, booked_cases}
+use Rattle.inst_slot.proofs.Growing.{snoc_cases, live_inbox_still, live_push, still_booked, booked_cases}
 use Rattle.inst_slot.proofs.Keeping.{kept_opening, with_events, same_after, moved, learnt_truly, learnt_answer, lies_after_taking}
+use Rattle.inst_ledger.proofs.OwnIds.{live_taken_push}
 
 -- whether the event may be kept of a command that decides nothing
 abbrev enters : Event → Bool

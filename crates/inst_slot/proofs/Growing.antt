@@ -2,7 +2,7 @@
 use Rattle.std.proofs.Common.{◌≡◌, ℕ, zero, suc, ◌<◌, Bool, true, false, cond, List, [], ◌∷◌, ◌++◌, length, inl, inr, ◌⊎◌, ⊎_elim, refl, sym, ap, ◌∙◌, subst, arith, Option, Some, None, is_none, append-nil}
 use Rattle.std.specs.Prelude.{slice_get, Contains}
 use Rattle.std.specs.List.{filter, cons_option}
-use Rattle.std.proofs.lemmas.List.Elements.{filter-append, filter_map-append, Contains-append_right}
+use Rattle.std.proofs.lemmas.List.Elements.{filter_map-append, Contains-append_right}
 use Rattle.inst_command.specs.declared.entry.Entry.{Entry}
 use Rattle.inst_command.specs.declared.outcome.Outcome.{Outcome}
 use Rattle.inst_journal.specs.declared.event.Event.{Event}
@@ -14,6 +14,7 @@ use Rattle.inst_journal.proofs.Booking.{books_itself}
 use Rattle.inst_journal.proofs.Carrying.{carried_push}
 use Rattle.inst_journal.proofs.Pushing.{first_some_push}
 use Rattle.inst_slot.specs.Book.{live_inbox}
+use Rattle.inst_ledger.proofs.OwnIds.{live_taken_push, filter_push}
 
 pub snoc_cases : {A : Type 0} (xs : List A) (x b : A) (p : ℕ) → slice_get (xs ++ x ∷ []) p ≡ Some b → (slice_get xs p ≡ Some b) ⊎ ((p ≡ length xs) × (x ≡ b))
 snoc_cases [] x b zero e = let is : x ≡ b = cc in inr (refl, is)
@@ -41,13 +42,6 @@ filtered_step p y ys zs x false here later j e = let rest = later j e in (Contai
 pub filtered : {A : Type 0} (p : A → Bool) (xs : List A) (i : ℕ) (x : A) → slice_get (filter p xs) i ≡ Some x → Contains xs x × (p x ≡ true)
 filtered p [] i x e = let no : ⊥ = cc in absurd no
 filtered p (y ∷ ys) i x e = filtered_step p y ys (filter p ys) x (p y) refl (λ j f. filtered p ys j x f) i e
-
-filter_push : {A : Type 0} (p : A → Bool) (xs : List A) (x : A) (b : Bool) → p x ≡ b → filter p (xs ++ x ∷ []) ≡ filter p xs ++ cond b (x ∷ []) []
-filter_push p xs x b here = filter-append p xs (x ∷ []) ∙ ap (λ (c : Bool). filter p xs ++ cond c (x ∷ []) []) here
-
--- the live transfers of the participant's own
-pub live_taken_push : (who : ℕ) (J : List Event) (e : Event) (b : Bool) → is_opening e ≡ false → takes_live who (carried J) e ≡ b → live_taken who (J ++ e ∷ []) ≡ live_taken who J ++ cond b (e ∷ []) []
-live_taken_push who J e b other here = ap (λ (C : List Event). filter (takes_live who C) (J ++ e ∷ [])) (carried_push J e other) ∙ filter_push (takes_live who (carried J)) J e b here
 
 pub live_taken_still : (who : ℕ) (J : List Event) (e : Event) → is_opening e ≡ false → takes_live who (carried J) e ≡ false → live_taken who (J ++ e ∷ []) ≡ live_taken who J
 live_taken_still who J e other here = live_taken_push who J e false other here ∙ append-nil (live_taken who J)

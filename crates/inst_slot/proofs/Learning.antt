@@ -29,6 +29,7 @@ use Rattle.inst_slot.specs.Telling.{is_party, lesson, with_event}
 use Rattle.inst_slot.proofs.Growing.{slice_get_at, filtered}
 use Rattle.inst_slot.proofs.Keeping.{arrival_at}
 use Rattle.inst_slot.proofs.Looking.{saw_own, saw_decided_same, looked_booking}
+use Rattle.inst_journal.proofs.Carrying.{or-true}
 
 pub if_some : {A : Type 0} (b : Bool) (x e : A) → cond b (Some x) None ≡ Some e → (b ≡ true) × (x ≡ e)
 if_some true x e h = let same : x ≡ e = cc in (refl, same)
@@ -38,17 +39,13 @@ pub none_of : {A : Type 0} (o : Option A) → is_none o ≡ true → o ≡ None
 none_of None h = refl
 none_of (Some x) h = absurd (false≢true h)
 
-pub or_true : (b : Bool) → (b || true) ≡ true
-or_true true = refl
-or_true false = refl
-
-itself : (text : List ℕ) → same_text text text ≡ true
+pub itself : (text : List ℕ) → same_text text text ≡ true
 itself text = nat_list_eq_equiv.refl text
 
 pub contains_any : {A : Type 0} (p : A → Bool) (xs : List A) (x : A) → Contains xs x → p x ≡ true → list_any p xs ≡ true
 contains_any p [] x (i, below, is) h = absurd (omega arith)
 contains_any p (y ∷ ys) x (zero, below, is) h = ap (λ (b : Bool). b || list_any p ys) (ap p is ∙ h)
-contains_any p (y ∷ ys) x (suc i, below, is) h = ap (λ (b : Bool). p y || b) (contains_any p ys x (i, omega arith, is) h) ∙ or_true (p y)
+contains_any p (y ∷ ys) x (suc i, below, is) h = ap (λ (b : Bool). p y || b) (contains_any p ys x (i, omega arith, is) h) ∙ or-true (p y)
 
 pub itself_forwards : (from : ℕ) (id : List ℕ) (cents d : ℕ) → forwards from id (Forwarded from id cents d) ≡ true
 itself_forwards from id cents d = ap (λ (x : Bool). x && same_text id id) (eq-eqb from from refl) ∙ itself id
@@ -93,7 +90,7 @@ entry_step (Booked from id o) x h = let none : ⊥ = cc in absurd none
 entry_step (Fetched n) x h = let none : ⊥ = cc in absurd none
 entry_step OpenedEvent x h = let none : ⊥ = cc in absurd none
 
-in_cons : (o : Option Entry) (rest : List Entry) (x : Entry) → Contains (cons_option o rest) x → (o ≡ Some x) ⊎ Contains rest x
+pub in_cons : (o : Option Entry) (rest : List Entry) (x : Entry) → Contains (cons_option o rest) x → (o ≡ Some x) ⊎ Contains rest x
 in_cons None rest x h = inr h
 in_cons (Some y) rest x (zero, below, is) = inl (ap (λ (z : Entry). Some z) is)
 in_cons (Some y) rest x (suc i, below, is) = inr (i, omega arith, is)
@@ -102,7 +99,7 @@ pub entry_forwarded : (J : List Event) (x : Entry) → Contains (inbox J) x → 
 entry_forwarded [] x (i, below, is) = absurd (omega arith)
 entry_forwarded (e ∷ J) x h = ⊎_elim
     (λ here. ap (λ (b : Bool). b || is_forwarded x.from x.id J) (entry_step e x here))
-    (λ later. ap (λ (b : Bool). forwards x.from x.id e || b) (entry_forwarded J x later) ∙ or_true (forwards x.from x.id e))
+    (λ later. ap (λ (b : Bool). forwards x.from x.id e || b) (entry_forwarded J x later) ∙ or-true (forwards x.from x.id e))
     (in_cons (entry_of e) (inbox J) x h)
 
 in_filter_step : (p : Entry → Bool) (y : Entry) (ys zs : List Entry) (x : Entry) (b : Bool) → p y ≡ b → (Contains zs x → Contains ys x × (p x ≡ true)) → Contains (cond b (y ∷ zs) zs) x → Contains (y ∷ ys) x × (p x ≡ true)

@@ -38,6 +38,7 @@ use Rattle.inst_slot.specs.LawfulBoard.{KnowsEnd, IsLawfulBoard, KeepsOthers}
 use Rattle.inst_slot.specs.Opening.{unplaced, opened_again, MayOpenAgain, IsOfOpening, OpensPlaces}
 use Rattle.inst_slot.proofs.Growing.{snoc_cases, slice_get_left, filtered}
 use Rattle.inst_slot.proofs.Others.{others_opening}
+use Rattle.inst_slot.proofs.Spots.{is_unbooked}
 
 -- the history with the opening is sound
 pub opened_sound : (s : HubSettings) (who : ℕ) (J : List Event) → IsSound s who J → HasOpeningsLeft J → IsSound s who (J ++ Opened ∷ [])
@@ -106,13 +107,8 @@ next_within s who J i x opened sound whole here =
     let most : live_submissions who J ≤ s.places = submissions_within s who J sound in
     omega (arith, next, sum, count, same, most)
 
--- an event that takes a submission with nothing booked takes a live one
-some_none : (o : Option Outcome) (b : Bool) → is_some o ≡ b → is_none o ≡ not b
-some_none None b e = ap not e
-some_none (Some x) b e = ap not e
-
 pub takes_of : (who : ℕ) (J : List Event) (x : Event) (id : List ℕ) (to cents stamp : ℕ) (o : Option Outcome) (b : Bool) → x ≡ Taken id to cents stamp → o ≡ booked who id J → is_some o ≡ b → takes_live who J x ≡ not b
-takes_of who J x id to cents stamp o b is here some = ap (takes_live who J) is ∙ ap is_none (sym here) ∙ some_none o b some
+takes_of who J x id to cents stamp o b is here some = ap (takes_live who J) is ∙ ap is_none (sym here) ∙ is_unbooked o b some
 
 pub takes_none : (who : ℕ) (J : List Event) (x : Event) → ((id : List ℕ) (to cents stamp : ℕ) → x ≡ Taken id to cents stamp → ⊥) → takes_live who J x ≡ false
 takes_none who J (Taken id to cents stamp) other = absurd (other id to cents stamp refl)
@@ -133,7 +129,7 @@ forwards_none (Fetched count) other = refl
 forwards_none Opened other = refl
 
 pub live_of : (J : List Event) (from : ℕ) (id : List ℕ) (o : Option Outcome) (b : Bool) → carried J ≡ J → o ≡ booked from id J → is_some o ≡ b → is_live from id J ≡ not b
-live_of J from id o b opened here some = ap (λ (C : List Event). is_none (booked from id C)) opened ∙ ap is_none (sym here) ∙ some_none o b some
+live_of J from id o b opened here some = ap (λ (C : List Event). is_none (booked from id C)) opened ∙ ap is_none (sym here) ∙ is_unbooked o b some
 
 -- the next place is one of the hub's
 pub next_place : (t s : HubSettings) (who index : ℕ) → t ≡ s → is_participant s who ≡ true → index < s.places → IsPlace t (place_at who index)

@@ -31,9 +31,10 @@ use Rattle.inst_slot.specs.Waiting.{Deadlines, IsRight, IsWaiting, GivesNextDue,
 use Rattle.inst_slot.specs.inner.Waiting.{moves_none, books_own}
 use Rattle.inst_slot.proofs.Dues.{waiting_after, and_true_is, taken_books_none, at_end, undone}
 use Rattle.inst_slot.proofs.Entering.{takes_the_next}
-use Rattle.inst_slot.proofs.Growing.{live_taken_push, live_taken_still}
+use Rattle.inst_slot.proofs.Growing.{live_taken_still}
 use Rattle.inst_slot.proofs.Indexed.{is_found}
 use Rattle.inst_slot.proofs.Positions.{later, position_cons, passes_at}
+use Rattle.inst_ledger.proofs.OwnIds.{live_taken_push}
 
 same : (a b : List ℕ) → same_text a b ≡ true → a ≡ b
 same a b h = text_same a b (sym h)

@@ -8,20 +8,20 @@ use Rattle.inst_journal.specs.declared.event.Event.TheVariants.{Funded, Defunded
 use Rattle.inst_journal.specs.Booked.{or_else, first_some, takes, is_taken, forwards, is_forwarded, same_transfer}
 use Rattle.inst_statement.specs.inner.Movement.{came, sent}
 
-none_of : {A : Type 0} (o : Option A) → is_some o ≡ false → o ≡ None
+pub none_of : {A : Type 0} (o : Option A) → is_some o ≡ false → o ≡ None
 none_of None h = refl
 none_of (Some x) h = absurd (true≢false h)
 
-some_or : {A : Type 0} (o p : Option A) → (is_some o || is_some p) ≡ is_some (or_else o p)
+pub some_or : {A : Type 0} (o p : Option A) → (is_some o || is_some p) ≡ is_some (or_else o p)
 some_or None p = refl
 some_or (Some x) p = refl
 
 -- a test and a function that agree find together
-any_first : {A B : Type 0} (p : A → Bool) (f : A → Option B) → ((x : A) → p x ≡ is_some (f x)) → (xs : List A) → list_any p xs ≡ is_some (first_some f xs)
+pub any_first : {A B : Type 0} (p : A → Bool) (f : A → Option B) → ((x : A) → p x ≡ is_some (f x)) → (xs : List A) → list_any p xs ≡ is_some (first_some f xs)
 any_first p f same [] = refl
 any_first p f same (x ∷ xs) = ap (λ b. b || list_any p xs) (same x) ∙ ap (λ b. is_some (f x) || b) (any_first p f same xs) ∙ some_or (f x) (first_some f xs)
 
-some_cond : {A : Type 0} (b : Bool) (x : A) → b ≡ is_some (cond b (Some x) None)
+pub some_cond : {A : Type 0} (b : Bool) (x : A) → b ≡ is_some (cond b (Some x) None)
 some_cond true x = refl
 some_cond false x = refl
 

@@ -7,22 +7,18 @@ use Rattle.inst_settings.specs.Settings.{same_text}
 use Rattle.inst_journal.specs.declared.event.Event.{Event}
 use Rattle.inst_journal.specs.declared.event.Event.TheVariants.{Taken, Forwarded}
 use Rattle.inst_journal.specs.Booked.{or_else, first_some, is_taken, is_forwarded, same_transfer}
-use Rattle.inst_journal.proofs.Pushing.{first_some_push}
+use Rattle.inst_journal.proofs.Pushing.{first_some_push, or_else-none}
 use Rattle.inst_statement.specs.inner.Movement.{came, sent}
 use Rattle.inst_statement.specs.inner.Kept.{AreKept, same_key}
 use Rattle.inst_statement.proofs.Found.{unsent, not_come}
 
-or_else_none : {A : Type 0} (o : Option A) → or_else o None ≡ o
-or_else_none None = refl
-or_else_none (Some x) = refl
-
-put_first : {V : Type 0} (b : Bool) (o : Option V) (v : V) → (b ≡ true → o ≡ None) → or_else o (cond b (Some v) None) ≡ cond b (Some v) o
+pub put_first : {V : Type 0} (b : Bool) (o : Option V) (v : V) → (b ≡ true → o ≡ None) → or_else o (cond b (Some v) None) ≡ cond b (Some v) o
 put_first true o v absent = ap (λ p. or_else p (Some v)) (absent refl)
-put_first false o v absent = or_else_none o
+put_first false o v absent = or_else-none o
 
 -- an event that gives nothing
 kept_first : {V : Type 0} (f : Event → Option V) (front : List Event) (event : Event) → f event ≡ None → first_some f front ≡ first_some f (front ++ event ∷ [])
-kept_first f front event none = sym (first_some_push f front event ∙ ap (or_else (first_some f front)) none ∙ or_else_none (first_some f front))
+kept_first f front event none = sym (first_some_push f front event ∙ ap (or_else (first_some f front)) none ∙ or_else-none (first_some f front))
 
 -- an event that neither takes nor forwards
 pub kept_other : {S : Type 0} (front : List Event) (event : Event) (taken : IndexMap (List ℕ) (ℕ × ℕ) S) (forwarded : IndexMap (ℕ × List ℕ) ℕ S) → ((id : List ℕ) → sent id event ≡ None) → ((from : ℕ) (id : List ℕ) → came from id event ≡ None)

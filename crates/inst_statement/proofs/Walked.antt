@@ -13,7 +13,7 @@ use Rattle.inst_journal.specs.declared.event.Event.TheVariants.{Funded, Defunded
 use Rattle.inst_journal.specs.Lines.{raised}
 use Rattle.inst_journal.specs.Opened.{is_opening}
 use Rattle.inst_journal.specs.Sound.{Fits, FitAfter, IsSound}
-use Rattle.inst_journal.proofs.Counting.{count_push}
+use Rattle.inst_journal.proofs.Counting.{count_push, one_more as once_more}
 use Rattle.inst_journal.proofs.Walking.{may_have_line, lines_few, rest_fits, sound_front}
 use Rattle.inst_statement.specs.declared.movement.Movement.{Movement}
 use Rattle.inst_statement.specs.inner.Movement.{movement_of}
@@ -95,9 +95,6 @@ may_add J i x m before now p is most stands lines at room =
       fits = omega (arith, at, most, raised_le m.kind m.cents, stands.bounded, few J i x m p is);
       few = number_fits p.settings p.who (take i J) now p.lawful p.sound same;
     }
-
-once_more : (n m : ℕ) → (n + 1) * m ≡ n * m + m
-once_more n m = grind arith
 
 -- the bound after one event more
 bounded_still : (front : List Event) (x : Event) (n : ℕ) → n ≤ count_by may_have_line front * MOST_CENTS → n ≤ count_by may_have_line (front ++ x ∷ []) * MOST_CENTS

@@ -26,7 +26,7 @@ use Rattle.inst_model.specs.Closing.{AreClosed}
 use Rattle.inst_model.specs.Fit.{BooksFit, BooksAreClosed}
 use Rattle.inst_model.specs.Opening.{Opening, IsOpening, beginning}
 use Rattle.inst_model.specs.Transfer.{Transfer, transfer}
-use Rattle.inst_model.proofs.Basics.{first_some-append, or_else_kept}
+use Rattle.inst_model.proofs.Basics.{or_else_kept}
 use Rattle.inst_model.specs.Transfer.{terms_named}
 use Rattle.inst_model.proofs.Beginning.{beginning_sound, beginning_closed, beginning_booked, beginning_accepted}
 use Rattle.inst_model.proofs.Booking.{booked_party, booked_found}
@@ -46,6 +46,7 @@ use Rattle.inst_command.specs.declared.outcome.State.TheVariants.{Unused as Stat
 use Rattle.inst_slot.specs.OwnState.{booked_state, state_of}
 use Rattle.inst_together.specs.Told.{IsInTheBooks}
 use Rattle.inst_together.proofs.Listing.{got, in_filtered, some_same, none_some, is_none_true, the_some, in_inbox, of_entry, same_forwarding, one_place}
+use Rattle.inst_journal.proofs.FirstSome.{first_some-append}
 
 same_due : (p : Standing) (d e : ℕ) → Says p (Due d) → Says p (Due e) → d ≡ e
 same_due unused d e h g = absurd h

@@ -43,11 +43,12 @@ use Rattle.inst_slot.specs.Book.{Book, place_at, terms_to}
 use Rattle.inst_slot.specs.Asking.{decides, request, handle_ask, book_after, Finds, Opens, takes_memory, Enters, Settles, AppliesTo, Applies}
 use Rattle.inst_world.specs.HasRun.{StandsWith, StandsFor, terms_of, IsBoardOf, IsMember, NeedsMemory}
 use Rattle.inst_world.proofs.Exactly.{say_pending, finds_settle, looked, wish_finds}
-use Rattle.inst_world.proofs.Placing.{sees_this, if_own, live_kept, others_stay, untaken_unbooked, untaken_undecided}
+use Rattle.inst_world.proofs.Placing.{sees_this, if_own, others_stay, untaken_unbooked, untaken_undecided}
 use Rattle.inst_world.proofs.Boarding.{SameLive, board_stays, board_settles, board_opens}
 use Rattle.inst_world.proofs.Telling.{Ran, looked_still}
 use Rattle.inst_world.proofs.Asking.{unfound, undecided}
 use Rattle.inst_world.proofs.Wanting.{Decides, decides_this}
+use Rattle.inst_model.proofs.Telling.{none_taken}
 
 -- the events leave the live transfers, and open no place
 pub record OpensNothing (who : ℕ) (J E : List Event) : Type 0 where
@@ -65,11 +66,11 @@ kind_of : (s : HubSettings) (who : ℕ) (J : List Event) (command : Command) (at
     → OpensNothing who J (kept_events (handle s who J command at o)) ⊎ TakesOne s who J command (kept_events (handle s who J command at o))
 kind_of s who J command at o = kept_cases s who J command at o (λ E. OpensNothing who J E ⊎ TakesOne s who J command E) (record {
   nothing = inl (record { live = ap (live_transfers who) (append-nil J); board = λ margin book b c e. e });
-  funds = λ reference cents is why. inl (record { live = live_kept who J (Funded reference cents) refl refl; board = λ margin book b c e. e });
-  defunds = λ reference cents is why cover. inl (record { live = live_kept who J (Defunded reference cents) refl refl; board = λ margin book b c e. e });
+  funds = λ reference cents is why. inl (record { live = none_taken who J (Funded reference cents) refl refl; board = λ margin book b c e. e });
+  defunds = λ reference cents is why cover. inl (record { live = none_taken who J (Defunded reference cents) refl refl; board = λ margin book b c e. e });
   takes = λ x is why. inr (record { submission = x; events_are = refl; why = why; command_is = is });
-  books = λ from id z why. inl (record { live = live_kept who J (Booked from id z) refl refl; board = λ margin book b c e. e });
-  hands_out = λ max entry entries is some. inl (record { live = live_kept who J (Fetched (length (entry ∷ entries))) refl refl; board = λ margin book b c e. e });
+  books = λ from id z why. inl (record { live = none_taken who J (Booked from id z) refl refl; board = λ margin book b c e. e });
+  hands_out = λ max entry entries is some. inl (record { live = none_taken who J (Fetched (length (entry ∷ entries))) refl refl; board = λ margin book b c e. e });
 })
 
 either_true : (a c : Bool) → (a || c) ≡ true → (a ≡ true) ⊎ (c ≡ true)

@@ -25,11 +25,12 @@ use Rattle.inst_model.specs.Transfer.{Transfer, transfer, deadline}
 use Rattle.inst_model.specs.Found.{found}
 use Rattle.inst_model.specs.Wants.{is_addressed, ask_wants, taken_wants}
 use Rattle.inst_model.specs.Hub.{outcome, history}
-use Rattle.inst_model.proofs.Basics.{same_transfer-true, or_else_none, or_else_kept}
+use Rattle.inst_model.proofs.Basics.{same_transfer-true, or_else_kept}
 use Rattle.inst_model.proofs.Outcomes.{booked_outcome}
 use Rattle.inst_model.proofs.Transfers.{transfer_taken}
 use Rattle.inst_slot.specs.Book.{Book}
 use Rattle.inst_slot.specs.Asking.{decides}
+use Rattle.inst_journal.proofs.Pushing.{or_else-none}
 
 -- no command is refused for memory by the books' rules
 abbrev NotMemory : Result Handled Fault → Type 0
@@ -129,10 +130,10 @@ module _ (s : HubSettings) (O : Opening) (opening : IsOpening s O) (L : List Ste
   unwanted ask p id wants = go (transfer id (history s O L p)) refl
     where
       go : (X : Option Transfer) → transfer id (history s O L p) ≡ X → or_else (outcome s O L p id) (taken_wants s (history s O L) (Ask ask) p id (transfer id (history s O L p))) ≡ outcome s O L p id
-      go None is = ap (λ (Y : Option Transfer). or_else (outcome s O L p id) (taken_wants s (history s O L) (Ask ask) p id Y)) is ∙ or_else_none (outcome s O L p id)
+      go None is = ap (λ (Y : Option Transfer). or_else (outcome s O L p id) (taken_wants s (history s O L) (Ask ask) p id Y)) is ∙ or_else-none (outcome s O L p id)
       go (Some x) is =
           ap (λ (Y : Option Transfer). or_else (outcome s O L p id) (taken_wants s (history s O L) (Ask ask) p id Y)) is
-          ∙ ap (or_else (outcome s O L p id)) (wants x is) ∙ or_else_none (outcome s O L p id)
+          ∙ ap (or_else (outcome s O L p id)) (wants x is) ∙ or_else-none (outcome s O L p id)
 
   ended_already : (ask : AskValue) (p : ℕ) (id : List ℕ) (z : Outcome) → outcome s O L p id ≡ Some z → outcome s O (Ask ask ∷ L) p id ≡ outcome s O L p id
   ended_already ask p id z ended = or_else_kept (outcome s O L p id) (taken_wants s (history s O L) (Ask ask) p id (transfer id (history s O L p))) z ended ∙ sym ended

@@ -24,7 +24,7 @@ use Rattle.inst_model.specs.View.{Seen, news, tells}
 use Rattle.inst_model.specs.Trace.{is_seen}
 use Rattle.inst_model.specs.Wants.{taken_wants}
 use Rattle.inst_model.specs.Hub.{outcome, history}
-use Rattle.inst_model.proofs.Basics.{eqb_refl, same_text_refl, same_text-true, or_else_none, or_else_kept}
+use Rattle.inst_model.proofs.Basics.{eqb_refl, same_text_refl, same_text-true, or_else_kept}
 use Rattle.inst_model.proofs.Outcomes.{booked_outcome}
 use Rattle.inst_model.proofs.Together.{together}
 use Rattle.inst_model.proofs.Transfers.{place_found}
@@ -37,6 +37,7 @@ use Rattle.inst_world.proofs.Placing.{sees_this, if_own, at_taken, terms_in}
 use Rattle.inst_world.proofs.Matching.{expiry_tells}
 use Rattle.inst_world.proofs.Boarding.{board_stays, board_settles}
 use Rattle.inst_world.proofs.Telling.{RanOrNot, takes_none, no_ask_expire, looked_still, added}
+use Rattle.inst_journal.proofs.Pushing.{or_else-none}
 
 names_taken : (event : Option Event) → taken_by event ≡ elim (terms_in event) as (λ _. Option (List ℕ)) [ None ↦ None | Some x ↦ Some x.id ]
 names_taken None = refl
@@ -71,7 +72,7 @@ module _ (s : HubSettings) (O : Opening) (opening : IsOpening s O) (L : List Ste
         and_false false o = refl
 
     undecided_same : (p : ℕ) (id : List ℕ) → (q ≡ p → is_named id (at_place p (history s O L p) index) ≡ false) → outcome s O (Expire q index at ∷ L) p id ≡ outcome s O L p id
-    undecided_same p id unnamed = ap (or_else (outcome s O L p id)) (wants_nothing p id (transfer id (history s O L p)) unnamed) ∙ or_else_none (outcome s O L p id)
+    undecided_same p id unnamed = ap (or_else (outcome s O L p id)) (wants_nothing p id (transfer id (history s O L p)) unnamed) ∙ or_else-none (outcome s O L p id)
 
     another_name : (x : Transfer) (id : List ℕ) → at_place q (history s O L q) index ≡ Some x → id ≢ x.id → is_named id (at_place q (history s O L q) index) ≡ false
     another_name x id there other = ap (is_named id) there ∙ go (cases_Bool (same_text x.id id))

@@ -20,7 +20,7 @@ use Rattle.inst_journal.specs.Opened.{is_opening, carried, current, takes_live, 
 use Rattle.inst_journal.specs.Sound.{Fits, IsSound}
 use Rattle.inst_journal.specs.Statement.{line_of, with_line, lines_after, statement}
 use Rattle.inst_journal.proofs.Carrying.{carried_push, carried_opened, carried_unbooked, current_push, current_opened}
-use Rattle.inst_journal.proofs.Counting.{count_push, fundings_within, submissions_within, forwarded_within}
+use Rattle.inst_journal.proofs.Counting.{count_push, fundings_within, submissions_within, forwarded_within, suc_times}
 use Rattle.inst_journal.proofs.Pushing.{first_some_push, sum_by-both}
 use Rattle.inst_journal.proofs.Soundness.{sound_induction}
 use Rattle.inst_model.proofs.Basics.{same_transfer_refl}
@@ -251,9 +251,6 @@ none_below C (e ∷ J) =
     none (Booked from id outcome) = refl
     none (Fetched count) = refl
     none Opened = refl
-
-suc_times : (n m : ℕ) → suc n * m ≡ n * m + m
-suc_times n m = grind arith
 
 below_within : (s : HubSettings) (who : ℕ) (J : List Event) (n : ℕ) → IsSound s who J → count_by (is_open_below n (carried J)) J ≤ n * s.places
 below_within s who J zero sound = rw (none_below (carried J) J) (omega arith)

@@ -1,7 +1,7 @@
 -- Where the live transfers of an originator stand in the model, and what a step leaves of that.
-use Rattle.std.proofs.Common.{◌≡◌, ◌≢◌, ℕ, zero, suc, ◌≤◌, Bool, true, false, cond, eqb, List, [], ◌∷◌, ◌++◌, Option, Some, None, is_none, refl, sym, ap, ◌∙◌, arith, append-nil, sum_by}
+use Rattle.std.proofs.Common.{◌≡◌, ◌≢◌, ℕ, zero, suc, ◌≤◌, Bool, true, false, cond, eqb, List, [], ◌∷◌, ◌++◌, Option, Some, None, is_none, refl, sym, ap, ◌∙◌, arith, sum_by}
 use Rattle.std.specs.Prelude.{slice_get}
-use Rattle.std.specs.List.{filter, cons_option}
+use Rattle.std.specs.List.{filter}
 use Rattle.std.proofs.lemmas.Bool.{cond-true, ne_eqb}
 use Rattle.std.proofs.lemmas.List.Sums.{sum_by-cons}
 use Rattle.inst_settings.specs.Settings.{HubSettings, same_text}
@@ -11,7 +11,7 @@ use Rattle.inst_command.specs.declared.step.Step.TheVariants.{Ask, Deliver, Lear
 use Rattle.inst_journal.specs.declared.event.Event.{Event}
 use Rattle.inst_journal.specs.declared.event.Event.TheVariants.{Funded, Defunded, Taken, Forwarded, Booked, Fetched, Opened}
 use Rattle.inst_journal.specs.Booked.{booked, or_else}
-use Rattle.inst_journal.specs.Opened.{carried, is_opening, is_live, takes_live, live_taken}
+use Rattle.inst_journal.specs.Opened.{carried, is_live, takes_live, live_taken}
 use Rattle.inst_journal.specs.Sound.{IsSound}
 use Rattle.inst_journal.proofs.Counting.{stranger_unbooked}
 use Rattle.inst_journal.proofs.OwnBookings.{own_unforwarded}
@@ -26,9 +26,9 @@ use Rattle.inst_model.proofs.Basics.{same_text_refl, eqb_refl}
 use Rattle.inst_model.proofs.Beginning.{beginning_sound}
 use Rattle.inst_model.proofs.Histories.{history_step}
 use Rattle.inst_model.proofs.Mirror.{measure_of, measure_named, single}
-use Rattle.inst_model.proofs.Naming.{live_grown}
 use Rattle.inst_model.proofs.Together.{transfer_next}
 use Rattle.inst_model.proofs.Transfers.{transfer_some}
+use Rattle.inst_model.proofs.Strangers.{unseen}
 
 abbrev pub terms_in : Option Event → Option Transfer
 terms_in None = None
@@ -96,22 +96,12 @@ places_apart s who J k m x y sound ex ey same =
     let there : f y ≡ 1 = ap (λ (i : List ℕ). cond (same_text x.id i) 1 0) (sym same) ∙ here in
     once_at f (live_transfers who J) k m x y ex ey (omega (arith, here)) (omega (arith, there)) few
 
--- an event that takes nothing leaves the live transfers
-pub live_kept : (p : ℕ) (J : List Event) (event : Event) → is_opening event ≡ false → terms event ≡ None → live_transfers p (J ++ event ∷ []) ≡ live_transfers p J
-live_kept p J event no_opening none =
-    live_grown p J event no_opening
-    ∙ ap (λ (o : Option Transfer). live_transfers p J ++ filter (λ (y : Transfer). is_live p y.id J) (cons_option o [])) none
-    ∙ append-nil (live_transfers p J)
-
 -- who acts in a step
 abbrev pub actor : Step → ℕ
 actor (Ask ask) = ask.who
 actor (Deliver from index to) = to
 actor (Learn who from index) = who
 actor (Expire who index at) = who
-
-unseen : {A : Type 0} (b : Bool) (x : List A) → b ≡ false → cond b x [] ≡ []
-unseen b x e = ap (λ c. cond c x []) e
 
 others_see_nothing : (s : HubSettings) (J : ℕ → List Event) (before after : ℕ → List ℕ → Option Outcome) (step : Step) (p : ℕ) → p ≢ actor step → sees s J before after step p ≡ []
 others_see_nothing s J before after (Ask ask) p other = unseen (eqb ask.who p) _ (ne_eqb ask.who p (λ e. other (sym e)))

@@ -2,7 +2,6 @@
 use Rattle.std.proofs.Common.{◌≡◌, ℕ, zero, suc, ◌+◌, ◌≤◌, ◌<◌, pos, ℤ, ◌+ℤ◌, true, List, [], ◌∷◌, ◌++◌, length, reverse, take, drop, Some, is_some, refl, sym, ap, subst, ◌∙◌, inl, inr, ◌⊎◌, ⊎_elim, arith, Contains}
 use Rattle.std.specs.Prelude.{slice_get}
 use Rattle.std.proofs.lemmas.Bool.{cases_Bool, ltb-true, ltb-false, lt-ltb}
-use Rattle.std.proofs.lemmas.Int.{ints}
 use Rattle.std.proofs.lemmas.List.{reverse-append, reverse-reverse, length-reverse, take-append-drop}
 use Rattle.std.proofs.lemmas.List.Elements.{Contains-append_left, Contains-append_right}
 use Rattle.std.proofs.lemmas.Option.{slice_get_cases, slice_get_past, none-some}
@@ -35,7 +34,7 @@ use Rattle.inst_model.specs.Trace.{answer, trace, own_answers, replies}
 use Rattle.inst_model.specs.Transfer.{Transfer, transfer}
 use Rattle.inst_model.specs.Untold.{signed_sum_below, total, if_untold, signed_total, untold_by, untold}
 use Rattle.inst_model.proofs.Agreeing.{nothing_untold}
-use Rattle.inst_model.proofs.Conserved.{money_is_conserved}
+use Rattle.inst_model.proofs.Conserved.{money_is_conserved, plus_nothing}
 use Rattle.inst_model.proofs.Fitting.{histories_are_sound, histories_fit}
 use Rattle.inst_model.proofs.Isolated.{isolated}
 use Rattle.inst_model.proofs.Local.{outcome_is_local}
@@ -174,9 +173,6 @@ signed_same : (n : ℕ) (f g : ℕ → ℤ) → ((k : ℕ) → k < n → f k ≡
 signed_same zero f g same = refl
 signed_same (suc n) f g same =
     ap (λ (z : ℤ). z +ℤ f n) (signed_same n f g (λ k below. same k (omega arith))) ∙ ap (λ (z : ℤ). signed_sum_below n g +ℤ z) (same n (omega arith))
-
-plus_nothing : (z : ℤ) (n : ℕ) → n ≡ 0 → (z +ℤ pos n) ≡ z
-plus_nothing z n e = omega (arith, ints)
 
 adds_up : (s : HubSettings) (run : Run) → IsRun s run → AddsUp s run
 adds_up s run is = record {

@@ -21,12 +21,12 @@ use Rattle.inst_model.specs.Kept.{with_entries}
 use Rattle.inst_model.specs.Hub.{outcome, history}
 use Rattle.inst_model.specs.Trace.{is_seen, is_some_entry}
 use Rattle.inst_model.proofs.Histories.{by_step}
-use Rattle.inst_model.proofs.Telling.{same_outcome}
+use Rattle.inst_model.proofs.Telling.{same_outcome, none_taken}
 use Rattle.inst_slot.specs.Book.{Book, place_at}
 use Rattle.inst_slot.specs.Telling.{delivery, with_delivery, lesson, with_event, Keeps}
 use Rattle.inst_world.specs.HasRun.{IsBoardOf, IsMember}
 use Rattle.inst_world.proofs.Exactly.{IsTheSame, same_for, looked}
-use Rattle.inst_world.proofs.Placing.{Sees, sees_this, if_own, live_kept, actor}
+use Rattle.inst_world.proofs.Placing.{Sees, sees_this, if_own, actor}
 use Rattle.inst_world.proofs.Matching.{Adds, delivery_comes, lesson_tells}
 use Rattle.inst_world.proofs.Lying.{arrived_there}
 use Rattle.inst_world.proofs.Boarding.{SameLive, board_stays}
@@ -40,8 +40,8 @@ takes_none s O step L no_ask p =
       funds = λ ask reference cents is command why. absurd (no_ask ask is);
       defunds = λ ask reference cents is command why cover. absurd (no_ask ask is);
       takes = λ ask id to cents stamp is command why. absurd (no_ask ask is);
-      forwards = λ from index x is why. live_kept p J (Forwarded from x.id x.cents (deadline s x)) refl refl;
-      books = λ from id o why. live_kept p J (Booked from id o) refl refl;
+      forwards = λ from index x is why. none_taken p J (Forwarded from x.id x.cents (deadline s x)) refl refl;
+      books = λ from id o why. none_taken p J (Booked from id o) refl refl;
       hands_out = λ ask max entry entries is command some. absurd (no_ask ask is);
     })
 
