@@ -3,6 +3,7 @@ use Rattle.std.proofs.Common.{◌≡◌, ℕ, zero, suc, ◌+◌, ◌<◌, ◌�
 use Rattle.std.specs.Prelude.{slice_get}
 use Rattle.std.specs.List.{All}
 use Rattle.std.proofs.lemmas.Option.{slice_get_past}
+use Rattle.inst_base.proofs.Lists.{last_at}
 use Rattle.inst_settings.specs.Settings.{HubSettings, participants}
 use Rattle.inst_journal.specs.declared.event.Event.{Event}
 use Rattle.inst_journal.specs.History.{History}
@@ -42,10 +43,6 @@ get_before [] x i below = absurd (omega (arith, below))
 get_before (y ∷ ys) x zero below = refl
 get_before (y ∷ ys) x (suc i) below = get_before ys x i (omega (arith, below))
 
-get_last : {A : Type 0} (xs : List A) (x : A) → slice_get (xs ++ x ∷ []) (length xs) ≡ Some x
-get_last [] x = refl
-get_last (y ∷ ys) x = get_last ys x
-
 below_or_last : (p n : ℕ) → p < n + 1 → (p < n) ⊎ (n ≡ p)
 below_or_last p n below = grind arith
 
@@ -66,7 +63,7 @@ one_ledger_more s journals ledgers ledger are can same = record {
 
     same_at : (p : ℕ) → (p < length ledgers) ⊎ (length ledgers ≡ p) → histories_of (ledgers ++ ledger ∷ []) p ≡ books_of journals p
     same_at p (inl before) = ap kept_in (get_before ledgers ledger p before) ∙ are.same p before
-    same_at p (inr last) = ap (histories_of (ledgers ++ ledger ∷ [])) (sym last) ∙ ap kept_in (get_last ledgers ledger) ∙ same ∙ ap (books_of journals) last
+    same_at p (inr last) = ap (histories_of (ledgers ++ ledger ∷ [])) (sym last) ∙ ap kept_in (last_at ledgers ledger) ∙ same ∙ ap (books_of journals) last
 
 module _ (s : HubSettings) (journals : List History) (ledgers : List BookAndRoom) (one_each : length journals ≡ participants s) (all : AreAllKept s journals ledgers) where
   within : (p : ℕ) → (p < length ledgers) ⊎ (length ledgers ≤ p)

@@ -1,3 +1,4 @@
 pub mod Ascii
 pub mod Kept
+pub mod Lists
 pub mod Masks

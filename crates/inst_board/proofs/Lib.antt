@@ -3,3 +3,4 @@ pub mod PlainSteps
 pub mod Deciding
 pub mod Exact
 pub mod Knowing
+pub mod Agreeing

@@ -4,6 +4,7 @@ use Rattle.std.specs.Prelude.{Contains, Option}
 use Rattle.std.specs.Option.{option_or, unwrap_or}
 use mathlib.Core.Logic.{dite}
 use native.Mathlib.Decide.{ℕ_discrete}
+use Rattle.inst_board.proofs.Agreeing.{same_terms, same_due, same_decided}
 use Rattle.inst_command.specs.declared.outcome.Outcome.{Outcome}
 use Rattle.inst_terms.specs.declared.terms.Terms.{Terms}
 use Rattle.inst_board.specs.declared.about.About.{About}
@@ -110,22 +111,6 @@ standing_moment : (t : Terms) (d : ℕ) (o : Option Outcome) (m : Option ℕ) (n
 standing_moment t d o None n e = absurd (no_some n e)
 standing_moment t d None (Some m) n e = let is : n ≡ m = cc in is
 standing_moment t d (Some o) (Some m) n e = let is : n ≡ m = cc in is
-
--- what is true of one standing agrees
-same_terms : (p : Standing) (t u : Terms) → Says p (HasTerms t) → Says p (HasTerms u) → t ≡ u
-same_terms unused t u h g = absurd h
-same_terms (pending x d) t u h g = h ∙ sym g
-same_terms (decided x d o m) t u h g = h ∙ sym g
-
-same_due : (p : Standing) (d e : ℕ) → Says p (Due d) → Says p (Due e) → d ≡ e
-same_due unused d e h g = absurd h
-same_due (pending t x) d e h g = h ∙ sym g
-same_due (decided t x o m) d e h g = h ∙ sym g
-
-pub same_decided : (p : Standing) (o z : Outcome) → Says p (Decided o) → Says p (Decided z) → o ≡ z
-same_decided unused o z h g = absurd h
-same_decided (pending t d) o z h g = absurd h
-same_decided (decided t d x m) o z h g = h ∙ sym g
 
 pub same_moment : (p : Standing) (m n : ℕ) → Says p (DecidedAt m) → Says p (DecidedAt n) → m ≡ n
 same_moment unused m n h g = absurd h

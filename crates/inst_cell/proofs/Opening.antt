@@ -1,9 +1,10 @@
 -- The boards of a hub that opens.
-use Rattle.std.proofs.Common.{◌≡◌, ℕ, zero, suc, ◌*◌, ◌+◌, ◌-◌, ◌<◌, ◌≤◌, List, [], ◌∷◌, ◌++◌, length, get_or, take, drop, replicate, inl, inr, ⊎_elim, ◌⊎◌, sym, refl, ap, ◌∙◌, subst, arith, Some, length-append}
+use Rattle.std.proofs.Common.{◌≡◌, ℕ, zero, suc, ◌*◌, ◌+◌, ◌-◌, ◌<◌, ◌≤◌, List, [], ◌∷◌, ◌++◌, length, get_or, take, drop, replicate, ⊎_elim, ◌⊎◌, sym, refl, ap, ◌∙◌, subst, arith, Some, length-append}
 use Rattle.std.specs.Prelude.{Contains, slice_get, ◌↔◌}
 use Rattle.std.proofs.Math.Nat.{suc-mul}
 use mathlib.Core.Logic.{dite}
 use native.Mathlib.Decide.{ℕ_discrete}
+use Rattle.inst_base.proofs.Lists.{snoc_cases}
 use Rattle.inst_settings.specs.Settings.{HubSettings, participants}
 use Rattle.inst_board.specs.declared.about.Fact.{Fact}
 use Rattle.inst_board.specs.Standing.{IsPlace}
@@ -46,12 +47,6 @@ pub zeros : (n x : ℕ) → get_or (blank n) x 0 ≡ 0
 zeros zero x = refl
 zeros (suc n) zero = refl
 zeros (suc n) (suc x) = zeros n x
-
-snoc_cases : {A : Type 0} (xs : List A) (x b : A) (p : ℕ) → slice_get (xs ++ x ∷ []) p ≡ Some b → (slice_get xs p ≡ Some b) ⊎ ((p ≡ length xs) × (x ≡ b))
-snoc_cases [] x b zero e = let is : x ≡ b = cc in inr (refl, is)
-snoc_cases [] x b (suc p) e = let no : ⊥ = cc in absurd no
-snoc_cases (y ∷ ys) x b zero e = inl e
-snoc_cases (y ∷ ys) x b (suc p) e = ⊎_elim (λ old. inl old) (λ new. inr (ap suc new.0, new.1)) (snoc_cases ys x b p e)
 
 pub sized_as : (l a b : ℕ) (s t : HubSettings) → l ≡ a * b * 6 → a ≡ t.places → b ≡ participants t → s ≡ t → l ≡ total s * 6
 sized_as l a b s t e p q f = e ∙ (ap (λ (x : ℕ). x * b * 6) p ∙ (ap (λ (x : ℕ). t.places * x * 6) q ∙ ap (λ (x : HubSettings). total x * 6) (sym f)))

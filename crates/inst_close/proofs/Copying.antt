@@ -4,12 +4,12 @@ use Rattle.std.specs.Prelude.{slice_get, nat_lt}
 use Rattle.std.proofs.lemmas.Bool.{cases_eq, cases_Bool, ltb-true}
 use Rattle.std.proofs.lemmas.Bool.Decides.{nat_tests}
 use Rattle.std.proofs.lemmas.Option.{slice_get-get_or, slice_get_past}
+use Rattle.inst_base.proofs.Lists.{last_at}
 use Rattle.inst_settings.specs.Settings.{HubSettings}
 use Rattle.inst_journal.specs.declared.event.Event.{Event}
 use Rattle.inst_journal.specs.History.{History}
 use Rattle.inst_journal.specs.Opened.{openings, HasOpeningsLeft}
 use Rattle.inst_slot.specs.Book.{events_of, Book}
-use Rattle.inst_slot.proofs.Indexed.{last_at}
 use Rattle.inst_world.specs.NextOpening.{kept_by, books_of, CanOpenFrom}
 use Rattle.inst_world.proofs.Journals.{can_open_from}
 use Rattle.inst_together.specs.Together.{histories}

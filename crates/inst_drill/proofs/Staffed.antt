@@ -1,10 +1,10 @@
 -- Who works in an opening, taken from all hands and tellers and put together again.
 use Rattle.std.proofs.Common.{◌≡◌, zero, suc, ◌+◌, List, [], ◌∷◌, ◌++◌, length, length-append, Result, Ok, Err, ◌⊎◌, ⊎_elim, refl, ap, ◌∙◌, subst, arith}
 use Rattle.std.specs.Prelude.{slice_get, sum_by, IfErr, IsOkUnless}
+use Rattle.inst_base.proofs.Lists.{last_at}
 use Rattle.inst_base.specs.declared.fault.Fault.{Fault}
 use Rattle.inst_base.specs.declared.fault.Fault.TheVariants.{Memory, BadSettings}
 use Rattle.std.proofs.lemmas.List.Sums.{sum_by-cons, sum_by-append}
-use Rattle.inst_slot.proofs.Indexed.{last_at}
 use Rattle.inst_desk.specs.declared.desk.Desk.{Desk}
 use Rattle.inst_desk.specs.declared.hand.Hand.{Hand}
 use Rattle.inst_desk.specs.Desk.{IsHandOf, AreHandsOf, AreAllHandsOf, parts_of as parts_of_hand}

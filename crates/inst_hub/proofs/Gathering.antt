@@ -5,6 +5,7 @@ use Rattle.std.specs.Global.{Box}
 use Rattle.std.proofs.lemmas.List.{map-append}
 use Rattle.std.proofs.lemmas.Option.{slice_get_within}
 use Rattle.atomic_table.specs.Seated.{TableId}
+use Rattle.inst_base.proofs.Lists.{snoc_cases}
 use Rattle.inst_hub.specs.declared.outset.Outset.{Outset}
 use Rattle.inst_cell.specs.declared.shared_board.SharedBoard.{SharedBoard}
 use Rattle.inst_cell.specs.declared.sight.Sight.{Sight}
@@ -12,7 +13,6 @@ use Rattle.inst_journal.specs.declared.event.Event.{Event}
 use Rattle.inst_row.specs.declared.seat.RowSeat.{RowSeat}
 use Rattle.inst_row.specs.Seated.{IsOn, IsIdle, HasAll, HasSeen, SeesBoth, view_of}
 use Rattle.inst_slot.specs.Book.{Book}
-use Rattle.inst_slot.proofs.Growing.{snoc_cases}
 use Rattle.inst_participant.specs.declared.participant.Participant.{Participant}
 use Rattle.inst_hub.specs.declared.teller.Teller.{Teller}
 use Rattle.inst_hub.specs.inner.Closing.{IsSeated, AreSeated, IsTakenOut, AreTakenOut}

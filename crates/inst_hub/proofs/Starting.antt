@@ -2,6 +2,7 @@
 use Rattle.std.proofs.Common.{◌≡◌, ℕ, suc, ◌<◌, ◌+◌, zero, List, [], ◌∷◌, ◌++◌, length, append_assoc, length-append, sym, ap, ◌∙◌, subst, refl, arith, Some, None, ⊎_elim}
 use Rattle.std.specs.Prelude.{slice_get, Option, Contains, is_some, true}
 use Rattle.std.specs.Global.{Box}
+use Rattle.inst_base.proofs.Lists.{last_at, snoc_cases}
 use Rattle.inst_hub.specs.declared.outset.Outset.{Outset}
 use Rattle.atomic_table.specs.Seated.{TableId}
 use Rattle.inst_settings.specs.Settings.{HubSettings, participants}
@@ -18,8 +19,7 @@ use Rattle.inst_slot.specs.declared.arrival.Arrival.{Arrival}
 use Rattle.inst_slot.specs.Book.{Book}
 use Rattle.inst_journal.proofs.Pushing.{sum_by_push}
 use Rattle.inst_slot.proofs.Adopting.{begins}
-use Rattle.inst_slot.proofs.Growing.{snoc_cases, slice_get_left, slice_get_at}
-use Rattle.inst_slot.proofs.Indexed.{last_at}
+use Rattle.inst_slot.proofs.Growing.{slice_get_left, slice_get_at}
 use Rattle.inst_participant.specs.declared.participant.Participant.{Participant}
 use Rattle.inst_hub.specs.declared.hub.Hub.{Hub}
 use Rattle.inst_participant.specs.Behind.{IsBehind}

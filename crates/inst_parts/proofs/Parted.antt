@@ -1,8 +1,9 @@
 -- The books of all participants over one board: one of them is settled, and the others stay what they were.
-use Rattle.std.proofs.Common.{◌≡◌, ◌≢◌, ℕ, zero, suc, ◌+◌, ◌<◌, ◌≤◌, arith, List, [], ◌∷◌, length, length-set, set, get_or, inl, inr, ◌⊎◌, ⊎_elim, refl, sym, ap, ◌∙◌, subst, Some}
+use Rattle.std.proofs.Common.{◌≡◌, ◌≢◌, ℕ, ◌+◌, ◌<◌, ◌≤◌, arith, List, [], ◌∷◌, length, length-set, set, get_or, inl, inr, ◌⊎◌, ⊎_elim, sym, ap, ◌∙◌, subst, Some}
 use Rattle.std.specs.Prelude.{slice_get, ◌↔◌, Result, Ok, Err, IfOk, nat_lt}
 use Rattle.std.proofs.lemmas.Bool.{cases_eq, and_parts, ltb-true}
 use Rattle.std.proofs.lemmas.Option.{slice_get-get_or, slice_get_within}
+use Rattle.inst_base.proofs.Lists.{get_set, get_set_other, set_cases}
 use Rattle.inst_settings.specs.Settings.{HubSettings, participants}
 use Rattle.inst_board.specs.declared.place.Place.{Place}
 use Rattle.inst_board.specs.declared.about.About.{About}
@@ -24,27 +25,6 @@ use Rattle.inst_parts.proofs.PlaceByPlace.{told_nothing, told_on}
 pub if_ok : {A E : Type 0} (r : Result A E) (P Q : A → Type 0) → ((v : A) → P v → Q v) → IfOk r P → IfOk r Q
 if_ok (Ok v) P Q f h = f v h
 if_ok (Err e) P Q f h = tt
-
-get_set : {A : Type 0} (xs : List A) (i : ℕ) (v : A) → i < length xs → slice_get (set xs i v) i ≡ Some v
-get_set [] i v below = absurd (omega arith)
-get_set (x ∷ xs) zero v below = refl
-get_set (x ∷ xs) (suc i) v below = get_set xs i v (omega arith)
-
-get_set_other : {A : Type 0} (xs : List A) (i p : ℕ) (v : A) → p ≢ i → slice_get (set xs i v) p ≡ slice_get xs p
-get_set_other [] i p v other = refl
-get_set_other (x ∷ xs) zero zero v other = absurd (other refl)
-get_set_other (x ∷ xs) zero (suc p) v other = refl
-get_set_other (x ∷ xs) (suc i) zero v other = refl
-get_set_other (x ∷ xs) (suc i) (suc p) v other = get_set_other xs i p v (λ same. other (ap suc same))
-
-set_cases : {A : Type 0} (xs : List A) (i p : ℕ) (v x : A) → i < length xs → slice_get (set xs i v) p ≡ Some x → ((p ≡ i) × (x ≡ v)) ⊎ ((p ≢ i) × (slice_get xs p ≡ Some x))
-set_cases xs i p v x below e = elim (cases_eq p i) [
-  | inl same ↦
-      let here : Some v ≡ Some x = sym (get_set xs i v below) ∙ ap (slice_get (set xs i v)) (sym same) ∙ e in
-      let is : x ≡ v = cc in
-      inl (same, is)
-  | inr other ↦ inr (other, sym (get_set_other xs i p v other) ∙ e)
-]
 
 module _ {B : Type 0} (settings : B → HubSettings) (knows : B → Fact → Type 0) (has_role : B → ℕ → Type 0) (stays : B → B → Type 0)
     (stays_settings : (a b : B) → stays a b → settings b ≡ settings a) (stays_roles : (a b : B) (p : ℕ) → stays a b → has_role a p ↔ has_role b p)

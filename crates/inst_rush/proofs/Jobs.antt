@@ -1,7 +1,7 @@
 -- The jobs of a load, made one by one, gone over one by one, and done.
 use Rattle.std.proofs.Common.{◌≡◌, ◌<◌, arith, get_or, zero, suc, ℕ, List, [], ◌∷◌, ◌++◌, length, append_assoc, Some, ap, ◌∙◌, sym, subst, ⊎_elim, refl}
 use Rattle.std.specs.Prelude.{slice_get, Result, Ok}
-use Rattle.inst_slot.proofs.Growing.{snoc_cases}
+use Rattle.inst_base.proofs.Lists.{snoc_cases}
 use Rattle.inst_hub.specs.declared.hub.Hub.{Hub}
 use Rattle.inst_hub.specs.declared.teller.Teller.{Teller}
 use Rattle.inst_hub.specs.Calls.{IsOf, AreOf}

@@ -8,6 +8,7 @@ use Rattle.std.proofs.lemmas.List.Sums.{sum_by-cons}
 use Rattle.std.proofs.lemmas.Map.Steps.{length-le_from_distinct_below}
 use Rattle.std.proofs.lemmas.Bool.{and_parts, and_from, or_cases, eqb-true, eq-eqb, ltb-true, false≢true}
 use Rattle.std.specs.Cmp.Lexicographic.{same_text as text_same}
+use Rattle.inst_board.proofs.Agreeing.{same_terms}
 use Rattle.inst_settings.specs.Settings.{HubSettings, same_text, participants}
 use Rattle.inst_command.specs.declared.entry.Entry.{Entry}
 use Rattle.inst_command.specs.declared.outcome.Outcome.{Outcome}
@@ -37,7 +38,7 @@ use Rattle.inst_slot.specs.Book.{Book, place_at, terms_to, live_inbox}
 use Rattle.inst_slot.specs.LawfulBoard.{IsLawfulBoard, AllAreAdopted}
 use Rattle.inst_slot.specs.Telling.{delivery, with_delivery}
 use Rattle.inst_slot.proofs.Growing.{live_inbox_more, live_taken_still, live_push, still_booked, booked_cases}
-use Rattle.inst_slot.proofs.Keeping.{same_terms, kept_opening, lies_with_arrival}
+use Rattle.inst_slot.proofs.Keeping.{kept_opening, lies_with_arrival}
 use Rattle.inst_slot.proofs.Looking.{looked_on, saw_pending, saw_same, saw_own_pending}
 use Rattle.inst_slot.proofs.Learning.{if_some, taken_below, taken_contains, itself}
 

@@ -5,6 +5,7 @@ use Rattle.std.specs.Prelude.{slice_get, take, Result, Ok, Err, nat_le, nat_lt}
 use Rattle.std.specs.List.{list_all}
 use Rattle.std.proofs.lemmas.Bool.{false≢true, and_parts}
 use Rattle.std.proofs.lemmas.List.Sums.{length-filter}
+use Rattle.inst_base.proofs.Lists.{snoc_cases}
 use Rattle.inst_base.specs.TimeLimit.{deadline_of, is_due, is_ahead}
 use Rattle.inst_base.specs.declared.fault.Fault.{Fault}
 use Rattle.inst_base.specs.declared.fault.Fault.TheVariants.{Expired}
@@ -38,7 +39,7 @@ use Rattle.inst_journal.proofs.OwnBookings.{own_unforwarded}
 use Rattle.inst_slot.specs.Book.{Book, place_at, terms_to}
 use Rattle.inst_slot.specs.LawfulBoard.{IsLawfulBoard}
 use Rattle.inst_slot.specs.Asking.{handle_ask, Opens, Enters}
-use Rattle.inst_slot.proofs.Growing.{snoc_cases, live_inbox_still, live_push, still_booked, booked_cases}
+use Rattle.inst_slot.proofs.Growing.{live_inbox_still, live_push, still_booked, booked_cases}
 use Rattle.inst_slot.proofs.Keeping.{kept_opening, with_events, same_after, moved, learnt_truly, learnt_answer, lies_after_taking}
 use Rattle.inst_ledger.proofs.OwnIds.{live_taken_push}
 

@@ -1,5 +1,5 @@
 -- What one more event does to the live transfers of a history and to what is booked.
-use Rattle.std.proofs.Common.{◌≡◌, ℕ, zero, suc, ◌<◌, Bool, true, false, cond, List, [], ◌∷◌, ◌++◌, length, inl, inr, ◌⊎◌, ⊎_elim, refl, sym, ap, ◌∙◌, subst, arith, Option, Some, None, is_none, append-nil}
+use Rattle.std.proofs.Common.{◌≡◌, ℕ, zero, suc, ◌<◌, Bool, true, false, cond, List, [], ◌∷◌, ◌++◌, length, inl, inr, ◌⊎◌, refl, sym, ap, ◌∙◌, subst, arith, Option, Some, None, is_none, append-nil}
 use Rattle.std.specs.Prelude.{slice_get, Contains}
 use Rattle.std.specs.List.{filter, cons_option}
 use Rattle.std.proofs.lemmas.List.Elements.{filter_map-append, Contains-append_right}
@@ -15,12 +15,6 @@ use Rattle.inst_journal.proofs.Carrying.{carried_push}
 use Rattle.inst_journal.proofs.Pushing.{first_some_push}
 use Rattle.inst_slot.specs.Book.{live_inbox}
 use Rattle.inst_ledger.proofs.OwnIds.{live_taken_push, filter_push}
-
-pub snoc_cases : {A : Type 0} (xs : List A) (x b : A) (p : ℕ) → slice_get (xs ++ x ∷ []) p ≡ Some b → (slice_get xs p ≡ Some b) ⊎ ((p ≡ length xs) × (x ≡ b))
-snoc_cases [] x b zero e = let is : x ≡ b = cc in inr (refl, is)
-snoc_cases [] x b (suc p) e = let no : ⊥ = cc in absurd no
-snoc_cases (y ∷ ys) x b zero e = inl e
-snoc_cases (y ∷ ys) x b (suc p) e = ⊎_elim (λ old. inl old) (λ new. inr (ap suc new.0, new.1)) (snoc_cases ys x b p e)
 
 pub slice_get_left : {A : Type 0} (xs : List A) (x b : A) (p : ℕ) → slice_get xs p ≡ Some b → slice_get (xs ++ x ∷ []) p ≡ Some b
 slice_get_left [] x b p e = let no : ⊥ = cc in absurd no

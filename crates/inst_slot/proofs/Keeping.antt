@@ -12,7 +12,7 @@ use Rattle.inst_board.specs.declared.place.Place.{Place}
 use Rattle.inst_board.specs.declared.about.About.{About}
 use Rattle.inst_board.specs.declared.about.About.TheVariants.{Opened, HasTerms, Due, Decided}
 use Rattle.inst_board.specs.declared.about.Fact.{Fact}
-use Rattle.inst_board.specs.Standing.{Standing, unused, pending, decided, Says, about}
+use Rattle.inst_board.specs.Standing.{Standing, Says, about}
 use Rattle.inst_board.specs.Laws.{KnowsOpening}
 use Rattle.inst_board.specs.Learning.{Learns, IsAnswer, KnowsTruly}
 use Rattle.inst_board.proofs.Knowing.{learning_truly}
@@ -130,16 +130,6 @@ lies_after_taking book e from id index more lies = ⊎_elim
       },
     ))
     (λ arrived. inr arrived) lies
-
-pub same_terms : (p : Standing) (t u : Terms) → Says p (HasTerms t) → Says p (HasTerms u) → t ≡ u
-same_terms unused t u h g = absurd h
-same_terms (pending x d) t u h g = h ∙ sym g
-same_terms (decided x d o m) t u h g = h ∙ sym g
-
-pub same_end : (p : Standing) (o z : Outcome) → Says p (Decided o) → Says p (Decided z) → o ≡ z
-same_end unused o z h g = absurd h
-same_end (pending t d) o z h g = absurd h
-same_end (decided t d x m) o z h g = h ∙ sym g
 
 -- the transfer and the outcome that an event books
 pub booked_key : (other : ℕ) (name : List ℕ) (from : ℕ) (id : List ℕ) (z o : Outcome) → books other name (Booked from id z) ≡ Some o → (from ≡ other) × (id ≡ name) × (z ≡ o)

@@ -1,5 +1,6 @@
 -- What a look and a decision do to what a participant's books have to do with its board.
 use Rattle.std.proofs.Common.{◌≡◌, ℕ, List, [], ◌∷◌, ◌++◌, inl, inr, ◌⊎◌, ⊎_elim, refl, sym, ap, ◌∙◌, subst, Option, Some, None}
+use Rattle.inst_board.proofs.Agreeing.{same_terms, same_decided}
 use Rattle.inst_settings.specs.Settings.{HubSettings}
 use Rattle.inst_command.specs.declared.outcome.Outcome.{Outcome}
 use Rattle.inst_terms.specs.declared.terms.Terms.{Terms}
@@ -18,7 +19,7 @@ use Rattle.inst_journal.specs.Booked.{booked}
 use Rattle.inst_slot.specs.Book.{Book, place_at}
 use Rattle.inst_slot.specs.LawfulBoard.{LiesAt, KnowsEnd, IsLawfulBoard}
 use Rattle.inst_slot.proofs.Growing.{still_booked, newly_booked, booked_cases}
-use Rattle.inst_slot.proofs.Keeping.{SameTransfers, same_transfers, same_after, with_events, moved, learnt_own, learnt_truly, learnt_answer, same_terms, same_end, lying, booked_key}
+use Rattle.inst_slot.proofs.Keeping.{SameTransfers, same_transfers, same_after, with_events, moved, learnt_own, learnt_truly, learnt_answer, lying, booked_key}
 
 module _ {B : Type 0} (settings : B → HubSettings) (knows : B → Fact → Type 0) (has_role : B → ℕ → Type 0) where
   -- a booking of an outcome that is known
@@ -138,7 +139,7 @@ module _ {B : Type 0} (settings : B → HubSettings) (knows : B → Fact → Typ
         (λ new.
         let name : id ≡ t.id = sym lain.id_is ∙ ap (λ (u : Terms). u.id) (same_terms h.standing lain.terms t (h.learns.agrees (HasTerms lain.terms) lain.known.terms) new.1) in
         let owner : from ≡ j.owner = ap (λ (q : Place). q.owner) (sym new.0) in
-        let outcome : o ≡ z = same_end h.standing o z end.1 new.2 in
+        let outcome : o ≡ z = same_decided h.standing o z end.1 new.2 in
         let first : booked from id (book.events ++ Booked from id o ∷ []) ≡ Some z = newly_booked from id book.events o none ∙ ap (λ (x : Outcome). Some x) outcome in
         subst (λ (x : ℕ). booked x t.id (book.events ++ Booked from id o ∷ []) ≡ Some z) owner
         (subst (λ (x : List ℕ). booked from x (book.events ++ Booked from id o ∷ []) ≡ Some z) name first))

@@ -8,6 +8,7 @@ use Rattle.std.proofs.lemmas.List.{map-append}
 use Rattle.std.proofs.lemmas.List.Elements.{filter-append, filter_map-append}
 use Rattle.std.proofs.lemmas.List.Sums.{length-filter}
 use Rattle.std.proofs.lemmas.Option.{slice_get_within}
+use Rattle.inst_base.proofs.Lists.{snoc_cases}
 use Rattle.inst_base.specs.TimeLimit.{deadline_of}
 use Rattle.inst_settings.specs.Settings.{HubSettings, is_participant}
 use Rattle.inst_command.specs.declared.entry.Entry.{Entry}
@@ -36,7 +37,7 @@ use Rattle.inst_slot.specs.declared.arrival.Arrival.{Arrival}
 use Rattle.inst_slot.specs.Book.{Book, place_at, terms_to, live_inbox}
 use Rattle.inst_slot.specs.LawfulBoard.{KnowsEnd, IsLawfulBoard, KeepsOthers}
 use Rattle.inst_slot.specs.Opening.{unplaced, opened_again, MayOpenAgain, IsOfOpening, OpensPlaces}
-use Rattle.inst_slot.proofs.Growing.{snoc_cases, slice_get_left, filtered}
+use Rattle.inst_slot.proofs.Growing.{slice_get_left, filtered}
 use Rattle.inst_slot.proofs.Others.{others_opening}
 use Rattle.inst_slot.proofs.Spots.{is_unbooked}
 

@@ -4,6 +4,7 @@ use Rattle.std.proofs.Common.{◌≡◌, ◌≢◌, ℕ, ◌<◌, arith, true, L
 use Rattle.std.specs.Prelude.{slice_get, Contains}
 use Rattle.std.proofs.lemmas.Bool.{ltb-true}
 use Rattle.std.proofs.lemmas.List.Elements.{Contains-append_left}
+use Rattle.inst_board.proofs.Agreeing.{same_terms, same_due, same_decided}
 use Rattle.inst_base.specs.TimeLimit.{deadline_of}
 use Rattle.inst_settings.specs.Settings.{HubSettings, participants}
 use Rattle.inst_command.specs.declared.entry.Entry.{Entry}
@@ -13,7 +14,7 @@ use Rattle.inst_terms.specs.declared.terms.Terms.{Terms}
 use Rattle.inst_board.specs.declared.place.Place.{Place}
 use Rattle.inst_board.specs.declared.about.About.TheVariants.{Opened, HasTerms, Due, Decided}
 use Rattle.inst_board.specs.declared.about.Fact.{Fact}
-use Rattle.inst_board.specs.Standing.{Standing, unused, pending, decided, Says, about}
+use Rattle.inst_board.specs.Standing.{decided, about}
 use Rattle.inst_board.specs.Laws.{KnowsOpening}
 use Rattle.inst_journal.specs.declared.event.Event.{Event}
 use Rattle.inst_journal.specs.declared.event.Event.TheVariants.{Taken, Forwarded, Booked}
@@ -38,7 +39,7 @@ use Rattle.inst_model.proofs.Transfers.{as_transfer}
 use Rattle.inst_slot.specs.declared.arrival.Arrival.{Arrival}
 use Rattle.inst_slot.specs.Book.{events_of, Book, place_at, terms_to}
 use Rattle.inst_slot.proofs.Growing.{slice_get_at, filtered}
-use Rattle.inst_slot.proofs.Keeping.{same_terms, same_end, lying}
+use Rattle.inst_slot.proofs.Keeping.{lying}
 use Rattle.inst_slot.proofs.Learning.{taken_below}
 use Rattle.inst_ledger.proofs.Opening.{fits_at_place}
 use Rattle.inst_together.specs.Together.{histories, IsMember, AreTogether, IsSettled, AllAreSettled}
@@ -47,11 +48,6 @@ use Rattle.inst_slot.specs.OwnState.{booked_state, state_of}
 use Rattle.inst_together.specs.Told.{IsInTheBooks}
 use Rattle.inst_together.proofs.Listing.{got, in_filtered, some_same, none_some, is_none_true, the_some, in_inbox, of_entry, same_forwarding, one_place}
 use Rattle.inst_journal.proofs.FirstSome.{first_some-append}
-
-same_due : (p : Standing) (d e : ℕ) → Says p (Due d) → Says p (Due e) → d ≡ e
-same_due unused d e h g = absurd h
-same_due (pending t x) d e h g = h ∙ sym g
-same_due (decided t x o m) d e h g = h ∙ sym g
 
 taken_fits : (s : HubSettings) (who : ℕ) (J : List Event) (id : List ℕ) (to cents stamp : ℕ) → IsSound s who J → Contains J (Taken id to cents stamp) → (to < participants s) × (to ≢ who)
 taken_fits s who J id to cents stamp sound (i, below, is) =
@@ -291,7 +287,7 @@ module _ {B : Type 0} (settings : B → HubSettings) (knows : B → Fact → Typ
   one_truth from id o z g (inr a) (inr c) =
       let at_one : c.index ≡ a.index = same_place from c.index a.index id c.lies a.lies in
       let true_of = g.is.lawful.truly (place_at from a.index) in
-      same_end true_of.0 o z (true_of.2 (Decided o) a.decided) (true_of.2 (Decided z) (subst (λ (n : ℕ). knows b (about (place_at from n) (Decided z))) at_one c.decided))
+      same_decided true_of.0 o z (true_of.2 (Decided o) a.decided) (true_of.2 (Decided z) (subst (λ (n : ℕ). knows b (about (place_at from n) (Decided z))) at_one c.decided))
 
   booked_is : (p from : ℕ) (id : List ℕ) (o : Outcome) → Contains (J p) (Booked from id o) → booked from id (J p) ≡ Some o
   booked_is p from id o there = booked_found s p (J p) from id o (sound_at p) there

@@ -4,6 +4,7 @@ use Rattle.std.specs.Prelude.{slice_get, map, Contains, IsTrue, nat_lt}
 use Rattle.std.proofs.lemmas.Bool.{cases_eq, and_parts, and_from, eq-eqb, ltb-true}
 use Rattle.std.proofs.lemmas.Option.{slice_get-get_or}
 use Rattle.std.proofs.lemmas.List.Elements.{Contains-append_right}
+use Rattle.inst_base.proofs.Lists.{get_set, get_set_other, set_cases}
 use Rattle.inst_settings.specs.Settings.{HubSettings, participants, is_participant}
 use Rattle.inst_terms.specs.declared.terms.Terms.{Terms}
 use Rattle.inst_board.specs.declared.place.Place.{Place}
@@ -22,7 +23,6 @@ use Rattle.inst_model.proofs.Basics.{same_transfer_refl}
 use Rattle.inst_world.specs.HasRun.{World, settings_of}
 use Rattle.inst_world.specs.inner.NextOpening.{IsCarrying, IsCarryingWorld, StandsBefore, HaveFoundBefore, OnlyFinds}
 use Rattle.inst_world.proofs.Exactly.{IsTheSame, say_pending, same_through, looked}
-use Rattle.inst_world.proofs.Worlds.{get_set, get_set_other, set_cases}
 use Rattle.inst_world.proofs.Telling.{board_looked}
 
 -- nothing happened

@@ -1,6 +1,7 @@
 -- A hub that opens for the first time.
 use Rattle.std.proofs.Common.{◌≡◌, ℕ, zero, suc, ◌+◌, List, [], ◌∷◌, ◌++◌, length, Some, refl, sym, ap, subst, ◌∙◌, ⊎_elim, arith, length-append}
 use Rattle.std.specs.Prelude.{slice_get, Contains}
+use Rattle.inst_base.proofs.Lists.{snoc_cases}
 use Rattle.inst_settings.specs.Settings.{HubSettings, participants}
 use Rattle.inst_board.specs.declared.place.Place.{Place}
 use Rattle.inst_board.specs.declared.about.Fact.{Fact}
@@ -11,7 +12,6 @@ use Rattle.inst_board.specs.Plain.{Contents, kept_at, standing_of, plain_knows}
 use Rattle.inst_model.specs.Opening.Opening.{First}
 use Rattle.inst_slot.specs.declared.arrival.Arrival.{Arrival}
 use Rattle.inst_slot.specs.Book.{Book}
-use Rattle.inst_slot.proofs.Growing.{snoc_cases}
 use Rattle.inst_world.specs.HasRun.{IsMember, IsWorld, HasRun}
 use Rattle.inst_slot.proofs.Adopting.{begins}
 

@@ -5,6 +5,7 @@ use Rattle.std.proofs.lemmas.Bool.{cases_Bool, ltb-true, ltb-false, lt-ltb}
 use Rattle.std.proofs.lemmas.List.{reverse-append, reverse-reverse, length-reverse, take-append-drop}
 use Rattle.std.proofs.lemmas.List.Elements.{Contains-append_left, Contains-append_right}
 use Rattle.std.proofs.lemmas.Option.{slice_get_cases, slice_get_past, none-some}
+use Rattle.inst_base.proofs.Lists.{snoc_cases}
 use Rattle.inst_settings.specs.Settings.{HubSettings, participants, is_participant}
 use Rattle.inst_command.specs.declared.outcome.Outcome.{Outcome}
 use Rattle.inst_command.specs.declared.outcome.Outcome.TheVariants.{Accepted}
@@ -43,7 +44,6 @@ use Rattle.inst_model.proofs.Outcomes.{answered_is_the_outcome, booked_is_the_ou
 use Rattle.inst_model.proofs.Settling.{money_is_settled_once}
 use Rattle.inst_model.proofs.Stepping.{replies_are_in_the_trace}
 use Rattle.inst_model.proofs.Totals.{sum_below_same, sum_below_zero}
-use Rattle.inst_slot.proofs.Growing.{snoc_cases}
 use Rattle.inst_slot.specs.Book.{events_of, Book}
 use Rattle.inst_world.specs.HasRun.{World, settings_of, HasRun, IsWorld, journal_of}
 use Rattle.inst_world.specs.Headline.{Run, run_of, IsRun, SeesTheSame, GotTheSame, IsIsolated, HasOneOutcome, SettlesOnce, AddsUp, BooksOfFit, IsLocal, KeepsTheHeadline}

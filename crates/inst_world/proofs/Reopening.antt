@@ -3,6 +3,7 @@ use Rattle.std.proofs.Common.{◌≡◌, ◌≢◌, ℕ, zero, suc, ◌+◌, ◌
 use Rattle.std.specs.Prelude.{slice_get, ◌↔◌}
 use Rattle.std.proofs.lemmas.Bool.{cases_eq, lt-ltb}
 use Rattle.std.proofs.lemmas.Option.{same_Some, slice_get-get_or}
+use Rattle.inst_base.proofs.Lists.{snoc_cases}
 use Rattle.inst_settings.specs.Settings.{HubSettings, participants, is_participant}
 use Rattle.inst_command.specs.declared.outcome.Outcome.{Outcome}
 use Rattle.inst_terms.specs.declared.terms.Terms.{Terms}
@@ -30,7 +31,6 @@ use Rattle.inst_model.proofs.Transfers.{as_transfer, place_there, place_live, ea
 use Rattle.inst_slot.specs.Book.{Book, place_at}
 use Rattle.inst_slot.specs.LawfulBoard.{IsLawfulBoard, KeepsOthers}
 use Rattle.inst_slot.specs.Opening.{opened_again, MayOpenAgain, IsOfOpening, OpensPlaces}
-use Rattle.inst_slot.proofs.Growing.{snoc_cases}
 use Rattle.inst_slot.proofs.Opening.{may_open_first, others_may_open}
 use Rattle.inst_world.specs.HasRun.{World, settings_of, StandsWith, StandsFor, IsBoardOf, terms_of}
 use Rattle.inst_world.specs.NextOpening.{kept_by, books_of}

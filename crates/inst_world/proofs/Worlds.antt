@@ -2,7 +2,8 @@
 use Rattle.std.proofs.Common.{◌≡◌, ◌≢◌, ℕ, zero, suc, ◌<◌, true, List, [], ◌∷◌, length, get_or, set, Some, refl, sym, ap, subst, ◌∙◌, inl, inr, ◌⊎◌, arith, length-set}
 use Rattle.std.specs.Prelude.{slice_get}
 use Rattle.std.proofs.lemmas.Option.{slice_get-get_or}
-use Rattle.std.proofs.lemmas.Bool.{cases_eq, ltb-true}
+use Rattle.std.proofs.lemmas.Bool.{ltb-true}
+use Rattle.inst_base.proofs.Lists.{set_cases}
 use Rattle.inst_settings.specs.Settings.{HubSettings, is_participant, participants}
 use Rattle.inst_command.specs.Step.{step_fits}
 use Rattle.inst_command.specs.declared.step.Step.{Step}
@@ -16,27 +17,6 @@ use Rattle.inst_world.specs.HasRun.{World, settings_of, IsMember, IsWorld, HasRu
 use Rattle.inst_world.proofs.Exactly.{IsTheSame}
 use Rattle.inst_world.proofs.Placing.{actor, others_stay}
 use Rattle.inst_world.proofs.Telling.{Ran}
-
-pub get_set : {A : Type 0} (xs : List A) (i : ℕ) (v : A) → i < length xs → slice_get (set xs i v) i ≡ Some v
-get_set [] i v below = absurd (omega arith)
-get_set (x ∷ xs) zero v below = refl
-get_set (x ∷ xs) (suc i) v below = get_set xs i v (omega arith)
-
-pub get_set_other : {A : Type 0} (xs : List A) (i p : ℕ) (v : A) → p ≢ i → slice_get (set xs i v) p ≡ slice_get xs p
-get_set_other [] i p v other = refl
-get_set_other (x ∷ xs) zero zero v other = absurd (other refl)
-get_set_other (x ∷ xs) zero (suc p) v other = refl
-get_set_other (x ∷ xs) (suc i) zero v other = refl
-get_set_other (x ∷ xs) (suc i) (suc p) v other = get_set_other xs i p v (λ same. other (ap suc same))
-
-pub set_cases : {A : Type 0} (xs : List A) (i p : ℕ) (v x : A) → i < length xs → slice_get (set xs i v) p ≡ Some x → ((p ≡ i) × (x ≡ v)) ⊎ ((p ≢ i) × (slice_get xs p ≡ Some x))
-set_cases xs i p v x below e = elim (cases_eq p i) [
-  | inl same ↦
-      let here : Some v ≡ Some x = sym (get_set xs i v below) ∙ ap (slice_get (set xs i v)) (sym same) ∙ e in
-      let is : x ≡ v = cc in
-      inl (same, is)
-  | inr other ↦ inr (other, sym (get_set_other xs i p v other) ∙ e)
-]
 
 -- the slot that a participant's number leads to
 pub record LeadsTo (world : World) (p i : ℕ) (slot : Book) : Type 0 where

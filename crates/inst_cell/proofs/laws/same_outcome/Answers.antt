@@ -1,7 +1,7 @@
 use Rattle.std.proofs.Common.{inl, inr}
+use Rattle.inst_board.proofs.Agreeing.{same_decided}
 use Rattle.inst_board.specs.declared.about.About.TheVariants.{Decided}
 use Rattle.inst_board.specs.Standing.{about}
-use Rattle.inst_cell.proofs.Knowing.{same_decided}
 use Rattle.inst_cell.proofs.laws.same_outcome.Goals as goal
 
 pub returns-clause-same : goal.returns-clause-same

@@ -1,6 +1,6 @@
 use Rattle.std.proofs.Common.{List, length, ◌∷◌, [], ◌∙◌, ap}
 use Rattle.std.specs.Prelude.{slice_get}
-use Rattle.inst_slot.proofs.Indexed.{last_at}
+use Rattle.inst_base.proofs.Lists.{last_at}
 use Rattle.inst_hub.specs.declared.teller.Teller.{Teller}
 use Rattle.inst_crew.proofs.LastHand.{at_front}
 use Rattle.inst_crew_tests.proofs.setting.last.Goals as goal

@@ -1,7 +1,7 @@
 use Rattle.std.proofs.Common.{arith, inl, inr, sym, subst}
+use Rattle.inst_base.proofs.Lists.{set_cases}
 use Rattle.inst_hub.specs.declared.teller.Teller.{Teller}
 use Rattle.inst_hub.specs.Calls.{IsOf}
-use Rattle.inst_world.proofs.Worlds.{set_cases}
 use Rattle.inst_scarce.proofs.asking.ask_by.Goals as goal
 
 pub returns-clause-of : goal.returns-clause-of

@@ -1,7 +1,7 @@
 use Rattle.std.proofs.Common.{◌≡◌, List, Some, length, ◌∙◌, ap, sym, subst}
 use Rattle.std.specs.Prelude.{slice_get}
+use Rattle.inst_base.proofs.Lists.{last_at}
 use Rattle.inst_slot.proofs.Growing.{slice_get_left}
-use Rattle.inst_slot.proofs.Indexed.{last_at}
 use Rattle.inst_hub.specs.declared.teller.Teller.{Teller}
 use Rattle.inst_scarce.proofs.hub_row.last.Goals as goal
 
