@@ -12,7 +12,7 @@ mod session;
 
 pub use answer::answer_line;
 pub use check::check_lines;
-pub use limits::{MOST_BYTES, MOST_LINE_BYTES, MOST_LINES};
+pub use limits::{BUFFER_BYTES, MOST_BYTES, MOST_LINE_BYTES, MOST_LINES};
 pub use mode::Mode;
 pub use run::{Served, play_lines, run_lines, serve_lines};
 pub use session::Counts;

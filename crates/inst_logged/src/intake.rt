@@ -11,13 +11,10 @@ ghost use Rattle.inst_logged.specs.inner.Input.{last_line, lines_from, rest_from
 
 use crate::LoggedError;
 use inst_bytes::find_newline;
-use inst_lines::MOST_LINE_BYTES;
+use inst_lines::{BUFFER_BYTES, MOST_LINE_BYTES};
 use inst_log::push_line;
 use std::alloc::{AllocError, Global};
 use std::io::Read;
-
-/// The bytes that there is room for.
-const BUFFER_BYTES: usize = 65_536;
 
 /// The most bytes that are held of a line: one more than a line may have.
 const MOST_HELD: usize = MOST_LINE_BYTES + 1;

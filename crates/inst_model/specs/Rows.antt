@@ -4,40 +4,37 @@
 use Rattle.std.specs.Prelude.{ℕ, Bool, List, [], ◌∷◌, ◌++◌, reverse, codes}
 use Rattle.inst_base.specs.declared.fault.Fault.{Fault}
 use Rattle.inst_settings.specs.Settings.{HubSettings}
-use Rattle.inst_command.specs.declared.command.Command.{Command}
 use Rattle.inst_command.specs.declared.command.Command.TheVariants.{Fund, Submit, Confirm, Reject, Investigate, Fetch, Position, Statement}
 use Rattle.inst_command.specs.declared.outcome.State.{State as StateValue}
 use Rattle.inst_command.specs.declared.step.Step.{Step}
-use Rattle.inst_command.specs.declared.step.Step.TheVariants.{Ask, Deliver, Learn, Expire}
+use Rattle.inst_command.specs.declared.step.Step.TheVariants.{Deliver, Learn, Expire}
 use Rattle.inst_command.specs.declared.reply.Reply.TheVariants.{Done, Taken, State, Position as PositionReply, Refused}
 use Rattle.inst_command.specs.declared.reply.Answer.{Answer}
 use Rattle.inst_command.specs.declared.reply.Answer.TheVariants.{Reply, New}
+use Rattle.inst_model.specs.Deciders.{asks}
 use Rattle.inst_model.specs.Trace.{trace}
 use Rattle.inst_model.specs.Hub.{history}
 use Rattle.inst_model.specs.Opening.Opening.{First, FromBooks}
 use Rattle.inst_journal.specs.declared.event.Event.{Event}
 pub use Rattle.inst_journal.specs.Rows.{settings, A, B, C}
 
-abbrev pub ask : ℕ → Command → ℕ → Step
-ask who command at = Ask (record { who = who; command = command; at = at })
-
 abbrev pub fund : ℕ → List ℕ → ℕ → ℕ → Step
-fund who reference cents at = ask who (Fund reference cents) at
+fund who reference cents at = asks who (Fund reference cents) at
 
 abbrev pub submit : ℕ → List ℕ → ℕ → ℕ → ℕ → ℕ → Step
-submit who id to cents stamp at = ask who (Submit (record { id = id; to = to; cents = cents; stamp = stamp })) at
+submit who id to cents stamp at = asks who (Submit (record { id = id; to = to; cents = cents; stamp = stamp })) at
 
 abbrev pub confirm : ℕ → ℕ → List ℕ → ℕ → Step
-confirm who from id at = ask who (Confirm from id) at
+confirm who from id at = asks who (Confirm from id) at
 
 abbrev pub reject : ℕ → ℕ → List ℕ → List ℕ → ℕ → Step
-reject who from id reason at = ask who (Reject from id reason) at
+reject who from id reason at = asks who (Reject from id reason) at
 
 abbrev pub investigate : ℕ → List ℕ → ℕ → Step
-investigate who id at = ask who (Investigate id) at
+investigate who id at = asks who (Investigate id) at
 
 abbrev pub position : ℕ → ℕ → Step
-position who at = ask who Position at
+position who at = asks who Position at
 
 -- who sees it, the originator, the place
 abbrev pub deliver : ℕ → ℕ → ℕ → Step
@@ -109,10 +106,10 @@ untold_then_learnt = untold_yet ++ position A 2000 ∷ position B 2000 ∷ learn
 
 -- what B asks beside other traffic
 abbrev pub fetch_B : Step
-fetch_B = ask B (Fetch 10) 1500
+fetch_B = asks B (Fetch 10) 1500
 
 abbrev pub statement_B : Step
-statement_B = ask B (Statement 0 10) 2100
+statement_B = asks B (Statement 0 10) 2100
 
 abbrev pub alone : List Step
 alone = delivered ++ fetch_B ∷ confirm B A (codes "T1") 2000 ∷ statement_B ∷ position B 2100 ∷ []
@@ -230,8 +227,8 @@ a_page_of_two =
     ++ submit A (codes "T2") B 200 1000 1000
     ∷ deliver B A 1
     ∷ deliver B A 0
-    ∷ ask B (Fetch 2) 1500
-    ∷ ask B (Fetch 2) 1500
+    ∷ asks B (Fetch 2) 1500
+    ∷ asks B (Fetch 2) 1500
     ∷ []
 
 -- confirmations at a margin of two seconds
@@ -266,10 +263,10 @@ carried_over_an_opening =
     position A 1002
     ∷ submit A (codes "T1") B 20000 1000 1002
     ∷ submit A (codes "T1") B 19999 1000 1002
-    ∷ ask A (Statement 0 10) 1002
+    ∷ asks A (Statement 0 10) 1002
     ∷ confirm B A (codes "T1") 2000
     ∷ learn A A 0
-    ∷ ask A (Statement 0 10) 2000
+    ∷ asks A (Statement 0 10) 2000
     ∷ []
 
 -- A has an accepted and a pending transfer when the hub closes, and two places
