@@ -21,7 +21,6 @@ use Rattle.inst_journal.proofs.Carrying.{carried_push, carried_opened, current_p
 use Rattle.inst_journal.proofs.Pushing.{sum_by_push, sum_by-both, list_any_push, first_some_push}
 use Rattle.inst_journal.proofs.Soundness.{sound_induction}
 use Rattle.inst_journal.specs.declared.opened.TheConstants.{MOST_OPENINGS}
-use Rattle.inst_journal.proofs.Counting.{cond_le as booking_le}
 
 -- whether the event is a taken submission
 abbrev pub is_submission : Event → Bool
@@ -415,7 +414,7 @@ booked_push s who from id J (Booked other_from other outcome) fits before = elim
       let key = and_parts (other_from == from) (same_text other id) same in
       let none : booked from id J ≡ None =
       ap (λ f. booked f id J) (sym (eqb-true other_from from key.0)) ∙ ap (λ i. booked other_from i J) (sym (text_same other id (sym key.1))) ∙ fits.new in
-      omega (arith, unbooked_none from id J none, booking_le (booking from id (Booked other_from other outcome)))
+      omega (arith, unbooked_none from id J none, cond_le (booking from id (Booked other_from other outcome)))
   | inr another ↦ rw (another) (omega arith)
 ]
 booked_push s who from id J (Taken other to cents stamp) fits before = omega arith
