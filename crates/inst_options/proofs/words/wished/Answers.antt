@@ -17,6 +17,9 @@ free : is_simple_and_free command_line ≡ true
 unfolding clap_on_literals
 free = refl
 
+pub returns-in-Err-clause-ok : goal.returns-in-Err-clause-ok
+returns-in-Err-clause-ok c = tt
+
 pub returns-in-Err-clause-err : goal.returns-in-Err-clause-err
 returns-in-Err-clause-err c =
     let words = map string_bytes c.args.words.now in
