@@ -1,7 +1,7 @@
-use Rattle.std.proofs.Common.{ap, sym, ◌∙◌, subst, Option}
+use Rattle.std.proofs.Common.{rules, ℕ, List, ap, sym, ◌∙◌, subst, Option}
 use Rattle.inst_board.specs.declared.look.Look.{Look}
 use Rattle.inst_slot.specs.declared.lesson.Lesson.{Lesson}
-use Rattle.inst_slot.specs.inner.Answering.{over}
+use Rattle.inst_slot.specs.inner.Answering.{over, IsOwnAt}
 use Rattle.inst_slot.specs.inner.Lessons.{GivesLesson}
 use Rattle.inst_slot.specs.Telling.{lesson}
 use Rattle.inst_slot.proofs.Lessons.{no_lesson}
@@ -15,3 +15,16 @@ returns-in_err-found c =
     subst (λ (r : Option Lesson). GivesLesson l c.args.place (lesson (over l.book c.args.spots.now) c.args.place c.args.look.now) r) (sym c.from_residual.ensures)
     (ap (λ (x : Look). lesson (over l.book c.args.spots.now) c.args.place x) c.in-Decided.is
     ∙ no_lesson l c.args.spots.now c.args.place t c.in-Decided.outcome e.right c.requires.spots (c.requires.own t c.in-Decided.outcome c.in-Decided.is) e.found)
+
+pub returns : goal.returns
+returns c =
+    let l = c.args.ledger.now in
+    let k = c.args.place in
+    let t = c.in-Decided.terms in
+    let found = c.in_ok-found.ensures.found in
+    record {
+      is = search rules;
+      there = found.2;
+      owner = found.0;
+      own = λ mine. subst (λ (id : List ℕ). IsOwnAt l.book id k) (sym found.1) (c.requires.own t c.in-Decided.outcome c.in-Decided.is (sym found.0 ∙ mine));
+    }
