@@ -85,7 +85,7 @@ const LINES: [&[&str]; 12] = [
 ];
 
 /// Members that a line may have before and behind its own, and whether one pass reads the line.
-const MEMBERS: [(&str, bool); 38] = [
+const MEMBERS: &[(&str, bool)] = &[
     (r#""at":7"#, true),
     (r#""at":"7""#, true),
     (r#""at":null"#, false),
@@ -162,6 +162,20 @@ fn keys_in_any_order_are_read_in_one_pass(rt: HostRuntime) -> Result<(), Fail> {
     Ok(())
 }
 
+/// Whether a line with another member before or behind its own is scanned.
+fn is_scanned_with(
+    alloc: Global,
+    members: &[&str],
+    more: &str,
+    is_behind: bool,
+) -> Result<bool, Fail> {
+    if is_behind {
+        is_scanned(alloc, members, &[], &[more])
+    } else {
+        is_scanned(alloc, &[more], members, &[])
+    }
+}
+
 /// A line with each of the other members before or behind its own.
 fn scans_with_more(
     rt: &(impl Abort + AllocGlobal),
@@ -169,12 +183,8 @@ fn scans_with_more(
     is_behind: bool,
 ) -> Result<(), Fail> {
     for (more, wanted) in MEMBERS {
-        let scanned = if is_behind {
-            is_scanned(rt.alloc(), members, &[], &[more])?
-        } else {
-            is_scanned(rt.alloc(), &[more], members, &[])?
-        };
-        assert!(rt; scanned == wanted, "{more}");
+        let scanned = is_scanned_with(rt.alloc(), members, more, is_behind)?;
+        assert!(rt; scanned == *wanted, "{more}");
     }
     Ok(())
 }
