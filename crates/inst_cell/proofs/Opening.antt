@@ -158,6 +158,6 @@ opened_dealt s n all boards sights w are d = record {
   table = table_of all;
   participants = d.enough ∙ ap participants w.settings;
   board = λ p b at. let x = d.each p b at in record { settings = x.settings ∙ w.settings; table = x.table; role = x.role; known = λ f. (λ h. w.nothing f ((x.known f).0 h), λ h. absurd h) };
-  sights = are.enough;
+  enough = are.enough;
   sight = λ i t at. let x = are.each i t at in record { settings = x.settings ∙ w.settings; table = x.table; roles = x.roles; nothing = x.nothing };
 }

@@ -60,5 +60,5 @@ pub record AreOpened (s : HubSettings) (n : ℕ) (boards : List SharedBoard) (si
   pub table : TableId
   pub participants : length boards ≡ participants s
   pub board : (p : ℕ) (b : SharedBoard) → slice_get boards p ≡ Some b → IsOpened s table p b
-  pub sights : length sights ≡ n
+  pub enough : length sights ≡ n
   pub sight : (i : ℕ) (t : Sight) → slice_get sights i ≡ Some t → IsAdmitted s table t

@@ -33,5 +33,5 @@ returns-clause-one c =
     let o = c.in_ok-boards.ensures.ok in
     let two = sym c.participants.ensures.value ∙ c.if-participants-ne2.false in
     let first = o.board 0 c.in-Some-pop.first (one_first c.in_ok-boards.boards.items c.pop.new.self.items c.pop-2.new.self.items c.in-Some.second c.in-Some-pop.first c.in-Some.ensures.items c.in-Some-pop.ensures.items (o.participants ∙ two)) in
-    let sight = o.sight 0 c.in-Some-pop-2.sight (one_only c.in_ok-boards.sights.items c.pop-3.new.self.items c.in-Some-pop-2.sight c.in-Some-pop-2.ensures.items o.sights) in
+    let sight = o.sight 0 c.in-Some-pop-2.sight (one_only c.in_ok-boards.sights.items c.pop-3.new.self.items c.in-Some-pop-2.sight c.in-Some-pop-2.ensures.items o.enough) in
     (sight.table ∙ sym first.table, sight.settings ∙ sym first.settings)
