@@ -1,5 +1,5 @@
 -- What the statement beside a history gains with an event: the line of what the event moves.
-use Rattle.std.proofs.Common.{◌≡◌, ℕ, ◌+◌, ◌^◌, ◌<◌, ◌≤◌, cond, List, [], ◌∷◌, ◌++◌, Option, Some, None, refl, sym, ap, subst, ◌∙◌, arith}
+use Rattle.std.proofs.Common.{◌≡◌, ℕ, ◌+◌, ◌^◌, ◌<◌, ◌≤◌, cond, List, [], ◌∷◌, ◌++◌, length, Option, Some, None, refl, sym, ap, subst, ◌∙◌, arith}
 use Rattle.std.specs.Option.{option_map}
 use Rattle.inst_settings.specs.Settings.{HubSettings, same_text}
 use Rattle.inst_command.specs.declared.outcome.Outcome.{Outcome}
@@ -30,15 +30,11 @@ use Rattle.inst_statement.specs.KeptStatement.{Stated, MayAdd, IsStatementOf}
 use Rattle.inst_statement.specs.inner.Movement.{came, sent, accepted, accepted_movement, movement_of}
 use Rattle.inst_statement.proofs.Found.{not_come}
 use Rattle.inst_statement.proofs.Movements.{map_cond, first_mapped}
-use Rattle.inst_statement.proofs.Stated.{covers_movement, moved_to, line_added, line_less, number_fits}
+use Rattle.inst_statement.proofs.Stated.{stated_same, covers_movement, moved_to, line_added, line_less, number_fits}
 use Rattle.inst_command.specs.declared.line.LineKind.{LineKind}
 use Rattle.inst_command.specs.declared.line.LineKind.TheVariants.{Funded as FundedKind, Defunded as DefundedKind, Received, Paid}
 use Rattle.inst_base.specs.declared.cents.TheConstants.{MOST_CENTS}
 use Rattle.inst_journal.specs.Keys.{is_funding}
-
--- the same lines and position by another name
-pub stated_same : {J : List Event} {before after : Stated} → after.lines ≡ before.lines → after.position ≡ before.position → IsStatementOf J before → IsStatementOf J after
-stated_same lines at of = record { are_lines = lines ∙ of.are_lines; is_position = at ∙ of.is_position }
 
 -- the same events by another name
 pub stated_at : {J K : List Event} {stated : Stated} → K ≡ J → IsStatementOf J stated → IsStatementOf K stated
@@ -46,11 +42,11 @@ stated_at {J} {K} {stated} same of = subst (λ (E : List Event). IsStatementOf E
 
 -- the same ledger by other names
 pub ledger_same : {s : HubSettings} {who : ℕ} {J K : List Event} {t : Totals} {table other : Held} {R S : List ℕ → Option KeptFunding} {since : ℕ} {positions others : List ℕ} {read : ℕ} {before after : Stated}
-    → K ≡ J → (room : ℕ) → other ≡ record table { room = room } → ((reference : List ℕ) → S reference ≡ R reference) → others ≡ positions → after.lines ≡ before.lines → after.position ≡ before.position
+    → K ≡ J → (room : ℕ) → other ≡ record table { room = room } → ((reference : List ℕ) → S reference ≡ R reference) → others ≡ positions → after.lines ≡ before.lines → after.begun ≡ before.begun
     → IsLedger s who J t table R since positions read before → IsLedger s who K t other S since others read after
-ledger_same events room same references inbox lines at l = record {
+ledger_same events room same references inbox lines begun l = record {
   beside = beside_same events room same references inbox l.beside;
-  lines = stated_at events (stated_same lines at l.lines);
+  lines = stated_at events (stated_same _ _ lines begun l.lines);
 }
 
 -- a movement leads from a position of 64 bits to one
@@ -84,7 +80,7 @@ came_forwarding from id Opened = refl
 
 module _ (s : HubSettings) (who : ℕ) (J : List Event) (t : Totals) (table : Held) (R : List ℕ → Option KeptFunding) (since : ℕ) (positions : List ℕ) (read : ℕ) (b : IsBeside s who J t table R since positions read) where
   accepted_by : (from : ℕ) (id : List ℕ) (cents : ℕ) (side : Side) (old : Option Outcome) → Fits s who J (Booked from id Accepted) → found_at table.entries (from, id) ≡ Some (record { cents = cents; side = side; outcome = old })
-      → accepted_movement J from id ≡ Some (movement_by from id cents side)
+      → accepted_movement J from id ≡ Some (movement_by from cents side)
   accepted_by from id cents (Own to stamp) old fits there =
       let own = own_party s who J (state_in table) b.sound b.right from id Accepted cents to stamp old fits there in
       let none : first_some (came from id) J ≡ None = not_come from id J (ap (λ f. is_forwarded f id J) own.0 ∙ own_unforwarded s who id J b.sound) in
@@ -92,15 +88,15 @@ module _ (s : HubSettings) (who : ℕ) (J : List Event) (t : Totals) (table : He
       let found : first_some (sending_of id) J ≡ Some (record { to = to; cents = cents; stamp = stamp }) = sym (b.right.taken id) ∙ ap sending_in at_who in
       let gone : first_some (sent id) J ≡ Some (to, cents) =
       first_mapped (sent id) (sending_of id) (λ (t : Sending). (t.to, t.cents)) (sent_sending id) J ∙ ap (option_map (λ (t : Sending). (t.to, t.cents))) found in
-      ap (λ o. accepted from id o (first_some (sent id) J)) none ∙ ap (accepted from id None) gone
+      ap (λ o. accepted from o (first_some (sent id) J)) none ∙ ap (accepted from None) gone
   accepted_by from id cents (Other deadline) old fits there =
       let found : first_some (forwarding_of (from, id)) J ≡ Some (record { cents = cents; deadline = deadline }) = sym (b.right.forwarded (from, id)) ∙ ap forwarding_in there in
       let come : first_some (came from id) J ≡ Some cents =
       first_mapped (came from id) (forwarding_of (from, id)) (λ (f : Forwarding). f.cents) (came_forwarding from id) J ∙ ap (option_map (λ (f : Forwarding). f.cents)) found in
-      ap (λ o. accepted from id o (first_some (sent id) J)) come
+      ap (λ o. accepted from o (first_some (sent id) J)) come
 
   -- a booking moves what the transfer in the table tells
-  pub booking_moves : (from : ℕ) (id : List ℕ) (outcome : Outcome) (t : Transfer) → Fits s who J (Booked from id outcome) → found_at table.entries (from, id) ≡ Some t → movement_of J (Booked from id outcome) ≡ movement_booked from id t outcome
+  pub booking_moves : (from : ℕ) (id : List ℕ) (outcome : Outcome) (t : Transfer) → Fits s who J (Booked from id outcome) → found_at table.entries (from, id) ≡ Some t → movement_of J (Booked from id outcome) ≡ movement_booked from t outcome
   booking_moves from id Accepted t fits there = accepted_by from id t.cents t.side t.outcome fits there
   booking_moves from id (Rejected reason) t fits there = refl
   booking_moves from id TimedOut t fits there = refl
@@ -120,7 +116,7 @@ module _ (s : HubSettings) (who : ℕ) (J : List Event) (t : Totals) (table : He
   may_add_if from id outcome None stated is fits of room = tt
   may_add_if from id outcome (Some m) stated is fits of room = may_add (Booked from id outcome) m stated is fits (omega arith) of room
 
-  pub added_if : (from : ℕ) (id : List ℕ) (outcome : Outcome) (o : Option Movement) (before after : Stated) → movement_of J (Booked from id outcome) ≡ o → Fits s who J (Booked from id outcome) → IsStatementOf J before → AddsIf before o after
+  pub added_if : (from : ℕ) (id : List ℕ) (outcome : Outcome) (index : ℕ) (o : Option Movement) (before after : Stated) → movement_of J (Booked from id outcome) ≡ o → Fits s who J (Booked from id outcome) → index ≡ length J → IsStatementOf J before → AddsIf before index o after
       → IsStatementOf (J ++ Booked from id outcome ∷ []) after
-  added_if from id outcome None before after is fits of same = line_less s who J (Booked from id outcome) b.sound fits before after is refl same.0 same.1 of
-  added_if from id outcome (Some m) before after is fits of adds = line_added s who J (Booked from id outcome) b.sound fits m before after is of adds
+  added_if from id outcome index None before after is fits last of same = line_less s who J (Booked from id outcome) b.sound fits before after is refl same.0 same.1 of
+  added_if from id outcome index (Some m) before after is fits last of adds = line_added s who J (Booked from id outcome) b.sound fits m index before after is last of adds

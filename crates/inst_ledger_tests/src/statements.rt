@@ -1,100 +1,101 @@
-//! Statements that are kept line by line, by themselves.
-use crate::comparing::same_at;
-use inst_base::{Cents, Ident};
+//! What is funded, paid, received and defunded, in parts of a statement: as the ledger keeps its lines, and as a walk
+//! over the events gives them.
+use crate::answering::{Row, answers, opened_again};
+use crate::asked::Asks;
+use crate::beneficiary::forwarded;
+use crate::comparing::same;
+use crate::told::Told;
 use inst_command::LineKind;
-use inst_rows::{Shown, are_lines};
-use inst_statement::{KeptStatement, Movement};
+use inst_ledger::Ledger;
+use inst_rows::{End, Shown, are_lines};
+use inst_statement::statement;
 use std::process::Abort;
 use std::test::Fail;
 
-/// What moves a position: its kind, the other side, the identifier and the cents.
-type Moves = (LineKind, Option<u8>, &'static str, u64);
-
-/// Adds the line of a movement, in room that is made for it.
-fn add(rt: &impl Abort, statement: &mut KeptStatement, moves: &Moves) -> Result<(), Fail> {
-    let (kind, other, id, cents) = *moves;
-    let cents = Cents::new(cents)?;
-    statement.reserve()?;
-    assert!(rt; statement.lines().len() < 10 && statement.position() < 1000);
-    assert!(rt;
-        matches!(kind, LineKind::Funded | LineKind::Received) || statement.position() >= cents.get()
-    );
-    statement.add(&Movement {
-        kind,
-        other,
-        id: Ident::new(id)?,
-        cents,
-    });
-    Ok(())
-}
-
-/// Compares at most `count` lines after the first `skip`.
-fn shows(
-    rt: &(impl Abort + AllocGlobal),
-    statement: &KeptStatement,
-    skip: u64,
-    count: u32,
-    wanted: &[Shown],
-) -> Result<(), Fail> {
-    let lines = statement.part(rt.alloc(), skip, count)?;
-    same_at(
-        rt,
-        lines.as_slice(),
-        are_lines(lines.as_slice(), wanted),
-        true,
-    );
-    Ok(())
-}
-
-const MOVED: &[Moves] = &[
-    (LineKind::Funded, None, "F1", 500),
-    (LineKind::Paid, Some(1), "T1", 200),
-    (LineKind::Received, Some(2), "T1", 300),
-    (LineKind::Defunded, None, "G1", 100),
+const MOVES: &[Row] = &[
+    (Asks::Statement(0, 10), 1000, None, Told::Lines(&[])),
+    (Asks::Fund("F1", 500), 1000, None, Told::Done("F1")),
+    (
+        Asks::Submit("T1", 2, 200, 1000),
+        1000,
+        None,
+        Told::Taken("T1", 11_000),
+    ),
+    (
+        Asks::Investigate("T1"),
+        1000,
+        Some(End::Accepted),
+        Told::Decided(1, "T1", End::Accepted),
+    ),
+    (
+        Asks::Confirm(2, "T1"),
+        1000,
+        Some(End::Accepted),
+        Told::Decided(2, "T1", End::Accepted),
+    ),
+    (Asks::Defund("G1", 100), 1000, None, Told::Done("G1")),
 ];
 
-const LINES: [Shown; 4] = [
+const LINES: &[Shown] = &[
     (1, LineKind::Funded, None, "F1", 500, 500),
-    (2, LineKind::Paid, Some(1), "T1", 200, 300),
+    (2, LineKind::Paid, Some(2), "T1", 200, 300),
     (3, LineKind::Received, Some(2), "T1", 300, 600),
     (4, LineKind::Defunded, None, "G1", 100, 500),
 ];
 
-/// Compares the parts of the four lines.
-fn shows_parts(rt: &(impl Abort + AllocGlobal), statement: &KeptStatement) -> Result<(), Fail> {
-    let [_, second, third, last] = LINES;
-    shows(rt, statement, 0, 10, &LINES)?;
-    shows(rt, statement, 1, 2, &[second, third])?;
-    shows(rt, statement, 3, 10, &[last])?;
-    shows(rt, statement, 0, 0, &[])?;
-    shows(rt, statement, 4, 10, &[])?;
-    shows(rt, statement, u64::MAX, u32::MAX, &[])
+const PARTS: &[Row] = &[
+    (Asks::Statement(0, 10), 1000, None, Told::Lines(LINES)),
+    (
+        Asks::Statement(1, 2),
+        1000,
+        None,
+        Told::Lines(&[
+            (2, LineKind::Paid, Some(2), "T1", 200, 300),
+            (3, LineKind::Received, Some(2), "T1", 300, 600),
+        ]),
+    ),
+    (
+        Asks::Statement(3, 10),
+        1000,
+        None,
+        Told::Lines(&[(4, LineKind::Defunded, None, "G1", 100, 500)]),
+    ),
+    (Asks::Statement(4, 10), 1000, None, Told::Lines(&[])),
+    (Asks::Statement(u64::MAX, 100), 1000, None, Told::Lines(&[])),
+];
+
+const AGAIN: &[Row] = &[
+    (Asks::Statement(0, 10), 1000, None, Told::Lines(&[])),
+    (Asks::Fund("F2", 300), 1000, None, Told::Done("F2")),
+    (
+        Asks::Statement(0, 10),
+        1000,
+        None,
+        Told::Lines(&[(1, LineKind::Funded, None, "F2", 300, 800)]),
+    ),
+];
+
+/// A walk gives so many lines where none or more than all are asked for.
+fn walks(rt: &(impl Abort + AllocGlobal), ledger: &Ledger) -> Result<(), Fail> {
+    let journal = ledger.journal();
+    let none = statement(rt.alloc(), journal, 0, 0)?;
+    same(rt, none.is_empty(), true);
+    let all = statement(rt.alloc(), journal, 0, u32::MAX)?;
+    same(rt, are_lines(all.as_slice(), LINES), true);
+    let none = statement(rt.alloc(), journal, u64::MAX, u32::MAX)?;
+    same(rt, none.is_empty(), true);
+    Ok(())
 }
 
-/// 500 cents are funded, 200 paid, 300 received and 100 defunded: four lines, of which parts are asked for.
-fn shows_four(rt: &(impl Abort + AllocGlobal), statement: &mut KeptStatement) -> Result<(), Fail> {
-    shows(rt, statement, 0, 10, &[])?;
-    for moves in MOVED {
-        add(rt, statement, moves)?;
-    }
-    shows_parts(rt, statement)
-}
-
-/// After an opening the lines count from 1 again, from the position that was reached.
-fn begins_again(
-    rt: &(impl Abort + AllocGlobal),
-    statement: &mut KeptStatement,
-) -> Result<(), Fail> {
-    statement.begin();
-    shows(rt, statement, 0, 10, &[])?;
-    add(rt, statement, &(LineKind::Funded, None, "F2", 300))?;
-    let line = (1, LineKind::Funded, None, "F2", 300, 800);
-    shows(rt, statement, 0, 10, &[line])
-}
-
+/// 500 cents are funded, 200 paid, 300 received and 100 defunded, while another transfer of the same name is pending:
+/// four lines, of which parts are asked for. After an opening the lines count from 1 again, from the position that was
+/// reached.
 #[test]
 fn shows_what_moved_the_position(rt: HostRuntime) -> Result<(), Fail> {
-    let mut statement = KeptStatement::new(rt.alloc());
-    shows_four(&rt, &mut statement)?;
-    begins_again(&rt, &mut statement)
+    let mut ledger = forwarded(&rt, 100, 300)?;
+    answers(&rt, &mut ledger, MOVES)?;
+    answers(&rt, &mut ledger, PARTS)?;
+    walks(&rt, &ledger)?;
+    let mut again = opened_again(&rt, &ledger)?;
+    answers(&rt, &mut again, AGAIN)
 }

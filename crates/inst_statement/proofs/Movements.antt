@@ -1,9 +1,10 @@
 -- A movement that is read off the events before it makes the line of its event, and moves the position by its amount.
-use Rattle.std.proofs.Common.{◌≡◌, ◌≢◌, ℕ, ◌+◌, ◌≤◌, Bool, true, false, cond, List, [], ◌∷◌, ◌++◌, inl, inr, Option, Some, None, is_some, sum_by, count_by, refl, sym, ap, ◌∙◌, subst, arith}
+use Rattle.std.proofs.Common.{◌≡◌, ◌≢◌, ℕ, ◌+◌, ◌≤◌, Bool, true, false, cond, List, [], ◌∷◌, ◌++◌, inl, inr, Option, Some, None, is_some, unwrap_or, sum_by, count_by, refl, sym, ap, ◌∙◌, subst, arith}
 use Rattle.std.specs.Option.{option_map}
 use Rattle.std.proofs.lemmas.Bool.{false≢true, true≢false}
 use Rattle.std.proofs.lemmas.List.Sums.{sum_by-cons}
 use Rattle.inst_settings.specs.Settings.{HubSettings, same_text}
+use Rattle.inst_command.specs.declared.line.Line.{Line}
 use Rattle.inst_command.specs.declared.line.LineKind.TheVariants.{Received, Paid}
 use Rattle.inst_command.specs.declared.outcome.Outcome.TheVariants.{Accepted, Rejected, TimedOut}
 use Rattle.inst_journal.specs.declared.event.Event.{Event}
@@ -20,9 +21,20 @@ use Rattle.inst_journal.proofs.Leading.{zero_summed}
 use Rattle.inst_journal.proofs.Moving.{coming, credited_by, debited_by, position_funded, position_credited, position_debited, position_released}
 use Rattle.inst_journal.proofs.OwnBookings.{own_unforwarded}
 use Rattle.inst_statement.specs.declared.movement.Movement.{Movement}
-use Rattle.inst_statement.specs.KeptStatement.{line_with}
+use Rattle.inst_statement.specs.KeptLine.{name_of}
 use Rattle.inst_statement.specs.inner.Movement.{came, sent, accepted, accepted_movement, movement_of}
 use Rattle.inst_statement.proofs.Found.{takes_sent, forwards_came, taken_found, forwarded_found, not_come}
+
+-- the line of a movement of this name
+abbrev pub line_told : ℕ → ℕ → List ℕ → Movement → Line
+line_told number after id movement = record {
+  number = number;
+  kind = movement.kind;
+  other = movement.other;
+  id = id;
+  cents = movement.cents;
+  position = after;
+}
 
 pub map_cond : {A B : Type 0} (h : A → B) (b : Bool) (x : A) → cond b (Some (h x)) None ≡ option_map h (cond b (Some x) None)
 map_cond h true x = refl
@@ -46,8 +58,8 @@ some_of : {A : Type 0} (o : Option A) → is_some o ≡ true → (x : A) × (o �
 some_of None e = absurd (false≢true e)
 some_of (Some x) e = (x, refl)
 
-received_made : (number after from : ℕ) (id : List ℕ) (e : Event) → received number after from id e ≡ option_map (λ cents. line_with number after (record { kind = Received; other = Some from; id = id; cents = cents })) (came from id e)
-received_made number after from id (Forwarded other_from other cents deadline) = map_cond (λ (c : ℕ). line_with number after (record { kind = Received; other = Some from; id = id; cents = c })) (same_transfer from id other_from other) cents
+received_made : (number after from : ℕ) (id : List ℕ) (e : Event) → received number after from id e ≡ option_map (λ cents. line_told number after id (record { kind = Received; other = Some from; cents = cents })) (came from id e)
+received_made number after from id (Forwarded other_from other cents deadline) = map_cond (λ (c : ℕ). line_told number after id (record { kind = Received; other = Some from; cents = c })) (same_transfer from id other_from other) cents
 received_made number after from id (Taken other to cents stamp) = refl
 received_made number after from id (Funded reference cents) = refl
 received_made number after from id (Defunded reference cents) = refl
@@ -55,8 +67,8 @@ received_made number after from id (Booked other_from other outcome) = refl
 received_made number after from id (Fetched count) = refl
 received_made number after from id Opened = refl
 
-paid_made : (number after : ℕ) (id : List ℕ) (e : Event) → paid number after id e ≡ option_map (λ (terms : ℕ × ℕ). line_with number after (record { kind = Paid; other = Some terms.0; id = id; cents = terms.1 })) (sent id e)
-paid_made number after id (Taken other to cents stamp) = map_cond (λ (terms : ℕ × ℕ). line_with number after (record { kind = Paid; other = Some terms.0; id = id; cents = terms.1 })) (same_text other id) (to, cents)
+paid_made : (number after : ℕ) (id : List ℕ) (e : Event) → paid number after id e ≡ option_map (λ (terms : ℕ × ℕ). line_told number after id (record { kind = Paid; other = Some terms.0; cents = terms.1 })) (sent id e)
+paid_made number after id (Taken other to cents stamp) = map_cond (λ (terms : ℕ × ℕ). line_told number after id (record { kind = Paid; other = Some terms.0; cents = terms.1 })) (same_text other id) (to, cents)
 paid_made number after id (Forwarded other_from other cents deadline) = refl
 paid_made number after id (Funded reference cents) = refl
 paid_made number after id (Defunded reference cents) = refl
@@ -81,25 +93,25 @@ terms_there s who front from id sound fits = elim fits.party [
 ]
 
 accepted_made : (s : HubSettings) (who : ℕ) (J : List Event) → IsSound s who J → (front : List Event) (from : ℕ) (id : List ℕ) (rest : List Event) → front ++ Booked from id Accepted ∷ rest ≡ J → Terms s who front from id → (number after : ℕ)
-    → accepted_line J number after from id ≡ option_map (line_with number after) (accepted_movement front from id)
+    → accepted_line J number after from id ≡ option_map (line_told number after id) (accepted_movement front from id)
 accepted_made s who J whole front from id rest all (Coming cents came_is another) number after =
     let in_all : first_some (came from id) J ≡ Some cents = found_in_all (came from id) front (Booked from id Accepted) rest J cents all came_is in
     let there : is_forwarded from id J ≡ true = forwarded_found from id J ∙ ap is_some in_all in
     ap (λ b. cond b (first_some (received number after from id) J) (first_some (paid number after id) J)) there
-    ∙ first_mapped (received number after from id) (came from id) (λ c. line_with number after (record { kind = Received; other = Some from; id = id; cents = c })) (received_made number after from id) J
-    ∙ ap (option_map (λ c. line_with number after (record { kind = Received; other = Some from; id = id; cents = c }))) in_all
-    ∙ sym (ap (λ o. option_map (line_with number after) (accepted from id o (first_some (sent id) front))) came_is)
+    ∙ first_mapped (received number after from id) (came from id) (λ c. line_told number after id (record { kind = Received; other = Some from; cents = c })) (received_made number after from id) J
+    ∙ ap (option_map (λ c. line_told number after id (record { kind = Received; other = Some from; cents = c }))) in_all
+    ∙ sym (ap (λ o. option_map (line_told number after id) (accepted from o (first_some (sent id) front))) came_is)
 accepted_made s who J whole front from id rest all (Own to cents none_came sent_is own) number after =
     let in_all : first_some (sent id) J ≡ Some (to, cents) = found_in_all (sent id) front (Booked from id Accepted) rest J (to, cents) all sent_is in
     let none : is_forwarded from id J ≡ false = ap (λ f. is_forwarded f id J) own ∙ own_unforwarded s who id J whole in
     ap (λ b. cond b (first_some (received number after from id) J) (first_some (paid number after id) J)) none
-    ∙ first_mapped (paid number after id) (sent id) (λ (terms : ℕ × ℕ). line_with number after (record { kind = Paid; other = Some terms.0; id = id; cents = terms.1 })) (paid_made number after id) J
-    ∙ ap (option_map (λ (terms : ℕ × ℕ). line_with number after (record { kind = Paid; other = Some terms.0; id = id; cents = terms.1 }))) in_all
-    ∙ sym (ap (λ o. option_map (line_with number after) (accepted from id o (first_some (sent id) front))) none_came ∙ ap (λ o. option_map (line_with number after) (accepted from id None o)) sent_is)
+    ∙ first_mapped (paid number after id) (sent id) (λ (terms : ℕ × ℕ). line_told number after id (record { kind = Paid; other = Some terms.0; cents = terms.1 })) (paid_made number after id) J
+    ∙ ap (option_map (λ (terms : ℕ × ℕ). line_told number after id (record { kind = Paid; other = Some terms.0; cents = terms.1 }))) in_all
+    ∙ sym (ap (λ o. option_map (line_told number after id) (accepted from o (first_some (sent id) front))) none_came ∙ ap (λ o. option_map (line_told number after id) (accepted from None o)) sent_is)
 
 -- the line of an event is that of its movement
 pub movement_line : (s : HubSettings) (who : ℕ) (J : List Event) → IsSound s who J → (front : List Event) (x : Event) (rest : List Event) → front ++ x ∷ rest ≡ J → IsSound s who front → Fits s who front x → (number after : ℕ)
-    → line_of J number after x ≡ option_map (line_with number after) (movement_of front x)
+    → line_of J number after x ≡ option_map (line_told number after (unwrap_or (name_of x) [])) (movement_of front x)
 movement_line s who J whole front (Booked from id Accepted) rest all sound fits number after = accepted_made s who J whole front from id rest all (terms_there s who front from id sound fits) number after
 movement_line s who J whole front (Booked from id (Rejected reason)) rest all sound fits number after = refl
 movement_line s who J whole front (Booked from id TimedOut) rest all sound fits number after = refl
@@ -167,18 +179,18 @@ accepted_moves s who front from id sound fits (Coming cents came_is another) =
     let moves : position front + (0 + credited_by from id Accepted front) ≡ position (front ++ Booked from id Accepted ∷ []) + (0 + 0) = position_credited s who front from id Accepted sound fits another in
     let amount : credited_by from id Accepted front ≡ cents =
     once_summed (forwards from id) coming (came from id) (λ c. c) (came_weighs from id) (forwards_came from id) front (forwarded_once s who from id front sound) ∙ ap (weight (λ c. c)) came_is in
-    let here : Moves (position front) (position (front ++ Booked from id Accepted ∷ [])) (accepted from id (Some cents) (first_some (sent id) front)) = omega (arith, moves, amount) in
-    subst (λ o. Moves (position front) (position (front ++ Booked from id Accepted ∷ [])) (accepted from id o (first_some (sent id) front))) (sym came_is) here
+    let here : Moves (position front) (position (front ++ Booked from id Accepted ∷ [])) (accepted from (Some cents) (first_some (sent id) front)) = omega (arith, moves, amount) in
+    subst (λ o. Moves (position front) (position (front ++ Booked from id Accepted ∷ [])) (accepted from o (first_some (sent id) front))) (sym came_is) here
 accepted_moves s who front from id sound fits (Own to cents none_came sent_is own) =
     let at_who : Fits s who front (Booked who id Accepted) = subst (λ f. Fits s who front (Booked f id Accepted)) own fits in
     let moves : position front + (0 + 0) ≡ position (front ++ Booked who id Accepted ∷ []) + (0 + debited_by id Accepted front) = position_debited s who front id Accepted sound at_who in
     let amount : debited_by id Accepted front ≡ cents =
     once_summed (takes id) taking (sent id) (λ (terms : ℕ × ℕ). terms.1) (sent_weighs id) (takes_sent id) front (taken_once s who id front sound) ∙ ap (weight (λ (terms : ℕ × ℕ). terms.1)) sent_is in
     let same : position (front ++ Booked from id Accepted ∷ []) ≡ position (front ++ Booked who id Accepted ∷ []) = ap (λ f. position (front ++ Booked f id Accepted ∷ [])) own in
-    let here : Moves (position front) (position (front ++ Booked from id Accepted ∷ [])) (accepted from id None (Some (to, cents))) = omega (arith, moves, amount, same) in
-    let with_terms : Moves (position front) (position (front ++ Booked from id Accepted ∷ [])) (accepted from id None (first_some (sent id) front)) =
-    subst (λ o. Moves (position front) (position (front ++ Booked from id Accepted ∷ [])) (accepted from id None o)) (sym sent_is) here in
-    subst (λ o. Moves (position front) (position (front ++ Booked from id Accepted ∷ [])) (accepted from id o (first_some (sent id) front))) (sym none_came) with_terms
+    let here : Moves (position front) (position (front ++ Booked from id Accepted ∷ [])) (accepted from None (Some (to, cents))) = omega (arith, moves, amount, same) in
+    let with_terms : Moves (position front) (position (front ++ Booked from id Accepted ∷ [])) (accepted from None (first_some (sent id) front)) =
+    subst (λ o. Moves (position front) (position (front ++ Booked from id Accepted ∷ [])) (accepted from None o)) (sym sent_is) here in
+    subst (λ o. Moves (position front) (position (front ++ Booked from id Accepted ∷ [])) (accepted from o (first_some (sent id) front))) (sym none_came) with_terms
 
 still : (before after : ℕ) → before + (0 + 0) ≡ after + (0 + 0) → after ≡ before
 still before after same = omega (arith, same)

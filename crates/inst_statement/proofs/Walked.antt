@@ -1,6 +1,6 @@
 -- What the walk knows at each front of the history.
 use Rattle.std.proofs.Common.{◌≡◌, ℕ, ◌+◌, ◌*◌, ◌<◌, ◌≤◌, false, cond, List, [], ◌∷◌, ◌++◌, length, take, drop, get_or, Some, None, count_by, refl, sym, ap, subst, ◌∙◌, arith, take-append-drop, drop-cons, add-one}
-use Rattle.std.proofs.lemmas.List.{take_more}
+use Rattle.std.proofs.lemmas.List.{take_more, length-take-le}
 use Rattle.std.proofs.Math.Nat.{mul-le-mul}
 use Rattle.indexmap.specs.IndexMap.{IndexMap}
 use Rattle.inst_base.specs.declared.cents.TheConstants.{MOST_CENTS}
@@ -19,14 +19,15 @@ use Rattle.inst_statement.specs.declared.movement.Movement.{Movement}
 use Rattle.inst_statement.specs.inner.Movement.{movement_of}
 use Rattle.inst_statement.specs.inner.Kept.{AreKept, IsNew}
 use Rattle.inst_statement.specs.Someones.{IsSomeones}
-use Rattle.inst_statement.specs.KeptStatement.{Stated, MayAdd, Adds, IsStatementOf}
-use Rattle.inst_statement.proofs.Stated.{may_line, covers_movement, line_added, line_less, line_anew, number_fits}
+use Rattle.inst_statement.specs.KeptLine.{reached}
+use Rattle.inst_statement.specs.KeptStatement.{Stated, MayAdd, Adds, IsStatementOf, position_of}
+use Rattle.inst_statement.proofs.Stated.{may_line, position_same, stated_same, covers_movement, line_added, line_less, line_anew, number_fits}
 
 -- what the walk holds at a front of the history: its transfers, its statement, and a position that its lines bound
 pub record Stands {S : Type 0} (front : List Event) (taken : IndexMap (List ℕ) (ℕ × ℕ) S) (forwarded : IndexMap (ℕ × List ℕ) ℕ S) (stated : Stated) : Type 0 where
   pub kept : AreKept front taken forwarded
   pub lines : IsStatementOf front stated
-  pub bounded : stated.position ≤ count_by may_have_line front * MOST_CENTS
+  pub bounded : position_of stated ≤ count_by may_have_line front * MOST_CENTS
 
 -- an event of a participant's history, after the events before it
 pub record Passes (J : List Event) (i : ℕ) (x : Event) : Type 0 where
@@ -37,6 +38,7 @@ pub record Passes (J : List Event) (i : ℕ) (x : Event) : Type 0 where
   pub sound : IsSound settings who (take i J)
   pub fits : Fits settings who (take i J) x
   pub next : take (i + 1) J ≡ take i J ++ x ∷ []
+  pub last : i ≡ length (take i J)
 
 pub passes_of : (J items : List Event) (i : ℕ) (x : Event) → items ≡ J → IsSomeones J → i < length items → x ≡ get_or items i x → Passes J i x
 passes_of J items i x same someones below here =
@@ -55,6 +57,7 @@ passes_of J items i x same someones below here =
       sound = sound_front s who J i someones.sound;
       fits = after.0;
       next = take_more J i x within ∙ ap (λ y. take i J ++ y ∷ []) (sym there);
+      last = sym (length-take-le i J (omega arith));
     }
 
 -- a transfer is new where it comes
@@ -86,13 +89,13 @@ few J i x m p is = omega (arith, ap (count_by may_have_line) p.next, one_more J 
 
 -- the line of a movement may be added where there is room
 pub may_add : {S : Type 0} {taken : IndexMap (List ℕ) (ℕ × ℕ) S} {forwarded : IndexMap (ℕ × List ℕ) ℕ S} (J : List Event) (i : ℕ) (x : Event) (m : Movement) (before now : Stated) → Passes J i x → movement_of (take i J) x ≡ Some m → m.cents ≤ MOST_CENTS
-    → Stands (take i J) taken forwarded before → now.lines ≡ before.lines → now.position ≡ before.position → 0 < now.room → MayAdd now m
-may_add J i x m before now p is most stands lines at room =
-    let same : IsStatementOf (take i J) now = record { are_lines = lines ∙ stands.lines.are_lines; is_position = at ∙ stands.lines.is_position } in
+    → Stands (take i J) taken forwarded before → now.lines ≡ before.lines → now.begun ≡ before.begun → 0 < now.room → MayAdd now m
+may_add J i x m before now p is most stands lines begun room =
+    let same : IsStatementOf (take i J) now = stated_same before now lines begun stands.lines in
     record {
       room = room;
       covered = covers_movement p.settings p.who (take i J) x p.sound p.fits m now is same;
-      fits = omega (arith, at, most, raised_le m.kind m.cents, stands.bounded, few J i x m p is);
+      fits = omega (arith, position_same before now lines begun, most, raised_le m.kind m.cents, stands.bounded, few J i x m p is);
       few = number_fits p.settings p.who (take i J) now p.lawful p.sound same;
     }
 
@@ -113,13 +116,13 @@ module _ {S : Type 0} {taken after_taken : IndexMap (List ℕ) (ℕ × ℕ) S} {
     (kept : AreKept (take i J ++ x ∷ []) after_taken after_forwarded) where
   -- a line more
   pub stands_added : (m : Movement) (before now after : Stated) → movement_of (take i J) x ≡ Some m → m.cents ≤ MOST_CENTS → Stands (take i J) taken forwarded before
-      → now.lines ≡ before.lines → now.position ≡ before.position → Adds now m after → Stands (take (i + 1) J) after_taken after_forwarded after
-  stands_added m before now after is most stands lines at adds =
-      let same : IsStatementOf (take i J) now = record { are_lines = lines ∙ stands.lines.are_lines; is_position = at ∙ stands.lines.is_position } in
+      → now.lines ≡ before.lines → now.begun ≡ before.begun → Adds now i m after → Stands (take (i + 1) J) after_taken after_forwarded after
+  stands_added m before now after is most stands lines begun adds =
+      let same : IsStatementOf (take i J) now = stated_same before now lines begun stands.lines in
       at_next J i x p after (record {
         kept = kept;
-        lines = line_added p.settings p.who (take i J) x p.sound p.fits m now after is same adds;
-        bounded = rw (one_more J i x m p is) (omega (arith, adds.leads, at, most, raised_le m.kind m.cents, stands.bounded, once_more (count_by may_have_line (take i J)) MOST_CENTS));
+        lines = line_added p.settings p.who (take i J) x p.sound p.fits m i now after is p.last same adds;
+        bounded = rw (one_more J i x m p is) (omega (arith, adds.leads, position_same before now lines begun, most, raised_le m.kind m.cents, stands.bounded, once_more (count_by may_have_line (take i J)) MOST_CENTS));
       })
 
   -- an event without a line
@@ -127,14 +130,14 @@ module _ {S : Type 0} {taken after_taken : IndexMap (List ℕ) (ℕ × ℕ) S} {
   stands_same stated none other stands = at_next J i x p stated (record {
     kept = kept;
     lines = line_less p.settings p.who (take i J) x p.sound p.fits stated stated none other refl refl stands.lines;
-    bounded = bounded_still (take i J) x stated.position stands.bounded;
+    bounded = bounded_still (take i J) x (position_of stated) stands.bounded;
   })
 
   -- an opening
-  pub stands_begun : (before after : Stated) → x ≡ Opened → after.lines ≡ [] → after.position ≡ before.position → Stands (take i J) taken forwarded before → Stands (take (i + 1) J) after_taken after_forwarded after
-  stands_begun before after opened none at stands = at_next J i x p after (record {
+  pub stands_begun : (before after : Stated) → x ≡ Opened → after.lines ≡ [] → after.begun ≡ position_of before → Stands (take i J) taken forwarded before → Stands (take (i + 1) J) after_taken after_forwarded after
+  stands_begun before after opened none begun stands = at_next J i x p after (record {
     kept = kept;
     lines = subst (λ (e : Event). IsStatementOf (take i J ++ e ∷ []) after) (sym opened)
-        (line_anew p.settings p.who (take i J) before after p.sound (subst (Fits p.settings p.who (take i J)) opened p.fits) none at stands.lines);
-    bounded = bounded_still (take i J) x after.position (omega (arith, at, stands.bounded));
+        (line_anew p.settings p.who (take i J) before after p.sound (subst (Fits p.settings p.who (take i J)) opened p.fits) none begun stands.lines);
+    bounded = bounded_still (take i J) x (position_of after) (omega (arith, ap (reached after.begun) none, begun, stands.bounded));
   })

@@ -1,77 +1,90 @@
-ghost use Rattle.std.specs.Prelude.{◌≡◌, ◌<◌, [], take, drop, IfOk, OnOk, IsOk};
-ghost use Rattle.inst_statement.specs.KeptStatement.{MayAdd, LeadsTo, Adds};
+ghost use Rattle.std.specs.Prelude.{◌≡◌, ◌<◌, ◌≤◌, Some, [], take, drop, length, slice_get, slice_range, IfOk, OnOk, IsOk, IsTrue};
+ghost use Rattle.std.specs.Int.{abs_diff};
+ghost use Rattle.inst_base.specs.Cents.{is_amount};
+ghost use Rattle.inst_statement.specs.KeptLine.{AreNamed, reached};
+ghost use Rattle.inst_statement.specs.KeptStatement.{MayAdd, LeadsTo, Adds, position_of, lines_of};
 
+use crate::kept_line::KeptLine;
 use crate::movement::Movement;
 use inst_command::{Line, LineKind};
+use inst_journal::Event;
 use std::alloc::{AllocError, Global};
 use std::marker::Model;
 
-/// A participant's statement since the last opening, kept line by line, with the position after the last
-/// line, in cents. A part of it costs its lines.
+/// A participant's statement since the last opening, kept line by line beside the participant's journal. A part of
+/// it is made of the journal's events, and costs its lines.
 ///
 /// ```text
 /// let mut statement = KeptStatement::new(alloc);
 /// statement.reserve()?;
-/// statement.add(funded); // 500 cents: line 1, position 500
-/// statement.part(alloc, 0, 10)
+/// statement.add(0, funded); // event 0, 500 cents: line 1, position 500
+/// statement.part(alloc, events, 0, 10)
 /// ```
 #[derive(Debug, Drop)]
 pub struct KeptStatement {
-    lines: Vec<Line>,
-    position: u64,
+    lines: Vec<KeptLine>,
+    /// The position before the first line, in cents.
+    begun: u64,
 }
 
 impl Model for KeptStatement {
     ghost use Rattle.std.specs.Prelude.{◌-◌, vec_len, vec_capacity};
-    ghost use Rattle.inst_statement.specs.KeptStatement.{Stated};
+    ghost use Rattle.inst_statement.specs.KeptStatement.{Stated, IsKept};
 
     ghost Value = { Stated };
 
     ghost view = { λ statement. record {
       lines = statement.lines.items;
-      position = statement.position;
+      begun = statement.begun;
       room = vec_capacity statement.lines - vec_len statement.lines;
     } };
+
+    ghost invariant = { λ statement. IsKept statement.begun statement.lines.items };
 }
 
 impl KeptStatement {
     /// No lines, at position 0. It takes no memory.
     pub fn new(alloc: Global) -> Self
         ensures lines { result.lines ≡ [] }
-        ensures position { result.position ≡ 0 }
+        ensures begun { result.begun ≡ 0 }
     {
         KeptStatement {
             lines: Vec::new(alloc),
-            position: 0,
+            begun: 0,
         }
     }
 
-    /// The lines since the last opening, in order.
-    pub fn lines(&self) -> &[Line]
-        ensures { result.now ≡ self.now.lines }
+    /// The position before the line at this index, or after the last line, in cents.
+    fn position_before(&self, index: usize) -> u64
+        requires { index ≤ length self.now.lines }
+        ensures { result ≡ reached self.now.begun (take index self.now.lines) }
     {
-        self.lines.as_slice()
+        if index == 0 {
+            return self.begun;
+        }
+        self.lines[index - 1].position
     }
 
     /// The position after the last line, in cents.
     pub fn position(&self) -> u64
-        ensures { result ≡ self.now.position }
+        ensures { result ≡ position_of self.now }
     {
-        self.position
+        self.position_before(self.lines.len())
     }
 
     /// Begins anew at an opening, at the position that was reached.
     pub fn begin(&mut self)
         ensures lines { self.new.lines ≡ [] }
-        ensures position { self.new.position ≡ self.old.position }
+        ensures begun { self.new.begun ≡ position_of self.old }
     {
+        self.begun = self.position();
         self.lines.clear();
     }
 
     /// Makes room for one more line. Where there is room it takes no memory. The lines stay as they are.
     pub fn reserve(&mut self) -> Result<(), AllocError>
         ensures lines { self.new.lines ≡ self.old.lines }
-        ensures position { self.new.position ≡ self.old.position }
+        ensures begun { self.new.begun ≡ self.old.begun }
         ensures room { OnOk result (0 < self.new.room) }
         ensures enough { 0 < self.old.room → IsOk result }
     {
@@ -82,39 +95,77 @@ impl KeptStatement {
     /// The position after a movement, in cents.
     fn position_after(&self, movement: &Movement) -> u64
         requires { MayAdd self.now movement.now }
-        ensures { LeadsTo self.now.position movement.now result }
+        ensures leads { LeadsTo (position_of self.now) movement.now result }
+        ensures amount { IsTrue (is_amount (abs_diff result (position_of self.now))) }
     {
+        let before = self.position();
+        let cents = movement.cents.get();
         match movement.kind {
-            LineKind::Funded | LineKind::Received => self.position + movement.cents.get(),
-            LineKind::Defunded | LineKind::Paid => self.position - movement.cents.get(),
+            LineKind::Funded | LineKind::Received => before + cents,
+            LineKind::Defunded | LineKind::Paid => before - cents,
         }
     }
 
-    /// Adds the line of a movement, in room that was made.
-    pub fn add(&mut self, movement: &Movement)
+    /// Adds the line of a movement, by the event of this index, in room that was made.
+    pub fn add(&mut self, event: u32, movement: &Movement)
         requires { MayAdd self.old movement.now }
-        ensures { Adds self.old movement.now self.new }
+        ensures { Adds self.old event movement.now self.new }
     {
-        self.position = self.position_after(movement);
-        self.lines.push_reserved(Line {
-            number: self.lines.len() as u32 + 1,
+        let position = self.position_after(movement);
+        self.lines.push_reserved(KeptLine {
+            event,
             kind: movement.kind,
             other: movement.other,
-            id: movement.id,
-            cents: movement.cents,
-            position: self.position,
+            position,
         });
     }
 
-    /// At most `count` lines after the first `skip`. It costs the lines that it gives.
-    pub fn part(&self, alloc: Global, skip: u64, count: u32) -> Result<Vec<Line>, AllocError>
-        ensures ok { IfOk result (λ lines. lines.items ≡ take count (drop skip self.now.lines)) }
+    /// The line at this index.
+    fn line(&self, events: &[Event], index: usize) -> Line
+        requires named { AreNamed events.now self.now.lines }
+        requires within { index < length self.now.lines }
+        ensures { slice_get (lines_of events.now self.now) index ≡ Some result }
     {
-        let lines = self.lines();
-        if skip >= lines.len() as u64 {
+        self.lines[index].line(events, index as u32 + 1, self.position_before(index))
+    }
+
+    /// The lines from one index up to another.
+    fn lines(
+        &self,
+        alloc: Global,
+        events: &[Event],
+        first: usize,
+        last: usize,
+    ) -> Result<Vec<Line>, AllocError>
+        requires named { AreNamed events.now self.now.lines }
+        requires order { first ≤ last }
+        requires within { last ≤ length self.now.lines }
+        ensures ok { IfOk result (λ lines. lines.items ≡ slice_range (lines_of events.now self.now) first last) }
+    {
+        let mut lines = Vec::with_capacity(alloc, last - first)?;
+        for index in first..last {
+            lines.push(self.line(events, index))?;
+        }
+        Ok(lines)
+    }
+
+    /// At most `count` lines after the first `skip`, by the events of the journal. It costs the lines that it gives.
+    pub fn part(
+        &self,
+        alloc: Global,
+        events: &[Event],
+        skip: u64,
+        count: u32,
+    ) -> Result<Vec<Line>, AllocError>
+        requires { AreNamed events.now self.now.lines }
+        ensures ok { IfOk result (λ lines. lines.items ≡ take count (drop skip (lines_of events.now self.now))) }
+    {
+        let kept = self.lines.len();
+        if skip >= kept as u64 {
             return Ok(Vec::new(alloc));
         }
-        let rest = &lines[skip as usize..];
-        Ok(rest[..rest.len().min(count as usize)].to_vec(alloc)?)
+        let first = skip as usize;
+        let last = first + (kept - first).min(count as usize);
+        self.lines(alloc, events, first, last)
     }
 }

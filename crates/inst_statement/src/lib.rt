@@ -1,6 +1,7 @@
 //! A participant's statement: kept line by line, or made by one walk over its history.
 #![tactic(auto)]
 
+mod kept_line;
 mod kept_statement;
 mod movement;
 mod passed;

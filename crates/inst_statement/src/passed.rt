@@ -78,7 +78,6 @@ impl PassedTransfers {
             return Some(Movement {
                 kind: LineKind::Received,
                 other: Some(from),
-                id: *id,
                 cents,
             });
         }
@@ -86,7 +85,6 @@ impl PassedTransfers {
         Some(Movement {
             kind: LineKind::Paid,
             other: Some(to),
-            id: *id,
             cents,
         })
     }
@@ -108,16 +106,14 @@ impl PassedTransfers {
             result ≡ movement_of front event.now }
     {
         match event {
-            Event::Funded { reference, cents } => Some(Movement {
+            Event::Funded { cents, .. } => Some(Movement {
                 kind: LineKind::Funded,
                 other: None,
-                id: *reference,
                 cents: *cents,
             }),
-            Event::Defunded { reference, cents } => Some(Movement {
+            Event::Defunded { cents, .. } => Some(Movement {
                 kind: LineKind::Defunded,
                 other: None,
-                id: *reference,
                 cents: *cents,
             }),
             Event::Booked { from, id, outcome } => self.booked(*from, id, outcome),

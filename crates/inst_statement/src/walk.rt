@@ -22,16 +22,16 @@ pub fn statement(
 {
     let mut transfers = PassedTransfers::new(alloc);
     let mut statement = KeptStatement::new(alloc);
-    for event in journal.events() {
+    for (index, event) in journal.events().iter().enumerate() {
         if let Some(movement) = transfers.movement(event) {
             // That an amount is within the most is known where it is read.
             let _ = movement.cents.get();
             statement.reserve()?;
-            statement.add(&movement);
+            statement.add(index as u32, &movement);
         } else if matches!(event, Event::Opened) {
             statement.begin();
         }
         transfers.keep(event)?;
     }
-    statement.part(alloc, skip, count)
+    statement.part(alloc, journal.events(), skip, count)
 }

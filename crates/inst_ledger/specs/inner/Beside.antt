@@ -1,5 +1,5 @@
 -- How a ledger's fundings are found, and what a booked transfer adds to its statement.
-use Rattle.std.specs.Prelude.{◌≡◌, ℕ, List, Option, Some, None, Bool, true, false, not, ◌&&◌, ◌==◌}
+use Rattle.std.specs.Prelude.{◌≡◌, ℕ, Option, Some, None, Bool, true, false, not, ◌&&◌, ◌==◌}
 use Rattle.inst_command.specs.declared.outcome.Outcome.{Outcome}
 use Rattle.inst_ledger.specs.declared.references.KeptFunding.{KeptFunding}
 use Rattle.inst_transfers.specs.declared.transfer.Side.{Side}
@@ -22,21 +22,21 @@ is_funding_of is_defunding cents (Some funding) =
 is_funding_of is_defunding cents None = false
 
 -- what an accepted transfer moves: the amount is paid to its beneficiary, or received from its originator
-abbrev pub movement_by : ℕ → List ℕ → ℕ → Side → Movement
-movement_by from id cents (Own to stamp) = record { kind = Paid; other = Some to; id = id; cents = cents }
-movement_by from id cents (Other deadline) = record { kind = Received; other = Some from; id = id; cents = cents }
+abbrev pub movement_by : ℕ → ℕ → Side → Movement
+movement_by from cents (Own to stamp) = record { kind = Paid; other = Some to; cents = cents }
+movement_by from cents (Other deadline) = record { kind = Received; other = Some from; cents = cents }
 
 -- what a booked transfer moves, where it is accepted
-abbrev pub movement_booked : ℕ → List ℕ → Transfer → Outcome → Option Movement
-movement_booked from id transfer Accepted = Some (movement_by from id transfer.cents transfer.side)
-movement_booked from id transfer (Rejected reason) = None
-movement_booked from id transfer TimedOut = None
+abbrev pub movement_booked : ℕ → Transfer → Outcome → Option Movement
+movement_booked from transfer Accepted = Some (movement_by from transfer.cents transfer.side)
+movement_booked from transfer (Rejected reason) = None
+movement_booked from transfer TimedOut = None
 
--- the line of what was moved, if anything was, may be added, and is
+-- the line of what was moved, if anything was, may be added, and is, by the event of this index
 abbrev pub MayAddIf : Stated → Option Movement → Type 0
 MayAddIf stated None = Unit {0}
 MayAddIf stated (Some movement) = MayAdd stated movement
 
-abbrev pub AddsIf : Stated → Option Movement → Stated → Type 0
-AddsIf before None after = (after.lines ≡ before.lines) × (after.position ≡ before.position)
-AddsIf before (Some movement) after = Adds before movement after
+abbrev pub AddsIf : Stated → ℕ → Option Movement → Stated → Type 0
+AddsIf before event None after = (after.lines ≡ before.lines) × (after.begun ≡ before.begun)
+AddsIf before event (Some movement) after = Adds before event movement after

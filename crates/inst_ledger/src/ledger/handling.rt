@@ -240,7 +240,8 @@ impl Ledger {
     fn statement(&self, alloc: Global, skip: u64, count: u32) -> Result<Handled, Fault>
         ensures { IsUnlessMemory result (answered (Reply.Statement (statement_part self.now.book.events skip count))) }
     {
-        let lines = self.statement.part(alloc, skip, count)?;
+        let events = self.journal.events();
+        let lines = self.statement.part(alloc, events, skip, count)?;
         Ok(Handled {
             reply: Reply::Statement {
                 lines: Lines::new(lines),

@@ -29,16 +29,15 @@ impl Ledger {
         let movement = Movement {
             kind: LineKind::Funded,
             other: None,
-            id: reference,
             cents,
         };
-        let _ = self.journal.events().len();
+        let index = self.journal.events().len() as u32;
         self.journal.reserve()?;
         self.statement.reserve()?;
         self.references.put(reference, funding)?;
         self.journal.push(Event::Funded { reference, cents })?;
         self.totals.funded += u128::from(cents.get());
-        self.statement.add(&movement);
+        self.statement.add(index, &movement);
         self.fundings += 1;
         Ok(())
     }
@@ -56,16 +55,15 @@ impl Ledger {
         let movement = Movement {
             kind: LineKind::Defunded,
             other: None,
-            id: reference,
             cents,
         };
-        let _ = self.journal.events().len();
+        let index = self.journal.events().len() as u32;
         self.journal.reserve()?;
         self.statement.reserve()?;
         self.references.put(reference, funding)?;
         self.journal.push(Event::Defunded { reference, cents })?;
         self.totals.defunded += u128::from(cents.get());
-        self.statement.add(&movement);
+        self.statement.add(index, &movement);
         self.fundings += 1;
         Ok(())
     }
@@ -161,7 +159,7 @@ impl Ledger {
             id,
             outcome: *outcome,
         };
-        let _ = self.journal.events().len();
+        let index = self.journal.events().len() as u32;
         // That an amount is within the most is known where it is read.
         let _ = transfer.cents.get();
         self.statement.reserve()?;
@@ -169,7 +167,8 @@ impl Ledger {
         self.table.book(found, outcome);
         add_line(
             &mut self.statement,
-            movement_booked(from, id, &transfer, outcome),
+            index,
+            movement_booked(from, &transfer, outcome),
         );
         Ok(())
     }
@@ -237,8 +236,8 @@ impl Ledger {
 }
 
 /// What a booked transfer moves, where it is accepted.
-fn movement_booked(from: u8, id: Ident, transfer: &Transfer, outcome: &Outcome) -> Option<Movement>
-    ensures { result ≡ movement_booked from id transfer.now outcome.now }
+fn movement_booked(from: u8, transfer: &Transfer, outcome: &Outcome) -> Option<Movement>
+    ensures { result ≡ movement_booked from transfer.now outcome.now }
 {
     if !matches!(outcome, Outcome::Accepted) {
         return None;
@@ -248,24 +247,22 @@ fn movement_booked(from: u8, id: Ident, transfer: &Transfer, outcome: &Outcome) 
         Side::Own { to, .. } => Movement {
             kind: LineKind::Paid,
             other: Some(*to),
-            id,
             cents,
         },
         Side::Other { .. } => Movement {
             kind: LineKind::Received,
             other: Some(from),
-            id,
             cents,
         },
     })
 }
 
-/// Adds the line of what was moved, if anything was, in room that was made.
-fn add_line(statement: &mut KeptStatement, movement: Option<Movement>)
+/// Adds the line of what was moved, if anything was, by the event of this index, in room that was made.
+fn add_line(statement: &mut KeptStatement, event: u32, movement: Option<Movement>)
     requires { MayAddIf statement.old movement }
-    ensures { AddsIf statement.old movement statement.new }
+    ensures { AddsIf statement.old event movement statement.new }
 {
     if let Some(movement) = movement {
-        statement.add(&movement);
+        statement.add(event, &movement);
     }
 }

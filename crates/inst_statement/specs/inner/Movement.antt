@@ -1,5 +1,5 @@
--- What an event moves: the kind of its line, the other participant, the identifier or reference, and the amount, read off
--- the events before it. This hub's own choice.
+-- What an event moves: the kind of its line, the other participant and the amount, read off the events before it. This
+-- hub's own choice.
 use Rattle.std.specs.Prelude.{ℕ, if◌then◌else◌, List, Option, Some, None}
 use Rattle.inst_settings.specs.Settings.{same_text}
 use Rattle.inst_command.specs.declared.line.LineKind.TheVariants.{Funded as FundedKind, Defunded as DefundedKind, Received, Paid}
@@ -20,19 +20,19 @@ sent id (Taken other to cents stamp) = if same_text other id then Some (to, cent
 sent id _ = None
 
 -- the movement of an accepted transfer that came with this amount, or else was sent with these terms
-abbrev pub accepted : ℕ → List ℕ → Option ℕ → Option (ℕ × ℕ) → Option Movement
-accepted from id (Some cents) terms = Some (record { kind = Received; other = Some from; id = id; cents = cents })
-accepted from id None (Some terms) = Some (record { kind = Paid; other = Some terms.0; id = id; cents = terms.1 })
-accepted from id None None = None
+abbrev pub accepted : ℕ → Option ℕ → Option (ℕ × ℕ) → Option Movement
+accepted from (Some cents) terms = Some (record { kind = Received; other = Some from; cents = cents })
+accepted from None (Some terms) = Some (record { kind = Paid; other = Some terms.0; cents = terms.1 })
+accepted from None None = None
 
 -- the movement of an accepted transfer after these events
 abbrev pub accepted_movement : List Event → ℕ → List ℕ → Option Movement
-accepted_movement front from id = accepted from id (first_some (came from id) front) (first_some (sent id) front)
+accepted_movement front from id = accepted from (first_some (came from id) front) (first_some (sent id) front)
 
 -- the movement of an event after these events, if it has one
 abbrev pub movement_of : List Event → Event → Option Movement
-movement_of front (Funded reference cents) = Some (record { kind = FundedKind; other = None; id = reference; cents = cents })
-movement_of front (Defunded reference cents) = Some (record { kind = DefundedKind; other = None; id = reference; cents = cents })
+movement_of front (Funded reference cents) = Some (record { kind = FundedKind; other = None; cents = cents })
+movement_of front (Defunded reference cents) = Some (record { kind = DefundedKind; other = None; cents = cents })
 movement_of front (Booked from id Accepted) = accepted_movement front from id
 movement_of front (Booked from id (Rejected reason)) = None
 movement_of front (Booked from id TimedOut) = None

@@ -11,5 +11,5 @@ invariant_of-self-2 c =
     record {
       beside = beside_at c.in_ok-push.ensures.ok (opened_beside i.settings.value i.who i.journal.events i.totals i.table _ i.fundings i.inbox.items i.read c.self.invariant.beside c.begin-2.new.self fits c.begin-2.ensures.who c.begin-2.ensures.state);
       lines = stated_at c.in_ok-push.ensures.ok
-          (line_anew i.settings.value i.who i.journal.events i.statement c.begin.new.self c.self.invariant.beside.sound fits c.begin.ensures.lines c.begin.ensures.position c.self.invariant.lines);
+          (line_anew i.settings.value i.who i.journal.events i.statement c.begin.new.self c.self.invariant.beside.sound fits c.begin.ensures.lines c.begin.ensures.begun c.self.invariant.lines);
     }

@@ -12,5 +12,5 @@ invariant_of-result c =
       beside = begun c.in_ok-boxed.field-0.value c.args.who c.new.result.events c.new-2.result c.new-3.result _ c.new-5.result.items
           (subst (λ (s : HubSettings). IsSettings s) (sym c.in_ok-boxed.ensures.ok) c.in_ok-boxed.ensures.lawful)
           c.new.ensures c.new-2.ensures c.new-3.ensures.who c.new-3.ensures.state c.new-4.ensures c.new-5.ensures.items;
-      lines = stated_at c.new.ensures (nothing_stated c.new-6.result c.new-6.ensures.lines c.new-6.ensures.position);
+      lines = stated_at c.new.ensures (nothing_stated c.new-6.result c.new-6.ensures.lines c.new-6.ensures.begun);
     }

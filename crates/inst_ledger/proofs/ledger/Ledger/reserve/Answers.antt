@@ -3,4 +3,4 @@ use Rattle.inst_ledger.proofs.Stating.{ledger_same}
 use Rattle.inst_ledger.proofs.ledger.Ledger.reserve.Goals as goal
 
 pub invariant_of-self-2 : goal.invariant_of-self-2
-invariant_of-self-2 c = ledger_same c.reserve.ensures.events _ refl (λ _. refl) refl c.reserve-2.ensures.lines c.reserve-2.ensures.position c.self.invariant
+invariant_of-self-2 c = ledger_same c.reserve.ensures.events _ refl (λ _. refl) refl c.reserve-2.ensures.lines c.reserve-2.ensures.begun c.self.invariant

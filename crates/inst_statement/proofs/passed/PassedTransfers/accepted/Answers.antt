@@ -1,23 +1,23 @@
-use Rattle.std.proofs.Common.{◌≡◌, ◌∙◌, sym, ap, Option, List, ℕ, Some, None}
+use Rattle.std.proofs.Common.{◌≡◌, ◌∙◌, sym, ap, Option, ℕ, Some, None}
 use Rattle.inst_journal.specs.Booked.{first_some}
 use Rattle.inst_statement.specs.inner.Movement.{came, sent, accepted}
 use Rattle.inst_statement.proofs.passed.PassedTransfers.accepted.Goals as goal
 
 -- the movement by what was found
-by_found : (from : ℕ) (id : List ℕ) (came_is found : Option ℕ) (sent_is terms : Option (ℕ × ℕ)) → found ≡ came_is → terms ≡ sent_is → accepted from id found terms ≡ accepted from id came_is sent_is
-by_found from id came_is found sent_is terms same_came same_sent = ap (λ o. accepted from id o terms) same_came ∙ ap (accepted from id came_is) same_sent
+by_found : (from : ℕ) (came_is found : Option ℕ) (sent_is terms : Option (ℕ × ℕ)) → found ≡ came_is → terms ≡ sent_is → accepted from found terms ≡ accepted from came_is sent_is
+by_found from came_is found sent_is terms same_came same_sent = ap (λ o. accepted from o terms) same_came ∙ ap (accepted from came_is) same_sent
 
 pub returns-in-Some : goal.returns-in-Some
 returns-in-Some c = λ front kept.
-    sym (ap (λ o. accepted c.args.from c.args.id.now o (first_some (sent c.args.id.now) front)) (sym (c.came.ensures front kept) ∙ c.in-Some.is))
+    sym (ap (λ o. accepted c.args.from o (first_some (sent c.args.id.now) front)) (sym (c.came.ensures front kept) ∙ c.in-Some.is))
 
 pub returns-in_err-to : goal.returns-in_err-to
 returns-in_err-to c = λ front kept.
     c.from_residual.ensures
-    ∙ by_found c.args.from c.args.id.now (first_some (came c.args.from c.args.id.now) front) None (first_some (sent c.args.id.now) front) None
+    ∙ by_found c.args.from (first_some (came c.args.from c.args.id.now) front) None (first_some (sent c.args.id.now) front) None
     (sym c.in_default.is ∙ c.came.ensures front kept) (sym c.in_err-to.was ∙ c.sent.ensures front kept)
 
 pub returns : goal.returns
 returns c = λ front kept.
-    by_found c.args.from c.args.id.now (first_some (came c.args.from c.args.id.now) front) None (first_some (sent c.args.id.now) front) (Some (c.in_ok-to.to, c.in_ok-to.cents))
+    by_found c.args.from (first_some (came c.args.from c.args.id.now) front) None (first_some (sent c.args.id.now) front) (Some (c.in_ok-to.to, c.in_ok-to.cents))
     (sym c.in_default.is ∙ c.came.ensures front kept) (sym c.in_ok-to.was ∙ c.sent.ensures front kept)
