@@ -1,5 +1,6 @@
 //! The steps of scripts, as the worked rows of the model write them.
 ghost use Rattle.std.specs.Prelude.{◌≡◌, IfOk};
+ghost use Rattle.inst_model.specs.Deciders.{asks};
 ghost use Rattle.inst_model.specs.Rows as rows;
 
 use inst_base::{Cents, Fault, Ident, Moment};
@@ -7,7 +8,7 @@ use inst_command::{Ask, Command, Step, Submission};
 
 /// The step in which the participant `who` asks this at so many milliseconds past the base; refused as the reading is.
 pub fn ask(who: u8, command: Command, at: u64) -> Result<Step, Fault>
-    ensures { IfOk result (λ step. step ≡ rows.ask who command at) }
+    ensures { IfOk result (λ step. step ≡ asks who command at) }
 {
     let at = Moment::new(0, at)?;
     Ok(Step::Ask(Ask { who, command, at }))
