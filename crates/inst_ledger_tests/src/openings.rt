@@ -77,7 +77,8 @@ fn goes_on_after_an_opening(rt: HostRuntime) -> Result<(), Fail> {
 
 const FUNDED: &[Row] = &[(Asks::Fund("F1", 500), 0, None, Told::Done("F1"))];
 
-const FUNDED_AGAIN: &[Row] = &[
+/// 500 cents before an opening and 300 after it: one line.
+pub(crate) const FUNDED_AGAIN: &[Row] = &[
     (Asks::Statement(0, 10), 1000, None, Told::Lines(&[])),
     (Asks::Fund("F2", 300), 1000, None, Told::Done("F2")),
     (

@@ -4,6 +4,7 @@ use crate::answering::{Row, answers, opened_again};
 use crate::asked::Asks;
 use crate::beneficiary::forwarded;
 use crate::comparing::same;
+use crate::openings::FUNDED_AGAIN;
 use crate::told::Told;
 use inst_command::LineKind;
 use inst_ledger::Ledger;
@@ -64,17 +65,6 @@ const PARTS: &[Row] = &[
     (Asks::Statement(u64::MAX, 100), 1000, None, Told::Lines(&[])),
 ];
 
-const AGAIN: &[Row] = &[
-    (Asks::Statement(0, 10), 1000, None, Told::Lines(&[])),
-    (Asks::Fund("F2", 300), 1000, None, Told::Done("F2")),
-    (
-        Asks::Statement(0, 10),
-        1000,
-        None,
-        Told::Lines(&[(1, LineKind::Funded, None, "F2", 300, 800)]),
-    ),
-];
-
 /// A walk gives so many lines where none or more than all are asked for.
 fn walks(rt: &(impl Abort + AllocGlobal), ledger: &Ledger) -> Result<(), Fail> {
     let journal = ledger.journal();
@@ -97,5 +87,5 @@ fn shows_what_moved_the_position(rt: HostRuntime) -> Result<(), Fail> {
     answers(&rt, &mut ledger, PARTS)?;
     walks(&rt, &ledger)?;
     let mut again = opened_again(&rt, &ledger)?;
-    answers(&rt, &mut again, AGAIN)
+    answers(&rt, &mut again, FUNDED_AGAIN)
 }
