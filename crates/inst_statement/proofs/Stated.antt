@@ -69,7 +69,7 @@ stated_same {J} before after lines begun of = record {
 }
 
 -- the amount of a movement lies between the positions that it leads from and to
-pub amount_between : (m : Movement) (before after : ℕ) → LeadsTo before m after → abs_diff after before ≡ m.cents
+amount_between : (m : Movement) (before after : ℕ) → LeadsTo before m after → abs_diff after before ≡ m.cents
 amount_between m before after leads = by m.kind leads
   where
     by : (kind : LineKind) → after + lowered kind m.cents ≡ before + raised kind m.cents → abs_diff after before ≡ m.cents
