@@ -1,5 +1,5 @@
 //! Whether a hub may open from journals.
-ghost use Rattle.std.specs.Prelude.{◌≡◌, ◌↔◌, ℕ, ◌≤◌, length, IfOk, IfSome, IsSome, IsTrue};
+ghost use Rattle.std.specs.Prelude.{◌≡◌, ◌↔◌, ℕ, ◌≤◌, [], length, IfOk, IfSome, IsSome, IsTrue};
 ghost use Rattle.inst_world.specs.NextOpening.{books_of, CanOpenFrom};
 ghost use Rattle.inst_audit.specs.inner.Replaying.{CanBeBook, AreAllKept};
 
@@ -12,6 +12,22 @@ use inst_ledger::Ledger;
 use inst_settings::Settings;
 use std::alloc::{AllocError, Global};
 
+/// Keeps a history again event by event, and tells whether it can be a book. One that can't is kept as far as it may be.
+fn keep_all(replay: &mut Replay, journal: &Journal) -> Result<bool, AllocError>
+    requires blank { replay.old.events ≡ [] }
+    ensures can { IfOk result (λ can. IsTrue can ↔ CanBeBook replay.old.settings replay.old.who journal.now.events) }
+    ensures same { IfOk result (λ can. IsTrue can → replay.new.events ≡ journal.now.events) }
+{
+    mention::<Outcome>();
+    for event in journal.events() {
+        if !replay.may_keep(event) {
+            return Ok(false);
+        }
+        replay.keep(*event)?;
+    }
+    Ok(replay.may_open())
+}
+
 /// The books of the participant `who`, kept again event by event, or nothing where the journal can't be its book.
 fn replayed(
     alloc: Global,
@@ -22,18 +38,9 @@ fn replayed(
     ensures can { IfOk result (λ kept. IsSome kept ↔ CanBeBook settings.now who journal.now.events) }
     ensures same { IfOk result (λ kept. IfSome kept (λ l. l.book.events ≡ journal.now.events)) }
 {
-    mention::<Outcome>();
     let mut replay = Replay::open(alloc, settings, who)?;
-    for event in journal.events() {
-        if !replay.may_keep(event) {
-            return Ok(None);
-        }
-        replay.keep(*event)?;
-    }
-    if !replay.may_open() {
-        return Ok(None);
-    }
-    Ok(Some(replay.into_ledger()))
+    let can = keep_all(&mut replay, journal)?;
+    Ok(can.then_some(replay.into_ledger()))
 }
 
 /// The books of all participants, or nothing where one of the journals can't be a book.

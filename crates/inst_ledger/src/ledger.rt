@@ -96,9 +96,19 @@ impl Ledger {
         }) }
     {
         let mut ledger = Ledger::open(alloc, settings, who)?;
-        ledger.keep_all(journal)?;
-        ledger.keep(Event::Opened)?;
+        ledger.carry(journal)?;
         Ok(ledger)
+    }
+
+    /// Keeps all events of a history, the first ones, and that the books are opened again behind them.
+    fn carry(&mut self, journal: &Journal) -> Result<(), AllocError>
+        requires blank { self.old.book.events ≡ [] }
+        requires sound { IsSound self.old.book.settings self.old.book.who journal.now.events }
+        requires few { HasOpeningsLeft journal.now.events }
+        ensures ok { OnOk result (self.new.book ≡ record self.old.book { events = journal.now.events ++ Event.Opened ∷ [] }) }
+    {
+        self.keep_all(journal)?;
+        self.keep(Event::Opened)
     }
 
     /// Keeps all events of a history, the first ones. Where memory is refused those are kept for which there

@@ -20,20 +20,35 @@ pub struct Beginning {
 
 /// What the first line of a log says, or nothing where no log begins so.
 pub fn read_beginning(alloc: Global, line: &[u8]) -> Result<Option<Beginning>, AllocError> {
-    let value = match Value::from_slice(alloc, line) {
-        Ok(value) => value,
-        Err(error) if error.is_memory() => return Err(AllocError),
-        Err(_) => return Ok(None),
-    };
-    let (Some(mode), Some(settings)) = (mode_of(&value), settings_of(alloc, &value)?) else {
+    match value_of(alloc, line)? {
+        Some(value) => beginning_in(alloc, &value),
+        None => Ok(None),
+    }
+}
+
+/// The JSON of a line, or nothing where it is none.
+fn value_of(alloc: Global, line: &[u8]) -> Result<Option<Value>, AllocError> {
+    match Value::from_slice(alloc, line) {
+        Ok(value) => Ok(Some(value)),
+        Err(error) if error.is_memory() => Err(AllocError),
+        Err(_) => Ok(None),
+    }
+}
+
+/// What a first line says that is this JSON, or nothing where no log begins so.
+fn beginning_in(alloc: Global, value: &Value) -> Result<Option<Beginning>, AllocError> {
+    let Some(mode) = mode_of(value) else {
         return Ok(None);
     };
-    let books = value.get("books").and_then(Value::as_u64);
-    Ok(Some(Beginning {
-        mode,
-        settings,
-        books,
-    }))
+    let books = number(value, "books");
+    match settings_of(alloc, value)? {
+        Some(settings) => Ok(Some(Beginning {
+            mode,
+            settings,
+            books,
+        })),
+        None => Ok(None),
+    }
 }
 
 fn mode_of(value: &Value) -> Option<Mode> {
@@ -45,7 +60,10 @@ fn mode_of(value: &Value) -> Option<Mode> {
 }
 
 fn settings_of(alloc: Global, value: &Value) -> Result<Option<Settings>, AllocError> {
-    let (Some(codes), Some(numbers)) = (codes_of(alloc, value)?, numbers_of(value)) else {
+    let Some(numbers) = numbers_of(value) else {
+        return Ok(None);
+    };
+    let Some(codes) = codes_of(alloc, value)? else {
         return Ok(None);
     };
     match Settings::check(codes, numbers) {
@@ -73,8 +91,8 @@ fn codes_of(alloc: Global, value: &Value) -> Result<Option<Vec<Code>>, AllocErro
 /// The numbers among the settings.
 fn numbers_of(value: &Value) -> Option<Numbers> {
     Some(Numbers {
-        places: u16::try_from(number(value, "places")?).ok()?,
-        fundings: u16::try_from(number(value, "fundings")?).ok()?,
+        places: small(value, "places")?,
+        fundings: small(value, "fundings")?,
         limit: medium(value, "limit")?,
         margin: medium(value, "margin")?,
         ahead: medium(value, "ahead")?,
@@ -85,6 +103,10 @@ fn numbers_of(value: &Value) -> Option<Numbers> {
 
 fn number(value: &Value, name: &str) -> Option<u64> {
     value.get(name)?.as_u64()
+}
+
+fn small(value: &Value, name: &str) -> Option<u16> {
+    u16::try_from(number(value, name)?).ok()
 }
 
 fn medium(value: &Value, name: &str) -> Option<u32> {
@@ -115,10 +137,9 @@ pub(crate) fn books_behind<'a>(
 
 /// How many lines of books a first line tells of.
 fn books_of(alloc: Global, line: &[u8]) -> Result<Option<u64>, AllocError> {
-    match Value::from_slice(alloc, line) {
-        Ok(value) => Ok(value.get("books").and_then(Value::as_u64)),
-        Err(error) if error.is_memory() => Err(AllocError),
-        Err(_) => Ok(None),
+    match value_of(alloc, line)? {
+        Some(value) => Ok(number(&value, "books")),
+        None => Ok(None),
     }
 }
 

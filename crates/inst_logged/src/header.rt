@@ -56,12 +56,20 @@ fn settings_line(
     ensures lines { IfOk result (λ batch. recovered batch.items ≡ raw_of (header_line mode settings.now books) ∷ []) }
 {
     let line = header_line(alloc, mode, settings, books)?;
-    let mut batch = Vec::new(alloc);
-    match find_newline(line.as_bytes()) {
-        None => push_line(&mut batch, line.as_bytes())?,
-        // No name, no number and no code has a newline: this is never reached.
-        Some(_) => return Err(AllocError),
+    batch_of(alloc, line.as_bytes())
+}
+
+/// A batch of one line that isn't closed.
+fn batch_of(alloc: Global, line: &[u8]) -> Result<Vec<u8>, AllocError>
+    ensures whole { IfOk result (λ batch. IsWhole batch.items) }
+    ensures lines { IfOk result (λ batch. recovered batch.items ≡ raw_of line.now ∷ []) }
+{
+    // No name, no number and no code has a newline: this is never reached.
+    if find_newline(line).is_some() {
+        return Err(AllocError);
     }
+    let mut batch = Vec::new(alloc);
+    push_line(&mut batch, line)?;
     Ok(batch)
 }
 
@@ -76,18 +84,31 @@ pub(crate) fn header_line(
     ensures { IfOk result (λ text. string_bytes text ≡ header_line mode settings.now books) }
 {
     let mut text = String::new(alloc);
-    push_field(&mut text, "{\"ahead\":", u64::from(settings.ahead()))?;
-    push_field(&mut text, ",\"base\":", settings.base())?;
-    push_books(&mut text, books)?;
-    push_field(&mut text, ",\"ceiling\":", settings.ceiling())?;
-    push_field(&mut text, ",\"fundings\":", u64::from(settings.fundings()))?;
-    push_field(&mut text, ",\"limit\":", u64::from(settings.limit()))?;
-    push_mode(&mut text, mode)?;
-    push_field(&mut text, ",\"margin\":", u64::from(settings.margin()))?;
-    push_participants(&mut text, settings)?;
-    push_field(&mut text, ",\"places\":", u64::from(settings.places()))?;
-    text.push_str(",\"version\":1}")?;
+    push_header(&mut text, mode, settings, books)?;
     Ok(text)
+}
+
+/// Puts the settings, what the lines stand for, and how many lines of books come behind into an empty text.
+fn push_header(
+    text: &mut String,
+    mode: Mode,
+    settings: &Settings,
+    books: Option<u64>,
+) -> Result<(), AllocError>
+    requires { string_bytes text.old ≡ [] }
+    ensures { OnOk result (string_bytes text.new ≡ header_line mode settings.now books) }
+{
+    push_field(text, "{\"ahead\":", u64::from(settings.ahead()))?;
+    push_field(text, ",\"base\":", settings.base())?;
+    push_books(text, books)?;
+    push_field(text, ",\"ceiling\":", settings.ceiling())?;
+    push_field(text, ",\"fundings\":", u64::from(settings.fundings()))?;
+    push_field(text, ",\"limit\":", u64::from(settings.limit()))?;
+    push_mode(text, mode)?;
+    push_field(text, ",\"margin\":", u64::from(settings.margin()))?;
+    push_participants(text, settings)?;
+    push_field(text, ",\"places\":", u64::from(settings.places()))?;
+    text.push_str(",\"version\":1}")
 }
 
 /// Puts a name and a number at the end of a text.

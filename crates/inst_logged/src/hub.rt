@@ -60,9 +60,10 @@ impl<D: Disk + Drop> LoggedHub<D> {
         ensures settings { IfOk result (λ hub. settings_of hub.recorder.answers.runner.world ≡ settings.now) }
         ensures disk { IfOk result (λ hub. hub.recorder.log.disk ≡ disk) }
     {
-        let answers = LineAnswers::open(alloc, mode, settings)?;
+        let intake = Intake::new(alloc)?;
         let header = first_batch(alloc, mode, settings)?;
-        LoggedHub::begin(alloc, answers, header, disk)
+        let answers = LineAnswers::open(alloc, mode, settings)?;
+        Ok(LoggedHub::begin(alloc, answers, header, intake, disk))
     }
 
     /// A hub of these settings that opens again from these journals, one for each participant by number, and has answered
@@ -83,9 +84,10 @@ impl<D: Disk + Drop> LoggedHub<D> {
         ensures settings { IfOk result (λ hub. settings_of hub.recorder.answers.runner.world ≡ settings.now) }
         ensures disk { IfOk result (λ hub. hub.recorder.log.disk ≡ disk) }
     {
-        let answers = LineAnswers::open_from(alloc, mode, settings, journals)?;
+        let intake = Intake::new(alloc)?;
         let header = first_batch_from(alloc, mode, settings, journals)?;
-        LoggedHub::begin(alloc, answers, header, disk)
+        let answers = LineAnswers::open_from(alloc, mode, settings, journals)?;
+        Ok(LoggedHub::begin(alloc, answers, header, intake, disk))
     }
 
     /// A hub with this state and the first lines of its log.
@@ -93,16 +95,17 @@ impl<D: Disk + Drop> LoggedHub<D> {
         alloc: Global,
         answers: LineAnswers,
         header: Vec<u8>,
+        intake: Intake,
         disk: D,
-    ) -> Result<LoggedHub<D>, AllocError>
+    ) -> LoggedHub<D>
         requires batch { IsBatch header.items }
-        ensures unbegun { IfOk result (λ hub. IsUnbegun hub.header.items hub.intake) }
-        ensures header { IfOk result (λ hub. hub.header ≡ header) }
-        ensures answers { IfOk result (λ hub. hub.recorder.answers ≡ answers) }
-        ensures disk { IfOk result (λ hub. hub.recorder.log.disk ≡ disk) }
+        requires intake { held intake ≡ [] }
+        ensures unbegun { IsUnbegun result.header.items result.intake }
+        ensures header { result.header ≡ header }
+        ensures answers { result.recorder.answers ≡ answers }
+        ensures disk { result.recorder.log.disk ≡ disk }
     {
-        let intake = Intake::new(alloc)?;
-        Ok(LoggedHub {
+        LoggedHub {
             recorder: Recorder {
                 log: Log { disk, end: 0 },
                 answers,
@@ -111,7 +114,7 @@ impl<D: Disk + Drop> LoggedHub<D> {
             intake,
             batch: Vec::new(alloc),
             header,
-        })
+        }
     }
 
     /// The settings of the hub.

@@ -1,5 +1,5 @@
 //! Which hub a log is of.
-ghost use Rattle.std.specs.Prelude.{◌≡◌, IsTrue, IfOk};
+ghost use Rattle.std.specs.Prelude.{◌≡◌, List, ℕ, IsTrue, IfOk, IfSome};
 ghost use Rattle.sqlite_disk.specs.Disk.{Only};
 ghost use Rattle.inst_world.specs.NextOpening.{CanOpenFrom};
 ghost use Rattle.inst_logged.specs.Logged.{IsUnbegun, HasBegun};
@@ -35,12 +35,31 @@ impl<D: Disk + Drop> LoggedHub<D> {
         ensures known { IfOk result (λ hub. IsTrue (D.Disk.is_clean hub.recorder.log.disk)
             → Only (D.Disk.seen hub.recorder.log.disk) (D.Disk.may_leave hub.recorder.log.disk)) }
     {
-        let bytes = read_file(alloc, &mut disk)?;
-        let Some(text) = books_behind(alloc, mode, settings, &bytes)? else {
-            return Ok(LoggedHub::new(alloc, mode, settings, disk)?);
-        };
-        let journals = journals_of(alloc, settings, text)?;
-        Ok(LoggedHub::new_from(alloc, mode, settings, &journals, disk)?)
+        match books_on(alloc, mode, settings, &mut disk)? {
+            Some(journals) => Ok(LoggedHub::new_from(alloc, mode, settings, &journals, disk)?),
+            None => Ok(LoggedHub::new(alloc, mode, settings, disk)?),
+        }
+    }
+}
+
+/// The journals of the books that stand behind the settings of the log on this disk, if any do.
+fn books_on<D: Disk>(
+    alloc: Global,
+    mode: Mode,
+    settings: &Settings,
+    disk: &mut D,
+) -> Result<Option<Vec<Journal>>, LoggedError>
+    requires usable { IsTrue (D.Disk.is_usable disk.old) }
+    ensures journals { IfOk result (λ books. IfSome books (λ journals. CanOpenFrom settings.now journals.items)) }
+    ensures seen { D.Disk.seen disk.new ≡ D.Disk.seen disk.old }
+    ensures crash { (c : List ℕ) → D.Disk.may_leave disk.new c → D.Disk.may_leave disk.old c }
+    ensures usable { IsTrue (D.Disk.is_usable disk.new) }
+    ensures clean { IsTrue (D.Disk.is_clean disk.new) → IsTrue (D.Disk.is_clean disk.old) }
+{
+    let bytes = read_file(alloc, disk)?;
+    match books_behind(alloc, mode, settings, &bytes)? {
+        Some(text) => Ok(Some(journals_of(alloc, settings, text)?)),
+        None => Ok(None),
     }
 }
 

@@ -1,5 +1,5 @@
 //! A slot that opens again from its books, and finds the places of what was forwarded to it before.
-ghost use Rattle.std.specs.Prelude.{◌≡◌, true, IfOk, OnErr, IsTrue};
+ghost use Rattle.std.specs.Prelude.{◌≡◌, true, map, IfOk, OnErr, IsTrue};
 ghost use Rattle.inst_base.specs.Moment.{is_moment};
 ghost use Rattle.inst_base.specs.TimeLimit.{deadline_of};
 ghost use Rattle.inst_settings.specs.Settings.{is_participant};
@@ -10,13 +10,15 @@ ghost use Rattle.inst_board.specs.Learning.{Looks, Learns, KnowsTruly};
 ghost use Rattle.inst_board.specs.Standing.{IsPlace, about, pending};
 ghost use Rattle.inst_journal.specs.Opened.{HasOpeningsLeft, carried, live_taken};
 ghost use Rattle.inst_journal.specs.Sound.{IsSound};
-ghost use Rattle.inst_slot.specs.Book.{place_at};
+ghost use Rattle.inst_slot.specs.Book.{place_at, live_inbox};
 ghost use Rattle.inst_slot.specs.LawfulBoard.{IsLawfulBoard, KeepsOthers, AllAreAdopted};
-ghost use Rattle.inst_slot.specs.Opening.{opened_again, MayOpenAgain, OpensPlaces, finds_carried, with_found, unfound};
+ghost use Rattle.inst_slot.specs.Opening.{opened_again, MayOpenAgain, OpensPlaces, finds_carried, with_found, unfound, unplaced};
+ghost use Rattle.inst_slot.specs.Spots.{rows_of, arrivals_of, AreSpots};
+ghost use Rattle.inst_slot.specs.Waiting.{IsWaiting};
 
 use super::Slot;
-use crate::arrivals::{carried_arrivals, find_at};
-use crate::waiting::carried_waiting;
+use crate::arrivals::{Spot, carried_arrivals, find_at};
+use crate::waiting::{Waiting, carried_waiting};
 use inst_base::Moment;
 use inst_board::{Board, Look, Place};
 use inst_journal::{Event, Journal};
@@ -65,8 +67,7 @@ impl Slot {
         ensures ok { IfOk result (λ slot. slot ≡ opened_again settings.now who journal.now.events) }
     {
         let ledger = Ledger::open_from(alloc, settings, who, journal)?;
-        let arrivals = carried_arrivals(alloc, &ledger)?;
-        let waiting = carried_waiting(alloc, &ledger)?;
+        let (arrivals, waiting) = carried_over(alloc, &ledger)?;
         Ok(Slot {
             alloc,
             ledger,
@@ -177,4 +178,18 @@ impl Slot {
             Look::Unused | Look::Decided(..) => false,
         }
     }
+}
+
+/// What is live in books that end with an opening: what arrived, and what waits.
+fn carried_over(alloc: Global, ledger: &Ledger) -> Result<(Vec<Spot>, Waiting), AllocError>
+    requires { carried ledger.now.book.events ≡ ledger.now.book.events }
+    ensures arrived { IfOk result (λ live. arrivals_of (rows_of ledger.now.book.who ledger.now.book.events) live.0.items
+        ≡ map unplaced (live_inbox ledger.now.book.events)) }
+    ensures spots { IfOk result (λ live. AreSpots (rows_of ledger.now.book.who ledger.now.book.events) live.0.items) }
+    ensures waits { IfOk result (λ live. IsWaiting ledger.now.book.settings ledger.now.book.who ledger.now.book.events live.1) }
+{
+    Ok((
+        carried_arrivals(alloc, ledger)?,
+        carried_waiting(alloc, ledger)?,
+    ))
 }

@@ -1,27 +1,17 @@
-use Rattle.std.proofs.Common.{sym, ◌∙◌}
-use Rattle.std.proofs.lemmas.Bool.{false≢true}
-use Rattle.inst_audit.proofs.Replaying.{next_fits, kept_more, sound_more}
+use Rattle.std.proofs.Common.{Bool, true, false, Option, IsSome, ◌↔◌, IsTrue, refl, sym, subst}
+use Rattle.std.specs.Bool.{then_some}
+use Rattle.inst_ledger.specs.Book.{Book, BookAndRoom}
+use Rattle.inst_audit.specs.inner.Replaying.{CanBeBook}
 use Rattle.inst_audit.proofs.audit.replayed.Goals as goal
 
-pub returns-then-not-may_keep-clause-can : goal.returns-then-not-may_keep-clause-can
-returns-then-not-may_keep-clause-can c = (
-  λ yes. absurd (false≢true yes),
-  λ can.
-      sym c.if-not-may_keep.true
-      ∙ c.may_keep.ensures.1
-      (next_fits c.args.settings.now c.args.who c.args.journal.now.events c.events-event-items.result.now c.loop-event.event-index c.event-item.result c.loop-event.replay
-      c.events-event-items.ensures can.sound c.loop-event-test.true c.event-item.is c.loop-event.invariant.book),
-)
+some_where : {T : Type 0} (can : Bool) (x : T) → IsSome (then_some can x) ↔ IsTrue can
+some_where true x = (λ _. refl, λ _. refl)
+some_where false x = (λ is. is, λ is. is)
 
-pub loop-event-preserved : goal.loop-event-preserved
-loop-event-preserved c =
-    let s = c.args.settings.now in
-    let J = c.args.journal.now.events in
-    record {
-      book =
-          kept_more s c.args.who J c.events-event-items.result.now c.loop-event.event-index c.event-item.result c.loop-event.replay c.keep.new.self
-          c.events-event-items.ensures c.loop-event-test.true c.event-item.is c.loop-event.invariant.book c.in_ok-keep.ensures.ok;
-      sound =
-          sound_more s c.args.who J c.events-event-items.result.now c.loop-event.event-index c.event-item.result c.loop-event.replay
-          c.events-event-items.ensures c.loop-event-test.true c.event-item.is c.loop-event.invariant.book c.loop-event.invariant.sound (c.may_keep.ensures.0 c.if-not-may_keep.false);
-    }
+pub returns-clause-can : goal.returns-clause-can
+returns-clause-can c =
+    let can : IsTrue c.in_ok-can.can ↔ CanBeBook c.args.settings.now c.args.who c.args.journal.now.events =
+    subst (λ (b : Book). IsTrue c.in_ok-can.can ↔ CanBeBook b.settings b.who c.args.journal.now.events) c.in_ok-replay.ensures.ok c.in_ok-can.ensures.can in
+    let some : IsSome c.then_some.result ↔ IsTrue c.in_ok-can.can =
+    subst (λ (kept : Option BookAndRoom). IsSome kept ↔ IsTrue c.in_ok-can.can) (sym c.then_some.ensures) (some_where c.in_ok-can.can _) in
+    (λ kept. can.0 (some.0 kept), λ book. some.1 (can.1 book))

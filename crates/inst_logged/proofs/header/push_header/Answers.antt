@@ -1,6 +1,6 @@
 use Rattle.std.proofs.Common.{arith}
 use Rattle.std.proofs.lemmas.Grind.{common_steps}
-use Rattle.inst_logged.proofs.header.header_line.Goals as goal
+use Rattle.inst_logged.proofs.header.push_header.Goals as goal
 
 pub returns : goal.returns
 returns c = grind (arith, common_steps)
