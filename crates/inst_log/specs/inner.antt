@@ -1,3 +1,4 @@
 pub mod Layout
 pub mod Opening
+pub mod Repair
 pub mod Serving

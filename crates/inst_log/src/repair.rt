@@ -1,8 +1,9 @@
 //! The end of a file is repaired: closed, and nothing behind it. What the file stands for stays the same.
-ghost use Rattle.std.specs.Prelude.{◌≡◌, ◌<◌, ◌≤◌, ◌+◌, ◌^◌, List, ℕ, length, IsTrue, IfOk, OnOk};
+ghost use Rattle.std.specs.Prelude.{◌≡◌, ◌<◌, ◌≤◌, ◌+◌, ◌^◌, length, IsTrue, IfOk};
 ghost use Rattle.sqlite_disk.specs.Disk.{Only, CountsFault};
 ghost use Rattle.inst_log.specs.Layout.{recovered, blocks, IsClosed};
 ghost use Rattle.inst_log.specs.inner.Layout.{IsUnclosed};
+ghost use Rattle.inst_log.specs.inner.Repair.{Repairs};
 
 use crate::front::{is_closed, kept_len};
 use crate::synced::write_synced;
@@ -15,13 +16,8 @@ pub(crate) fn repair<D: Disk>(disk: &mut D, bytes: &[u8]) -> io::Result<usize>
     requires bytes { IsTrue (D.Disk.is_clean disk.old) → bytes.now ≡ D.Disk.seen disk.old }
     requires known { IsTrue (D.Disk.is_clean disk.old) → Only (D.Disk.seen disk.old) (D.Disk.may_leave disk.old) }
     ensures end { IfOk result (λ end. end ≡ length (blocks (recovered bytes.now))) }
-    ensures closed { IfOk result (λ end. IsTrue (D.Disk.is_clean disk.new) → IsClosed (D.Disk.seen disk.new) end
-        × (recovered (D.Disk.seen disk.new) ≡ recovered (D.Disk.seen disk.old))) }
-    ensures durable { OnOk result (IsTrue (D.Disk.is_clean disk.new) → Only (D.Disk.seen disk.new) (D.Disk.may_leave disk.new)) }
-    ensures any_moment { IsTrue (D.Disk.is_clean disk.new) → (c : List ℕ) → D.Disk.may_leave disk.new c
-        → recovered c ≡ recovered (D.Disk.seen disk.old) }
-    ensures usable { OnOk result (IsTrue (D.Disk.is_usable disk.new)) }
-    ensures clean { IsTrue (D.Disk.is_clean disk.new) → IsTrue (D.Disk.is_clean disk.old) }
+    ensures repaired { Repairs D.Disk.seen D.Disk.may_leave D.Disk.is_clean D.Disk.is_usable
+        disk.old (length (blocks (recovered bytes.now))) result disk.new }
     ensures cause { CountsFault result (D.Disk.faults disk.old) (D.Disk.faults disk.new) }
 {
     let end = kept_len(bytes);
@@ -36,13 +32,7 @@ fn close<D: Disk>(disk: &mut D, bytes: &[u8], end: usize) -> io::Result<()>
     requires bytes { IsTrue (D.Disk.is_clean disk.old) → bytes.now ≡ D.Disk.seen disk.old }
     requires end { end ≡ length (blocks (recovered bytes.now)) }
     requires known { IsTrue (D.Disk.is_clean disk.old) → Only (D.Disk.seen disk.old) (D.Disk.may_leave disk.old) }
-    ensures closed { OnOk result (IsTrue (D.Disk.is_clean disk.new) → IsClosed (D.Disk.seen disk.new) end
-        × (recovered (D.Disk.seen disk.new) ≡ recovered (D.Disk.seen disk.old))) }
-    ensures durable { OnOk result (IsTrue (D.Disk.is_clean disk.new) → Only (D.Disk.seen disk.new) (D.Disk.may_leave disk.new)) }
-    ensures any_moment { IsTrue (D.Disk.is_clean disk.new) → (c : List ℕ) → D.Disk.may_leave disk.new c
-        → recovered c ≡ recovered (D.Disk.seen disk.old) }
-    ensures usable { OnOk result (IsTrue (D.Disk.is_usable disk.new)) }
-    ensures clean { IsTrue (D.Disk.is_clean disk.new) → IsTrue (D.Disk.is_clean disk.old) }
+    ensures repaired { Repairs D.Disk.seen D.Disk.may_leave D.Disk.is_clean D.Disk.is_usable disk.old end result disk.new }
     ensures cause { CountsFault result (D.Disk.faults disk.old) (D.Disk.faults disk.new) }
 {
     if is_closed(bytes, end) {
@@ -57,13 +47,7 @@ fn cut<D: Disk>(disk: &mut D, len: usize, end: usize) -> io::Result<()>
     requires within { end ≤ len }
     requires closed { IsTrue (D.Disk.is_clean disk.old) → IsClosed (D.Disk.seen disk.old) end }
     requires known { IsTrue (D.Disk.is_clean disk.old) → Only (D.Disk.seen disk.old) (D.Disk.may_leave disk.old) }
-    ensures closed { OnOk result (IsTrue (D.Disk.is_clean disk.new) → IsClosed (D.Disk.seen disk.new) end
-        × (recovered (D.Disk.seen disk.new) ≡ recovered (D.Disk.seen disk.old))) }
-    ensures durable { OnOk result (IsTrue (D.Disk.is_clean disk.new) → Only (D.Disk.seen disk.new) (D.Disk.may_leave disk.new)) }
-    ensures any_moment { IsTrue (D.Disk.is_clean disk.new) → (c : List ℕ) → D.Disk.may_leave disk.new c
-        → recovered c ≡ recovered (D.Disk.seen disk.old) }
-    ensures usable { OnOk result (IsTrue (D.Disk.is_usable disk.new)) }
-    ensures clean { IsTrue (D.Disk.is_clean disk.new) → IsTrue (D.Disk.is_clean disk.old) }
+    ensures repaired { Repairs D.Disk.seen D.Disk.may_leave D.Disk.is_clean D.Disk.is_usable disk.old end result disk.new }
     ensures cause { CountsFault result (D.Disk.faults disk.old) (D.Disk.faults disk.new) }
 {
     if len - end <= 1 {
@@ -77,13 +61,7 @@ fn close_at<D: Disk>(disk: &mut D, end: usize) -> io::Result<()>
     requires usable { IsTrue (D.Disk.is_usable disk.old) }
     requires unclosed { IsTrue (D.Disk.is_clean disk.old) → IsUnclosed (D.Disk.seen disk.old) end }
     requires known { IsTrue (D.Disk.is_clean disk.old) → Only (D.Disk.seen disk.old) (D.Disk.may_leave disk.old) }
-    ensures closed { OnOk result (IsTrue (D.Disk.is_clean disk.new) → IsClosed (D.Disk.seen disk.new) end
-        × (recovered (D.Disk.seen disk.new) ≡ recovered (D.Disk.seen disk.old))) }
-    ensures durable { OnOk result (Only (D.Disk.seen disk.new) (D.Disk.may_leave disk.new)) }
-    ensures any_moment { IsTrue (D.Disk.is_clean disk.new) → (c : List ℕ) → D.Disk.may_leave disk.new c
-        → recovered c ≡ recovered (D.Disk.seen disk.old) }
-    ensures usable { OnOk result (IsTrue (D.Disk.is_usable disk.new)) }
-    ensures clean { IsTrue (D.Disk.is_clean disk.new) → IsTrue (D.Disk.is_clean disk.old) }
+    ensures repaired { Repairs D.Disk.seen D.Disk.may_leave D.Disk.is_clean D.Disk.is_usable disk.old end result disk.new }
     ensures cause { CountsFault result (D.Disk.faults disk.old) (D.Disk.faults disk.new) }
 {
     write_synced(disk, end, &[0])
@@ -95,13 +73,7 @@ fn cut_behind<D: Disk>(disk: &mut D, end: usize) -> io::Result<()>
     requires fits { end + 1 < 2 ^ 64 }
     requires closed { IsTrue (D.Disk.is_clean disk.old) → IsClosed (D.Disk.seen disk.old) end }
     requires known { IsTrue (D.Disk.is_clean disk.old) → Only (D.Disk.seen disk.old) (D.Disk.may_leave disk.old) }
-    ensures closed { OnOk result (IsTrue (D.Disk.is_clean disk.new) → IsClosed (D.Disk.seen disk.new) end
-        × (recovered (D.Disk.seen disk.new) ≡ recovered (D.Disk.seen disk.old))) }
-    ensures durable { OnOk result (Only (D.Disk.seen disk.new) (D.Disk.may_leave disk.new)) }
-    ensures any_moment { IsTrue (D.Disk.is_clean disk.new) → (c : List ℕ) → D.Disk.may_leave disk.new c
-        → recovered c ≡ recovered (D.Disk.seen disk.old) }
-    ensures usable { OnOk result (IsTrue (D.Disk.is_usable disk.new)) }
-    ensures clean { IsTrue (D.Disk.is_clean disk.new) → IsTrue (D.Disk.is_clean disk.old) }
+    ensures repaired { Repairs D.Disk.seen D.Disk.may_leave D.Disk.is_clean D.Disk.is_usable disk.old end result disk.new }
     ensures cause { CountsFault result (D.Disk.faults disk.old) (D.Disk.faults disk.new) }
 {
     disk.set_len(end + 1)?;
