@@ -103,7 +103,7 @@ impl World {
     }
 
     /// Runs one step. A refused ask is answered by its refusal. Memory may be refused only where an
-    /// event is to be kept, or entries or lines are to be copied, and then the hub is as it was.
+    /// event is to be kept, or entries or lines are to be told, and then the hub is as it was.
     pub fn step(&mut self, step: &Step) -> Result<Answer, AllocError>
         requires fits { step_fits self.old.board.settings step.now ≡ true }
         ensures ok { IfOk result (λ answer. Runs self.old step.now answer self.new) }

@@ -115,7 +115,7 @@ impl Slot {
     /// Answers a command of the participant, and keeps what its history is to keep of it. Refused by
     /// the first of `SelfTransfer` to `Shortage` that holds, and then the slot and what the board has
     /// decided are as they were; so they are after `Memory`, which comes only where an event is to be
-    /// kept, or entries or lines are to be copied.
+    /// kept, or entries or lines are to be told.
     pub fn apply<B: Board>(&mut self, board: &mut B, ask: &Ask) -> Result<Reply, Fault>
         requires own { ask.now.who ≡ self.old.who }
         requires fits { ask_fits self.old.settings ask.now ≡ true }
