@@ -6,7 +6,7 @@ ghost use Rattle.inst_command.specs.Ask.{command_fits};
 use crate::asked::{Asks, command, outcome};
 use crate::comparing::{same, same_at};
 use crate::told::{Told, is_refused, is_reply};
-use inst_base::Moment;
+use inst_base::{Fault, Moment};
 use inst_command::{Ask, Outcome};
 use inst_journal::{Event, Handled, handle_command, reply_of};
 use inst_ledger::Ledger;
@@ -119,17 +119,27 @@ fn by_the_ledger(
     Ok(())
 }
 
+/// What the participant `who` asks at this reading.
+fn ask(who: u8, asks: &Asks, at: u64) -> Result<Ask, Fault> {
+    Ok(Ask {
+        who,
+        command: command(asks)?,
+        at: Moment::new(0, at)?,
+    })
+}
+
+/// What is found of a transfer that ended so, if it did.
+fn found(end: &Option<End>) -> Result<Option<Outcome>, Fault> {
+    match end {
+        None => Ok(None),
+        Some(end) => Ok(Some(outcome(end)?)),
+    }
+}
+
 fn answer(rt: &(impl Abort + AllocGlobal), ledger: &mut Ledger, row: &Row) -> Result<(), Fail> {
     let (asks, at, end, told) = row;
-    let found = match end {
-        None => None,
-        Some(end) => Some(outcome(end)?),
-    };
-    let ask = Ask {
-        who: ledger.who(),
-        command: command(asks)?,
-        at: Moment::new(0, *at)?,
-    };
+    let found = found(end)?;
+    let ask = ask(ledger.who(), asks, *at)?;
     assert!(rt; ask.fits(ledger.settings()));
     by_a_walk(rt, ledger, asks, told)?;
     by_the_ledger(rt, ledger, &ask, &found, told)
@@ -171,6 +181,18 @@ pub(crate) fn answered(
     let mut ledger = opened(rt.alloc(), who)?;
     answers(rt, &mut ledger, rows)?;
     Ok(ledger)
+}
+
+/// The participant `who` answers these rows, which are its first, and keeps so many events.
+pub(crate) fn answers_first(
+    rt: &(impl Abort + AllocGlobal),
+    who: u8,
+    rows: &[Row],
+    count: usize,
+) -> Result<(), Fail> {
+    let ledger = answered(rt, who, rows)?;
+    keeps(rt, &ledger, count);
+    Ok(())
 }
 
 /// A ledger that opens from the books of this one.

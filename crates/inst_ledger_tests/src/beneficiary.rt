@@ -16,7 +16,7 @@ use std::process::Abort;
 use std::test::Fail;
 
 /// A transfer of each of two originators is forwarded to participant 1, of one identifier.
-fn forward(
+fn keep_both(
     ledger: &mut Ledger,
     id: Ident,
     amounts: [Cents; 2],
@@ -43,6 +43,20 @@ fn forward(
     Ok(())
 }
 
+/// T1 over so many cents is forwarded to participant 1 from participant 0, and another T1 from participant 2.
+fn forward_both(rt: &impl Abort, ledger: &mut Ledger, first: u64, second: u64) -> Result<(), Fail>
+    requires blank { ledger.old.book.events ≡ [] }
+    requires own { ledger.old.book.who ≡ 1 }
+    requires lawful { IsSettings ledger.old.book.settings }
+{
+    let id = Ident::new("T1")?;
+    let amounts = [Cents::new(first)?, Cents::new(second)?];
+    let deadline = Moment::new(0, 11_000)?;
+    assert!(rt; ledger.settings().participants() >= 3);
+    keep_both(ledger, id, amounts, deadline)?;
+    Ok(())
+}
+
 /// A ledger of participant 1 to which T1 over so many cents was forwarded from participant 0, and another T1 from
 /// participant 2.
 pub(crate) fn forwarded(
@@ -50,12 +64,8 @@ pub(crate) fn forwarded(
     first: u64,
     second: u64,
 ) -> Result<Ledger, Fail> {
-    let id = Ident::new("T1")?;
-    let amounts = [Cents::new(first)?, Cents::new(second)?];
-    let deadline = Moment::new(0, 11_000)?;
     let mut ledger = opened(rt.alloc(), 1)?;
-    assert!(rt; ledger.settings().participants() >= 3);
-    forward(&mut ledger, id, amounts, deadline)?;
+    forward_both(rt, &mut ledger, first, second)?;
     Ok(ledger)
 }
 

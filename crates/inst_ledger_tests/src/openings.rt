@@ -46,7 +46,11 @@ fn is_opened_last(journal: &Journal) -> bool {
 }
 
 /// The books of this ledger, opened again, are asked these rows.
-fn opens_again(rt: &(impl Abort + AllocGlobal), ledger: &Ledger, rows: &[Row]) -> Result<(), Fail> {
+pub(crate) fn opens_again(
+    rt: &(impl Abort + AllocGlobal),
+    ledger: &Ledger,
+    rows: &[Row],
+) -> Result<(), Fail> {
     let kept = ledger.journal().events().len();
     let mut again = opened_again(rt, ledger)?;
     goes_on(rt, &mut again, kept, rows)

@@ -1,5 +1,5 @@
 //! What a participant is answered that funds, submits and learns outcomes.
-use crate::answering::{Row, answered, keeps};
+use crate::answering::{Row, answered, answers_first, keeps};
 use crate::asked::Asks;
 use crate::comparing::{same, same_at};
 use crate::told::Told;
@@ -261,6 +261,5 @@ const ONE_REJECTED: &[Row] = &[
 /// A rejected transfer has no line.
 #[test]
 fn pays_and_is_rejected(rt: HostRuntime) -> Result<(), Fail> {
-    answered(&rt, 0, ONE_REJECTED)?;
-    Ok(())
+    answers_first(&rt, 0, ONE_REJECTED, 6)
 }

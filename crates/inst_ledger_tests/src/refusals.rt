@@ -1,5 +1,5 @@
 //! Commands that are refused.
-use crate::answering::{Row, answered, keeps};
+use crate::answering::{Row, answers_first};
 use crate::asked::Asks;
 use crate::told::Told;
 use inst_base::Fault;
@@ -74,7 +74,5 @@ const REFUSED: &[Row] = &[
 /// order answers: all seven that a participant's books can give, by number.
 #[test]
 fn meets_the_first_refusal(rt: HostRuntime) -> Result<(), Fail> {
-    let ledger = answered(&rt, 0, REFUSED)?;
-    keeps(&rt, &ledger, 3);
-    Ok(())
+    answers_first(&rt, 0, REFUSED, 3)
 }

@@ -1,10 +1,10 @@
 //! What is funded, paid, received and defunded, in parts of a statement: as the ledger keeps its lines, and as a walk
 //! over the events gives them.
-use crate::answering::{Row, answers, opened_again};
+use crate::answering::{Row, answers};
 use crate::asked::Asks;
 use crate::beneficiary::forwarded;
 use crate::comparing::same;
-use crate::openings::FUNDED_AGAIN;
+use crate::openings::{FUNDED_AGAIN, opens_again};
 use crate::told::Told;
 use inst_command::LineKind;
 use inst_ledger::Ledger;
@@ -77,15 +77,19 @@ fn walks(rt: &(impl Abort + AllocGlobal), ledger: &Ledger) -> Result<(), Fail> {
     Ok(())
 }
 
+/// Parts of the lines are shown, as a walk gives them, and the lines after an opening.
+fn shows_parts(rt: &(impl Abort + AllocGlobal), ledger: &mut Ledger) -> Result<(), Fail> {
+    answers(rt, ledger, MOVES)?;
+    answers(rt, ledger, PARTS)?;
+    walks(rt, ledger)?;
+    opens_again(rt, ledger, FUNDED_AGAIN)
+}
+
 /// 500 cents are funded, 200 paid, 300 received and 100 defunded, while another transfer of the same name is pending:
 /// four lines, of which parts are asked for. After an opening the lines count from 1 again, from the position that was
 /// reached.
 #[test]
 fn shows_what_moved_the_position(rt: HostRuntime) -> Result<(), Fail> {
     let mut ledger = forwarded(&rt, 100, 300)?;
-    answers(&rt, &mut ledger, MOVES)?;
-    answers(&rt, &mut ledger, PARTS)?;
-    walks(&rt, &ledger)?;
-    let mut again = opened_again(&rt, &ledger)?;
-    answers(&rt, &mut again, FUNDED_AGAIN)
+    shows_parts(&rt, &mut ledger)
 }
