@@ -1,4 +1,5 @@
 //! Values of fields on both sides of their bounds.
+use crate::comparing::same_at;
 use crate::hub::{MOST, hub};
 use inst_base::{Fault, mention};
 use inst_command::Command;
@@ -81,8 +82,7 @@ fn refusal(
 ) -> Result<Option<Fault>, Fail> {
     mention::<Command>();
     let line = format!(in alloc; "{front}{value}{back}")?;
-    let refusal = read_command(alloc, hub, line.as_bytes()).err();
-    Ok(refusal)
+    Ok(read_command(alloc, hub, line.as_bytes()).err())
 }
 
 /// Each value between these texts is refused so.
@@ -94,11 +94,8 @@ fn refuses(
     back: &str,
 ) -> Result<(), Fail> {
     for (value, fault) in rows {
-        assert_eq!(rt;
-            refusal(rt.alloc(), hub, front, value, back)?,
-            *fault,
-            "{value}"
-        );
+        let refusal = refusal(rt.alloc(), hub, front, value, back)?;
+        same_at(rt, *value, refusal, *fault);
     }
     Ok(())
 }
@@ -129,6 +126,13 @@ fn reads_codes_to_their_bounds(rt: HostRuntime) -> Result<(), Fail> {
     )
 }
 
+/// What a line of this reading is refused for.
+fn refusal_at(alloc: Global, hub: &Settings, at: u64) -> Result<Option<Fault>, Fail> {
+    let at = format!(in alloc; "{at}")?;
+    let back = r#","cmd":"position","who":"AAAADEFF"}"#;
+    refusal(alloc, hub, r#"{"at":"#, at.as_str(), back)
+}
+
 /// Each reading of this hub is refused so.
 fn refuses_readings(
     rt: &(impl Abort + AllocGlobal),
@@ -136,14 +140,7 @@ fn refuses_readings(
     rows: [(u64, Option<Fault>); 4],
 ) -> Result<(), Fail> {
     for (at, fault) in rows {
-        let text = format!(in rt.alloc(); "{at}")?;
-        let front = r#"{"at":"#;
-        let back = r#","cmd":"position","who":"AAAADEFF"}"#;
-        assert_eq!(rt;
-            refusal(rt.alloc(), hub, front, text.as_str(), back)?,
-            fault,
-            "{at}"
-        );
+        same_at(rt, at, refusal_at(rt.alloc(), hub, at)?, fault);
     }
     Ok(())
 }
@@ -186,10 +183,20 @@ fn nested(alloc: Global, hub: &Settings, depth: usize) -> Result<Option<Fault>, 
     Ok(refusal)
 }
 
+/// A line with so many arrays in one another is refused so.
+fn nests(
+    rt: &(impl Abort + AllocGlobal),
+    hub: &Settings,
+    depth: usize,
+    fault: Option<Fault>,
+) -> Result<(), Fail> {
+    same_at(rt, depth, nested(rt.alloc(), hub, depth)?, fault);
+    Ok(())
+}
+
 #[test]
 fn reads_nesting_to_its_bound(rt: HostRuntime) -> Result<(), Fail> {
     let hub = hub(rt.alloc(), MOST, 0)?;
-    assert_eq!(rt; nested(rt.alloc(), &hub, 126)?, None);
-    assert_eq!(rt; nested(rt.alloc(), &hub, 127)?, Some(Fault::NotJson));
-    Ok(())
+    nests(&rt, &hub, 126, None)?;
+    nests(&rt, &hub, 127, Some(Fault::NotJson))
 }

@@ -1,4 +1,5 @@
 //! Which lines one pass knows to be no JSON, and which it leaves to be read in another way.
+use crate::comparing::same_at;
 use crate::hub::{MOST, hub};
 use inst_base::{Fault, mention};
 use inst_command::Command;
@@ -144,18 +145,26 @@ fn refuses(
     fault: Fault,
 ) {
     for (place, line) in lines.iter().enumerate() {
-        assert_eq!(rt; is_broken(line), is_known, "{place}");
-        assert_eq!(rt; is_left(line), !is_known, "{place}");
-        assert_eq!(rt; refusal(rt.alloc(), hub, line), Some(fault), "{place}");
+        let found = (
+            is_broken(line),
+            is_left(line),
+            refusal(rt.alloc(), hub, line),
+        );
+        same_at(rt, place, found, (is_known, !is_known, Some(fault)));
     }
+}
+
+/// All the lines are refused so.
+fn refuses_all(rt: &(impl Abort + AllocGlobal), hub: &Settings) {
+    refuses(rt, hub, BROKEN, true, Fault::NotJson);
+    refuses(rt, hub, LEFT, false, Fault::NotJson);
+    refuses(rt, hub, OTHER, false, Fault::BadField);
 }
 
 #[test]
 fn broken_lines_are_known_in_one_pass(rt: HostRuntime) -> Result<(), Fail> {
     let hub = hub(rt.alloc(), MOST, 0)?;
-    refuses(&rt, &hub, BROKEN, true, Fault::NotJson);
-    refuses(&rt, &hub, LEFT, false, Fault::NotJson);
-    refuses(&rt, &hub, OTHER, false, Fault::BadField);
+    refuses_all(&rt, &hub);
     Ok(())
 }
 
@@ -164,13 +173,10 @@ const WHOLE: &[u8] = br#" {"at":1000,"cmd":"position","who":"AAAADEFF"}"#;
 
 fn refuses_cut_lines(rt: &(impl Abort + AllocGlobal), hub: &Settings) {
     for end in 0..WHOLE.len() {
-        assert_eq!(rt;
-            refusal(rt.alloc(), hub, &WHOLE[..end]),
-            Some(Fault::NotJson),
-            "{end}"
-        );
+        let refusal = refusal(rt.alloc(), hub, &WHOLE[..end]);
+        same_at(rt, end, refusal, Some(Fault::NotJson));
     }
-    assert_eq!(rt; refusal(rt.alloc(), hub, WHOLE), None);
+    same_at(rt, WHOLE.len(), refusal(rt.alloc(), hub, WHOLE), None);
 }
 
 #[test]

@@ -6,6 +6,8 @@ mod bounds;
 #[cfg(test)]
 mod breaking;
 #[cfg(test)]
+mod comparing;
+#[cfg(test)]
 mod hub;
 #[cfg(test)]
 mod reading;

@@ -1,4 +1,5 @@
 //! Each command and each step as it is read.
+use crate::comparing::same_at;
 use crate::hub::{MOST, hub};
 use inst_base::{Cents, Fault, Ident, Moment, Reason};
 use inst_command::{Ask, Command, Step, Submission};
@@ -7,7 +8,10 @@ use inst_settings::Settings;
 use std::process::Abort;
 use std::test::Fail;
 
-fn ask(who: u8, command: Command, at: u64) -> Result<Ask, Fault> {
+/// Who asks what, and when.
+type Asked = (u8, Command, u64);
+
+fn ask(&(who, command, at): &Asked) -> Result<Ask, Fault> {
     let at = Moment::new(0, at)?;
     Ok(Ask { who, command, at })
 }
@@ -28,68 +32,53 @@ const COMMANDS: [&str; 11] = [
 ];
 
 /// The asks that they are.
-fn asks() -> Result<[Ask; 11], Fault> {
+fn asks() -> Result<[Asked; 11], Fault> {
     let id = Ident::new("T1")?;
-    let reference = Ident::new("F1")?;
-    let debit = Ident::new("D1")?;
     let cents = Cents::new(50_000)?;
-    let less = Cents::new(5000)?;
-    let stamp = Moment::new(0, 1000)?;
-    let reason = Reason::new("AC04")?;
+    let fund = Command::Fund {
+        reference: Ident::new("F1")?,
+        cents,
+    };
+    let defund = Command::Defund {
+        reference: Ident::new("D1")?,
+        cents: Cents::new(5000)?,
+    };
+    let submit = Command::Submit(Submission {
+        id,
+        to: 1,
+        cents,
+        stamp: Moment::new(0, 1000)?,
+    });
+    let reject = Command::Reject {
+        from: 0,
+        id,
+        reason: Reason::new("AC04")?,
+    };
+    let last = Command::Statement {
+        skip: u64::MAX,
+        count: 100,
+    };
     Ok([
-        ask(0, Command::Fund { reference, cents }, 0)?,
-        ask(
-            0,
-            Command::Defund {
-                reference: debit,
-                cents: less,
-            },
-            3000,
-        )?,
-        ask(
-            0,
-            Command::Submit(Submission {
-                id,
-                to: 1,
-                cents,
-                stamp,
-            }),
-            1000,
-        )?,
-        ask(1, Command::Confirm { from: 0, id }, 2000)?,
-        ask(
-            1,
-            Command::Reject {
-                from: 0,
-                id,
-                reason,
-            },
-            2000,
-        )?,
-        ask(0, Command::Investigate { id }, 2100)?,
-        ask(1, Command::Fetch { max: 10 }, 1500)?,
-        ask(0, Command::Position, 0)?,
-        ask(0, Command::Statement { skip: 0, count: 10 }, 3000)?,
-        ask(
-            2,
-            Command::Statement {
-                skip: u64::MAX,
-                count: 100,
-            },
-            7,
-        )?,
-        ask(0, Command::Position, 5)?,
+        (0, fund, 0),
+        (0, defund, 3000),
+        (0, submit, 1000),
+        (1, Command::Confirm { from: 0, id }, 2000),
+        (1, reject, 2000),
+        (0, Command::Investigate { id }, 2100),
+        (1, Command::Fetch { max: 10 }, 1500),
+        (0, Command::Position, 0),
+        (0, Command::Statement { skip: 0, count: 10 }, 3000),
+        (2, last, 7),
+        (0, Command::Position, 5),
     ])
 }
 
 /// Each line is read as its ask.
-fn reads(rt: &(impl Abort + AllocGlobal), hub: &Settings, asks: &[Ask]) -> Result<(), Fail> {
-    for (line, ask) in COMMANDS.iter().zip(asks) {
-        assert_eq!(rt;
-            read_command(rt.alloc(), hub, line.as_bytes())?,
-            *ask,
-            "{line}"
-        );
+fn reads(rt: &(impl Abort + AllocGlobal), hub: &Settings, asks: &[Asked]) -> Result<(), Fail> {
+    for (line, asked) in COMMANDS.iter().zip(asks) {
+        let ask = ask(asked)?;
+        let read = read_command(rt.alloc(), hub, line.as_bytes());
+        same_at(rt, *line, read, Ok(ask));
     }
     Ok(())
 }
@@ -137,24 +126,17 @@ fn steps() -> Result<[Step; 4], Fault> {
 }
 
 /// Each line of a script is read as its step.
-fn reads_steps(
-    rt: &(impl Abort + AllocGlobal),
-    hub: &Settings,
-    steps: &[Step],
-) -> Result<(), Fail> {
+fn reads_steps(rt: &(impl Abort + AllocGlobal), hub: &Settings, steps: &[Step]) {
     for (line, step) in STEPS.iter().zip(steps) {
-        assert_eq!(rt;
-            read_step(rt.alloc(), hub, line.as_bytes())?,
-            *step,
-            "{line}"
-        );
+        let read = read_step(rt.alloc(), hub, line.as_bytes());
+        same_at(rt, *line, read, Ok(*step));
     }
-    Ok(())
 }
 
 #[test]
 fn reads_each_step(rt: HostRuntime) -> Result<(), Fail> {
     let hub = hub(rt.alloc(), MOST, 0)?;
     let steps = steps()?;
-    reads_steps(&rt, &hub, &steps)
+    reads_steps(&rt, &hub, &steps);
+    Ok(())
 }

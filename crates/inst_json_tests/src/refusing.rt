@@ -1,8 +1,11 @@
 //! What lines are refused for, in the order of the refusals.
+use crate::comparing::{same, same_at};
 use crate::hub::{MOST, hub};
-use inst_base::Fault;
+use inst_base::{Fault, mention};
+use inst_command::Command;
 use inst_json::{LineReader, Name, Refusal, read_command, read_step};
 use inst_settings::Settings;
+use std::alloc::Global;
 use std::process::Abort;
 use std::test::Fail;
 
@@ -120,14 +123,19 @@ const STEPS: &[Row] = &[
     ("{\"step\"", Fault::NotJson),
 ];
 
+/// What a line is refused for, if it is.
+fn refusal(alloc: Global, hub: &Settings, line: &[u8]) -> Option<Fault> {
+    mention::<Command>();
+    read_command(alloc, hub, line).err()
+}
+
 fn refuses_commands(rt: &(impl Abort + AllocGlobal), hub: &Settings) {
     for (line, fault) in COMMANDS {
-        let refusal = read_command(rt.alloc(), hub, line.as_bytes()).err();
-        assert_eq!(rt; refusal, Some(*fault), "{line}");
+        let refusal = refusal(rt.alloc(), hub, line.as_bytes());
+        same_at(rt, *line, refusal, Some(*fault));
     }
     let broken = b"{\"at\":0,\"cmd\":\"position\",\"who\":\"AAAADEFF\",\"x\":\"\xff\"}";
-    let refusal = read_command(rt.alloc(), hub, broken).err();
-    assert_eq!(rt; refusal, Some(Fault::NotJson));
+    same(rt, refusal(rt.alloc(), hub, broken), Some(Fault::NotJson));
 }
 
 #[test]
@@ -140,7 +148,7 @@ fn refuses_in_order(rt: HostRuntime) -> Result<(), Fail> {
 fn refuses_steps(rt: &(impl Abort + AllocGlobal), hub: &Settings) {
     for (line, fault) in STEPS {
         let refusal = read_step(rt.alloc(), hub, line.as_bytes()).err();
-        assert_eq!(rt; refusal, Some(*fault), "{line}");
+        same_at(rt, *line, refusal, Some(*fault));
     }
 }
 
@@ -179,25 +187,30 @@ const BLAMED: &[Blame] = &[
 ];
 
 /// Each line is refused by its field.
-fn blames(rt: &(impl Abort + AllocGlobal), hub: &Settings) {
-    let mut reader = LineReader::new(rt.alloc());
+fn blames_commands(rt: &impl Abort, reader: &mut LineReader, hub: &Settings) {
     for &(line, fault, field, name) in BLAMED {
         let read = reader.read_blamed_command(hub, line.as_bytes());
-        assert_eq!(rt; read, Err(Refusal { fault, field }), "{line}");
-        assert_eq!(rt; field.map_or("", Name::as_str), name);
+        let found = (read, field.map_or("", Name::as_str));
+        same_at(rt, line, found, (Err(Refusal { fault, field }), name));
     }
+}
+
+/// A step that tells no place is refused by that.
+fn blames_a_step(rt: &impl Abort, reader: &mut LineReader, hub: &Settings) {
     let step = reader.read_blamed_step(
         hub,
         br#"{"from":"AAAADEFF","step":"learn","who":"AAAADEFF"}"#,
     );
     let field = Some(Name::Place);
     let fault = Fault::BadField;
-    assert_eq!(rt; step, Err(Refusal { fault, field }));
+    same(rt, step, Err(Refusal { fault, field }));
 }
 
 #[test]
 fn blames_the_first_wrong_field(rt: HostRuntime) -> Result<(), Fail> {
     let hub = hub(rt.alloc(), 1_000, 0)?;
-    blames(&rt, &hub);
+    let mut reader = LineReader::new(rt.alloc());
+    blames_commands(&rt, &mut reader, &hub);
+    blames_a_step(&rt, &mut reader, &hub);
     Ok(())
 }

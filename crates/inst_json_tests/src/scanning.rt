@@ -1,11 +1,12 @@
 //! Which lines are read in one pass, without a tree. What they are read as a contract says, whichever way it is.
+use crate::comparing::same_at;
 use inst_scan::scan;
 use std::alloc::Global;
 use std::process::Abort;
 use std::test::Fail;
 
 /// The members of each command and step.
-const LINES: [&[&str]; 12] = [
+const LINES: &[&[&str]] = &[
     &[
         r#""at":0"#,
         r#""cents":50000"#,
@@ -149,7 +150,7 @@ fn is_scanned(alloc: Global, front: &[&str], middle: &[&str], back: &[&str]) -> 
 fn scans_each_order(rt: &(impl Abort + AllocGlobal), members: &[&str]) -> Result<(), Fail> {
     for first in 0..members.len() {
         let scanned = is_scanned(rt.alloc(), &members[first..], &members[..first], &[])?;
-        assert!(rt; scanned, "{first}");
+        same_at(rt, first, scanned, true);
     }
     Ok(())
 }
@@ -184,7 +185,7 @@ fn scans_with_more(
 ) -> Result<(), Fail> {
     for (more, wanted) in MEMBERS {
         let scanned = is_scanned_with(rt.alloc(), members, more, is_behind)?;
-        assert!(rt; scanned == *wanted, "{more}");
+        same_at(rt, *more, scanned, *wanted);
     }
     Ok(())
 }

@@ -4,6 +4,7 @@ ghost use Rattle.inst_settings.specs.Settings.{participants};
 ghost use Rattle.inst_command.specs.declared.reply.Answer.{Answer};
 ghost use Rattle.inst_json.specs.Replies.{answer_can_be_written, is_used};
 
+use crate::comparing::same;
 use crate::hub::{MOST, hub};
 use inst_base::{Cents, Fault, Ident, Moment, Reason};
 use inst_command::{Answer, Entries, Entry, Line, LineKind, Lines, Outcome, Reply, State};
@@ -23,7 +24,7 @@ fn assert_writes(
     requires { answer_can_be_written settings.now answer ≡ true }
 {
     let line = write_answer(alloc, settings, &answer)?;
-    assert_eq!(rt; line.as_slice(), wanted.as_bytes());
+    same(rt, line.as_slice(), wanted.as_bytes());
     Ok(())
 }
 
@@ -37,7 +38,7 @@ fn assert_replies(
     requires { answer_can_be_written settings.now (Answer.Reply reply) ≡ true }
 {
     let line = write_reply(alloc, settings, &reply)?;
-    assert_eq!(rt; line.as_slice(), wanted.as_bytes());
+    same(rt, line.as_slice(), wanted.as_bytes());
     assert_writes(rt, alloc, settings, Answer::Reply(reply), wanted)
 }
 
