@@ -13,6 +13,7 @@ use inst_command::Outcome;
 use inst_settings::{Numbers, Settings};
 use inst_terms::Terms;
 use std::alloc::Global;
+use std::process::Abort;
 
 const DEADLINE: u64 = 1000;
 
@@ -85,11 +86,23 @@ fn shown(found: Option<Outcome>) -> Result<Look, Fault> {
     })
 }
 
+/// The wish finds this outcome then, and a look shows it afterwards.
+fn decides(
+    rt: &(impl Abort + AllocGlobal),
+    wish: Wish,
+    at: u64,
+    want: Option<Outcome>,
+) -> Result<(), Fault> {
+    let found = decided(rt.alloc(), wish, at)?;
+    same_at(rt, (wish, at), found, (want, shown(want)?));
+    Ok(())
+}
+
 #[test]
 fn each_wish_about_the_deadline(rt: HostRuntime) -> Result<(), Fault> {
     let reason = Reason::new("AC04")?;
     let rejected = Outcome::Rejected(reason);
-    for (wish, at, want) in [
+    for &(wish, at, want) in &[
         (Wish::Accept, 799, Some(Outcome::Accepted)),
         (Wish::Accept, 800, None),
         (Wish::Accept, 999, None),
@@ -102,8 +115,7 @@ fn each_wish_about_the_deadline(rt: HostRuntime) -> Result<(), Fault> {
         (Wish::Expire, 1000, Some(Outcome::TimedOut)),
         (Wish::Expire, 1001, Some(Outcome::TimedOut)),
     ] {
-        let (found, look) = decided(rt.alloc(), wish, at)?;
-        same_at(&rt, (wish, at), (found, look), (want, shown(want)?));
+        decides(&rt, wish, at, want)?;
     }
     Ok(())
 }
@@ -112,7 +124,7 @@ fn each_wish_about_the_deadline(rt: HostRuntime) -> Result<(), Fault> {
 fn a_second_wish_changes_nothing(rt: HostRuntime) -> Result<(), Fault> {
     let reason = Reason::new("AC04")?;
     let rejected = Outcome::Rejected(reason);
-    for (first, second, want) in [
+    for &(first, second, want) in &[
         ((Wish::Accept, 1), (Wish::Expire, 2000), Outcome::Accepted),
         (
             (Wish::Accept, 1),
@@ -129,14 +141,22 @@ fn a_second_wish_changes_nothing(rt: HostRuntime) -> Result<(), Fault> {
     Ok(())
 }
 
+/// Places on the board and beside it.
+const PLACES: &[(u8, u16)] = &[(0, 0), (1, 2), (0, 3), (2, 0), (255, 65_535)];
+
+/// Each of the places is unused.
+fn is_unused(rt: &impl Abort, board: &mut PlainBoard) {
+    for &(owner, index) in PLACES {
+        let place = Place { owner, index };
+        same_at(rt, place, board.look(place), Look::Unused);
+    }
+}
+
 #[test]
 fn what_was_not_opened_is_unused(rt: HostRuntime) -> Result<(), Fault> {
     mention::<Outcome>();
     let settings = settings(rt.alloc())?;
     let mut board = PlainBoard::new(rt.alloc(), &settings)?;
-    for (owner, index) in [(0, 0), (1, 2), (0, 3), (2, 0), (255, 65_535)] {
-        let place = Place { owner, index };
-        same_at(&rt, place, board.look(place), Look::Unused);
-    }
+    is_unused(&rt, &mut board);
     Ok(())
 }

@@ -31,9 +31,12 @@ fn come_by_deadline(rt: &impl Abort, due: &mut Due) -> Result<(), Fault> {
     let early = moment(11_000)?;
     let late = moment(12_000)?;
     add_all(due, &[(late, 0), (early, 2), (early, 1), (early, 1)])?;
-    same(rt, due.first_due(moment(10_999)?), None);
-    same(rt, due.first_due(early), Some((early, 1)));
-    same(rt, due.next_after(Some((early, 0))), Some((early, 1)));
+    let found = (
+        due.first_due(moment(10_999)?),
+        due.first_due(early),
+        due.next_after(Some((early, 0))),
+    );
+    same(rt, found, (None, Some((early, 1)), Some((early, 1))));
     come_in_order(rt, due, &[(early, 1), (early, 2), (late, 0)]);
     Ok(())
 }
@@ -44,21 +47,19 @@ fn pairs_come_by_deadline_and_then_by_place(rt: HostRuntime) -> Result<(), Fault
     come_by_deadline(&rt, &mut due)
 }
 
-/// Takes the pair out, where it is there.
-fn takes_out(rt: &impl Abort, due: &mut Due, deadline: Moment, index: u16, is_there: bool) {
-    same(rt, due.take_out(deadline, index), is_there);
-}
-
 /// A pair is taken out once, and then the next one is due.
 fn takes_out_once(rt: &impl Abort, due: &mut Due) -> Result<(), Fault> {
     let early = moment(11_000)?;
     let late = moment(12_000)?;
     add_all(due, &[(early, 0), (late, 1)])?;
-    takes_out(rt, due, early, 1, false);
-    takes_out(rt, due, early, 0, true);
-    takes_out(rt, due, early, 0, false);
-    same(rt, due.first_due(early), None);
-    same(rt, due.first_due(late), Some((late, 1)));
+    let taken = [
+        due.take_out(early, 1),
+        due.take_out(early, 0),
+        due.take_out(early, 0),
+    ];
+    same(rt, taken, [false, true, false]);
+    let found = (due.first_due(early), due.first_due(late));
+    same(rt, found, (None, Some((late, 1))));
     Ok(())
 }
 

@@ -93,15 +93,28 @@ const PAST_BOUNDS: &[Numbers] = &[
     },
 ];
 
+/// Settings of these numbers tell them again.
+fn takes(rt: &(impl Abort + AllocGlobal), numbers: Numbers) -> Result<(), Fail> {
+    let settings = Settings::check(codes(rt.alloc(), 1)?, numbers)?;
+    same(
+        rt,
+        (told(&settings), settings.numbers()),
+        (numbers, numbers),
+    );
+    Ok(())
+}
+
+/// What so many participants with these numbers are refused for.
+fn refusal(alloc: Global, count: u32, numbers: Numbers) -> Result<Option<Fault>, Fail> {
+    Ok(Settings::check(codes(alloc, count)?, numbers).err())
+}
+
 #[test]
 fn numbers_to_their_bounds(rt: HostRuntime) -> Result<(), Fail> {
-    for numbers in [LEAST, MOST] {
-        let settings = Settings::check(codes(rt.alloc(), 1)?, numbers)?;
-        same(&rt, told(&settings), numbers);
-        same(&rt, settings.numbers(), numbers);
-    }
+    takes(&rt, LEAST)?;
+    takes(&rt, MOST)?;
     for numbers in PAST_BOUNDS {
-        let refusal = Settings::check(codes(rt.alloc(), 1)?, *numbers).err();
+        let refusal = refusal(rt.alloc(), 1, *numbers)?;
         same_at(&rt, *numbers, refusal, Some(Fault::BadSettings));
     }
     Ok(())
@@ -115,26 +128,27 @@ fn ends_at_the_last(rt: &impl Abort, settings: &Settings) -> Result<(), Fail> {
     Ok(())
 }
 
+/// How many participants there are, and what that is refused for.
+const COUNTS: &[(u32, Option<Fault>)] = &[
+    (0, Some(Fault::BadSettings)),
+    (1, None),
+    (256, None),
+    (257, Some(Fault::BadSettings)),
+];
+
 #[test]
 fn participants_to_their_bounds(rt: HostRuntime) -> Result<(), Fail> {
-    let alloc = rt.alloc();
-    for (count, fault) in [
-        (0, Some(Fault::BadSettings)),
-        (1, None),
-        (256, None),
-        (257, Some(Fault::BadSettings)),
-    ] {
-        let refusal = Settings::check(codes(alloc, count)?, MOST).err();
-        same_at(&rt, count, refusal, fault);
+    for &(count, fault) in COUNTS {
+        same_at(&rt, count, refusal(rt.alloc(), count, MOST)?, fault);
     }
-    let settings = Settings::check(codes(alloc, 256)?, MOST)?;
+    let settings = Settings::check(codes(rt.alloc(), 256)?, MOST)?;
     ends_at_the_last(&rt, &settings)
 }
 
 /// The code has this number, and the number this code.
 fn has_code(rt: &impl Abort, settings: &Settings, index: u8, code: &Code) {
-    same(rt, settings.code(index), Some(code));
-    same(rt, settings.index_of(code), Some(index));
+    let found = (settings.code(index), settings.index_of(code));
+    same(rt, found, (Some(code), Some(index)));
 }
 
 /// There are three codes, numbered as they were given, and no other.
@@ -210,13 +224,18 @@ fn bank_codes(alloc: Global, count: u32) -> Result<Vec<Code>, Fail> {
     Ok(codes)
 }
 
+/// The first 64 codes have their numbers, and the others none.
+fn numbers_the_first(rt: &impl Abort, settings: &Settings, codes: &[Code]) {
+    for (number, code) in codes.iter().enumerate() {
+        let wanted = if number < 64 { Some(number) } else { None };
+        same_at(rt, *code, settings.index_of(code).map(usize::from), wanted);
+    }
+}
+
 #[test]
 fn every_code_of_a_bank_has_its_number(rt: HostRuntime) -> Result<(), Fail> {
-    let alloc = rt.alloc();
-    let settings = Settings::check(bank_codes(alloc, 64)?, MOST)?;
-    for (number, code) in bank_codes(alloc, 128)?.iter().enumerate() {
-        let wanted = if number < 64 { Some(number) } else { None };
-        same_at(&rt, *code, settings.index_of(code).map(usize::from), wanted);
-    }
+    let codes = bank_codes(rt.alloc(), 128)?;
+    let settings = Settings::check(bank_codes(rt.alloc(), 64)?, MOST)?;
+    numbers_the_first(&rt, &settings, &codes);
     Ok(())
 }

@@ -7,35 +7,41 @@ const BASE: u64 = 4_611_686_018_427_387_904;
 
 const PAST_BASE: u64 = 2_199_023_255_551;
 
+/// Cents, and the amount that they are.
+const AMOUNTS: &[(u64, Result<u64, Fault>)] = &[
+    (0, Err(Fault::BadAmount)),
+    (1, Ok(1)),
+    (99_999_999_999, Ok(99_999_999_999)),
+    (100_000_000_000, Err(Fault::BadAmount)),
+    (u64::MAX, Err(Fault::BadAmount)),
+];
+
 #[test]
 fn amounts_to_their_bounds(rt: HostRuntime) {
-    for (cents, wanted) in [
-        (0, Err(Fault::BadAmount)),
-        (1, Ok(1)),
-        (99_999_999_999, Ok(99_999_999_999)),
-        (100_000_000_000, Err(Fault::BadAmount)),
-        (u64::MAX, Err(Fault::BadAmount)),
-    ] {
-        let amount = Cents::new(cents).map(|amount| amount.get());
-        same_at(&rt, cents, amount, wanted);
+    for (cents, wanted) in AMOUNTS {
+        let amount = Cents::new(*cents).map(|amount| amount.get());
+        same_at(&rt, *cents, amount, *wanted);
     }
 }
 
+/// A base and a reading, and how far the moment is past the base.
+const MOMENTS: &[(u64, u64, Result<u64, Fault>)] = &[
+    (0, 0, Ok(0)),
+    (0, PAST_BASE, Ok(PAST_BASE)),
+    (0, PAST_BASE + 1, Err(Fault::BadMoment)),
+    (BASE, 0, Err(Fault::BadMoment)),
+    (BASE, BASE - 1, Err(Fault::BadMoment)),
+    (BASE, BASE, Ok(0)),
+    (BASE, BASE + PAST_BASE, Ok(PAST_BASE)),
+    (BASE, BASE + PAST_BASE + 1, Err(Fault::BadMoment)),
+    (BASE, u64::MAX, Err(Fault::BadMoment)),
+];
+
 #[test]
 fn moments_to_their_bounds(rt: HostRuntime) -> Result<(), Fail> {
-    for (base, ms, wanted) in [
-        (0, 0, Ok(0)),
-        (0, PAST_BASE, Ok(PAST_BASE)),
-        (0, PAST_BASE + 1, Err(Fault::BadMoment)),
-        (BASE, 0, Err(Fault::BadMoment)),
-        (BASE, BASE - 1, Err(Fault::BadMoment)),
-        (BASE, BASE, Ok(0)),
-        (BASE, BASE + PAST_BASE, Ok(PAST_BASE)),
-        (BASE, BASE + PAST_BASE + 1, Err(Fault::BadMoment)),
-        (BASE, u64::MAX, Err(Fault::BadMoment)),
-    ] {
-        let past_base = Moment::new(base, ms).map(|moment| moment.past_base());
-        same_at(&rt, (base, ms), past_base, wanted);
+    for (base, ms, wanted) in MOMENTS {
+        let past_base = Moment::new(*base, *ms).map(|moment| moment.past_base());
+        same_at(&rt, (*base, *ms), past_base, *wanted);
     }
     let last = Moment::new(BASE, BASE + PAST_BASE)?;
     same(&rt, last.millis(BASE), 4_611_688_217_450_643_455);
@@ -43,17 +49,20 @@ fn moments_to_their_bounds(rt: HostRuntime) -> Result<(), Fail> {
     Ok(())
 }
 
+/// A stamp and a limit, and the deadline if there is one.
+const DEADLINES: &[(u64, u32, Option<u64>)] = &[
+    (0, 0, Some(0)),
+    (1000, 10_000, Some(11_000)),
+    (0, u32::MAX, Some(4_294_967_295)),
+    (PAST_BASE, 0, Some(PAST_BASE)),
+    (PAST_BASE, 1, None),
+    (PAST_BASE - 10_000, 10_000, Some(PAST_BASE)),
+    (PAST_BASE - 10_000, 10_001, None),
+];
+
 #[test]
 fn deadlines_to_the_last_moment(rt: HostRuntime) -> Result<(), Fail> {
-    for (ms, limit, wanted) in [
-        (0, 0, Some(0)),
-        (1000, 10_000, Some(11_000)),
-        (0, u32::MAX, Some(4_294_967_295)),
-        (PAST_BASE, 0, Some(PAST_BASE)),
-        (PAST_BASE, 1, None),
-        (PAST_BASE - 10_000, 10_000, Some(PAST_BASE)),
-        (PAST_BASE - 10_000, 10_001, None),
-    ] {
+    for &(ms, limit, wanted) in DEADLINES {
         let stamp = Moment::new(0, ms)?;
         let deadline = if stamp.has_deadline(limit) {
             Some(stamp.deadline(limit).past_base())
@@ -66,17 +75,19 @@ fn deadlines_to_the_last_moment(rt: HostRuntime) -> Result<(), Fail> {
 }
 
 /// Whether a reading is in time, in time for a confirmation with a margin of 2 seconds, and due.
+const READINGS: &[(u64, bool, bool, bool)] = &[
+    (0, true, true, false),
+    (8_999, true, true, false),
+    (9_000, true, false, false),
+    (10_999, true, false, false),
+    (11_000, false, false, true),
+    (11_001, false, false, true),
+];
+
 #[test]
 fn readings_on_either_side_of_a_deadline(rt: HostRuntime) -> Result<(), Fail> {
     let deadline = Moment::new(0, 11_000)?;
-    for (ms, in_time, to_accept, due) in [
-        (0, true, true, false),
-        (8_999, true, true, false),
-        (9_000, true, false, false),
-        (10_999, true, false, false),
-        (11_000, false, false, true),
-        (11_001, false, false, true),
-    ] {
+    for &(ms, in_time, to_accept, due) in READINGS {
         let at = Moment::new(0, ms)?;
         let found = (
             at.is_in_time(deadline),
@@ -89,10 +100,13 @@ fn readings_on_either_side_of_a_deadline(rt: HostRuntime) -> Result<(), Fail> {
     Ok(())
 }
 
+/// Whether a stamp is ahead.
+const STAMPS: &[(u64, bool)] = &[(0, false), (1000, false), (2000, false), (2001, true)];
+
 #[test]
 fn stamps_on_either_side_of_what_is_ahead(rt: HostRuntime) -> Result<(), Fail> {
     let at = Moment::new(0, 1000)?;
-    for (ms, is_ahead) in [(0, false), (1000, false), (2000, false), (2001, true)] {
+    for &(ms, is_ahead) in STAMPS {
         same_at(&rt, ms, Moment::new(0, ms)?.is_ahead(1000, at), is_ahead);
     }
     Ok(())
