@@ -1,9 +1,11 @@
 //! What is told of lines by themselves, and a hub that has answered lines.
+use crate::comparing::same;
 use inst_agenda::Runner;
 use inst_base::Moment;
 use inst_command::{Answer, Ask, Command, Reply, Step};
-use inst_lines::{Counts, Mode, check_lines, serve_lines};
+use inst_lines::{Counts, Mode, Served, check_lines, serve_lines};
 use inst_rows::{A, settings};
+use std::process::Abort;
 use std::test::Fail;
 
 /// Five lines, the last one without a newline, of which the second and the fourth are no commands.
@@ -21,7 +23,7 @@ fn tells_the_field_of_each_refused_line(rt: HostRuntime) -> Result<(), Fail> {
     let settings = settings(alloc)?;
     let mut told = Vec::new(alloc);
     check_lines(alloc, &settings, &mut LINES.as_bytes(), &mut told)?;
-    assert_eq!(rt; told.as_slice(), TOLD.as_bytes());
+    same(&rt, told.as_slice(), TOLD.as_bytes());
     Ok(())
 }
 
@@ -35,16 +37,27 @@ fn money_of(runner: &mut Runner) -> Result<[u64; 3], Fail> {
     if !step.fits(runner.settings()) {
         return Ok([0; 3]);
     }
-    match runner.step(&step)? {
+    match &runner.step(&step)? {
         Answer::Reply(
             Reply::Position {
                 position,
                 reserved,
                 available,
             },
-        ) => Ok([position, reserved, available]),
+        ) => Ok([*position, *reserved, *available]),
         _ => Ok([0; 3]),
     }
+}
+
+/// Three of five lines were refused, and the first participant has its money.
+fn has_answered(rt: &impl Abort, served: &mut Served) -> Result<(), Fail> {
+    let counts = Counts {
+        lines: 5,
+        refused: 3,
+    };
+    same(rt, served.counts, counts);
+    same(rt, money_of(&mut served.runner)?, [500, 500, 0]);
+    Ok(())
 }
 
 #[test]
@@ -59,11 +72,5 @@ fn leaves_the_hub_that_answered(rt: HostRuntime) -> Result<(), Fail> {
         &mut LINES.as_bytes(),
         &mut replies,
     )?;
-    let counts = Counts {
-        lines: 5,
-        refused: 3,
-    };
-    assert_eq!(rt; served.counts, counts);
-    assert_eq!(rt; money_of(&mut served.runner)?, [500, 500, 0]);
-    Ok(())
+    has_answered(&rt, &mut served)
 }

@@ -104,24 +104,45 @@ fn cut_after(
     are_replies(rt, &written, rows, front.len())
 }
 
-/// Compares what is written where the lines are cut after each byte, and before the first one.
-fn cut_after_each_byte(
+/// Compares what is written where this input is cut after each byte, and before the first one.
+fn cut_input(
     rt: &(impl Abort + AllocGlobal),
     mode: Mode,
+    settings: &Settings,
     rows: &[Row],
+    input: &[u8],
 ) -> Result<(), Fail> {
-    let settings = settings(rt.alloc())?;
-    let input = lines_of(rt.alloc(), rows)?;
     for len in 0..=input.len() {
-        cut_after(rt, mode, &settings, rows, &input[..len])?;
+        cut_after(rt, mode, settings, rows, &input[..len])?;
     }
     Ok(())
 }
 
+/// Compares what is written where the lines are cut after each byte, and before the first one.
+fn cut_after_each_byte(
+    rt: &(impl Abort + AllocGlobal),
+    mode: Mode,
+    settings: &Settings,
+    rows: &[Row],
+) -> Result<(), Fail> {
+    let input = lines_of(rt.alloc(), rows)?;
+    cut_input(rt, mode, settings, rows, &input)
+}
+
+/// Compares what a run writes for the commands, and what playing all lines writes.
+fn cut_in_each_mode(
+    rt: &(impl Abort + AllocGlobal),
+    settings: &Settings,
+    commands: &[Row],
+) -> Result<(), Fail> {
+    same(rt, commands.len(), 9);
+    cut_after_each_byte(rt, Mode::Run, settings, commands)?;
+    cut_after_each_byte(rt, Mode::Play, settings, STATEMENT_LINES)
+}
+
 #[test]
 fn statement_lines_cut_after_each_byte(rt: HostRuntime) -> Result<(), Fail> {
+    let settings = settings(rt.alloc())?;
     let commands = commands(rt.alloc(), STATEMENT_LINES)?;
-    same(&rt, commands.len(), 9);
-    cut_after_each_byte(&rt, Mode::Run, commands.as_slice())?;
-    cut_after_each_byte(&rt, Mode::Play, STATEMENT_LINES)
+    cut_in_each_mode(&rt, &settings, &commands)
 }

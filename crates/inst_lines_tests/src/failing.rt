@@ -21,7 +21,7 @@ const FUND_THEN_POSITION: &[Row] = &[
 ];
 
 /// How many bytes a read gives, or a write takes, at most.
-const SIZES: [usize; 4] = [1, 7, 64, 4_096];
+const SIZES: &[usize] = &[1, 7, 64, 4_096];
 
 /// How many of the bytes are those of whole lines.
 fn whole(bytes: &[u8]) -> usize {
@@ -64,12 +64,21 @@ fn reads_fail(
     Ok(())
 }
 
+/// The reader gives so many bytes at once, to a run and to a play.
+fn reads_fail_in_each_mode(
+    rt: &(impl Abort + AllocGlobal),
+    settings: &Settings,
+    most: usize,
+) -> Result<(), Fail> {
+    reads_fail(rt, settings, Mode::Run, most)?;
+    reads_fail(rt, settings, Mode::Play, most)
+}
+
 #[test]
 fn a_reader_fails_at_each_byte(rt: HostRuntime) -> Result<(), Fail> {
     let settings = settings(rt.alloc())?;
     for most in SIZES {
-        reads_fail(&rt, &settings, Mode::Run, most)?;
-        reads_fail(&rt, &settings, Mode::Play, most)?;
+        reads_fail_in_each_mode(&rt, &settings, *most)?;
     }
     Ok(())
 }
@@ -102,18 +111,53 @@ fn write_fails(
     same(rt, writer.taken.as_slice(), front);
 }
 
-/// The writer is full behind each byte but the last, and before the first one.
+/// The writer is full behind each byte of the replies but the last, and before the first one.
+fn writes_fail_in(
+    rt: &(impl Abort + AllocGlobal),
+    settings: &Settings,
+    mode: Mode,
+    taking: Taking,
+    input: &[u8],
+    replies: &[u8],
+) {
+    for room in 0..replies.len() {
+        write_fails(rt, settings, mode, taking, input, &replies[..room]);
+    }
+}
+
+/// The writer is full behind each byte but the last of what is written to this input, which are the replies.
 fn writes_fail(
     rt: &(impl Abort + AllocGlobal),
     settings: &Settings,
     mode: Mode,
     taking: Taking,
+    input: &[u8],
+) -> Result<(), Fail> {
+    let replies = written(rt.alloc(), mode, settings, input)?;
+    writes_fail_in(rt, settings, mode, taking, input, &replies);
+    are_replies(rt, &replies, FUND_THEN_POSITION, input.len())
+}
+
+/// The writer takes bytes so, from a run and from a play.
+fn writes_fail_in_each_mode(
+    rt: &(impl Abort + AllocGlobal),
+    settings: &Settings,
+    taking: Taking,
 ) -> Result<(), Fail> {
     let input = lines_of(rt.alloc(), FUND_THEN_POSITION)?;
-    let replies = written(rt.alloc(), mode, settings, &input)?;
-    are_replies(rt, &replies, FUND_THEN_POSITION, input.len())?;
-    for room in 0..replies.len() {
-        write_fails(rt, settings, mode, taking, &input, &replies[..room]);
+    writes_fail(rt, settings, Mode::Run, taking, &input)?;
+    writes_fail(rt, settings, Mode::Play, taking, &input)
+}
+
+/// The writer fails in each manner, and takes each size.
+fn writes_fail_in_each_manner(
+    rt: &(impl Abort + AllocGlobal),
+    settings: &Settings,
+) -> Result<(), Fail> {
+    for &most in SIZES {
+        for &manner in &[Manner::Fails, Manner::TakesNone] {
+            writes_fail_in_each_mode(rt, settings, Taking { most, manner })?;
+        }
     }
     Ok(())
 }
@@ -121,14 +165,7 @@ fn writes_fail(
 #[test]
 fn a_writer_fails_after_each_number_of_bytes(rt: HostRuntime) -> Result<(), Fail> {
     let settings = settings(rt.alloc())?;
-    for most in SIZES {
-        for manner in [Manner::Fails, Manner::TakesNone] {
-            let taking = Taking { most, manner };
-            writes_fail(&rt, &settings, Mode::Run, taking)?;
-            writes_fail(&rt, &settings, Mode::Play, taking)?;
-        }
-    }
-    Ok(())
+    writes_fail_in_each_manner(&rt, &settings)
 }
 
 /// Compares what is written where so many flushes come before the one that fails: the replies to so many bytes of the
@@ -157,13 +194,26 @@ fn flush_fails(
     are_replies(rt, &writer.taken, FUND_THEN_POSITION, len)
 }
 
-#[test]
-fn a_writer_fails_in_each_flush(rt: HostRuntime) -> Result<(), Fail> {
-    // A flush comes after each read in which a line ends. The first line has 64 bytes with its newline, the second 43.
-    let settings = settings(rt.alloc())?;
-    for (most, before, len) in [(1, 0, 64), (1, 1, 107), (4_096, 0, 107)] {
-        flush_fails(&rt, Mode::Run, &settings, most, before, len)?;
-        flush_fails(&rt, Mode::Play, &settings, most, before, len)?;
+/// How many bytes a read gives at most, how many flushes come before the one that fails, and how many bytes are
+/// answered. A flush comes after each read in which a line ends. The first line has 64 bytes with its newline, the
+/// second 43.
+const FLUSHES: &[(usize, usize, usize)] = &[(1, 0, 64), (1, 1, 107), (4_096, 0, 107)];
+
+/// Each of the flushes fails.
+fn flushes_fail(
+    rt: &(impl Abort + AllocGlobal),
+    mode: Mode,
+    settings: &Settings,
+) -> Result<(), Fail> {
+    for &(most, before, len) in FLUSHES {
+        flush_fails(rt, mode, settings, most, before, len)?;
     }
     Ok(())
+}
+
+#[test]
+fn a_writer_fails_in_each_flush(rt: HostRuntime) -> Result<(), Fail> {
+    let settings = settings(rt.alloc())?;
+    flushes_fail(&rt, Mode::Run, &settings)?;
+    flushes_fail(&rt, Mode::Play, &settings)
 }
