@@ -1,6 +1,8 @@
 //! Hubs that open again from the journals of a closed hub.
 ghost use Rattle.std.specs.Prelude.{◌≡◌, IfOk};
 ghost use Rattle.inst_model.specs.Rows as rows;
+ghost use Rattle.inst_model.specs.Interleaving.{IsInterleaving};
+ghost use Rattle.inst_world.specs.NextOpening.{CanOpenFrom};
 
 use crate::comparing::{same, same_at};
 use crate::told::{Told, is_told};
@@ -8,6 +10,7 @@ use inst_base::{Fault, Ident, Moment, mention};
 use inst_command::{Answer, Command, LineKind, Outcome, Step};
 use inst_journal::{Event, Journal};
 use inst_rows::{A, B, ask, books, confirm, fund, settings, submit};
+use inst_settings::Settings;
 use inst_slot::Slot;
 use inst_world::World;
 use std::alloc::Global;
@@ -80,15 +83,17 @@ fn carries(rt: &impl Abort, world: &mut World, steps: &[Step; 7]) -> Result<(), 
 
 /// A hub that opens from books in which a transfer was delivered.
 fn opened_again(alloc: Global) -> Result<World, Fault> {
+    let steps = delivered()?;
     let settings = settings(alloc)?;
-    let books = books(alloc, &settings, &delivered()?)?;
+    let books = books(alloc, &settings, &steps)?;
     Ok(World::open_from(alloc, &settings, &books)?)
 }
 
 #[test]
 fn carried_over_an_opening(rt: HostRuntime) -> Result<(), Fail> {
+    let steps = carried_over_an_opening_steps()?;
     let mut world = opened_again(rt.alloc())?;
-    carries(&rt, &mut world, &carried_over_an_opening_steps()?)
+    carries(&rt, &mut world, &steps)
 }
 
 /// All events but the last, if there is one.
@@ -113,23 +118,50 @@ fn go_on(rt: &impl Abort, slots: &[Slot], books: &[Journal]) {
     }
 }
 
+/// The slots of a hub that opens again from these journals go on.
+fn slots_go_on(
+    rt: &(impl Abort + AllocGlobal),
+    settings: &Settings,
+    journals: &[Journal],
+) -> Result<(), Fail>
+    requires { CanOpenFrom settings.now journals.now }
+{
+    let slots = World::open_from(rt.alloc(), settings, journals)?.into_slots();
+    go_on(rt, &slots, journals);
+    Ok(())
+}
+
 #[test]
 fn slots_by_number(rt: HostRuntime) -> Result<(), Fail> {
+    let steps = delivered()?;
     let settings = settings(rt.alloc())?;
-    let books = books(rt.alloc(), &settings, &delivered()?)?;
-    let slots = World::open_from(rt.alloc(), &settings, &books)?.into_slots();
-    go_on(&rt, &slots, &books);
+    let books = books(rt.alloc(), &settings, &steps)?;
+    slots_go_on(&rt, &settings, &books)
+}
+
+/// The steps are answered so at a hub that opens again from these journals.
+fn runs_from(
+    rt: &(impl Abort + AllocGlobal),
+    settings: &Settings,
+    journals: &[Journal],
+    steps: &[Step],
+    told: &[Told],
+) -> Result<(), Fail>
+    requires journals { CanOpenFrom settings.now journals.now }
+    requires fits { IsInterleaving settings.now steps.now }
+{
+    let (_, trace) = World::run_from(rt.alloc(), settings, journals, steps)?;
+    are_told(rt, trace.answers.as_slice(), told);
     Ok(())
 }
 
 #[test]
 fn run_from_books(rt: HostRuntime) -> Result<(), Fail> {
-    let settings = settings(rt.alloc())?;
-    let books = books(rt.alloc(), &settings, &delivered()?)?;
+    let before = delivered()?;
     let steps = carried_over_an_opening_steps()?;
-    let (_, trace) = World::run_from(rt.alloc(), &settings, &books, &steps)?;
-    are_told(&rt, trace.answers.as_slice(), &CARRIED);
-    Ok(())
+    let settings = settings(rt.alloc())?;
+    let books = books(rt.alloc(), &settings, &before)?;
+    runs_from(&rt, &settings, &books, &steps, &CARRIED)
 }
 
 fn one_settled() -> Result<[Step; 7], Fault>
@@ -198,10 +230,9 @@ const GIVEN_BACK: [Told; 6] = [
 
 #[test]
 fn places_given_back(rt: HostRuntime) -> Result<(), Fail> {
-    let settings = settings(rt.alloc())?;
-    let books = books(rt.alloc(), &settings, &one_settled()?)?;
+    let before = one_settled()?;
     let steps = places_given_back_steps()?;
-    let (_, trace) = World::run_from(rt.alloc(), &settings, &books, &steps)?;
-    are_told(&rt, trace.answers.as_slice(), &GIVEN_BACK);
-    Ok(())
+    let settings = settings(rt.alloc())?;
+    let books = books(rt.alloc(), &settings, &before)?;
+    runs_from(&rt, &settings, &books, &steps, &GIVEN_BACK)
 }

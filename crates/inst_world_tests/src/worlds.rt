@@ -120,13 +120,18 @@ fn is_submitted(rt: &impl Abort, world: &mut World) -> Result<(), Fail> {
     lies_at_the_first_place(rt, world, &Ident::new("T1")?)
 }
 
+/// A transfer is submitted, confirmed and learnt.
+fn goes_step_by_step(rt: &impl Abort, world: &mut World) -> Result<(), Fail> {
+    same(rt, world.settings().participants(), 3);
+    is_submitted(rt, world)?;
+    is_confirmed(rt, world)?;
+    is_learnt(rt, world)
+}
+
 #[test]
 fn a_world_goes_step_by_step(rt: HostRuntime) -> Result<(), Fail> {
     let mut world = World::open(rt.alloc(), &settings(rt.alloc())?)?;
-    same(&rt, world.settings().participants(), 3);
-    is_submitted(&rt, &mut world)?;
-    is_confirmed(&rt, &mut world)?;
-    is_learnt(&rt, &mut world)
+    goes_step_by_step(&rt, &mut world)
 }
 
 /// Runs the line as a run does, and goes over what it names and what is due; it must not be refused.
@@ -144,14 +149,24 @@ fn run_line(
     Ok(())
 }
 
+/// Runs the lines one after another.
+fn run_lines(
+    rt: &(impl Abort + AllocGlobal),
+    runner: &mut Runner,
+    lines: &str,
+) -> Result<(), Fail> {
+    let mut reader = LineReader::new(rt.alloc());
+    for line in lines.lines() {
+        run_line(rt, &mut reader, runner, line)?;
+    }
+    Ok(())
+}
+
 /// Answers these lines at a hub of its own.
 fn run_after(rt: &(impl Abort + AllocGlobal), lines: &str) -> Result<Runner, Fail> {
     let settings = settings(rt.alloc())?;
     let mut runner = Runner::open(rt.alloc(), &settings)?;
-    let mut reader = LineReader::new(rt.alloc());
-    for line in lines.lines() {
-        run_line(rt, &mut reader, &mut runner, line)?;
-    }
+    run_lines(rt, &mut runner, lines)?;
     Ok(runner)
 }
 
@@ -169,6 +184,12 @@ fn both_are_told(rt: &impl Abort, world: &World) -> Result<(), Fail> {
     journal_is(rt, world, 2, &at_third)
 }
 
+/// Both beneficiaries are told, and the first participant has its money back.
+fn both_have_ended(rt: &impl Abort, world: &World) -> Result<(), Fail> {
+    both_are_told(rt, world)?;
+    money_is(rt, world, [(50_000, 0), (0, 0), (0, 0)])
+}
+
 /// The histories show what the replies of a run don't: that each side books each outcome, the originator
 /// before its transfer may expire.
 #[test]
@@ -182,8 +203,7 @@ fn a_run_tells_both_sides(rt: HostRuntime) -> Result<(), Fail> {
 {"at":11000,"cmd":"position","who":"BBBBFRPP"}
 "#,
     )?;
-    both_are_told(&rt, &runner.world)?;
-    money_is(&rt, &runner.world, [(50_000, 0), (0, 0), (0, 0)])
+    both_have_ended(&rt, &runner.world)
 }
 
 #[test]
