@@ -1,6 +1,6 @@
 //! What is done, one act after another, what is answered, and what is kept.
 use crate::answers::{Told, tells};
-use crate::histories::{Kept, copied, keeps};
+use crate::histories::{Kept, are_copied, copied, keeps};
 use inst_base::{Cents, Fault, Ident, Moment, Reason, mention};
 use inst_board::Place;
 use inst_command::{Answer, Command, Submission};
@@ -153,8 +153,7 @@ fn answer(
     if !matches!(&answer, Err(Fault::Memory)) {
         return answer;
     }
-    let after = copied(slots.history(who));
-    assert!(rt; before.0 == after.0 && before.1 == after.1);
+    assert!(rt; are_copied(slots.history(who), &before));
     slots.act(who, act, at)
 }
 
@@ -179,7 +178,7 @@ fn answers(rt: &impl Abort, slots: &mut Slots, rows: &[Row]) -> Result<(), Fail>
 fn follows(rt: &impl Abort, slots: &mut Slots, case: &Case) -> Result<(), Fail> {
     answers(rt, slots, case.rows)?;
     for (who, history) in case.histories.iter().enumerate() {
-        keeps(rt, slots.history(who as u8), history)?;
+        keeps(rt, slots.history(who as u8), history);
     }
     Ok(())
 }
@@ -200,17 +199,28 @@ fn opened_again(alloc: Global, books: &Slots, is_first_new: bool) -> Result<Slot
     }
 }
 
-/// What the case tells comes so after T1 was submitted.
-pub(crate) fn comes(rt: &(impl Abort + AllocGlobal), case: &Case) -> Result<Slots, Fail> {
+/// T1 is submitted, and then the hub follows the case.
+fn submits_and_follows(rt: &impl Abort, slots: &mut Slots, case: &Case) -> Result<(), Fail> {
+    answers(rt, slots, SUBMITTED)?;
+    follows(rt, slots, case)
+}
+
+/// The hub that followed the case after T1 was submitted.
+fn followed(rt: &(impl Abort + AllocGlobal), case: &Case) -> Result<Slots, Fail> {
     mention::<Kept>();
     let mut slots = opened(rt.alloc(), case.margin)?;
-    answers(rt, &mut slots, SUBMITTED)?;
-    follows(rt, &mut slots, case)?;
+    submits_and_follows(rt, &mut slots, case)?;
     Ok(slots)
 }
 
+/// What the case tells comes so after T1 was submitted.
+pub(crate) fn comes(rt: &(impl Abort + AllocGlobal), case: &Case) -> Result<(), Fail> {
+    followed(rt, case)?;
+    Ok(())
+}
+
 /// What the case tells comes so at a hub that opens again from the books of this one.
-pub(crate) fn comes_again(
+fn follows_again(
     rt: &(impl Abort + AllocGlobal),
     books: &Slots,
     is_first_new: bool,
@@ -218,4 +228,15 @@ pub(crate) fn comes_again(
 ) -> Result<(), Fail> {
     let mut slots = opened_again(rt.alloc(), books, is_first_new)?;
     follows(rt, &mut slots, case)
+}
+
+/// What the case tells comes so at a hub that opens again from the books of one that followed the case `before`.
+pub(crate) fn comes_again(
+    rt: &(impl Abort + AllocGlobal),
+    before: &Case,
+    is_first_new: bool,
+    case: &Case,
+) -> Result<(), Fail> {
+    let books = followed(rt, before)?;
+    follows_again(rt, &books, is_first_new, case)
 }

@@ -63,8 +63,7 @@ const CONFIRMED_BEFORE_EXPIRE: Case = Case {
 
 #[test]
 fn confirmed_before_expire(rt: HostRuntime) -> Result<(), Fail> {
-    comes(&rt, &CONFIRMED_BEFORE_EXPIRE)?;
-    Ok(())
+    comes(&rt, &CONFIRMED_BEFORE_EXPIRE)
 }
 
 const CONFIRMED_LATE: Case = Case {
@@ -97,8 +96,7 @@ const CONFIRMED_LATE: Case = Case {
 
 #[test]
 fn confirmed_late(rt: HostRuntime) -> Result<(), Fail> {
-    comes(&rt, &CONFIRMED_LATE)?;
-    Ok(())
+    comes(&rt, &CONFIRMED_LATE)
 }
 
 const UNTOLD_THEN_LEARNT: Case = Case {
@@ -137,8 +135,7 @@ const UNTOLD_THEN_LEARNT: Case = Case {
 
 #[test]
 fn untold_then_learnt(rt: HostRuntime) -> Result<(), Fail> {
-    comes(&rt, &UNTOLD_THEN_LEARNT)?;
-    Ok(())
+    comes(&rt, &UNTOLD_THEN_LEARNT)
 }
 
 const REJECTED_WITH_REASON: Case = Case {
@@ -181,8 +178,7 @@ const REJECTED_WITH_REASON: Case = Case {
 
 #[test]
 fn rejected_with_reason(rt: HostRuntime) -> Result<(), Fail> {
-    comes(&rt, &REJECTED_WITH_REASON)?;
-    Ok(())
+    comes(&rt, &REJECTED_WITH_REASON)
 }
 
 const CONFIRMED_IN_THE_MARGIN: Case = Case {
@@ -229,6 +225,5 @@ const CONFIRMED_IN_THE_MARGIN: Case = Case {
 
 #[test]
 fn confirmed_in_the_margin(rt: HostRuntime) -> Result<(), Fail> {
-    comes(&rt, &CONFIRMED_IN_THE_MARGIN)?;
-    Ok(())
+    comes(&rt, &CONFIRMED_IN_THE_MARGIN)
 }

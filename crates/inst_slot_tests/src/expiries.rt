@@ -35,8 +35,7 @@ const EXPIRE_BEFORE_CONFIRM: Case = Case {
 
 #[test]
 fn expire_before_confirm(rt: HostRuntime) -> Result<(), Fail> {
-    comes(&rt, &EXPIRE_BEFORE_CONFIRM)?;
-    Ok(())
+    comes(&rt, &EXPIRE_BEFORE_CONFIRM)
 }
 
 const EXPIRED_BEFORE_DELIVERY: Case = Case {
@@ -65,8 +64,7 @@ const EXPIRED_BEFORE_DELIVERY: Case = Case {
 
 #[test]
 fn expired_before_delivery(rt: HostRuntime) -> Result<(), Fail> {
-    comes(&rt, &EXPIRED_BEFORE_DELIVERY)?;
-    Ok(())
+    comes(&rt, &EXPIRED_BEFORE_DELIVERY)
 }
 
 const INVESTIGATE_AT_THE_DEADLINE: Case = Case {
@@ -106,8 +104,7 @@ const INVESTIGATE_AT_THE_DEADLINE: Case = Case {
 
 #[test]
 fn investigate_at_the_deadline(rt: HostRuntime) -> Result<(), Fail> {
-    comes(&rt, &INVESTIGATE_AT_THE_DEADLINE)?;
-    Ok(())
+    comes(&rt, &INVESTIGATE_AT_THE_DEADLINE)
 }
 
 const DUE_ONE_AFTER_ANOTHER: Case = Case {
@@ -159,6 +156,5 @@ const DUE_ONE_AFTER_ANOTHER: Case = Case {
 
 #[test]
 fn due_one_after_another(rt: HostRuntime) -> Result<(), Fail> {
-    comes(&rt, &DUE_ONE_AFTER_ANOTHER)?;
-    Ok(())
+    comes(&rt, &DUE_ONE_AFTER_ANOTHER)
 }

@@ -2,7 +2,6 @@
 use inst_journal::Event;
 use inst_rows::{End, is_end};
 use std::process::Abort;
-use std::test::Fail;
 
 #[derive(Clone, Copy)]
 pub(crate) enum Kept {
@@ -56,13 +55,20 @@ fn is_kept(event: &Event, kept: &Kept) -> bool {
     }
 }
 
-/// Compares a history, event by event.
-pub(crate) fn keeps(rt: &impl Abort, events: &[Event], wanted: &[Kept]) -> Result<(), Fail> {
-    assert_eq!(rt; events.len(), wanted.len());
+/// The number of the first event that is another one than is wanted, if there is one.
+fn first_other(events: &[Event], wanted: &[Kept]) -> Option<usize> {
     for (nth, (event, kept)) in events.iter().zip(wanted).enumerate() {
-        assert!(rt; is_kept(event, kept), "event {nth}");
+        if !is_kept(event, kept) {
+            return Some(nth);
+        }
     }
-    Ok(())
+    None
+}
+
+/// Compares a history, event by event.
+pub(crate) fn keeps(rt: &impl Abort, events: &[Event], wanted: &[Kept]) {
+    let found = (events.len(), first_other(events, wanted));
+    assert_eq!(rt; found, (wanted.len(), None));
 }
 
 /// The number of the events and the first of them.
@@ -72,4 +78,9 @@ pub(crate) fn copied(events: &[Event]) -> (usize, [Option<Event>; 16]) {
         *copy = Some(*event);
     }
     (events.len(), copies)
+}
+
+/// Whether these are as many events, and the first of them are the same.
+pub(crate) fn are_copied(events: &[Event], copies: &(usize, [Option<Event>; 16])) -> bool {
+    copied(events) == *copies
 }

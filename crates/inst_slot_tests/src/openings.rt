@@ -1,6 +1,6 @@
 //! Slots that open again from the books of a hub.
 use crate::answers::Told;
-use crate::cases::{Case, Does, comes, comes_again};
+use crate::cases::{Case, Does, comes_again};
 use crate::histories::Kept;
 use inst_base::Fault;
 use inst_command::LineKind;
@@ -116,8 +116,7 @@ const CARRIED_AND_ADOPTED: Case = Case {
 
 #[test]
 fn carried_and_adopted(rt: HostRuntime) -> Result<(), Fail> {
-    let books = comes(&rt, &ONE_SETTLED)?;
-    comes_again(&rt, &books, false, &CARRIED_AND_ADOPTED)
+    comes_again(&rt, &ONE_SETTLED, false, &CARRIED_AND_ADOPTED)
 }
 
 /// The settled transfer has given its place back, and a repeat of it takes none.
@@ -186,8 +185,7 @@ const PLACES_GIVEN_BACK: Case = Case {
 
 #[test]
 fn places_given_back(rt: HostRuntime) -> Result<(), Fail> {
-    let books = comes(&rt, &ONE_SETTLED)?;
-    comes_again(&rt, &books, false, &PLACES_GIVEN_BACK)
+    comes_again(&rt, &ONE_SETTLED, false, &PLACES_GIVEN_BACK)
 }
 
 /// T1 and T2 are pending.
@@ -257,8 +255,7 @@ const OTHER_TERMS: Case = Case {
 
 #[test]
 fn other_terms(rt: HostRuntime) -> Result<(), Fail> {
-    let books = comes(&rt, &BOTH_PENDING)?;
-    comes_again(&rt, &books, true, &OTHER_TERMS)
+    comes_again(&rt, &BOTH_PENDING, true, &OTHER_TERMS)
 }
 
 /// The places of the same transfers are found in any order.
@@ -311,6 +308,5 @@ const SAME_TERMS: Case = Case {
 
 #[test]
 fn same_terms(rt: HostRuntime) -> Result<(), Fail> {
-    let books = comes(&rt, &BOTH_PENDING)?;
-    comes_again(&rt, &books, true, &SAME_TERMS)
+    comes_again(&rt, &BOTH_PENDING, true, &SAME_TERMS)
 }

@@ -36,8 +36,7 @@ const WRONG_DELIVERIES: Case = Case {
 
 #[test]
 fn wrong_deliveries(rt: HostRuntime) -> Result<(), Fail> {
-    comes(&rt, &WRONG_DELIVERIES)?;
-    Ok(())
+    comes(&rt, &WRONG_DELIVERIES)
 }
 
 const PLACES_FULL_AND_FETCHED: Case = Case {
@@ -101,8 +100,7 @@ const PLACES_FULL_AND_FETCHED: Case = Case {
 
 #[test]
 fn places_full_and_fetched(rt: HostRuntime) -> Result<(), Fail> {
-    comes(&rt, &PLACES_FULL_AND_FETCHED)?;
-    Ok(())
+    comes(&rt, &PLACES_FULL_AND_FETCHED)
 }
 
 const EACH_AT_ITS_PLACE: Case = Case {
@@ -157,6 +155,5 @@ const EACH_AT_ITS_PLACE: Case = Case {
 
 #[test]
 fn each_at_its_place(rt: HostRuntime) -> Result<(), Fail> {
-    comes(&rt, &EACH_AT_ITS_PLACE)?;
-    Ok(())
+    comes(&rt, &EACH_AT_ITS_PLACE)
 }
