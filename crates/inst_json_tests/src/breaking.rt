@@ -131,7 +131,7 @@ fn is_left(line: &[u8]) -> bool {
 }
 
 /// Why a line is refused, if it is.
-fn refusal(alloc: Global, hub: &Settings, line: &[u8]) -> Option<Fault> {
+pub(crate) fn refusal(alloc: Global, hub: &Settings, line: &[u8]) -> Option<Fault> {
     mention::<Command>();
     read_command(alloc, hub, line).err()
 }

@@ -1,11 +1,10 @@
 //! What lines are refused for, in the order of the refusals.
+use crate::breaking::refusal;
 use crate::comparing::{same, same_at};
 use crate::hub::{MOST, hub};
-use inst_base::{Fault, mention};
-use inst_command::Command;
-use inst_json::{LineReader, Name, Refusal, read_command, read_step};
+use inst_base::Fault;
+use inst_json::{LineReader, Name, Refusal, read_step};
 use inst_settings::Settings;
-use std::alloc::Global;
 use std::process::Abort;
 use std::test::Fail;
 
@@ -122,12 +121,6 @@ const STEPS: &[Row] = &[
     ("[\"step\"]", Fault::BadField),
     ("{\"step\"", Fault::NotJson),
 ];
-
-/// What a line is refused for, if it is.
-fn refusal(alloc: Global, hub: &Settings, line: &[u8]) -> Option<Fault> {
-    mention::<Command>();
-    read_command(alloc, hub, line).err()
-}
 
 fn refuses_commands(rt: &(impl Abort + AllocGlobal), hub: &Settings) {
     for (line, fault) in COMMANDS {
