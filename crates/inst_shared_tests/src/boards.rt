@@ -141,30 +141,38 @@ fn seen(
 
 #[test]
 fn a_peek_loads(rt: HostRuntime) -> Result<(), Fault> {
-    let (before, outcome, after) = seen(rt.alloc(), 0, Wish::Accept, 10_999)?;
-    assert_eq!(rt; before, State::Pending);
-    assert_eq!(rt; outcome, Some(Outcome::Accepted));
-    assert_eq!(rt; after, State::Decided(Outcome::Accepted));
+    let seen = seen(rt.alloc(), 0, Wish::Accept, 10_999)?;
+    assert_eq!(rt;
+        seen,
+        (
+            State::Pending,
+            Some(Outcome::Accepted),
+            State::Decided(Outcome::Accepted)
+        )
+    );
     Ok(())
 }
 
 #[test]
 fn a_rejection_is_seen(rt: HostRuntime) -> Result<(), Fault> {
     let reason = Reason::new("AC04")?;
-    let (before, outcome, after) = seen(rt.alloc(), 2_000, Wish::Reject(reason), 10_999)?;
-    assert_eq!(rt; before, State::Pending);
-    assert_eq!(rt; outcome, Some(Outcome::Rejected(reason)));
-    assert_eq!(rt; after, State::Decided(Outcome::Rejected(reason)));
+    let seen = seen(rt.alloc(), 2_000, Wish::Reject(reason), 10_999)?;
+    let outcome = Some(Outcome::Rejected(reason));
+    let after = State::Decided(Outcome::Rejected(reason));
+    assert_eq!(rt; seen, (State::Pending, outcome, after));
     Ok(())
 }
 
 #[test]
 fn nothing_is_accepted_in_the_margin(rt: HostRuntime) -> Result<(), Fault> {
-    let (before, outcome, after) = seen(rt.alloc(), 2_000, Wish::Accept, 9_000)?;
-    assert_eq!(rt; before, State::Pending);
-    assert_eq!(rt; outcome, None);
-    assert_eq!(rt; after, State::Pending);
+    let seen = seen(rt.alloc(), 2_000, Wish::Accept, 9_000)?;
+    assert_eq!(rt; seen, (State::Pending, None, State::Pending));
     Ok(())
+}
+
+/// What a look and a glance show.
+fn both_shown(board: &mut SharedBoard, place: Place) -> (Look, Option<Glance>) {
+    (board.look(place), glanced(board, place))
 }
 
 #[test]
@@ -176,32 +184,45 @@ fn what_was_opened_is_dealt(rt: HostRuntime) -> Result<(), Fault> {
         id: Ident::new("T1")?,
     };
     let deadline = Moment::new(0, 11_000)?;
-    let (mut first, mut second) = deal_two(rt.alloc(), place, &terms, deadline)?;
-    assert_eq!(rt; first.look(place), Look::Pending(terms, deadline));
-    let pending = Some(Glance::Pending(deadline));
-    assert_eq!(rt; glanced(&mut first, place), pending);
     let at = Moment::new(0, 10_999)?;
+    let (mut first, mut second) = deal_two(rt.alloc(), place, &terms, deadline)?;
+    let pending = both_shown(&mut first, place);
     let accepted = answer(&mut second, 1, place, Wish::Accept, at);
-    assert_eq!(rt; accepted, Some(Outcome::Accepted));
-    assert_eq!(rt; first.look(place), Look::Decided(terms, Outcome::Accepted));
-    let decided = Some(Glance::Decided(Outcome::Accepted));
-    assert_eq!(rt; glanced(&mut first, place), decided);
+    let decided = both_shown(&mut first, place);
+    let outcome = Outcome::Accepted;
+    assert_eq!(rt;
+        (pending, accepted, decided),
+        (
+            (
+                Look::Pending(terms, deadline),
+                Some(Glance::Pending(deadline))
+            ),
+            Some(outcome),
+            (
+                Look::Decided(terms, outcome),
+                Some(Glance::Decided(outcome))
+            ),
+        )
+    );
     Ok(())
+}
+
+/// How many boards and sights a hub of so many tellers opens with.
+fn lengths(alloc: Global, settings: &Settings, tellers: u8) -> Result<(usize, usize), Fault> {
+    let (boards, sights) = SharedBoard::open(alloc, settings, tellers)?;
+    Ok((boards.len(), sights.len()))
 }
 
 #[test]
 fn tellers_are_one_to_sixteen(rt: HostRuntime) -> Result<(), Fault> {
     let settings = settings(rt.alloc(), 0)?;
     for tellers in 0..=MOST_TELLERS + 1 {
-        match SharedBoard::open(rt.alloc(), &settings, tellers) {
-            Ok((boards, sights)) => assert!(rt;
-                boards.len() == 2 && sights.len() == usize::from(tellers)
-            ),
-            Err(fault) => {
-                assert_eq!(rt; fault, Fault::BadSettings);
-                assert!(rt; tellers == 0 || tellers > MOST_TELLERS);
-            }
-        }
+        let expected = if tellers == 0 || tellers > MOST_TELLERS {
+            Err(Fault::BadSettings)
+        } else {
+            Ok((2, usize::from(tellers)))
+        };
+        assert_eq!(rt; lengths(rt.alloc(), &settings, tellers), expected);
     }
     Ok(())
 }

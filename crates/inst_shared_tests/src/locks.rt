@@ -188,16 +188,41 @@ fn books(row: Row, seat: Caller) -> (Book, Book)
     (first, second)
 }
 
+/// How many entries two guests find in the second book, and one in the first.
+fn visit_thrice<R: Wait>(rt: &R, row: &Row, seat: &mut Caller) -> [Option<usize>; 3]
+    requires on { IsOn (row_id row.now) (key_of row.now) seat.old }
+    requires two { 1 < size row.now }
+    requires free { IsFree seat.old }
+    ensures on { IsOn (row_id row.now) (key_of row.now) seat.new }
+    ensures free { IsFree seat.new }
+    ensures parts { (view_of seat.new).parts ≡ (view_of seat.old).parts }
+{
+    [
+        visit(rt, row, seat, 1, 5),
+        visit(rt, row, seat, 1, 6),
+        visit(rt, row, seat, 0, 7),
+    ]
+}
+
 #[test]
 fn a_lock_has_what_was_left_behind_it(rt: HostRuntime) -> Result<(), Fail> {
     let (row, mut seat) = open_two(rt.alloc())?;
-    assert_eq!(rt; visit(&rt, &row, &mut seat, 1, 5), Some(0));
-    assert_eq!(rt; visit(&rt, &row, &mut seat, 1, 6), Some(1));
-    assert_eq!(rt; visit(&rt, &row, &mut seat, 0, 7), Some(0));
+    let found = visit_thrice(&rt, &row, &mut seat);
     let (first, second) = books(row, seat);
-    assert!(rt; first.guests.as_slice() == [7].as_slice());
-    assert!(rt; second.guests.as_slice() == [5, 6].as_slice());
+    assert_eq!(rt;
+        (found, first.guests.as_slice(), second.guests.as_slice()),
+        (
+            [Some(0), Some(1), Some(0)],
+            [7].as_slice(),
+            [5, 6].as_slice()
+        )
+    );
     Ok(())
+}
+
+/// How often the guest stands in the book.
+fn visits(book: &Book, guest: u64) -> u64 {
+    book.guests.iter().filter(|x| **x == guest).count() as u64
 }
 
 #[test]
@@ -205,14 +230,10 @@ fn two_threads_lose_nothing(rt: HostRuntime) -> Result<(), Fail> {
     let (row, mut one) = open_two(rt.alloc())?;
     let two = row.split(&mut one);
     let ((mut one, written), (two, also)) = visit_together(&rt, &row, one, two);
-    assert!(rt; written && also);
     row.join(&mut one, two);
     let (first, second) = books(row, one);
-    assert!(rt; first.guests.is_empty());
-    for guest in 1..3 {
-        let count = second.guests.iter().filter(|x| **x == guest).count();
-        assert_eq!(rt; count as u64, VISITS);
-    }
+    assert_eq!(rt; (written, also, first.guests.len()), (true, true, 0));
+    assert_eq!(rt; [visits(&second, 1), visits(&second, 2)], [VISITS; 2]);
     Ok(())
 }
 
