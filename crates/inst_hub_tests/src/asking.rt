@@ -6,6 +6,8 @@ ghost use Rattle.inst_hub.specs.Calls.{IsOf, AreOf};
 use inst_base::{Cents, Fault, Ident, Moment};
 use inst_command::{Ask, Command, Reply, State, Submission};
 use inst_hub::{Hub, Teller, Ticket};
+use inst_settings::Settings;
+use std::alloc::Global;
 use std::sync::Wait;
 
 pub(crate) fn fund(cents: u64) -> Result<Command, Fault> {
@@ -50,6 +52,26 @@ pub(crate) fn last(hub: &Hub, tellers: &mut Vec<Teller>) -> Result<Teller, Fault
         Some(teller) => Ok(teller),
         None => Err(Fault::BadSettings),
     }
+}
+
+/// The last two tellers of these.
+pub(crate) fn last_two(hub: &Hub, tellers: &mut Vec<Teller>) -> Result<(Teller, Teller), Fault>
+    requires { AreOf hub.now tellers.old.items }
+    ensures last { IfOk result (λ two. IsOf hub.now two.0 × IsOf hub.now two.1) }
+    ensures rest { AreOf hub.now tellers.new.items }
+{
+    let second = last(hub, tellers)?;
+    let first = last(hub, tellers)?;
+    Ok((first, second))
+}
+
+/// A hub with one teller.
+pub(crate) fn opened(alloc: Global, settings: Settings) -> Result<(Hub, Teller), Fault>
+    ensures { IfOk result (λ r. IsOf r.0 r.1) }
+{
+    let (hub, mut tellers) = Hub::open(alloc, settings, 1)?;
+    let teller = last(&hub, &mut tellers)?;
+    Ok((hub, teller))
 }
 
 /// The state that the reply tells, if any.
@@ -103,6 +125,22 @@ pub(crate) fn ask<R: Wait>(
     Ok(hub.call(rt, teller, &fitting(hub, who, command, at)?)?)
 }
 
+/// The state that the reply to a command tells, if any.
+pub(crate) fn told<R: Wait>(
+    rt: &R,
+    hub: &Hub,
+    teller: &mut Teller,
+    who: u8,
+    command: Command,
+    at: u64,
+) -> Result<Option<State>, Fault>
+    requires { IsOf hub.now teller.old }
+    ensures { IsOf hub.now teller.new }
+{
+    let (reply, _) = ask(rt, hub, teller, who, command, at)?;
+    Ok(state_of(&reply))
+}
+
 /// The position, reserved and available cents of a participant, if the reply tells them.
 pub(crate) fn money<R: Wait>(
     rt: &R,
@@ -123,7 +161,7 @@ pub(crate) fn submitted<R: Wait>(rt: &R, hub: &Hub, teller: &mut Teller) -> Resu
     requires { IsOf hub.now teller.old }
     ensures { IsOf hub.now teller.new }
 {
-    ask(rt, hub, teller, 0, fund(50_000)?, 0)?;
+    told(rt, hub, teller, 0, fund(50_000)?, 0)?;
     let (_, ticket) = ask(rt, hub, teller, 0, submit("T1", 20_000)?, 1_000)?;
     ticket.ok_or(Fault::UnknownTransfer)
 }

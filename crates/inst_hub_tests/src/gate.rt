@@ -1,7 +1,7 @@
 //! A call that has one participant's lock holds up other calls of that participant, and nobody else.
 ghost use Rattle.inst_hub.specs.Calls.{IsOf, AreOf};
 
-use crate::asking::{ask, fitting, last, submitted};
+use crate::asking::{fitting, last, last_two, submitted, told};
 use crate::comparing::same;
 use crate::start::Start;
 use inst_base::{Fault, mention};
@@ -100,7 +100,7 @@ fn queued<R: Wait>(rt: &R, hub: &Hub, teller: &mut Teller, gate: &Waits) -> Resu
     requires { IsOf hub.now teller.old }
 {
     gate.begin();
-    ask(rt, hub, teller, 0, Command::Position, 1_000)?;
+    told(rt, hub, teller, 0, Command::Position, 1_000)?;
     gate.queued.arrive();
     Ok(())
 }
@@ -110,7 +110,7 @@ fn answered<R: Wait>(rt: &R, hub: &Hub, teller: &mut Teller, gate: &Waits) -> Re
     requires { IsOf hub.now teller.old }
 {
     gate.begin();
-    ask(rt, hub, teller, 2, Command::Position, 1_000)?;
+    told(rt, hub, teller, 2, Command::Position, 1_000)?;
     gate.done.arrive();
     Ok(())
 }
@@ -159,8 +159,7 @@ fn meanwhile<R: Threads + Wait + Sync>(
             requires { IsOf hub.now second }
         { apart(rt, hub, second, third, ticket, gate) },
     );
-    queued?;
-    answered?;
+    queued.and(answered)?;
     Ok(state)
 }
 
@@ -183,8 +182,8 @@ fn through<R: Threads + Wait + Sync>(
             requires { IsOf hub.now others.0 × IsOf hub.now others.1 }
         { meanwhile(rt, hub, others, ticket, seen) },
     );
-    held?;
-    Ok((state?, gate.seen()))
+    let state = held.and(state)?;
+    Ok((state, gate.seen()))
 }
 
 /// What is seen by four tellers, of which the last has submitted a transfer.
@@ -196,10 +195,9 @@ fn seen<R: Threads + Wait + Sync>(
     requires { AreOf hub.now tellers.old.items }
 {
     let mut fourth = last(hub, tellers)?;
-    let third = last(hub, tellers)?;
-    let second = last(hub, tellers)?;
-    let first = last(hub, tellers)?;
     let ticket = submitted(rt, hub, &mut fourth)?;
+    let third = last(hub, tellers)?;
+    let (first, second) = last_two(hub, tellers)?;
     through(rt, hub, first, (second, third, fourth), &ticket)
 }
 

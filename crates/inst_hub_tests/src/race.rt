@@ -1,7 +1,7 @@
 //! One thread confirms transfers at the last moment in time while another investigates them at the deadline.
 ghost use Rattle.inst_hub.specs.Calls.{IsOf, AreOf};
 
-use crate::asking::{ask, fund, last, money, state_of, submit};
+use crate::asking::{fund, last, last_two, money, submit, told};
 use crate::comparing::same;
 use crate::start::Start;
 use inst_base::{Fault, Ident};
@@ -29,10 +29,10 @@ fn submit_all<R: Wait>(rt: &R, alloc: Global, hub: &Hub, teller: &mut Teller) ->
     requires { IsOf hub.now teller.old }
     ensures { IsOf hub.now teller.new }
 {
-    ask(rt, hub, teller, 0, fund(FUNDS)?, 0)?;
+    told(rt, hub, teller, 0, fund(FUNDS)?, 0)?;
     for index in 0..TRANSFERS {
         let id = name(alloc, index)?;
-        ask(rt, hub, teller, 0, submit(id.text(), 200)?, 1_000)?;
+        told(rt, hub, teller, 0, submit(id.text(), 200)?, 1_000)?;
     }
     Ok(())
 }
@@ -94,10 +94,17 @@ fn decide_all<R: Wait>(
     };
     for index in 0..TRANSFERS {
         let command = question(alloc, who, index)?;
-        let (reply, _) = ask(rt, hub, teller, who, command, at)?;
-        count = count.with(state_of(&reply))?;
+        count = count.with(told(rt, hub, teller, who, command, at)?)?;
     }
     Ok(count)
+}
+
+/// What both sides were answered, or the first fault.
+fn both(
+    investigated: Result<Count, Fault>,
+    confirmed: Result<Count, Fault>,
+) -> Result<(Count, Count), Fault> {
+    Ok((investigated?, confirmed?))
 }
 
 /// What both sides were answered in two threads.
@@ -116,7 +123,7 @@ fn race<R: Threads + Wait + Sync>(
         || decide_all(rt, alloc, hub, &mut first, 0, 11_000, &start),
         || decide_all(rt, alloc, hub, &mut second, 1, 10_999, &start),
     );
-    Ok((investigated?, confirmed?))
+    both(investigated, confirmed)
 }
 
 /// What both sides were answered, and what the originator and the beneficiary then have.
@@ -140,6 +147,24 @@ fn expected(count: Count) -> Ended {
     }
 }
 
+/// What the originator and the beneficiary have, where both sides were answered so.
+fn after_race<R: Wait>(
+    rt: &R,
+    hub: &Hub,
+    teller: &mut Teller,
+    counts: (Count, Count),
+) -> Result<Ended, Fault>
+    requires { IsOf hub.now teller.old }
+{
+    let (investigated, confirmed) = counts;
+    Ok(Ended {
+        investigated,
+        confirmed,
+        left: money(rt, hub, teller, 0, 11_000)?,
+        paid: money(rt, hub, teller, 1, 11_000)?,
+    })
+}
+
 /// All transfers are submitted, and raced for by the first two of three tellers.
 fn raced<R: Threads + Wait + Sync>(
     rt: &R,
@@ -150,16 +175,9 @@ fn raced<R: Threads + Wait + Sync>(
     requires { AreOf hub.now tellers.old.items }
 {
     let mut third = last(hub, tellers)?;
-    let second = last(hub, tellers)?;
-    let first = last(hub, tellers)?;
     submit_all(rt, alloc, hub, &mut third)?;
-    let (investigated, confirmed) = race(rt, alloc, hub, (first, second))?;
-    Ok(Ended {
-        investigated,
-        confirmed,
-        left: money(rt, hub, &mut third, 0, 11_000)?,
-        paid: money(rt, hub, &mut third, 1, 11_000)?,
-    })
+    let counts = race(rt, alloc, hub, last_two(hub, tellers)?)?;
+    after_race(rt, hub, &mut third, counts)
 }
 
 // Both sides are told the same of each transfer, so they count the same, and the money is where it was decided to be.

@@ -3,7 +3,7 @@ ghost use Rattle.std.specs.Prelude.{◌≡◌, IfOk};
 ghost use Rattle.inst_model.specs.Rows as rows;
 ghost use Rattle.inst_hub.specs.Calls.{IsOf};
 
-use crate::asking::{ask, confirm, investigate, last, money, state_of};
+use crate::asking::{ask, confirm, investigate, last, money, state_of, told};
 use crate::comparing::same;
 use inst_base::Fault;
 use inst_command::{Outcome, State, Step};
@@ -54,17 +54,18 @@ fn confirmed<R: Wait>(rt: &R, hub: &Hub, teller: &mut Teller) -> Result<Told, Fa
     requires { IsOf hub.now teller.old }
 {
     let before = money(rt, hub, teller, 0, 2_000)?;
-    let (answer, _) = ask(rt, hub, teller, 1, confirm("T2")?, 2_000)?;
+    let state = told(rt, hub, teller, 1, confirm("T2")?, 2_000)?;
     let after = money(rt, hub, teller, 0, 2_000)?;
-    Ok((before, state_of(&answer), after))
+    Ok((before, state, after))
 }
 
 /// The hub that opens from the books of the other one, with its teller.
 fn opened_again(alloc: Global) -> Result<(Hub, Teller), Fault>
     ensures { IfOk result (λ r. IsOf r.0 r.1) }
 {
+    let steps = one_settled()?;
     let settings = settings(alloc)?;
-    let books = books(alloc, &settings, &one_settled()?)?;
+    let books = books(alloc, &settings, &steps)?;
     let (hub, mut tellers) = Hub::open_from(alloc, settings, &books, 1)?;
     let teller = last(&hub, &mut tellers)?;
     Ok((hub, teller))

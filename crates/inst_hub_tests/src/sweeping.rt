@@ -1,7 +1,9 @@
 //! What sweeps count, and in which order they bring transfers.
 ghost use Rattle.inst_hub.specs.Calls.{IsOf, AreOf};
 
-use crate::asking::{ask, fitting, fund, investigate, last, state_of, submit, submitted};
+use crate::asking::{
+    ask, fitting, fund, investigate, last, last_two, opened, submit, submitted, told,
+};
 use crate::comparing::same;
 use crate::start::Start;
 use inst_base::{Cents, Fault, Ident, Moment};
@@ -32,18 +34,17 @@ fn investigated<R: Wait>(
     requires { IsOf hub.now teller.old }
 {
     submitted(rt, hub, teller)?;
-    let (before, _) = ask(rt, hub, teller, 0, investigate("T1")?, 10_999)?;
-    let (due, _) = ask(rt, hub, teller, 0, investigate("T1")?, 11_000)?;
+    let before = told(rt, hub, teller, 0, investigate("T1")?, 10_999)?;
+    let due = told(rt, hub, teller, 0, investigate("T1")?, 11_000)?;
     let originator = sweep(rt, hub, teller, 0, 11_000)?;
     let beneficiary = sweep(rt, hub, teller, 1, 11_000)?;
-    Ok((state_of(&before), state_of(&due), originator, beneficiary))
+    Ok((before, due, originator, beneficiary))
 }
 
 // The call has told the beneficiary, so that a sweep finds nothing.
 #[test]
 fn what_an_investigation_finds_is_learnt(rt: HostRuntime) -> Result<(), Fault> {
-    let (hub, mut tellers) = Hub::open(rt.alloc(), settings(rt.alloc())?, 1)?;
-    let mut teller = last(&hub, &mut tellers)?;
+    let (hub, mut teller) = opened(rt.alloc(), settings(rt.alloc())?)?;
     let timed_out = State::Decided(Outcome::TimedOut);
     let told = investigated(&rt, &hub, &mut teller)?;
     same(&rt, told, (Some(State::Pending), Some(timed_out), 0, 0));
@@ -148,8 +149,7 @@ fn meanwhile<R: Threads + Wait + Sync>(
             requires { IsOf hub.now first × IsOf hub.now second }
         { both(rt, hub, first, second, seen) },
     );
-    one?;
-    two?;
+    one.and(two)?;
     brought
 }
 
@@ -158,8 +158,8 @@ fn funded<R: Wait>(rt: &R, hub: &Hub, teller: &mut Teller) -> Result<(), Fault>
     requires { IsOf hub.now teller.old }
     ensures { IsOf hub.now teller.new }
 {
-    ask(rt, hub, teller, 0, fund(50_000)?, 0)?;
-    ask(rt, hub, teller, 2, fund(50_000)?, 0)?;
+    told(rt, hub, teller, 0, fund(50_000)?, 0)?;
+    told(rt, hub, teller, 2, fund(50_000)?, 0)?;
     Ok(())
 }
 
@@ -173,10 +173,8 @@ fn delivered<R: Threads + Wait + Sync>(
     requires { AreOf hub.now tellers.old.items }
 {
     let mut third = last(hub, tellers)?;
-    let second = last(hub, tellers)?;
-    let first = last(hub, tellers)?;
     funded(rt, hub, &mut third)?;
-    meanwhile(rt, alloc, hub, third, (first, second))
+    meanwhile(rt, alloc, hub, third, last_two(hub, tellers)?)
 }
 
 // A sweep gets what a beneficiary wasn't told of yet, by the originators' numbers, and what follows then brings nothing.
@@ -208,8 +206,7 @@ fn timed_out<R: Wait>(
 
 #[test]
 fn sweeps_time_out_and_learn(rt: HostRuntime) -> Result<(), Fault> {
-    let (hub, mut tellers) = Hub::open(rt.alloc(), settings(rt.alloc())?, 1)?;
-    let mut teller = last(&hub, &mut tellers)?;
+    let (hub, mut teller) = opened(rt.alloc(), settings(rt.alloc())?)?;
     let swept = timed_out(&rt, &hub, &mut teller)?;
     same(&rt, swept, (0, 1, 1, 0, State::Decided(Outcome::TimedOut)));
     Ok(())
@@ -232,19 +229,27 @@ fn submit_stamped<R: Wait>(
         cents: Cents::new(100)?,
         stamp: Moment::new(0, stamp)?,
     });
-    ask(rt, hub, teller, 0, command, 1_000)?;
+    told(rt, hub, teller, 0, command, 1_000)?;
     Ok(())
 }
 
-/// How many of three transfers of participant 0, the first of which is due last, are new in its sweeps before the last
-/// deadline and at it, and in a sweep of participant 1.
+/// Participant 0 submits three transfers, the first of which is due last.
+fn submit_three<R: Wait>(rt: &R, hub: &Hub, teller: &mut Teller) -> Result<(), Fault>
+    requires { IsOf hub.now teller.old }
+    ensures { IsOf hub.now teller.new }
+{
+    told(rt, hub, teller, 0, fund(50_000)?, 0)?;
+    submit_stamped(rt, hub, teller, "T1", 1_500)?;
+    submit_stamped(rt, hub, teller, "T2", 1_000)?;
+    submit_stamped(rt, hub, teller, "T3", 1_000)
+}
+
+/// How many of them are new in sweeps of participant 0 before the last deadline and at it, and in a sweep of
+/// participant 1.
 fn swept<R: Wait>(rt: &R, hub: &Hub, teller: &mut Teller) -> Result<(u32, u32, u32), Fault>
     requires { IsOf hub.now teller.old }
 {
-    ask(rt, hub, teller, 0, fund(50_000)?, 0)?;
-    submit_stamped(rt, hub, teller, "T1", 1_500)?;
-    submit_stamped(rt, hub, teller, "T2", 1_000)?;
-    submit_stamped(rt, hub, teller, "T3", 1_000)?;
+    submit_three(rt, hub, teller)?;
     let early = sweep(rt, hub, teller, 0, 11_499)?;
     let late = sweep(rt, hub, teller, 0, 11_500)?;
     Ok((early, late, sweep(rt, hub, teller, 1, 11_500)?))
@@ -252,8 +257,7 @@ fn swept<R: Wait>(rt: &R, hub: &Hub, teller: &mut Teller) -> Result<(u32, u32, u
 
 #[test]
 fn sweep_goes_by_deadline(rt: HostRuntime) -> Result<(), Fault> {
-    let (hub, mut tellers) = Hub::open(rt.alloc(), settings_with(rt.alloc(), 3, 0)?, 1)?;
-    let mut teller = last(&hub, &mut tellers)?;
+    let (hub, mut teller) = opened(rt.alloc(), settings_with(rt.alloc(), 3, 0)?)?;
     same(&rt, swept(&rt, &hub, &mut teller)?, (2, 1, 3));
     Ok(())
 }

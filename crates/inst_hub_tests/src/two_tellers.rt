@@ -1,7 +1,7 @@
 //! One teller submits a transfer, and another confirms it.
 ghost use Rattle.inst_hub.specs.Calls.{IsOf};
 
-use crate::asking::{ask, confirm, last, money, state_of, submitted};
+use crate::asking::{confirm, last_two, money, submitted, told};
 use crate::comparing::same;
 use inst_base::Fault;
 use inst_command::{Outcome, State};
@@ -25,7 +25,7 @@ fn see<R: Wait>(rt: &R, hub: &Hub, first: &mut Teller, second: &mut Teller) -> R
 {
     let ticket = submitted(rt, hub, first)?;
     let submitted = first.peek(&ticket);
-    let (confirmed, _) = ask(rt, hub, second, 1, confirm("T1")?, 2_000)?;
+    let confirmed = told(rt, hub, second, 1, confirm("T1")?, 2_000)?;
     let seen_second = second.peek(&ticket);
     let first_before_meeting = first.peek(&ticket);
     hub.meet(first, second);
@@ -33,7 +33,7 @@ fn see<R: Wait>(rt: &R, hub: &Hub, first: &mut Teller, second: &mut Teller) -> R
     let position = money(rt, hub, second, 0, 2_000)?;
     Ok(Sights {
         submitted,
-        confirmed: state_of(&confirmed),
+        confirmed,
         second: seen_second,
         first_before_meeting,
         first: seen_first,
@@ -44,8 +44,7 @@ fn see<R: Wait>(rt: &R, hub: &Hub, first: &mut Teller, second: &mut Teller) -> R
 #[test]
 fn two_tellers(rt: HostRuntime) -> Result<(), Fault> {
     let (hub, mut tellers) = Hub::open(rt.alloc(), settings(rt.alloc())?, 2)?;
-    let mut second = last(&hub, &mut tellers)?;
-    let mut first = last(&hub, &mut tellers)?;
+    let (mut first, mut second) = last_two(&hub, &mut tellers)?;
     let accepted = State::Decided(Outcome::Accepted);
     let expected = Sights {
         submitted: State::Pending,
