@@ -1,11 +1,12 @@
 //! Books that were changed in the file of a log.
-use crate::keeping::{put, text_of};
+use crate::keeping::{filled, text_of};
 use inst_lines::Mode;
 use inst_log::LogError;
 use inst_logged::{LoggedError, LoggedHub};
 use inst_rows::settings;
 use inst_settings::Settings;
 use sqlite_disk::Memory;
+use std::alloc::Global;
 use std::process::Abort;
 use std::test::Fail;
 
@@ -94,18 +95,23 @@ const WRONG: &[[&[u8]; 4]] = &[
     ],
 ];
 
+/// A log with these lines of books.
+fn log_with(alloc: Global, books: &[&[u8]]) -> Result<Vec<u8>, Fail> {
+    let books = text_of(alloc, books)?;
+    let mut log = text_of(alloc, &[SETTINGS])?;
+    log.extend_from_slice(&books)?;
+    log.push(0)?;
+    Ok(log)
+}
+
 /// How a hub opens on a log with these lines of books.
 fn open(
-    rt: &(impl Abort + AllocGlobal),
+    alloc: Global,
     settings: &Settings,
     books: &[&[u8]],
 ) -> Result<Result<(), LoggedError>, Fail> {
-    let alloc = rt.alloc();
-    let mut log = text_of(alloc, &[SETTINGS])?;
-    log.extend_from_slice(&text_of(alloc, books)?)?;
-    log.push(0)?;
-    let mut disk = Memory::new(alloc);
-    put(&mut disk, &log)?;
+    let log = log_with(alloc, books)?;
+    let disk = filled(Memory::new(alloc), &log)?;
     let mut reader: &[u8] = b"";
     match LoggedHub::of_log(alloc, Mode::Run, settings, disk) {
         Ok(mut hub) => Ok(hub.run(alloc, None, &mut reader, &mut Vec::new(alloc))),
@@ -118,7 +124,7 @@ fn is_refused(
     settings: &Settings,
     books: &[&[u8]],
 ) -> Result<(), Fail> {
-    let opened = open(rt, settings, books)?;
+    let opened = open(rt.alloc(), settings, books)?;
     assert!(rt; matches!(opened, Err(LoggedError::Books)), "{:?}", books);
     Ok(())
 }
@@ -126,7 +132,7 @@ fn is_refused(
 #[test]
 fn books_that_fit_open(rt: HostRuntime) -> Result<(), Fail> {
     let settings = settings(rt.alloc())?;
-    let opened = open(&rt, &settings, &[FUNDED, TAKEN, CAME, FETCHED])?;
+    let opened = open(rt.alloc(), &settings, &[FUNDED, TAKEN, CAME, FETCHED])?;
     assert!(&rt; opened.is_ok());
     Ok(())
 }
@@ -140,13 +146,20 @@ fn books_that_do_not_fit_are_refused(rt: HostRuntime) -> Result<(), Fail> {
     Ok(())
 }
 
+fn is_in_another_form(
+    rt: &(impl Abort + AllocGlobal),
+    settings: &Settings,
+    books: &[&[u8]],
+) -> Result<(), Fail> {
+    let opened = open(rt.alloc(), settings, books)?;
+    assert!(rt; matches!(opened, Err(LoggedError::Log(LogError::OtherSettings))));
+    Ok(())
+}
+
 #[test]
 fn books_in_another_form_are_refused(rt: HostRuntime) -> Result<(), Fail> {
     let settings = settings(rt.alloc())?;
     let spaced = br#"{"book":"BBBBFRPP", "count":1,"event":"fetched"}"#;
-    let opened = open(&rt, &settings, &[FUNDED, TAKEN, CAME, spaced])?;
-    assert!(&rt; matches!(opened, Err(LoggedError::Log(LogError::OtherSettings))));
-    let opened = open(&rt, &settings, &[FUNDED, TAKEN, CAME])?;
-    assert!(&rt; matches!(opened, Err(LoggedError::Log(LogError::OtherSettings))));
-    Ok(())
+    is_in_another_form(&rt, &settings, &[FUNDED, TAKEN, CAME, spaced])?;
+    is_in_another_form(&rt, &settings, &[FUNDED, TAKEN, CAME])
 }

@@ -1,46 +1,53 @@
 //! Lines that are cut into two runs of one log.
-use crate::keeping::{LINES, front_len, go_on, plainly, text_of};
+use crate::keeping::{LINES, Wanted, front_len, go_on, wanted_of};
 use inst_lines::Mode;
 use inst_rows::settings;
+use inst_settings::Settings;
+use std::alloc::Global;
 use std::process::Abort;
 use std::test::Fail;
 
-/// Compares what two runs write, of which the first gets so many of the lines and the second the others, with what
-/// one run writes that keeps nothing.
-fn cut_after(rt: &(impl Abort + AllocGlobal), mode: Mode, count: usize) -> Result<(), Fail> {
-    let alloc = rt.alloc();
-    let settings = settings(alloc)?;
-    let input = text_of(alloc, LINES)?;
-    let len = front_len(&input, count);
+/// What two runs write, of which the first gets so many of the lines and the second the others.
+fn in_two_runs(
+    alloc: Global,
+    mode: Mode,
+    settings: &Settings,
+    input: &[u8],
+    count: usize,
+) -> Result<Vec<u8>, Fail> {
+    let len = front_len(input, count);
+    let (front, rest) = (&input[..len], &input[len..]);
     let mut written = Vec::new(alloc);
-    let log = go_on(
-        alloc,
-        mode,
-        &settings,
-        b"",
-        None,
-        &input[..len],
-        &mut written,
-    )?;
-    go_on(
-        alloc,
-        mode,
-        &settings,
-        &log,
-        None,
-        &input[len..],
-        &mut written,
-    )?;
-    let replies = plainly(alloc, mode, &settings, &input)?;
-    assert_eq!(rt; written.as_slice(), replies.as_slice(), "{count}");
+    let log = go_on(alloc, mode, settings, b"", None, front, &mut written)?;
+    go_on(alloc, mode, settings, &log, None, rest, &mut written)?;
+    Ok(written)
+}
+
+/// Compares that with what one run writes that keeps nothing.
+fn cut_after(
+    rt: &(impl Abort + AllocGlobal),
+    mode: Mode,
+    settings: &Settings,
+    wanted: &Wanted,
+    count: usize,
+) -> Result<(), Fail> {
+    let written = in_two_runs(rt.alloc(), mode, settings, &wanted.input, count)?;
+    assert_eq!(rt; written.as_slice(), wanted.replies.as_slice(), "{count}");
+    Ok(())
+}
+
+/// Cuts after each line, and before the first one.
+fn cut_after_each(rt: &(impl Abort + AllocGlobal), mode: Mode) -> Result<(), Fail> {
+    let settings = settings(rt.alloc())?;
+    let wanted = wanted_of(rt.alloc(), mode, &settings)?;
+    for count in 0..=LINES.len() {
+        cut_after(rt, mode, &settings, &wanted, count)?;
+    }
     Ok(())
 }
 
 #[test]
 fn two_runs_write_what_one_does(rt: HostRuntime) -> Result<(), Fail> {
-    for count in 0..=LINES.len() {
-        cut_after(&rt, Mode::Run, count)?;
-        cut_after(&rt, Mode::Play, count)?;
-    }
-    Ok(())
+    cut_after_each(&rt, Mode::Run)?;
+    cut_after_each(&rt, Mode::Play)
 }

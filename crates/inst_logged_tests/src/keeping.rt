@@ -1,5 +1,5 @@
 //! Hubs with logs on disks in memory, and what they write.
-ghost use Rattle.std.specs.Prelude.{◌≤◌, length, OnOk, IfSome, IsTrue};
+ghost use Rattle.std.specs.Prelude.{◌≤◌, length, IfOk, OnOk, IfSome, IsTrue};
 ghost use Rattle.sqlite_disk.specs.Disk.{Only};
 
 use inst_bytes::find_newline;
@@ -80,14 +80,38 @@ pub(crate) fn plainly(
     Ok(written)
 }
 
+/// What a reader gives, and what is written to it by a hub that keeps nothing.
+#[derive(Drop)]
+pub(crate) struct Wanted {
+    pub(crate) input: Vec<u8>,
+    pub(crate) replies: Vec<u8>,
+}
+
+/// What is to be written to all lines.
+pub(crate) fn wanted_of(alloc: Global, mode: Mode, settings: &Settings) -> Result<Wanted, Fail> {
+    let input = text_of(alloc, LINES)?;
+    let replies = plainly(alloc, mode, settings, &input)?;
+    Ok(Wanted { input, replies })
+}
+
 /// Puts these bytes on an empty disk.
-pub(crate) fn put<D: Disk>(disk: &mut D, bytes: &[u8]) -> io::Result<()>
+fn put<D: Disk>(disk: &mut D, bytes: &[u8]) -> io::Result<()>
     requires usable { IsTrue (D.Disk.is_usable disk.old) }
     ensures known { OnOk result (Only (D.Disk.seen disk.new) (D.Disk.may_leave disk.new)) }
     ensures usable { OnOk result (IsTrue (D.Disk.is_usable disk.new)) }
 {
     disk.write_at(0, bytes)?;
     disk.sync()
+}
+
+/// An empty disk with these bytes put on it.
+pub(crate) fn filled<D: Disk + Drop>(mut disk: D, bytes: &[u8]) -> io::Result<D>
+    requires usable { IsTrue (D.Disk.is_usable disk) }
+    ensures known { IfOk result (λ disk. Only (D.Disk.seen disk) (D.Disk.may_leave disk)) }
+    ensures usable { IfOk result (λ disk. IsTrue (D.Disk.is_usable disk)) }
+{
+    put(&mut disk, bytes)?;
+    Ok(disk)
 }
 
 /// How a run ended, and its disk.
@@ -128,8 +152,7 @@ pub(crate) fn serve<R: Read>(
     reader: &mut R,
     written: &mut Vec<u8>,
 ) -> Result<Ended<Memory>, Fail> {
-    let mut disk = Memory::new(alloc);
-    put(&mut disk, log)?;
+    let disk = filled(Memory::new(alloc), log)?;
     serve_on(alloc, mode, settings, disk, told, reader, written)
 }
 

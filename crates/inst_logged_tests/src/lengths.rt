@@ -1,8 +1,9 @@
 //! Lines of each length, read in pieces of each size, and answered again.
-use crate::keeping::{go_on, plainly, serve};
+use crate::keeping::{Wanted, go_on, plainly, serve};
 use inst_lines::Mode;
 use inst_rows::{Pieces, settings};
 use inst_settings::Settings;
+use sqlite_disk::Memory;
 use std::alloc::Global;
 use std::process::Abort;
 use std::test::Fail;
@@ -49,52 +50,79 @@ fn text(alloc: Global) -> Result<Vec<u8>, Fail> {
     Ok(text)
 }
 
-/// Compares what is written to the lines, and then to their log alone, with the plain replies.
+/// Compares what is written to the lines with the plain replies, and gives their log.
 fn answer(
     rt: &(impl Abort + AllocGlobal),
     mode: Mode,
     settings: &Settings,
-    input: &[u8],
-    replies: &[u8],
+    wanted: &Wanted,
     most: usize,
-) -> Result<(), Fail> {
-    let alloc = rt.alloc();
+) -> Result<Memory, Fail> {
     let mut reader = Pieces {
-        bytes: input,
+        bytes: &wanted.input,
         most,
         fails: false,
     };
-    let mut written = Vec::new(alloc);
-    let ended = serve(alloc, mode, settings, b"", None, &mut reader, &mut written)?;
-    ended.outcome?;
-    assert_eq!(rt; written.as_slice(), replies, "{most}");
-    written.clear();
-    go_on(
-        alloc,
+    let mut written = Vec::new(rt.alloc());
+    let ended = serve(
+        rt.alloc(),
         mode,
         settings,
-        ended.disk.bytes(),
-        Some(0),
         b"",
+        None,
+        &mut reader,
         &mut written,
     )?;
-    assert_eq!(rt; written.as_slice(), replies, "{most}");
+    ended.outcome?;
+    assert_eq!(rt; written.as_slice(), wanted.replies.as_slice(), "{most}");
+    Ok(ended.disk)
+}
+
+/// Compares what is written to a log alone with the plain replies.
+fn answer_again(
+    rt: &(impl Abort + AllocGlobal),
+    mode: Mode,
+    settings: &Settings,
+    wanted: &Wanted,
+    log: &[u8],
+    most: usize,
+) -> Result<(), Fail> {
+    let mut written = Vec::new(rt.alloc());
+    go_on(rt.alloc(), mode, settings, log, Some(0), b"", &mut written)?;
+    assert_eq!(rt; written.as_slice(), wanted.replies.as_slice(), "{most}");
     Ok(())
 }
 
-fn answer_in_pieces(rt: &(impl Abort + AllocGlobal), mode: Mode) -> Result<(), Fail> {
-    let alloc = rt.alloc();
-    let settings = settings(alloc)?;
+/// Reads the lines by so many bytes, and then their log.
+fn answer_in_pieces(
+    rt: &(impl Abort + AllocGlobal),
+    mode: Mode,
+    settings: &Settings,
+    wanted: &Wanted,
+    most: usize,
+) -> Result<(), Fail> {
+    let disk = answer(rt, mode, settings, wanted, most)?;
+    answer_again(rt, mode, settings, wanted, disk.bytes(), most)
+}
+
+/// The lines of each length, and what is to be written to them.
+fn wanted_of(alloc: Global, mode: Mode, settings: &Settings) -> Result<Wanted, Fail> {
     let input = text(alloc)?;
-    let replies = plainly(alloc, mode, &settings, &input)?;
+    let replies = plainly(alloc, mode, settings, &input)?;
+    Ok(Wanted { input, replies })
+}
+
+fn answer_in_each_size(rt: &(impl Abort + AllocGlobal), mode: Mode) -> Result<(), Fail> {
+    let settings = settings(rt.alloc())?;
+    let wanted = wanted_of(rt.alloc(), mode, &settings)?;
     for most in SIZES {
-        answer(rt, mode, &settings, &input, &replies, most)?;
+        answer_in_pieces(rt, mode, &settings, &wanted, most)?;
     }
     Ok(())
 }
 
 #[test]
 fn lines_of_each_length(rt: HostRuntime) -> Result<(), Fail> {
-    answer_in_pieces(&rt, Mode::Run)?;
-    answer_in_pieces(&rt, Mode::Play)
+    answer_in_each_size(&rt, Mode::Run)?;
+    answer_in_each_size(&rt, Mode::Play)
 }

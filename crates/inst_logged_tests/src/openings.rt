@@ -1,10 +1,14 @@
 //! Logs that begin with the books of others.
-use crate::keeping::{put, text_of};
+ghost use Rattle.std.specs.Prelude.{IsTrue};
+ghost use Rattle.sqlite_disk.specs.Disk.{Only};
+ghost use Rattle.inst_logged.specs.Logged.{IsUnbegun};
+
+use crate::keeping::{filled, text_of};
 use inst_lines::Mode;
 use inst_logged::LoggedHub;
 use inst_rows::settings;
 use inst_settings::Settings;
-use sqlite_disk::Memory;
+use sqlite_disk::{Disk, Memory};
 use std::alloc::Global;
 use std::process::Abort;
 use std::test::Fail;
@@ -72,6 +76,25 @@ fn log_of(alloc: Global, lines: &[&[u8]]) -> Result<Vec<u8>, Fail> {
     Ok(log)
 }
 
+/// Runs this hub, and gives its disk.
+fn run_through<D: Disk + Drop>(
+    alloc: Global,
+    mut hub: LoggedHub<D>,
+    input: &[u8],
+    written: &mut Vec<u8>,
+) -> Result<D, Fail>
+    requires unbegun { IsUnbegun hub.header.items hub.intake }
+    requires usable { IsTrue (D.Disk.is_usable hub.recorder.log.disk) }
+    requires known { IsTrue (D.Disk.is_clean hub.recorder.log.disk)
+        → Only (D.Disk.seen hub.recorder.log.disk) (D.Disk.may_leave hub.recorder.log.disk) }
+{
+    let mut reader = input;
+    let outcome = hub.run(alloc, None, &mut reader, written);
+    let disk = hub.into_disk();
+    outcome?;
+    Ok(disk)
+}
+
 /// Runs the hub of a log that has these bytes, and gives what the log has then.
 fn run_on(
     alloc: Global,
@@ -80,28 +103,39 @@ fn run_on(
     input: &[u8],
     written: &mut Vec<u8>,
 ) -> Result<Vec<u8>, Fail> {
-    let mut disk = Memory::new(alloc);
-    put(&mut disk, log)?;
-    let mut reader = input;
-    let mut hub = LoggedHub::of_log(alloc, Mode::Run, settings, disk)?;
-    hub.run(alloc, None, &mut reader, written)?;
-    Ok(hub.into_disk().bytes().to_vec(alloc)?)
+    let disk = filled(Memory::new(alloc), log)?;
+    let hub = LoggedHub::of_log(alloc, Mode::Run, settings, disk)?;
+    let disk = run_through(alloc, hub, input, written)?;
+    Ok(disk.bytes().to_vec(alloc)?)
 }
 
-/// The log that begins with the books of this one.
-fn next(alloc: Global, settings: &Settings, log: &[u8]) -> Result<Option<Vec<u8>>, Fail> {
-    let mut disk = Memory::new(alloc);
-    put(&mut disk, log)?;
+/// The second disk with the log that begins with the books of the log on the first one.
+fn begin_next<D: Disk + Drop>(
+    alloc: Global,
+    settings: &Settings,
+    disk: D,
+    next: D,
+) -> Result<Option<D>, Fail>
+    requires usable { IsTrue (D.Disk.is_usable disk) × IsTrue (D.Disk.is_usable next) }
+    requires known { Only (D.Disk.seen disk) (D.Disk.may_leave disk) × Only (D.Disk.seen next) (D.Disk.may_leave next) }
+{
     let mut hub = LoggedHub::of_log(alloc, Mode::Run, settings, disk)?;
     let Some(books) = hub.close(alloc)? else {
         return Ok(None);
     };
-    let mut disk = Memory::new(alloc);
-    put(&mut disk, b"")?;
-    let mut next = LoggedHub::new_from(alloc, Mode::Run, hub.settings(), &books, disk)?;
-    let mut nothing: &[u8] = b"";
-    next.run(alloc, None, &mut nothing, &mut Vec::new(alloc))?;
-    Ok(Some(next.into_disk().bytes().to_vec(alloc)?))
+    let next = LoggedHub::new_from(alloc, Mode::Run, hub.settings(), &books, next)?;
+    let disk = run_through(alloc, next, b"", &mut Vec::new(alloc))?;
+    Ok(Some(disk))
+}
+
+/// The log that begins with the books of this one.
+fn next(alloc: Global, settings: &Settings, log: &[u8]) -> Result<Option<Vec<u8>>, Fail> {
+    let disk = filled(Memory::new(alloc), log)?;
+    let empty = filled(Memory::new(alloc), b"")?;
+    match begin_next(alloc, settings, disk, empty)? {
+        Some(disk) => Ok(Some(disk.bytes().to_vec(alloc)?)),
+        None => Ok(None),
+    }
 }
 
 /// The log that the lines of the first opening leave.
@@ -110,27 +144,36 @@ fn first(alloc: Global, settings: &Settings) -> Result<Vec<u8>, Fail> {
     run_on(alloc, settings, b"", &input, &mut Vec::new(alloc))
 }
 
+/// The log that begins with the books of that one.
+fn next_of_first(alloc: Global, settings: &Settings) -> Result<Option<Vec<u8>>, Fail> {
+    let log = first(alloc, settings)?;
+    next(alloc, settings, &log)
+}
+
 #[test]
 fn a_log_begins_with_the_books_of_another(rt: HostRuntime) -> Result<(), Fail> {
-    let alloc = rt.alloc();
-    let settings = settings(alloc)?;
-    let log = first(alloc, &settings)?;
-    let Some(next) = next(alloc, &settings, &log)? else {
-        panic!(&rt; "no next opening")
-    };
-    assert_eq!(&rt; next, log_of(alloc, NEXT)?);
+    let settings = settings(rt.alloc())?;
+    let found = next_of_first(rt.alloc(), &settings)?;
+    let expected = log_of(rt.alloc(), NEXT)?;
+    assert_eq!(&rt; found.as_deref(), Some(expected.as_slice()));
     Ok(())
+}
+
+/// What is written to the lines of the next opening.
+fn gone_on(alloc: Global, settings: &Settings) -> Result<Vec<u8>, Fail> {
+    let log = log_of(alloc, NEXT)?;
+    let input = text_of(alloc, SECOND)?;
+    let mut written = Vec::new(alloc);
+    run_on(alloc, settings, &log, &input, &mut written)?;
+    Ok(written)
 }
 
 #[test]
 fn the_next_opening_goes_on(rt: HostRuntime) -> Result<(), Fail> {
-    let alloc = rt.alloc();
-    let settings = settings(alloc)?;
-    let log = log_of(alloc, NEXT)?;
-    let input = text_of(alloc, SECOND)?;
-    let mut written = Vec::new(alloc);
-    run_on(alloc, &settings, &log, &input, &mut written)?;
-    assert_eq!(&rt; written, text_of(alloc, REPLIES)?);
+    let settings = settings(rt.alloc())?;
+    let written = gone_on(rt.alloc(), &settings)?;
+    let replies = text_of(rt.alloc(), REPLIES)?;
+    assert_eq!(&rt; written, replies);
     Ok(())
 }
 
@@ -142,8 +185,17 @@ fn transfer(alloc: Global, number: u32) -> Result<String, Fail> {
     Ok(text)
 }
 
-/// Runs one opening of the chain, and gives the log that begins with its books.
-fn open_once_more(
+/// What is written to them.
+fn replies(alloc: Global, number: u32) -> Result<String, Fail> {
+    let text = format!(in alloc;
+        "{{\"deadline\":{},\"id\":\"T{number}\",\"reply\":\"taken\"}}\n{{\"from\":\"AAAADEFF\",\"id\":\"T{number}\",\"reply\":\"state\",\"state\":\"accepted\"}}\n",
+        u64::from(number) + 10_000
+    )?;
+    Ok(text)
+}
+
+/// Runs one opening of the chain, and gives its log.
+fn run_once_more(
     rt: &(impl Abort + AllocGlobal),
     settings: &Settings,
     log: &[u8],
@@ -151,14 +203,22 @@ fn open_once_more(
 ) -> Result<Vec<u8>, Fail> {
     let alloc = rt.alloc();
     let input = transfer(alloc, number)?;
+    let replies = replies(alloc, number)?;
     let mut written = Vec::new(alloc);
     let log = run_on(alloc, settings, log, input.as_bytes(), &mut written)?;
-    let replies = format!(in alloc;
-        "{{\"deadline\":{},\"id\":\"T{number}\",\"reply\":\"taken\"}}\n{{\"from\":\"AAAADEFF\",\"id\":\"T{number}\",\"reply\":\"state\",\"state\":\"accepted\"}}\n",
-        u64::from(number) + 10_000
-    )?;
     assert_eq!(rt; written.as_slice(), replies.as_bytes(), "{number}");
-    match next(alloc, settings, &log)? {
+    Ok(log)
+}
+
+/// Runs it, and gives the log that begins with its books.
+fn open_once_more(
+    rt: &(impl Abort + AllocGlobal),
+    settings: &Settings,
+    log: &[u8],
+    number: u32,
+) -> Result<Vec<u8>, Fail> {
+    let log = run_once_more(rt, settings, log, number)?;
+    match next(rt.alloc(), settings, &log)? {
         Some(log) => Ok(log),
         None => panic!(rt; "no opening behind {number}"),
     }
@@ -178,21 +238,22 @@ fn ends_with(
     Ok(())
 }
 
+/// The log behind fifty openings, before the first of which `AAAADEFF` is funded.
+fn fifty(rt: &(impl Abort + AllocGlobal), settings: &Settings) -> Result<Vec<u8>, Fail> {
+    let alloc = rt.alloc();
+    let input =
+        b"{\"at\":0,\"cents\":50000,\"cmd\":\"fund\",\"ref\":\"F1\",\"who\":\"AAAADEFF\"}\n";
+    let mut log = run_on(alloc, settings, b"", input, &mut Vec::new(alloc))?;
+    for number in 0..50 {
+        log = open_once_more(rt, settings, &log, number)?;
+    }
+    Ok(log)
+}
+
 #[test]
 fn fifty_openings_in_a_row(rt: HostRuntime) -> Result<(), Fail> {
-    let alloc = rt.alloc();
-    let settings = settings(alloc)?;
-    let input = "{\"at\":0,\"cents\":50000,\"cmd\":\"fund\",\"ref\":\"F1\",\"who\":\"AAAADEFF\"}\n";
-    let mut log = run_on(
-        alloc,
-        &settings,
-        b"",
-        input.as_bytes(),
-        &mut Vec::new(alloc),
-    )?;
-    for number in 0..50 {
-        log = open_once_more(&rt, &settings, &log, number)?;
-    }
+    let settings = settings(rt.alloc())?;
+    let log = fifty(&rt, &settings)?;
     ends_with(
         &rt,
         &settings,

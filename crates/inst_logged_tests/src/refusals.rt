@@ -47,8 +47,7 @@ fn refusal(
         &mut reader,
         &mut written,
     )?;
-    assert_eq!(rt; ended.disk.bytes(), bytes);
-    assert!(rt; written.is_empty());
+    assert_eq!(rt; (ended.disk.bytes(), written.len()), (bytes, 0));
     match ended.outcome {
         Err(LoggedError::Log(error)) => Ok(error),
         _ => panic!(rt; "taken"),
@@ -66,19 +65,33 @@ fn is_of_others(
     Ok(())
 }
 
+/// The log of a run with all lines.
+fn log_of(alloc: Global, mode: Mode, settings: &Settings) -> Result<Vec<u8>, Fail> {
+    let input = text_of(alloc, LINES)?;
+    let mut written = Vec::new(alloc);
+    go_on(alloc, mode, settings, b"", None, &input, &mut written)
+}
+
+/// The log is refused with other settings.
+fn other_settings_are_refused(
+    rt: &(impl Abort + AllocGlobal),
+    mode: Mode,
+    log: &[u8],
+) -> Result<(), Fail> {
+    is_of_others(rt, mode, &settings_with(rt.alloc(), 3, 0)?, log)?;
+    is_of_others(rt, mode, &settings_with(rt.alloc(), 2, 1)?, log)?;
+    is_of_others(rt, mode, &reordered(rt.alloc())?, log)
+}
+
 fn others_are_refused(
     rt: &(impl Abort + AllocGlobal),
     mode: Mode,
     other: Mode,
 ) -> Result<(), Fail> {
-    let alloc = rt.alloc();
-    let own = settings(alloc)?;
-    let input = text_of(alloc, LINES)?;
-    let log = go_on(alloc, mode, &own, b"", None, &input, &mut Vec::new(alloc))?;
+    let own = settings(rt.alloc())?;
+    let log = log_of(rt.alloc(), mode, &own)?;
     is_of_others(rt, other, &own, &log)?;
-    is_of_others(rt, mode, &settings_with(alloc, 3, 0)?, &log)?;
-    is_of_others(rt, mode, &settings_with(alloc, 2, 1)?, &log)?;
-    is_of_others(rt, mode, &reordered(alloc)?, &log)
+    other_settings_are_refused(rt, mode, &log)
 }
 
 #[test]

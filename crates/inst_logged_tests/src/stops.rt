@@ -1,5 +1,5 @@
 //! A machine that stops at each call of its disk in turn, and another run that goes on from what is left.
-use crate::keeping::{LINES, front_len, go_on, newlines, plainly, put, serve_on, text_of};
+use crate::keeping::{Wanted, filled, front_len, go_on, newlines, serve_on, wanted_of};
 use inst_lines::Mode;
 use inst_log::{LogError, read};
 use inst_rows::{Pieces, settings};
@@ -18,13 +18,6 @@ const CALLS: u64 = 40;
 /// How many bytes a read gives at most: few, so that the lines come in several batches.
 const MOST: usize = 100;
 
-/// All lines, and the replies of a run that keeps nothing.
-#[derive(Drop)]
-struct Wanted {
-    input: Vec<u8>,
-    replies: Vec<u8>,
-}
-
 /// What a run leaves that stops.
 #[derive(Drop)]
 struct Stopped {
@@ -41,8 +34,7 @@ fn stop(
     input: &[u8],
     calls: u64,
 ) -> Result<Stopped, Fail> {
-    let mut disk = Fuse::new(Memory::new(alloc), calls);
-    put(&mut disk, b"")?;
+    let disk = filled(Fuse::new(Memory::new(alloc), calls), b"")?;
     let mut reader = Pieces {
         bytes: input,
         most: MOST,
@@ -59,8 +51,7 @@ fn stop(
 
 /// How many lines a log has behind its header. A file that was cut off in its header has none.
 fn kept_lines(rt: &(impl Abort + AllocGlobal), log: &[u8]) -> Result<usize, Fail> {
-    let mut disk = Memory::new(rt.alloc());
-    put(&mut disk, log)?;
+    let mut disk = filled(Memory::new(rt.alloc()), log)?;
     match read(rt.alloc(), &mut disk) {
         Ok(reading) => Ok(reading.behind),
         Err(error) => {
@@ -80,9 +71,9 @@ fn go_on_behind(
     front: &[u8],
 ) -> Result<(), Fail> {
     let alloc = rt.alloc();
+    let rest = &wanted.input[front_len(&wanted.input, kept_lines(rt, log)?)..];
     let told = newlines(front);
     let mut replies = front[..front_len(front, told)].to_vec(alloc)?;
-    let rest = &wanted.input[front_len(&wanted.input, kept_lines(rt, log)?)..];
     go_on(
         alloc,
         mode,
@@ -120,11 +111,8 @@ fn stop_and_go_on(
 }
 
 fn stop_at_each_call(rt: &(impl Abort + AllocGlobal), mode: Mode) -> Result<(), Fail> {
-    let alloc = rt.alloc();
-    let settings = settings(alloc)?;
-    let input = text_of(alloc, LINES)?;
-    let replies = plainly(alloc, mode, &settings, &input)?;
-    let wanted = Wanted { input, replies };
+    let settings = settings(rt.alloc())?;
+    let wanted = wanted_of(rt.alloc(), mode, &settings)?;
     let mut done = 0u64;
     for calls in FIRST_CALLS..CALLS {
         if stop_and_go_on(rt, mode, &settings, &wanted, calls)? {

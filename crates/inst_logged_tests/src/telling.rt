@@ -1,10 +1,11 @@
 //! Replies that are handed out again, to a reader that has some of them.
-use crate::keeping::{LINES, front_len, go_on, plainly, serve, text_of};
+use crate::keeping::{LINES, Wanted, front_len, go_on, serve, wanted_of};
 use inst_lines::Mode;
 use inst_log::LogError;
 use inst_logged::LoggedError;
 use inst_rows::settings;
 use inst_settings::Settings;
+use std::alloc::Global;
 use std::process::Abort;
 use std::test::Fail;
 
@@ -58,23 +59,26 @@ fn tell_too_many(
         &mut reader,
         &mut written,
     )?;
-    assert!(rt;
-        matches!(ended.outcome, Err(LoggedError::Log(LogError::Told))),
+    let is_told = matches!(ended.outcome, Err(LoggedError::Log(LogError::Told)));
+    assert_eq!(rt;
+        (is_told, written.len(), ended.disk.bytes()),
+        (true, 0, log),
         "{told}"
     );
-    assert!(rt; written.is_empty());
-    assert_eq!(rt; ended.disk.bytes(), log);
     Ok(())
 }
 
-fn tell_each(rt: &(impl Abort + AllocGlobal), mode: Mode) -> Result<(), Fail> {
-    let alloc = rt.alloc();
-    let settings = settings(alloc)?;
-    let input = text_of(alloc, LINES)?;
+/// Runs all lines.
+fn whole_run(alloc: Global, mode: Mode, settings: &Settings) -> Result<Whole, Fail> {
+    let Wanted { input, replies } = wanted_of(alloc, mode, settings)?;
     let mut written = Vec::new(alloc);
-    let log = go_on(alloc, mode, &settings, b"", Some(0), &input, &mut written)?;
-    let replies = plainly(alloc, mode, &settings, &input)?;
-    let whole = Whole { log, replies };
+    let log = go_on(alloc, mode, settings, b"", Some(0), &input, &mut written)?;
+    Ok(Whole { log, replies })
+}
+
+fn tell_each(rt: &(impl Abort + AllocGlobal), mode: Mode) -> Result<(), Fail> {
+    let settings = settings(rt.alloc())?;
+    let whole = whole_run(rt.alloc(), mode, &settings)?;
     for told in 0..=LINES.len() {
         tell(rt, mode, &settings, &whole, told)?;
     }
