@@ -68,22 +68,32 @@ fn open(
     Ok((opened, left))
 }
 
+/// A file with these bytes opened so, and these are left.
+fn opens_so(
+    rt: &impl Abort,
+    opened: &Result<Vec<u8>, LogError>,
+    left: &[u8],
+    bytes: &[u8],
+    opening: Opening,
+) {
+    match (opened, opening) {
+        (Ok(text), Text(expected)) => {
+            let (closed, lines) = left.split_last().expect(rt, "a closed byte");
+            assert_ne!(rt; *closed, b'{');
+            assert_eq!(rt; (text.as_slice(), lines), (expected, expected));
+        }
+        (Err(LogError::OtherSettings), OtherSettings) | (Err(LogError::NoLog), NoLog) => {
+            assert_eq!(rt; left, bytes);
+        }
+        (opened, opening) => panic!(rt; "{:?} for {:?}: {:?}", opened.is_ok(), opening, bytes),
+    }
+}
+
 #[test]
 fn files_open_or_are_left(rt: HostRuntime) -> Result<(), Fail> {
-    for (bytes, opening) in ROWS {
+    for &(bytes, opening) in ROWS {
         let (opened, left) = open(&rt, bytes)?;
-        match (opened, opening) {
-            (Ok(text), Text(expected)) => {
-                assert_eq!(rt; text.as_slice(), *expected);
-                let (closed, lines) = left.as_slice().split_last().expect(&rt, "a closed byte");
-                assert_ne!(rt; *closed, b'{');
-                assert_eq!(rt; lines, *expected);
-            }
-            (Err(LogError::OtherSettings), OtherSettings) | (Err(LogError::NoLog), NoLog) => {
-                assert_eq!(rt; left.as_slice(), *bytes);
-            }
-            (opened, opening) => panic!(rt; "{:?} for {:?}: {:?}", opened.is_ok(), opening, bytes),
-        }
+        opens_so(&rt, &opened, &left, bytes, opening);
     }
     Ok(())
 }

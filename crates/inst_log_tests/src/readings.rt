@@ -30,16 +30,29 @@ fn read_file(
     Ok(reading)
 }
 
+/// A log has the settings, and so many lines behind them.
+fn is_log(rt: &(impl Abort + AllocGlobal), bytes: &[u8], behind: usize) -> Result<(), Fail> {
+    let reading = read_file(rt, bytes)??;
+    assert_eq!(rt;
+        (reading.first.as_slice(), reading.behind),
+        (SETTINGS, behind)
+    );
+    Ok(())
+}
+
+fn is_no_log(rt: &(impl Abort + AllocGlobal), bytes: &[u8]) -> Result<(), Fail> {
+    let reading = read_file(rt, bytes)?;
+    assert!(rt; matches!(reading, Err(LogError::NoLog)));
+    Ok(())
+}
+
 #[test]
 fn files_are_read_and_left(rt: HostRuntime) -> Result<(), Fail> {
-    for (bytes, behind) in LOGS {
-        let reading = read_file(&rt, bytes)??;
-        assert_eq!(rt; reading.first.as_slice(), SETTINGS);
-        assert_eq!(rt; reading.behind, *behind);
+    for &(bytes, behind) in LOGS {
+        is_log(&rt, bytes, behind)?;
     }
     for bytes in NO_LOGS {
-        let reading = read_file(&rt, bytes)?;
-        assert!(rt; matches!(reading, Err(LogError::NoLog)));
+        is_no_log(&rt, bytes)?;
     }
     Ok(())
 }

@@ -1,8 +1,8 @@
 //! Two runs of one log, of which the first is cut off after each call of its disk: each line is answered once.
-ghost use Rattle.std.specs.Prelude.{◌≡◌, []};
+ghost use Rattle.std.specs.Prelude.{◌≡◌, [], IfOk};
 ghost use Rattle.std.proofs.Common.{ap};
 ghost use Rattle.inst_log.specs.Layout.{blocks};
-ghost use Rattle.inst_log.specs.Serving.{Replies};
+ghost use Rattle.inst_log.specs.Serving.{Replies, AllBatches};
 
 use crate::batches::{one, put, two};
 use inst_log::{Answers, whole_lines};
@@ -33,18 +33,43 @@ const TOLD: &[&[u8]] = &[
     b"{\"a\":1}\n{\"b\":2}\n{\"c\":3}\n{last}\n",
 ];
 
-/// What the reader has of both runs, of which the first stops after so many calls.
-fn told(rt: &(impl Abort + AllocGlobal), calls: u64) -> Result<Vec<u8>, Fail> {
-    let alloc = rt.alloc();
-    let settings = one(rt, b"{\"s\":1}")?;
+/// The batches of the first run.
+fn first_batches(rt: &(impl Abort + AllocGlobal)) -> Result<Vec<Vec<u8>>, Fail>
+    ensures { IfOk result (λ batches. AllBatches batches.items) }
+{
     let first = two(rt, b"{\"a\":1}", b"{\"b\":2}")?;
     let second = one(rt, b"{\"c\":3}")?;
+    Ok(vec![in rt.alloc(); first, second]?)
+}
+
+/// The batch of the second run.
+fn last_batch(rt: &(impl Abort + AllocGlobal)) -> Result<Vec<Vec<u8>>, Fail>
+    ensures { IfOk result (λ batches. AllBatches batches.items) }
+{
     let last = one(rt, b"{last}")?;
-    let mut disk = Memory::new(alloc);
+    Ok(vec![in rt.alloc(); last]?)
+}
+
+/// What the reader has of both runs, of which the first stops after so many calls.
+fn told(rt: &(impl Abort + AllocGlobal), calls: u64) -> Result<Vec<u8>, Fail> {
+    let mut disk = Memory::new(rt.alloc());
     put(&mut disk, b"")?;
-    let batches = vec![in alloc; first, second]?;
-    let more = vec![in alloc; last]?;
-    Ok(run_twice(alloc, disk, calls, &settings, Echo, Echo, &batches, &more)?.told)
+    let settings = one(rt, b"{\"s\":1}")?;
+    let batches = first_batches(rt)?;
+    let more = last_batch(rt)?;
+    Ok(
+        run_twice(
+            rt.alloc(),
+            disk,
+            calls,
+            &settings,
+            Echo,
+            Echo,
+            &batches,
+            &more,
+        )?
+        .told,
+    )
 }
 
 #[test]

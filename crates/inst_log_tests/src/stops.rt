@@ -67,18 +67,26 @@ struct Stopped {
     added: usize,
 }
 
-fn stop(rt: &(impl Abort + AllocGlobal), start: &[u8], calls: u64) -> Result<Stopped, Fail> {
-    let alloc = rt.alloc();
+/// How much is acknowledged of the settings and both batches.
+fn added<D: Disk>(rt: &(impl Abort + AllocGlobal), log: &mut Log<D>) -> Result<usize, Fail>
+    requires usable { IsTrue (D.Disk.is_usable log.old.disk) }
+    requires known { Only (D.Disk.seen log.old.disk) (D.Disk.may_leave log.old.disk) }
+{
     let settings = one(rt, SETTINGS)?;
     let first = two(rt, FIRST[0], FIRST[1])?;
     let second = one(rt, SECOND)?;
-    let mut disk = Fuse::new(Memory::new(alloc), calls);
+    let mut added = 0;
+    let ended = run(rt.alloc(), log, &settings, &first, &second, &mut added).is_ok();
+    assert_eq!(rt; ended, added == 3);
+    Ok(added)
+}
+
+fn stop(rt: &(impl Abort + AllocGlobal), start: &[u8], calls: u64) -> Result<Stopped, Fail> {
+    let mut disk = Fuse::new(Memory::new(rt.alloc()), calls);
     put(&mut disk, start)?;
     let mut log = Log { disk, end: 0 };
-    let mut added = 0;
-    let ended = run(alloc, &mut log, &settings, &first, &second, &mut added).is_ok();
-    assert_eq!(rt; ended, added == 3);
-    let bytes = log.disk.inner().bytes().to_vec(alloc)?;
+    let added = added(rt, &mut log)?;
+    let bytes = log.disk.inner().bytes().to_vec(rt.alloc())?;
     Ok(Stopped { bytes, added })
 }
 
@@ -131,16 +139,26 @@ fn tears(
     Ok(())
 }
 
+/// Stops at each call of a run that starts so, until all is acknowledged.
+fn stop_at_each_call(
+    rt: &(impl Abort + AllocGlobal),
+    start: &[u8],
+    kept: &[u8],
+) -> Result<(), Fail> {
+    let mut before = stop(rt, start, FIRST_CALLS)?;
+    for calls in FIRST_CALLS + 1..CALLS {
+        let after = stop(rt, start, calls)?;
+        tears(rt, kept, &before, &after)?;
+        before = after;
+    }
+    assert_eq!(rt; before.added, 3);
+    Ok(())
+}
+
 #[test]
 fn each_stop_leaves_a_front(rt: HostRuntime) -> Result<(), Fail> {
-    for (start, kept) in STARTS {
-        let mut before = stop(&rt, start, FIRST_CALLS)?;
-        for calls in FIRST_CALLS + 1..CALLS {
-            let after = stop(&rt, start, calls)?;
-            tears(&rt, kept, &before, &after)?;
-            before = after;
-        }
-        assert_eq!(rt; before.added, 3);
+    for &(start, kept) in STARTS {
+        stop_at_each_call(&rt, start, kept)?;
     }
     Ok(())
 }
