@@ -36,15 +36,6 @@ fn open(alloc: Global) -> Result<(Desk, Hand), Fault>
     Ok((desk, hand))
 }
 
-/// Ends a desk with its only hand.
-fn end<R: Wait>(rt: &R, alloc: Global, desk: Desk, hand: Hand) -> Result<Tally, Fault>
-    requires { IsHandOf desk hand × (parts_of hand ≡ MOST_HANDS) }
-{
-    let mut hands = Vec::new(alloc);
-    hands.push(hand)?;
-    Ok(desk.finish(rt, hands))
-}
-
 /// The numbers of the jobs that come back, of three that are put.
 fn put_three<R: Wait>(rt: &R, desk: &Desk, hand: &mut Hand) -> Result<[Option<u32>; 3], Fault>
     requires { IsHandOf desk.now hand.old }
@@ -57,8 +48,23 @@ fn put_three<R: Wait>(rt: &R, desk: &Desk, hand: &mut Hand) -> Result<[Option<u3
     Ok([number_of(first), number_of(second), number_of(third)])
 }
 
-/// What is put, taken and left, with the number of the first that is left.
-fn numbers(tally: &Tally) -> (u64, u64, usize, Option<u32>) {
+/// The numbers of the jobs that three takes find.
+fn take_three<R: Wait>(rt: &R, desk: &Desk, hand: &mut Hand) -> [Option<u32>; 3]
+    requires { IsHandOf desk.now hand.old }
+    ensures of { IsHandOf desk.now hand.new }
+    ensures parts { parts_of hand.new ≡ parts_of hand.old }
+{
+    [
+        number_of(desk.take(rt, hand)),
+        number_of(desk.take(rt, hand)),
+        number_of(desk.take(rt, hand)),
+    ]
+}
+
+/// What was put, taken and left, with the number of the first that is left.
+type Ending = (u64, u64, usize, Option<u32>);
+
+fn numbers(tally: &Tally) -> Ending {
     let first = match tally.left.first() {
         Some(job) => Some(job.number),
         None => None,
@@ -66,35 +72,49 @@ fn numbers(tally: &Tally) -> (u64, u64, usize, Option<u32>) {
     (tally.put, tally.taken, tally.left.len(), first)
 }
 
+/// Ends a desk with its only hand.
+fn end<R: Wait>(rt: &R, alloc: Global, desk: Desk, hand: Hand) -> Result<Ending, Fault>
+    requires { IsHandOf desk hand × (parts_of hand ≡ MOST_HANDS) }
+{
+    let mut hands = Vec::new(alloc);
+    hands.push(hand)?;
+    Ok(numbers(&desk.finish(rt, hands)))
+}
+
 #[test]
 fn desk_of_two(rt: HostRuntime) -> Result<(), Fault> {
     let (desk, mut hand) = open(rt.alloc())?;
-    assert_eq!(rt; put_three(&rt, &desk, &mut hand)?, [None, None, Some(3)]);
-    assert_eq!(rt; number_of(desk.take(&rt, &mut hand)), Some(1));
-    assert_eq!(rt; number_of(desk.take(&rt, &mut hand)), Some(2));
-    assert_eq!(rt; number_of(desk.take(&rt, &mut hand)), None);
-    let tally = end(&rt, rt.alloc(), desk, hand)?;
-    assert_eq!(rt; numbers(&tally), (2, 2, 0, None));
+    let put = put_three(&rt, &desk, &mut hand)?;
+    let taken = take_three(&rt, &desk, &mut hand);
+    let numbers = end(&rt, rt.alloc(), desk, hand)?;
+    assert_eq!(rt;
+        (put, taken, numbers),
+        (
+            [None, None, Some(3)],
+            [Some(1), Some(2), None],
+            (2, 2, 0, None)
+        )
+    );
     Ok(())
 }
 
 #[test]
 fn desk_of_two_with_one_left(rt: HostRuntime) -> Result<(), Fault> {
     let (desk, mut hand) = open(rt.alloc())?;
-    assert_eq!(rt; put_three(&rt, &desk, &mut hand)?, [None, None, Some(3)]);
-    assert_eq!(rt; number_of(desk.take(&rt, &mut hand)), Some(1));
-    let tally = end(&rt, rt.alloc(), desk, hand)?;
-    assert_eq!(rt; numbers(&tally), (2, 1, 1, Some(2)));
+    let put = put_three(&rt, &desk, &mut hand)?;
+    let taken = number_of(desk.take(&rt, &mut hand));
+    let numbers = end(&rt, rt.alloc(), desk, hand)?;
+    assert_eq!(rt;
+        (put, taken, numbers),
+        ([None, None, Some(3)], Some(1), (2, 1, 1, Some(2)))
+    );
     Ok(())
 }
 
 #[test]
 fn desks_that_do_not_open(rt: HostRuntime) {
     for (capacity, hands) in [(0, 1), (4_097, 1), (1, 0), (1, 17)] {
-        let fault = match Desk::open(rt.alloc(), capacity, hands) {
-            Ok(_) => None,
-            Err(fault) => Some(fault),
-        };
+        let fault = Desk::open(rt.alloc(), capacity, hands).err();
         assert_eq!(rt; fault, Some(Fault::BadSettings));
     }
 }

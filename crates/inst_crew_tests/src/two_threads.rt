@@ -54,11 +54,11 @@ impl Gate for Waits {
 
 /// How many jobs a crew of two answers, and whether its threads met.
 fn meet<R: Threads + Wait + Sync>(rt: &R, alloc: Global) -> Result<(u64, bool), Fault> {
-    let (hub, tellers) = Hub::open(alloc, settings(alloc)?, 2)?;
     let asks = [
         ask(0, Command::Position, 1_000)?,
         ask(2, Command::Position, 1_000)?,
     ];
+    let (hub, tellers) = Hub::open(alloc, settings(alloc)?, 2)?;
     let (desk, hands) = desk(rt, alloc, &asks, 2)?;
     let gate = Waits::new();
     let crew = run_crew(rt, alloc, &hub, &desk, hands, tellers, &gate, None)?;
