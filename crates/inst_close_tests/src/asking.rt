@@ -45,6 +45,24 @@ fn ask<R: Wait>(
     Ok(hub.call(rt, &mut tellers[index], ask)?)
 }
 
+/// The state that the reply to a command tells, if any, where the teller with this index asks it.
+fn told<R: Wait>(
+    rt: &R,
+    hub: &Hub,
+    tellers: &mut Vec<Teller>,
+    index: usize,
+    asked: &Ask,
+) -> Result<Option<State>, Fault>
+    requires of { AreOf hub.now tellers.old.items }
+    requires parts { HaveAllParts tellers.old.items }
+    requires fits { ask_fits hub.now.settings asked.now ≡ true }
+    ensures of { AreOf hub.now tellers.new.items }
+    ensures parts { HaveAllParts tellers.new.items }
+{
+    let (reply, _) = ask(rt, hub, tellers, index, asked)?;
+    Ok(state_of(&reply))
+}
+
 /// Participant 0 is funded through the first teller.
 fn fund<R: Wait>(
     rt: &R,
@@ -62,7 +80,7 @@ fn fund<R: Wait>(
         reference: Ident::new(reference)?,
         cents: Cents::new(cents)?,
     };
-    ask(rt, hub, tellers, 0, &fitting(hub, 0, command, 0)?)?;
+    told(rt, hub, tellers, 0, &fitting(hub, 0, command, 0)?)?;
     Ok(())
 }
 
@@ -115,8 +133,7 @@ pub(crate) fn confirm<R: Wait>(
         from: 0,
         id: Ident::new(id)?,
     };
-    let (reply, _) = ask(rt, hub, tellers, index, &fitting(hub, 1, command, 2_000)?)?;
-    Ok(state_of(&reply))
+    told(rt, hub, tellers, index, &fitting(hub, 1, command, 2_000)?)
 }
 
 /// Participant 0 submits two transfers, and the first is confirmed through the second teller.

@@ -19,11 +19,16 @@ fn next_books<R: Wait>(rt: &R, alloc: Global, books: &Books, id: &str) -> Result
     closed(alloc, hub, tellers)
 }
 
-/// The books of ten openings.
-fn ten_openings<R: Wait>(rt: &R, alloc: Global) -> Result<Books, Fault> {
+/// The books of the first opening.
+fn first_books<R: Wait>(rt: &R, alloc: Global) -> Result<Books, Fault> {
     let (hub, mut tellers) = opened(alloc)?;
     one_paid(rt, &hub, &mut tellers, IDS[0])?;
-    let mut books = closed(alloc, hub, tellers)?;
+    closed(alloc, hub, tellers)
+}
+
+/// The books of ten openings.
+fn ten_openings<R: Wait>(rt: &R, alloc: Global) -> Result<Books, Fault> {
+    let mut books = first_books(rt, alloc)?;
     for id in &IDS[1..] {
         books = next_books(rt, alloc, &books, id)?;
     }
@@ -85,10 +90,29 @@ fn first_and_last<R: Wait>(
     Ok([first, investigated(rt, &hub, &mut tellers, IDS[9])?])
 }
 
+/// What books tell: what both participants have, what all sum to, and what the originator is told in the next opening.
+#[derive(Clone, Copy, Debug, PartialEq, Eq)]
+struct Told {
+    originator: Kept,
+    beneficiary: Kept,
+    net: u128,
+    sum: u128,
+    first_and_last: [(Option<State>, bool); 2],
+}
+
+fn told_of<R: Wait>(rt: &R, alloc: Global, books: &Books) -> Result<Told, Fault> {
+    let (originator, beneficiary) = both_counted(books)?;
+    Ok(Told {
+        originator,
+        beneficiary,
+        net: books.net(),
+        sum: books.sum(),
+        first_and_last: first_and_last(rt, alloc, books)?,
+    })
+}
+
 #[test]
 fn ten_openings_lose_nothing(rt: HostRuntime) -> Result<(), Fail> {
-    let alloc = rt.alloc();
-    let books = ten_openings(&rt, alloc)?;
     let originator = Kept {
         opened: 9,
         funded: 10_000,
@@ -103,9 +127,15 @@ fn ten_openings_lose_nothing(rt: HostRuntime) -> Result<(), Fail> {
         forwarded: 10,
         accepted: 10,
     };
-    assert_eq!(rt; both_counted(&books)?, (originator, beneficiary));
-    assert_eq!(rt; (books.net(), books.sum()), (10_000, 10_000));
     let accepted = (Some(State::Decided(Outcome::Accepted)), false);
-    assert_eq!(rt; first_and_last(&rt, alloc, &books)?, [accepted, accepted]);
+    let expected = Told {
+        originator,
+        beneficiary,
+        net: 10_000,
+        sum: 10_000,
+        first_and_last: [accepted, accepted],
+    };
+    let books = ten_openings(&rt, rt.alloc())?;
+    assert_eq!(rt; told_of(&rt, rt.alloc(), &books)?, expected);
     Ok(())
 }

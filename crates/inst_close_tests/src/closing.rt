@@ -57,7 +57,6 @@ fn first_books<R: Wait>(rt: &R, alloc: Global) -> Result<(Books, (Ticket, Ticket
 fn closes_and_tells(rt: HostRuntime) -> Result<(), Fault> {
     let (books, tickets) = first_books(&rt, rt.alloc())?;
     let accepted = State::Decided(Outcome::Accepted);
-    assert_eq!(rt; told(&books, &tickets), (accepted, State::Pending));
     let expected = Sums {
         first: 30_000,
         second: 20_000,
@@ -65,7 +64,8 @@ fn closes_and_tells(rt: HostRuntime) -> Result<(), Fault> {
         sum: 50_000,
         net: 50_000,
     };
-    assert_eq!(rt; sums_of(&books)?, expected);
+    let found = (told(&books, &tickets), sums_of(&books)?);
+    assert_eq!(rt; found, ((accepted, State::Pending), expected));
     Ok(())
 }
 
@@ -80,12 +80,16 @@ fn next_books<R: Wait>(
     Ok((state, closed(alloc, hub, tellers)?))
 }
 
+/// The state that it tells, and what the books of the next opening sum to.
+fn next_sums<R: Wait>(rt: &R, alloc: Global) -> Result<(Option<State>, Sums), Fault> {
+    let (books, _) = first_books(rt, alloc)?;
+    let (state, next) = next_books(rt, alloc, &books)?;
+    Ok((state, sums_of(&next)?))
+}
+
 #[test]
 fn opens_again_from_its_books(rt: HostRuntime) -> Result<(), Fault> {
-    let alloc = rt.alloc();
-    let (books, _) = first_books(&rt, alloc)?;
-    let (state, next) = next_books(&rt, alloc, &books)?;
-    assert_eq!(rt; state, Some(State::Decided(Outcome::Accepted)));
+    let accepted = Some(State::Decided(Outcome::Accepted));
     let expected = Sums {
         first: 25_000,
         second: 25_000,
@@ -93,7 +97,7 @@ fn opens_again_from_its_books(rt: HostRuntime) -> Result<(), Fault> {
         sum: 50_000,
         net: 50_000,
     };
-    assert_eq!(rt; sums_of(&next)?, expected);
+    assert_eq!(rt; next_sums(&rt, rt.alloc())?, (accepted, expected));
     Ok(())
 }
 
@@ -137,7 +141,11 @@ fn joined_twice(alloc: Global, books: &Books) -> Result<(), Fault> {
 fn no_code_joins_twice(rt: HostRuntime) -> Result<(), Fail> {
     let alloc = rt.alloc();
     let (books, _) = first_books(&rt, alloc)?;
-    assert_eq!(rt; joined_twice(alloc, &books), Err(Fault::BadSettings));
-    assert_eq!(rt; books.open_next(alloc, 17).err(), Some(Fault::BadSettings));
+    let joined = joined_twice(alloc, &books);
+    let opened = books.open_next(alloc, 17).err();
+    assert_eq!(rt;
+        (joined, opened),
+        (Err(Fault::BadSettings), Some(Fault::BadSettings))
+    );
     Ok(())
 }

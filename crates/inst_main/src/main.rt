@@ -2,15 +2,10 @@
 //! which reads nothing.
 #![tactic(auto)]
 
-mod ending;
-mod keeping;
-mod logs;
-mod program;
-mod rows;
-mod summary;
+mod host_logs;
 
-use logs::HostLogs;
-use program::program;
+use host_logs::HostLogs;
+use inst_program::{program, words_failed};
 use std::env;
 use std::io::IsTerminal;
 use std::process::ExitCode;
@@ -20,7 +15,7 @@ fn main(rt: HostRuntime) -> ExitCode {
     let mut errors = rt.stderr();
     let words = match env::args(&rt).and_then(|words| Ok(words.collect::<Vec<_>>(alloc)?)) {
         Ok(words) => words,
-        Err(error) => return ExitCode::from(program::words_failed(&error, &mut errors)),
+        Err(error) => return ExitCode::from(words_failed(&error, &mut errors)),
     };
     let mut reader = rt.stdin();
     let mut writer = rt.stdout();

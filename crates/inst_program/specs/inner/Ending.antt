@@ -20,9 +20,9 @@ use Rattle.inst_options.specs.Asking.{NameALog}
 use Rattle.inst_options.specs.declared.error.WordsError.{WordsError}
 use Rattle.inst_options.specs.declared.error.WordsError.TheVariants as error
 use Rattle.inst_options.specs.declared.wish.LogOptions.{LogOptions}
-use Rattle.inst_main.specs.declared.ending.Ending.{Ending}
-use Rattle.inst_main.specs.declared.ending.Ending.TheVariants as ending
-use Rattle.inst_main.specs.Program.{status_of, AskForADrill, AreRefused, Answers, Serves, HasChecked, HasDrilled, HasKept, AskForAnExplanation, HasExplained, NameNoFault}
+use Rattle.inst_program.specs.declared.ending.Ending.{Ending}
+use Rattle.inst_program.specs.declared.ending.Ending.TheVariants as ending
+use Rattle.inst_program.specs.Program.{status_of, AskForADrill, AreRefused, Answers, Serves, HasChecked, HasDrilled, HasKept, AskForAnExplanation, HasExplained, NameNoFault}
 
 -- for words that ask for nothing that can be done: 0 where they ask for a text
 abbrev pub status_of_kind : ErrorKind → ℕ

@@ -7,11 +7,11 @@ use Rattle.inst_lines.specs.declared.mode.Mode.{Mode}
 use Rattle.inst_options.specs.Options.Task.{Drill, Check}
 use Rattle.inst_options.specs.Asking.{AreChosen, AreWhole, AskToExplain, NameALog, NameTheLog}
 use Rattle.inst_options.specs.declared.wish.LogOptions.{LogOptions}
-use Rattle.inst_main.specs.Program.{AskForADrill, Checks, Drills, FailsAtLines, task_of}
-use Rattle.inst_main.specs.inner.Ending.{IsAnswered, IsEnding, IsServed, IsUnanswered, IsUnchecked, IsUndrilled, IsUnexplained, IsUnkept}
-use Rattle.inst_main.specs.declared.ending.Ending.{Ending}
-use Rattle.inst_main.specs.declared.ending.Ending.TheVariants as ending
-use Rattle.inst_main.proofs.Refusing.{undrillable}
+use Rattle.inst_program.specs.Program.{AskForADrill, Checks, Drills, FailsAtLines, task_of}
+use Rattle.inst_program.specs.inner.Ending.{IsAnswered, IsEnding, IsServed, IsUnanswered, IsUnchecked, IsUndrilled, IsUnexplained, IsUnkept}
+use Rattle.inst_program.specs.declared.ending.Ending.{Ending}
+use Rattle.inst_program.specs.declared.ending.Ending.TheVariants as ending
+use Rattle.inst_program.proofs.Refusing.{undrillable}
 
 -- lines were answered, with a log or without
 pub answered : (words : List (List ℕ)) (mode : Mode) (s : HubSettings) (log : Option LogOptions) (unread : Type 0)

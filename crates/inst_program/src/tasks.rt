@@ -1,17 +1,18 @@
+//! What the program does with the words of its command line, and which exit status that comes to.
 ghost use Rattle.std.specs.Prelude.{◌≡◌, ◌≢◌, ◌⊎◌, ℕ, List, map, string_bytes, OnOk, IfErr};
 ghost use Rattle.std.specs.IoError.{error_kind};
 ghost use Rattle.inst_base.specs.declared.fault.Fault.{Fault as SomeFault};
 ghost use Rattle.inst_lines.specs.Answering.{answering, opened};
 ghost use Rattle.inst_lines.specs.Session.{FailsAfter};
 ghost use Rattle.inst_options.specs.Asking.{AskForHelp, AreWrong, IsWished, NameALog};
-ghost use Rattle.inst_main.specs.Program.{status_of};
-ghost use Rattle.inst_main.specs.inner.Ending.{status_of_error, status_of_ending};
-ghost use Rattle.inst_main.specs.Program.{Answers, Serves, Checks, HasKept, HasChecked, HasDrilled, HasExplained};
-ghost use Rattle.inst_main.specs.Program.{FailsAtLines};
-ghost use Rattle.inst_main.specs.Program.{AreRefused, AskForADrill, AskForAnExplanation, NameNoFault};
-ghost use Rattle.inst_main.specs.inner.Ending.{IsServed, IsEnding};
-ghost use Rattle.inst_main.specs.Program.{Drills, Explains};
-ghost use Rattle.inst_main.specs.inner.Ending.{IsAnswered, IsUnanswered, IsUndrilled, IsUnchecked, IsUnexplained};
+ghost use Rattle.inst_program.specs.Program.{status_of};
+ghost use Rattle.inst_program.specs.inner.Ending.{status_of_error, status_of_ending};
+ghost use Rattle.inst_program.specs.Program.{Answers, Serves, Checks, HasKept, HasChecked, HasDrilled, HasExplained};
+ghost use Rattle.inst_program.specs.Program.{FailsAtLines};
+ghost use Rattle.inst_program.specs.Program.{AreRefused, AskForADrill, AskForAnExplanation, NameNoFault};
+ghost use Rattle.inst_program.specs.inner.Ending.{IsServed, IsEnding};
+ghost use Rattle.inst_program.specs.Program.{Drills, Explains};
+ghost use Rattle.inst_program.specs.inner.Ending.{IsAnswered, IsUnanswered, IsUndrilled, IsUnchecked, IsUnexplained};
 
 use crate::ending::Ending;
 use crate::keeping::{keep, next, show};
@@ -43,7 +44,7 @@ use std::thread::Threads;
 /// `fault <number> <name>` on `errors`; so is what is wrong with a log, with status 2 where it wasn't taken and 3 where
 /// the disk failed. What `errors` doesn't take is lost. It reads line by line: its time is in the bytes of the input
 /// and of the log.
-pub(crate) fn program<H: Threads + Wait + Sync, L: Logs, R: Read, W: Write, E: Write>(
+pub fn program<H: Threads + Wait + Sync, L: Logs, R: Read, W: Write, E: Write>(
     rt: &H,
     logs: &L,
     alloc: Global,

@@ -1,8 +1,8 @@
 use Rattle.std.proofs.Common.{arith}
 use Rattle.inst_options.specs.Rows.{small_settings}
 use Rattle.inst_options.specs.Options.Task.{Drill}
-use Rattle.inst_main.specs.Program.{MayDo}
-use Rattle.inst_main.proofs.rows.small_drill.Goals as goal
+use Rattle.inst_program.specs.Program.{MayDo}
+use Rattle.inst_program.proofs.rows.small_drill.Goals as goal
 
 can_drill : MayDo small_settings (Drill 2 1)
 can_drill = record {

@@ -1,7 +1,7 @@
 use Rattle.std.proofs.Common.{◌≡◌, inl, inr, map, string_bytes, refl, sym, ◌∙◌}
 use Rattle.inst_options.specs.Asking.{IsNoWish, IsWished}
-use Rattle.inst_main.proofs.Serving.{failed_ending, helped, refused_ending, refused_error, served, two_is_not_zero, unwritten_error}
-use Rattle.inst_main.proofs.program.program.Goals as goal
+use Rattle.inst_program.proofs.Serving.{failed_ending, helped, refused_ending, refused_error, served, two_is_not_zero, unwritten_error}
+use Rattle.inst_program.proofs.tasks.program.Goals as goal
 
 pub returns-in-Ok-serve-clause-served : goal.returns-in-Ok-serve-clause-served
 returns-in-Ok-serve-clause-served g c is =

@@ -16,7 +16,7 @@ pub(crate) enum Ending {
 }
 
 impl From<Fault> for Ending {
-    ghost use Rattle.inst_main.specs.declared.ending.Ending.TheVariants as ending;
+    ghost use Rattle.inst_program.specs.declared.ending.Ending.TheVariants as ending;
 
     ghost from_gives = { λ fault result. result ≡ ending.Fault fault };
 
@@ -27,7 +27,7 @@ impl From<Fault> for Ending {
 
 impl From<AllocError> for Ending {
     ghost use Rattle.inst_base.specs.declared.fault.Fault.TheVariants.{Memory};
-    ghost use Rattle.inst_main.specs.declared.ending.Ending.TheVariants as ending;
+    ghost use Rattle.inst_program.specs.declared.ending.Ending.TheVariants as ending;
 
     ghost from_gives = { λ _ result. result ≡ ending.Fault Memory };
 
@@ -37,7 +37,7 @@ impl From<AllocError> for Ending {
 }
 
 impl From<LogFault> for Ending {
-    ghost use Rattle.inst_main.specs.declared.ending.Ending.TheVariants as ending;
+    ghost use Rattle.inst_program.specs.declared.ending.Ending.TheVariants as ending;
 
     ghost from_gives = { λ fault result. result ≡ ending.Log fault };
 

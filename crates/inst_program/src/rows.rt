@@ -2,7 +2,7 @@
 //! check computes it.
 ghost use Rattle.inst_options.specs.Rows.{small_settings};
 ghost use Rattle.inst_options.specs.Options.Task.{Drill};
-ghost use Rattle.inst_main.specs.Program.{MayDo};
+ghost use Rattle.inst_program.specs.Program.{MayDo};
 
 /// The small hub of the worked command lines can do two transfers in one opening.
 pub fn small_drill()

@@ -10,11 +10,11 @@ use Rattle.clap.specs.declared.error.kind.ErrorKind.TheVariants.{DisplayHelp, Di
 use Rattle.inst_options.specs.Asking.{AreUnfit, AreWrong, AskForHelp, IsNoWish, IsRefusal, NameALog, faults_of}
 use Rattle.inst_options.specs.declared.error.WordsError.{WordsError}
 use Rattle.inst_options.specs.declared.error.WordsError.TheVariants as error
-use Rattle.inst_main.specs.Program.{status_of, AreRefused, AskForADrill, AskForAnExplanation, NameNoFault, FailsAtLines}
-use Rattle.inst_main.specs.inner.Ending.{status_of_ending, status_of_error, status_of_kind, IsEnding}
-use Rattle.inst_main.specs.declared.ending.Ending.{Ending}
-use Rattle.inst_main.specs.declared.ending.Ending.TheVariants as ending
-use Rattle.inst_main.proofs.Refusing.{refused}
+use Rattle.inst_program.specs.Program.{status_of, AreRefused, AskForADrill, AskForAnExplanation, NameNoFault, FailsAtLines}
+use Rattle.inst_program.specs.inner.Ending.{status_of_ending, status_of_error, status_of_kind, IsEnding}
+use Rattle.inst_program.specs.declared.ending.Ending.{Ending}
+use Rattle.inst_program.specs.declared.ending.Ending.TheVariants as ending
+use Rattle.inst_program.proofs.Refusing.{refused}
 
 -- one more way to be served
 pub served : (S K C U H D : Type 0) → S ⊎ (K ⊎ (C ⊎ (U × D))) → S ⊎ (K ⊎ (C ⊎ (U × (H ⊎ D))))

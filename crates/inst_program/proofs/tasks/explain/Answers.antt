@@ -1,8 +1,8 @@
 use Rattle.std.proofs.Common.{ℕ, List, subst}
 use Rattle.std.specs.Io.KnownBytes.{Appends}
 use Rattle.inst_faults.specs.AnyFault.{name_of}
-use Rattle.inst_main.specs.Program.{explanation_text}
-use Rattle.inst_main.proofs.program.explain.Goals as goal
+use Rattle.inst_program.specs.Program.{explanation_text}
+use Rattle.inst_program.proofs.tasks.explain.Goals as goal
 
 pub returns-in-Ok-clause-ok : goal.returns-in-Ok-clause-ok
 returns-in-Ok-clause-ok g c =

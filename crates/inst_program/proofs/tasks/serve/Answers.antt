@@ -1,7 +1,7 @@
 use Rattle.std.proofs.Common.{◌≡◌, refl}
 use Rattle.std.proofs.lemmas.Result.{on_ok_weaker}
-use Rattle.inst_main.proofs.Doing.{answered, checked, drilled, unanswered_err, unchecked_err, undrilled_err, unexplained_err}
-use Rattle.inst_main.proofs.program.serve.Goals as goal
+use Rattle.inst_program.proofs.Doing.{answered, checked, drilled, unanswered_err, unchecked_err, undrilled_err, unexplained_err}
+use Rattle.inst_program.proofs.tasks.serve.Goals as goal
 
 pub returns-in-Run-clause-ok : goal.returns-in-Run-clause-ok
 returns-in-Run-clause-ok g c words wished =

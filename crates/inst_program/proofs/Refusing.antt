@@ -8,7 +8,7 @@ use Rattle.inst_options.specs.Options.{Chooses, HasSmallNumbers, IsTask, Task}
 use Rattle.inst_options.specs.Options.Task.{Run, Play, Drill, Check}
 use Rattle.inst_options.specs.Asking.{AreChosen, AreUnfit, AreWhole}
 use Rattle.inst_options.proofs.Refused.{chosen_by, codes_one, given_one}
-use Rattle.inst_main.specs.Program.{AreRefused, MayDo}
+use Rattle.inst_program.specs.Program.{AreRefused, MayDo}
 
 -- what a hub can do fits
 fits : (s : HubSettings) (task : Task) → AreOfAHub s → MayDo s task → HasSmallNumbers task

@@ -3,7 +3,7 @@ ghost use Rattle.std.specs.Prelude.{◌≡◌, List, ℕ, IsTrue, OnOk, IfErr};
 ghost use Rattle.sqlite_disk.specs.Disk.{Only};
 ghost use Rattle.inst_world.specs.NextOpening.{CanOpenFrom};
 ghost use Rattle.std.specs.Io.KnownBytes.{IsAtEnd};
-ghost use Rattle.inst_main.specs.inner.Ending.{IsUnkept};
+ghost use Rattle.inst_program.specs.inner.Ending.{IsUnkept};
 ghost use Rattle.inst_logged.specs.Refused.{IsRefused};
 ghost use Rattle.inst_logged.specs.Logged.{IsUnbegun};
 

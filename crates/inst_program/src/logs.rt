@@ -3,12 +3,10 @@ ghost use Rattle.std.specs.Prelude.{IsTrue, IfOk};
 ghost use Rattle.sqlite_disk.specs.Disk.{Only};
 
 use inst_faults::LogFault;
-use sqlite_disk::{Disk, Files};
-use sqlite_std_file::{FileFrom, OpenError, Unknown};
-use std::fs;
+use sqlite_disk::Disk;
 
 /// Opens logs by their names.
-pub(crate) trait Logs {
+pub trait Logs {
     type Log: Disk + Drop;
 
     /// Opens the log of this name for this program alone, and makes the file if it isn't there. What is read then is
@@ -20,29 +18,4 @@ pub(crate) trait Logs {
 
     /// Whether a file of this name is there. `DiskFault` where that can't be said.
     fn has(&self, path: &str) -> Result<bool, LogFault>;
-}
-
-/// The files of the machine.
-#[derive(Clone, Copy)]
-pub(crate) struct HostLogs<'a> {
-    pub(crate) rt: &'a HostRuntime,
-}
-
-impl<'a> Logs for HostLogs<'a> {
-    type Log = FileFrom<Unknown>;
-
-    fn open(&self, path: &str) -> Result<FileFrom<Unknown>, LogFault> {
-        match sqlite_std_file::open(self.rt, path, Unknown) {
-            Ok(Files { log, db }) => {
-                drop(log);
-                Ok(db)
-            }
-            Err(OpenError::Busy) => Err(LogFault::LogInUse),
-            Err(_) => Err(LogFault::DiskFault),
-        }
-    }
-
-    fn has(&self, path: &str) -> Result<bool, LogFault> {
-        fs::exists(self.rt, path).map_err(|_| LogFault::DiskFault)
-    }
 }

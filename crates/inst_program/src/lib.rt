@@ -1,0 +1,13 @@
+//! The program but for the machine's files and streams: what the words ask for is done, with a log or without, and comes
+//! to an exit status.
+#![tactic(auto)]
+
+mod ending;
+mod keeping;
+mod logs;
+pub mod rows;
+mod summary;
+mod tasks;
+
+pub use logs::Logs;
+pub use tasks::{program, words_failed};
