@@ -1,5 +1,5 @@
 //! The end of a file is repaired: closed, and nothing behind it. What the file stands for stays the same.
-ghost use Rattle.std.specs.Prelude.{◌≡◌, ◌<◌, ◌≤◌, ◌+◌, ◌^◌, length, IsTrue, IfOk};
+ghost use Rattle.std.specs.Prelude.{◌≡◌, ◌<◌, ◌≤◌, ◌+◌, ◌^◌, length, IsTrue, IfOk, OnOk};
 ghost use Rattle.sqlite_disk.specs.Disk.{Only, CountsFault};
 ghost use Rattle.inst_log.specs.Layout.{recovered, blocks, IsClosed};
 ghost use Rattle.inst_log.specs.inner.Layout.{IsUnclosed};
@@ -61,6 +61,7 @@ fn close_at<D: Disk>(disk: &mut D, end: usize) -> io::Result<()>
     requires usable { IsTrue (D.Disk.is_usable disk.old) }
     requires unclosed { IsTrue (D.Disk.is_clean disk.old) → IsUnclosed (D.Disk.seen disk.old) end }
     requires known { IsTrue (D.Disk.is_clean disk.old) → Only (D.Disk.seen disk.old) (D.Disk.may_leave disk.old) }
+    ensures durable { OnOk result (Only (D.Disk.seen disk.new) (D.Disk.may_leave disk.new)) }
     ensures repaired { Repairs D.Disk.seen D.Disk.may_leave D.Disk.is_clean D.Disk.is_usable disk.old end result disk.new }
     ensures cause { CountsFault result (D.Disk.faults disk.old) (D.Disk.faults disk.new) }
 {
@@ -73,6 +74,7 @@ fn cut_behind<D: Disk>(disk: &mut D, end: usize) -> io::Result<()>
     requires fits { end + 1 < 2 ^ 64 }
     requires closed { IsTrue (D.Disk.is_clean disk.old) → IsClosed (D.Disk.seen disk.old) end }
     requires known { IsTrue (D.Disk.is_clean disk.old) → Only (D.Disk.seen disk.old) (D.Disk.may_leave disk.old) }
+    ensures durable { OnOk result (Only (D.Disk.seen disk.new) (D.Disk.may_leave disk.new)) }
     ensures repaired { Repairs D.Disk.seen D.Disk.may_leave D.Disk.is_clean D.Disk.is_usable disk.old end result disk.new }
     ensures cause { CountsFault result (D.Disk.faults disk.old) (D.Disk.faults disk.new) }
 {
