@@ -8,7 +8,7 @@ use inst_base::{Cents, Ident};
 use std::alloc::{AllocError, Global};
 
 /// A kept fund or defund command.
-#[derive(Clone, Copy, Debug, PartialEq, Eq)]
+#[derive(Clone, Copy, Debug)]
 pub(crate) struct KeptFunding {
     pub(crate) is_defunding: bool,
     pub(crate) cents: Cents,

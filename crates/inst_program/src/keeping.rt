@@ -42,17 +42,34 @@ pub(crate) fn keep<L: Logs, R: Read, W: Write, E: Write>(
     let mut hub = LoggedHub::of_log(alloc, mode, settings, disk).map_err(ending_of)?;
     match hub.run(alloc, log.told, reader, writer) {
         Ok(()) => {
-            if sums {
-                sum_up(&mut hub.into_runner(), None, errors);
-            }
+            sum_run(hub, sums, errors);
             Ok(())
         }
         Err(error) => {
-            if let LoggedError::Log(LogError::OtherSettings) = error {
-                tell_settings(alloc, mode, settings, hub.into_disk(), errors);
-            }
+            tell_failure(alloc, mode, settings, hub, error, errors);
             Err(ending_of(error))
         }
+    }
+}
+
+/// Sums up the run of this hub where `sums` says so.
+fn sum_run<D: Disk + Drop, E: Write>(hub: LoggedHub<D>, sums: bool, errors: &mut E) {
+    if sums {
+        sum_up(&mut hub.into_runner(), None, errors);
+    }
+}
+
+/// Tells what this error of a run is about: the settings, where its log begins with others.
+fn tell_failure<D: Disk + Drop, E: Write>(
+    alloc: Global,
+    mode: Mode,
+    settings: &Settings,
+    hub: LoggedHub<D>,
+    error: LoggedError,
+    errors: &mut E,
+) {
+    if let LoggedError::Log(LogError::OtherSettings) = error {
+        tell_settings(alloc, mode, settings, hub.into_disk(), errors);
     }
 }
 

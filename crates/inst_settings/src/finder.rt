@@ -10,7 +10,7 @@ use inst_base::{BRANCH_CODE_LENGTH, CODE_LENGTH, Code};
 const MARKS: usize = 4096;
 
 /// Whose codes have a mark.
-#[derive(Clone, Copy, Debug, PartialEq, Eq)]
+#[derive(Clone, Copy, Debug)]
 pub(crate) enum Holders {
     Nobody,
     /// The participant with this number.

@@ -22,7 +22,7 @@ use inst_ledger::Ledger;
 use inst_transfers::{Found, Side, Transfer};
 
 /// What a command asks of the board: the transfer that was found, where it lies, and what is wished for it.
-#[derive(Clone, Copy, Debug, PartialEq, Eq)]
+#[derive(Clone, Copy)]
 pub(crate) struct Request {
     pub(crate) found: Found,
     pub(crate) place: Place,

@@ -15,7 +15,7 @@ use inst_ledger::Ledger;
 use inst_transfers::{Found, Side, Transfer};
 
 /// A transfer of the participant's that was found with nothing booked, and its outcome.
-#[derive(Clone, Copy, Debug, PartialEq, Eq)]
+#[derive(Clone, Copy)]
 pub(crate) struct Lesson {
     pub(crate) found: Found,
     pub(crate) outcome: Outcome,
