@@ -4,9 +4,11 @@ ghost use Rattle.std.specs.Io.KnownBytes.{Appends};
 ghost use Rattle.inst_bytes.specs.Handing.{WritesPart};
 
 use std::io::Write;
+use thiserror::Error;
 
 /// A write failed or took no byte.
-#[derive(Clone, Copy, Debug, PartialEq, Eq)]
+#[derive(Clone, Copy, Debug, PartialEq, Eq, Error)]
+#[error("a write failed or took no byte")]
 pub struct Unwritten;
 
 /// Writes these bytes, in as many writes as they take, and doesn't flush. `Unwritten` comes where a write fails or takes

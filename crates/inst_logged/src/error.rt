@@ -4,15 +4,19 @@ ghost use Rattle.inst_log.specs.declared.error.LogError.TheVariants.{Memory};
 
 use inst_log::LogError;
 use std::alloc::AllocError;
+use thiserror::Error;
 
 /// Why a hub with a log ended. Open the log again.
-#[derive(Clone, Copy, Debug)]
+#[derive(Clone, Copy, Debug, Error)]
 pub enum LoggedError {
     /// What went wrong with the log or with the replies.
+    #[error(transparent)]
     Log(LogError),
     /// A read of the lines failed.
+    #[error("a read of the lines failed")]
     Read,
     /// The books that stand behind the log's settings are none that a hub can open from.
+    #[error("the books behind the log's settings are none that a hub can open from")]
     Books,
 }
 

@@ -8,6 +8,8 @@ mod audits;
 #[cfg(test)]
 mod cuts;
 #[cfg(test)]
+mod errors;
+#[cfg(test)]
 mod failing;
 #[cfg(test)]
 mod headers;

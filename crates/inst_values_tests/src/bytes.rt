@@ -1,6 +1,6 @@
 //! Where a line ends, and how it comes to a writer.
 use crate::comparing::same;
-use inst_bytes::{find_newline, write_bytes};
+use inst_bytes::{Unwritten, find_newline, write_bytes};
 use std::process::Abort;
 use std::test::Fail;
 
@@ -19,5 +19,12 @@ fn a_line_is_found_and_written(rt: HostRuntime) -> Result<(), Fail> {
     out.extend_from_slice(b"x")?;
     same(&rt, write_bytes(&mut out, b"ab\n"), Ok(()));
     same(&rt, out.as_slice(), b"xab\n".as_slice());
+    Ok(())
+}
+
+#[test]
+fn what_is_unwritten_tells_why(rt: HostRuntime) -> Result<(), Fail> {
+    let text = format!(in rt.alloc(); "{}", Unwritten)?;
+    same(&rt, text.as_str(), "a write failed or took no byte");
     Ok(())
 }
