@@ -1,8 +1,9 @@
 -- Options that choose no settings that a hub can have, and the faults that say so.
-use Rattle.std.proofs.Common.{◌≡◌, ⊎_elim, ◌<◌, ◌≤◌, ◌^◌, ℕ, true, false, List, length, Option, Some, None, Result, Ok, Err, option_map, IfErr, OnErr, OkIff, IsErrAnd, IsOkUnless, is_ok, ◌⊎◌, codes, sym, ap, ap₂, subst, ◌∙◌, inl, inr, arith}
+use Rattle.std.proofs.Common.{◌≡◌, ⊎_elim, ◌<◌, ◌≤◌, ◌^◌, ℕ, true, false, List, length, Option, Some, None, Result, Ok, Err, option_map, IfErr, OnErr, OkIff, IsErrAnd, IsOkUnless, is_ok, ◌⊎◌, codes, sym, ap, ap₂, subst, ◌∙◌, inl, inr, refl, arith}
 use Rattle.std.specs.Str.Parse.{digits_value, without_leading_plus}
 use Rattle.std.proofs.lemmas.Bool.{cases_lt}
-use Rattle.clap.specs.Words.{Row, subcommand_of}
+use Rattle.std.proofs.lemmas.Slice.Eq.{bytes_eq-Decides}
+use Rattle.clap.specs.Words.{Row, Text, subcommand_of}
 use Rattle.inst_codes.specs.Parts.{parts_of}
 use Rattle.inst_base.specs.declared.fault.Fault.{Fault}
 use Rattle.inst_base.specs.declared.fault.Fault.TheVariants.{BadSettings}
@@ -10,13 +11,16 @@ use Rattle.inst_settings.specs.Settings.{HubSettings, same_text}
 use Rattle.inst_settings.specs.Lawful.{IsSettings, are_different}
 use Rattle.inst_options.specs.CommandLine.{command_line}
 use Rattle.inst_options.specs.Options.{Chooses, Gives, IsTask, SpeaksOfALog, Task}
+use Rattle.inst_options.specs.inner.Asking.{IsAsked, IsUnasked}
 use Rattle.inst_options.specs.inner.Options.{AskForNone, ChooseNone, GivesLog, GivesNoneBelow, IsWish}
 use Rattle.inst_options.specs.Options.Task.{Run, Play, Drill, Check}
 use Rattle.inst_options.specs.Asking.{AreChosen, AreUnfit, AreWhole, IsNoWish, IsRefusal, IsWished, NameTheLog}
+use Rattle.inst_options.specs.declared.error.WordsError.{WordsError}
 use Rattle.inst_options.specs.declared.error.WordsError.TheVariants as error
 use Rattle.inst_options.specs.declared.wish.LogOptions.{LogOptions}
 use Rattle.inst_options.specs.declared.wish.Wish.{Wish}
 use Rattle.inst_options.specs.declared.wish.Wish.TheVariants as wish
+use Rattle.inst_options.proofs.Given.{unwished}
 
 -- the number of an option is one
 pub given_one : (rows : List Row) (name : List ℕ) (n m : ℕ) → Gives rows name n → Gives rows name m → n ≡ m
@@ -116,6 +120,10 @@ passed_more P Q (Err e) fault is weaker (inr bad) = inr (is ∙ bad.0, weaker ba
 pub none_of_all : (name : List ℕ) (rows : List Row) → ChooseNone rows → AskForNone name rows
 none_of_all name rows none task s is chosen good = none s chosen good.0
 
+-- a name is no other one
+pub no_other : (name one other : List ℕ) → same_text name one ≡ true → same_text one other ≡ false → same_text name other ≡ false
+no_other name one other is differs = ap (λ (n : List ℕ). same_text n other) ((bytes_eq-Decides name one).0 is) ∙ differs
+
 -- a number of a drill that is too large for its type is too large for any hub
 no_transfers : (name : List ℕ) (rows : List Row) → same_text name (codes "play") ≡ false → same_text name (codes "drill") ≡ true →
     GivesNoneBelow (2 ^ 16) rows (codes "transfers") → AskForNone name rows
@@ -186,6 +194,25 @@ wished_of words name rows (wish.Check s) whole at is = (is.0, whole, (name, rows
 wished_of words name rows (wish.Log path) whole at is = (whole, (name, rows, at, inl (inl is.0)))
 wished_of words name rows (wish.Next from to) whole at is = (whole, (name, rows, at, inl (inr is.0)))
 wished_of words name rows (wish.Explain word) whole at is = (whole, (name, rows, at, is.0, is.1))
+
+pub wished_from : (words : List (List ℕ)) (found : Option (Text × List Row)) → AreWhole words → found ≡ subcommand_of command_line words →
+    (wish : Wish) → IsAsked found wish → IsWished words wish
+wished_from words None whole at wish is = absurd is
+wished_from words (Some (name, rows)) whole at wish is = wished_of words name rows wish whole (sym at) is
+
+-- words with no subcommand choose nothing
+none_chosen : (words : List (List ℕ)) → AreWhole words → subcommand_of command_line words ≡ None → AreUnfit words
+none_chosen words whole at = record {
+  whole = whole;
+  none = λ task s chosen. let no : ⊥ = cc (at, chosen.2) in absurd no;
+}
+
+-- and why they ask for nothing is why their subcommand does
+pub unwished_from : (words : List (List ℕ)) (found : Option (Text × List Row)) → AreWhole words → found ≡ subcommand_of command_line words →
+    (e : WordsError) → IsUnasked found e → IsNoWish words e
+unwished_from words None whole at e is = subst (IsNoWish words) (sym is) (inr (refl, inl (none_chosen words whole (sym at))))
+unwished_from words (Some (name, rows)) whole at e is =
+    unwished words name rows is.0 e (sym at) is.1 (unsettled words name rows is.0 whole (sym at) is.2)
 
 -- the name and the rows of a subcommand, found one by one
 pub both_of : {B : Type 0} (X : Option B) (n : B → List ℕ) (r : B → List Row) (name : List ℕ) (rows : List Row) → Some name ≡ option_map n X

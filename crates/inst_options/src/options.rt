@@ -40,27 +40,27 @@ pub(crate) fn wish<'a>(
 }
 
 /// What the subcommand of this name, if it is one with a hub, and its options ask for. The one that is none of `play`,
-/// `drill` and `check` is `run`. `BadSettings` as from `settings`, and then where a number of a drill is too large for any
-/// hub, or as from `log_options`.
+/// `drill` and `check` is `run`. `BadSettings` where a number of a drill is too large for any hub, as from
+/// `log_options`, and then as from `settings`, which come last: nothing fails that would let them go.
 fn hub_wish<'a>(alloc: Global, name: &str, options: &ArgMatches<'a>) -> Result<Wish<'a>, Fault>
     ensures wish { IfOk result (IsWish name.now (rows_of (found_of options.now))) }
     ensures fault { IfErr result (IsRefusal (AskForNone name.now (rows_of (found_of options.now))
         ⊎ SpeaksOfALog name.now (rows_of (found_of options.now)))) }
 {
-    let settings = settings(alloc, options)?;
-    if name == "play" {
-        let log = log_options(options)?;
-        return Ok(Wish::Play(settings, log, flag(options, "summary")));
-    }
     if name == "drill" {
         let (transfers, openings) = drill_options(options)?;
-        return Ok(Wish::Drill(settings, transfers, openings));
+        return Ok(Wish::Drill(settings(alloc, options)?, transfers, openings));
     }
     if name == "check" {
-        return Ok(Wish::Check(settings));
+        return Ok(Wish::Check(settings(alloc, options)?));
     }
     let log = log_options(options)?;
-    Ok(Wish::Run(settings, log, flag(options, "summary")))
+    let sums = flag(options, "summary");
+    let settings = settings(alloc, options)?;
+    if name == "play" {
+        return Ok(Wish::Play(settings, log, sums));
+    }
+    Ok(Wish::Run(settings, log, sums))
 }
 
 /// Whether an option that has no value is there.
@@ -99,14 +99,13 @@ fn drill_options(options: &ArgMatches<'_>) -> Result<(u16, u8), Fault>
 }
 
 /// The settings that the options give. `BadSettings` where a code has the wrong form or a number is
-/// outside its range, the codes first.
+/// outside its range. The codes come last, so that nothing fails that would let them go.
 fn settings(alloc: Global, options: &ArgMatches<'_>) -> Result<Settings, Fault>
     ensures lawful { IfOk result (λ settings. IsSettings settings) }
     ensures fault { IfErr result (IsRefusal (ChooseNone (rows_of (found_of options.now)))) }
     ensures chosen { IfOk result (λ settings. Chooses (rows_of (found_of options.now)) settings) }
 {
     let participants = text(options, "participants")?;
-    let codes = codes(alloc, participants.as_bytes())?;
     let places = small(options, "places")?;
     let fundings = small(options, "fundings")?;
     let limit = medium(options, "limit")?;
@@ -123,6 +122,7 @@ fn settings(alloc: Global, options: &ArgMatches<'_>) -> Result<Settings, Fault>
         ceiling,
         base,
     };
+    let codes = codes(alloc, participants.as_bytes())?;
     Settings::check(codes, numbers)
 }
 

@@ -1,8 +1,8 @@
 //! The words of a command line, read by `clap`.
 ghost use Rattle.std.specs.Prelude.{map, string_bytes, IfOk, IfErr};
-ghost use Rattle.clap.specs.Words.{found_of, kind_of, rows_of};
+ghost use Rattle.clap.specs.Words.{found_of, kind_of, rows_of, subcommand_rows_of};
 ghost use Rattle.inst_options.specs.Asking.{IsWished, IsNoWish};
-ghost use Rattle.inst_options.specs.inner.Asking.{IsOfKind, IsRefusedBy};
+ghost use Rattle.inst_options.specs.inner.Asking.{IsAsked, IsOfKind, IsRefusedBy, IsUnasked};
 
 use crate::bad_option::bad_option;
 use crate::command_line::command_line;
@@ -22,11 +22,18 @@ pub fn wished<'a>(alloc: Global, words: &'a [String]) -> Result<Wish<'a>, WordsE
     ensures ok { IfOk result (IsWished (map string_bytes words.now)) }
     ensures err { IfErr result (IsNoWish (map string_bytes words.now)) }
 {
-    let command = command_line(alloc)?;
-    let matches = match command.try_get_matches_from(words) {
-        Ok(matches) => matches,
-        Err(error) => return Err(error_of(error)),
-    };
+    let found = command_line(alloc)?.try_get_matches_from(words);
+    match found {
+        Ok(matches) => asked(alloc, &matches),
+        Err(error) => Err(error_of(error)),
+    }
+}
+
+/// What a subcommand and its options ask for, as they were found.
+fn asked<'a>(alloc: Global, matches: &ArgMatches<'a>) -> Result<Wish<'a>, WordsError<'a>>
+    ensures wish { IfOk result (IsAsked (subcommand_rows_of matches.now)) }
+    ensures none { IfErr result (IsUnasked (subcommand_rows_of matches.now)) }
+{
     match matches.subcommand() {
         Some((name, options)) => match wish(alloc, name, options) {
             Ok(wish) => Ok(wish),

@@ -1,12 +1,16 @@
--- The errors of words that ask for nothing.
-use Rattle.std.specs.Prelude.{◌≢◌, ◌≡◌, List, Some}
-use Rattle.clap.specs.Words.{Row, first_of, kind_of}
+-- The subcommand that was found, and the errors of words that ask for nothing.
+use Rattle.std.specs.Prelude.{◌≢◌, ◌≡◌, ◌⊎◌, List, Option, Some, None}
+use Rattle.clap.specs.Words.{Row, Text, first_of, kind_of}
 use Rattle.clap.specs.declared.error.kind.ErrorKind.{ErrorKind}
 use Rattle.clap.specs.declared.error.kind.ErrorKind.TheVariants.{OutOfMemory}
 use Rattle.inst_base.specs.declared.fault.Fault.{Fault}
 use Rattle.inst_base.specs.declared.fault.Fault.TheVariants.{BadSettings, Memory}
+use Rattle.inst_options.specs.Asking.{IsRefusal}
+use Rattle.inst_options.specs.Options.{SpeaksOfALog}
+use Rattle.inst_options.specs.inner.Options.{AskForNone, IsWish}
 use Rattle.inst_options.specs.declared.error.WordsError.{WordsError}
 use Rattle.inst_options.specs.declared.error.WordsError.TheVariants as error
+use Rattle.inst_options.specs.declared.wish.Wish.{Wish}
 
 -- an error of the words of this kind, and want of memory as a fault
 abbrev pub IsOfKind : ErrorKind → WordsError → Type 0
@@ -19,3 +23,14 @@ abbrev pub IsRefusedBy : List Row → Fault → WordsError → Type 0
 IsRefusedBy rows fault (error.Words e) = ⊥
 IsRefusedBy rows fault (error.Option bad) = (fault ≡ BadSettings) × (first_of bad.name.now rows ≡ Some bad.value.now)
 IsRefusedBy rows fault (error.Fault other) = other ≡ fault
+
+-- what the subcommand of this name asks for, with its options
+abbrev pub IsAsked : Option (Text × List Row) → Wish → Type 0
+IsAsked None wish = ⊥
+IsAsked (Some (name, rows)) wish = IsWish name rows wish
+
+-- why it asks for nothing
+abbrev pub IsUnasked : Option (Text × List Row) → WordsError → Type 0
+IsUnasked None e = e ≡ error.Fault BadSettings
+IsUnasked (Some (name, rows)) e =
+    (fault : Fault) × IsRefusedBy rows fault e × IsRefusal (AskForNone name rows ⊎ SpeaksOfALog name rows) fault

@@ -1,16 +1,16 @@
-use Rattle.std.proofs.Common.{◌≡◌, ◌⊎◌, ◌∙◌, true, false, codes, inl, inr, sym}
+use Rattle.std.proofs.Common.{◌≡◌, ◌⊎◌, ◌∙◌, true, codes, inl, inr, refl, sym}
 use Rattle.clap.specs.Words.{found_of, rows_of}
 use Rattle.inst_settings.specs.Settings.{same_text}
 use Rattle.inst_options.specs.Options.{SpeaksOfALog}
 use Rattle.inst_options.specs.inner.Options.{AskForNone, ChooseNone}
-use Rattle.inst_options.proofs.Refused.{none_of_all, numberless, passed_more, passed_on}
+use Rattle.inst_options.proofs.Refused.{no_other, none_of_all, numberless, passed_more, passed_on}
 use Rattle.inst_options.proofs.options.hub_wish.Goals as goal
 
 pub returns-in_err-settings-clause-fault : goal.returns-in_err-settings-clause-fault
 returns-in_err-settings-clause-fault c =
     let name = c.args.name.now in
     let rows = rows_of (found_of c.args.options.now) in
-    let told = c.from_residual in
+    let told = c.from_residual-in_err-settings in
     passed_more (AskForNone name rows ⊎ SpeaksOfALog name rows) (ChooseNone rows) told.result c.in_err-settings.field-0.0
     told.ensures.1 (λ none. inl (none_of_all name rows none)) c.in_err-settings.ensures.fault
 
@@ -23,57 +23,49 @@ returns-in_err-log-clause-fault c =
     passed_on (AskForNone name rows ⊎ SpeaksOfALog name rows) told.result c.in_err-log.field-0.0 told.ensures.1
     log.fault (inr (inr (inr log.none.1)))
 
-pub returns-in_err-log-2-clause-fault : goal.returns-in_err-log-2-clause-fault
-returns-in_err-log-2-clause-fault c =
-    let name = c.args.name.now in
-    let rows = rows_of (found_of c.args.options.now) in
-    let told = c.from_residual-in_err-log-2 in
-    let log = c.in_err-log-2.ensures in
-    passed_on (AskForNone name rows ⊎ SpeaksOfALog name rows) told.result c.in_err-log-2.field-0.0 told.ensures.1
-    log.fault (inr (inr (inr log.none.1)))
-
 pub returns-in_err-transfers-clause-fault : goal.returns-in_err-transfers-clause-fault
 returns-in_err-transfers-clause-fault c =
     let name = c.args.name.now in
     let rows = rows_of (found_of c.args.options.now) in
-    let other : same_text name (codes "play") ≡ false = sym c.eq.ensures ∙ c.if-eq.false in
-    let drill : same_text name (codes "drill") ≡ true = sym c.eq-2.ensures ∙ c.if-eq-2.true in
-    let told = c.from_residual-in_err-transfers in
+    let drill : same_text name (codes "drill") ≡ true = sym c.eq.ensures ∙ c.if-eq.true in
+    let told = c.from_residual in
     let numbers = c.in_err-transfers.ensures in
-    numberless name rows told.result c.in_err-transfers.field-0.0 other drill told.ensures.1 numbers.none numbers.fault
+    numberless name rows told.result c.in_err-transfers.field-0.0 (no_other name (codes "drill") (codes "play") drill refl) drill told.ensures.1 numbers.none numbers.fault
 
 pub returns-then-eq-clause-wish : goal.returns-then-eq-clause-wish
 returns-then-eq-clause-wish c =
-    let settings = c.in_ok-settings.ensures in (
+    let settings = c.in_ok-settings.ensures in
+    let drill : same_text c.args.name.now (codes "drill") ≡ true = sym c.eq.ensures ∙ c.if-eq.true in (
       settings.lawful,
-      sym c.eq.ensures ∙ c.if-eq.true,
+      (no_other c.args.name.now (codes "drill") (codes "play") drill refl, drill, c.in_ok-transfers.ensures.drill),
       settings.chosen,
-      c.in_ok-log.ensures.log,
-      c.flag.ensures,
     )
 
 pub returns-then-eq-2-clause-wish : goal.returns-then-eq-2-clause-wish
 returns-then-eq-2-clause-wish c =
-    let settings = c.in_ok-settings.ensures in (
+    let settings = c.in_ok-settings-2.ensures in
+    let check : same_text c.args.name.now (codes "check") ≡ true = sym c.eq-2.ensures ∙ c.if-eq-2.true in (
       settings.lawful,
-      (sym c.eq.ensures ∙ c.if-eq.false, sym c.eq-2.ensures ∙ c.if-eq-2.true, c.in_ok-transfers.ensures.drill),
+      (no_other c.args.name.now (codes "check") (codes "play") check refl, sym c.eq.ensures ∙ c.if-eq.false, check),
       settings.chosen,
     )
 
 pub returns-then-eq-3-clause-wish : goal.returns-then-eq-3-clause-wish
 returns-then-eq-3-clause-wish c =
-    let settings = c.in_ok-settings.ensures in (
+    let settings = c.in_ok-settings-3.ensures in (
       settings.lawful,
-      (sym c.eq.ensures ∙ c.if-eq.false, sym c.eq-2.ensures ∙ c.if-eq-2.false, sym c.eq-3.ensures ∙ c.if-eq-3.true),
+      sym c.eq-3.ensures ∙ c.if-eq-3.true,
       settings.chosen,
+      c.in_ok-log.ensures.log,
+      c.flag-sums.ensures,
     )
 
 pub returns-clause-wish : goal.returns-clause-wish
 returns-clause-wish c =
-    let settings = c.in_ok-settings.ensures in (
+    let settings = c.in_ok-settings-3.ensures in (
       settings.lawful,
-      (sym c.eq.ensures ∙ c.if-eq.false, sym c.eq-2.ensures ∙ c.if-eq-2.false, sym c.eq-3.ensures ∙ c.if-eq-3.false),
+      (sym c.eq-3.ensures ∙ c.if-eq-3.false, sym c.eq.ensures ∙ c.if-eq.false, sym c.eq-2.ensures ∙ c.if-eq-2.false),
       settings.chosen,
-      c.in_ok-log-2.ensures.log,
-      c.flag-2.ensures,
+      c.in_ok-log.ensures.log,
+      c.flag-sums.ensures,
     )
