@@ -16,7 +16,7 @@ const PAGES: u16 = 3;
 const PAGE: u32 = 100;
 
 /// What a participant received and paid, in cents.
-#[derive(Clone, Copy, Debug)]
+#[derive(Clone, Copy)]
 struct Turnover {
     received: u64,
     paid: u64,
@@ -56,7 +56,7 @@ fn expected(who: u8, sights: &Sights) -> Result<u64, Flaw> {
 }
 
 /// The balance after the lines of a statement that were read.
-#[derive(Clone, Copy, Debug)]
+#[derive(Clone, Copy)]
 struct RunningBalance {
     /// How many lines these were.
     lines: u32,

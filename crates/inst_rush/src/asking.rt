@@ -26,7 +26,10 @@ pub(crate) fn call<R: Wait>(
     if !ask.fits(hub.settings()) {
         return Err(Fault::BadField);
     }
-    Ok(hub.call(rt, teller, ask)?)
+    match hub.call(rt, teller, ask) {
+        Ok(answer) => Ok(answer),
+        Err(_) => Err(Fault::Memory),
+    }
 }
 
 /// What a command is answered. A refusal is an error.
@@ -82,7 +85,7 @@ pub(crate) fn fund_all<R: Wait>(
 }
 
 /// What a participant has, in cents.
-#[derive(Clone, Copy, Debug)]
+#[derive(Clone, Copy)]
 pub(crate) struct Money {
     pub(crate) position: u64,
     pub(crate) reserved: u64,
@@ -119,6 +122,25 @@ pub(crate) fn ask_money<R: Wait>(
     money_of(&reply).ok_or(Fault::BadField)
 }
 
+/// The submission of the transfer with this number in its thread.
+fn submission(alloc: Global, to: u8, thread: u8, number: u32) -> Result<Submission, Fault> {
+    let text = format!(in alloc; "T{thread}-{number}")?;
+    Ok(Submission {
+        id: Ident::new(text.as_str())?,
+        to,
+        cents: Cents::new(CENTS)?,
+        stamp: Moment::new(0, STAMP)?,
+    })
+}
+
+/// Whether the reply tells that the transfer is accepted.
+fn is_accepted(reply: &Reply) -> bool {
+    match reply {
+        Reply::State { state, .. } => *state == State::Decided(Outcome::Accepted),
+        _ => false,
+    }
+}
+
 /// Submits a transfer and confirms it: whether it was accepted. A refusal of either is an error.
 pub(crate) fn settle<R: Wait>(
     rt: &R,
@@ -132,28 +154,9 @@ pub(crate) fn settle<R: Wait>(
     ensures { IsOf hub.now teller.new }
 {
     let (from, to) = pair;
-    let text = format!(in alloc; "T{}-{}", name.0, name.1)?;
-    let id = Ident::new(text.as_str())?;
-    let submission = Submission {
-        id,
-        to,
-        cents: Cents::new(CENTS)?,
-        stamp: Moment::new(0, STAMP)?,
-    };
+    let submission = submission(alloc, to, name.0, name.1)?;
+    let id = submission.id;
     ask(rt, hub, teller, from, Command::Submit(submission), STAMP)?;
-    let reply = ask(
-        rt,
-        hub,
-        teller,
-        to,
-        Command::Confirm { from, id },
-        STAMP + 1,
-    )?;
-    Ok(matches!(
-        reply,
-        Reply::State {
-            state: State::Decided(Outcome::Accepted),
-            ..
-        }
-    ))
+    let command = Command::Confirm { from, id };
+    Ok(is_accepted(&ask(rt, hub, teller, to, command, STAMP + 1)?))
 }

@@ -32,7 +32,7 @@ const QUANTA: u32 = 64;
 const BEHIND: u32 = 2;
 
 /// What a thread does in one step.
-#[derive(Clone, Copy, Debug)]
+#[derive(Clone, Copy)]
 pub(crate) enum Choice {
     /// It asks, and peeks where it gets a ticket.
     Ask(Ask),
@@ -43,7 +43,7 @@ pub(crate) enum Choice {
 }
 
 /// Chooses what a thread does. The same round and thread always give the same choices.
-#[derive(Debug, Drop)]
+#[derive(Drop)]
 pub(crate) struct Chooser {
     generator: Generator,
     pub(crate) round: StressRound,

@@ -3,7 +3,7 @@ use std::alloc::{AllocError, AllocFailed};
 use std::fmt::{self, Display, Formatter};
 
 /// What is wrong in a round of a load or of a stress.
-#[derive(Clone, Copy, Debug, PartialEq, Eq)]
+#[derive(Clone, Copy)]
 pub(crate) enum Flaw {
     /// What a round needs was refused, as memory, or a command that must be granted.
     Refused(Fault),
@@ -103,7 +103,7 @@ impl<T: Drop> From<AllocFailed<T>> for Flaw {
 }
 
 /// A flaw, with the round, from 0, and the thread whose teller met it: `None` for the teller that is in no thread.
-#[derive(Clone, Copy, Debug, PartialEq, Eq)]
+#[derive(Clone, Copy)]
 pub(crate) struct Failure {
     pub(crate) flaw: Flaw,
     pub(crate) thread: Option<u8>,

@@ -2,7 +2,7 @@ use rand_core::utils::NextWord;
 use rand_pcg::Pcg32;
 
 /// Numbers that look like chance and are the same each time.
-#[derive(Debug, Drop)]
+#[derive(Drop)]
 pub(crate) struct Generator {
     words: Pcg32,
 }

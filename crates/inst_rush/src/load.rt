@@ -11,7 +11,7 @@ pub(crate) const FUNDS: u64 = 200_000;
 const MOST_THREADS: u8 = 15;
 
 /// Between whom the threads' transfers are.
-#[derive(Clone, Copy, Debug, PartialEq, Eq)]
+#[derive(Clone, Copy)]
 pub(crate) enum Pattern {
     /// Any two participants, in turn.
     Uniform,
@@ -49,7 +49,7 @@ pub(crate) fn threads_of(words: &[String]) -> Option<(u8, u32)> {
 }
 
 /// What the threads do.
-#[derive(Clone, Copy, Debug, PartialEq, Eq)]
+#[derive(Clone, Copy)]
 pub(crate) struct Load {
     pub(crate) pattern: Pattern,
     /// 1 to 15.

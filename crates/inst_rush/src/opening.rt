@@ -14,7 +14,7 @@ pub(crate) const LIMIT: u32 = 10_000;
 pub(crate) const AHEAD: u32 = 1_000;
 
 /// How large a hub is, and how long before the deadline nothing is accepted any more.
-#[derive(Clone, Copy, Debug)]
+#[derive(Clone, Copy)]
 pub(crate) struct Size {
     /// 1 to 100.
     pub(crate) participants: u16,

@@ -1,5 +1,5 @@
 //! Rounds of a load, each at a hub of its own.
-ghost use Rattle.inst_hub.specs.Calls.{IsOf};
+ghost use Rattle.inst_hub.specs.Calls.{AreOf, IsOf};
 ghost use Rattle.inst_rush.specs.Jobs.{AreJobsOf};
 
 use crate::asking::{ask_money, fund_all, settle};
@@ -70,20 +70,47 @@ fn run<R: Threads + Wait + Sync>(
     Ok(settled)
 }
 
+/// Whether all transfers were accepted, and the positions still sum to the funding.
+fn check_round<R: Wait>(
+    rt: &R,
+    hub: &Hub,
+    teller: &mut Teller,
+    load: Load,
+    settled: u32,
+) -> Result<(), Flaw>
+    requires { IsOf hub.now teller.old }
+{
+    let transfers = load.transfers();
+    if settled != transfers {
+        return Err(Flaw::NotAllSettled { settled, transfers });
+    }
+    let positions = sum(rt, hub, teller)?;
+    check_sum(positions, FUNDS * u64::from(PARTICIPANTS))
+}
+
+/// The load of a round, by threads with these tellers: how many transfers were accepted.
+fn settle_all<R: Threads + Wait + Sync>(
+    rt: &R,
+    alloc: Global,
+    hub: &Hub,
+    teller: &mut Teller,
+    tellers: Vec<Teller>,
+    load: Load,
+) -> Result<u32, Failure>
+    requires { IsOf hub.now teller.old × AreOf hub.now tellers.items }
+{
+    let jobs = jobs(alloc, hub, tellers)?;
+    fund_all(rt, hub, teller, PARTICIPANTS, FUNDS)?;
+    let settled = run(rt, alloc, hub, load, jobs)?;
+    check_round(rt, hub, teller, load, settled)?;
+    Ok(settled)
+}
+
 /// A round: how many transfers were accepted, which are all, where the positions still sum to the funding.
 fn round<R: Threads + Wait + Sync>(rt: &R, alloc: Global, load: Load) -> Result<u32, Failure> {
     let (hub, mut tellers) = open(alloc, SIZE, load.threads)?;
     let mut teller = last(&hub, &mut tellers)?;
-    fund_all(rt, &hub, &mut teller, PARTICIPANTS, FUNDS)?;
-    let jobs = jobs(alloc, &hub, tellers)?;
-    let settled = run(rt, alloc, &hub, load, jobs)?;
-    let transfers = load.transfers();
-    if settled != transfers {
-        return Err(Failure::from(Flaw::NotAllSettled { settled, transfers }));
-    }
-    let positions = sum(rt, &hub, &mut teller)?;
-    check_sum(positions, FUNDS * u64::from(PARTICIPANTS))?;
-    Ok(settled)
+    settle_all(rt, alloc, &hub, &mut teller, tellers, load)
 }
 
 /// So many rounds: how many transfers were accepted, or the first failure.

@@ -87,11 +87,12 @@ fn take_steps<R: Wait>(
             &mut hoard,
             &mut sights,
         );
-        if is_scarce {
-            sights.pass_refused(ended)?;
+        let ended = if is_scarce {
+            sights.pass_refused(ended)
         } else {
-            ended?;
-        }
+            ended
+        };
+        ended?;
         keep_pace(&chooser, pace);
     }
     Ok((sights, hoard))

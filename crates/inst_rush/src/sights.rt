@@ -17,7 +17,7 @@ pub(crate) const PLACES: u16 = 64;
 pub(crate) const ALL_PLACES: u16 = PARTICIPANTS * PLACES;
 
 /// What a teller was told and saw last of a transfer.
-#[derive(Clone, Copy, Debug)]
+#[derive(Clone, Copy)]
 pub(crate) struct Sight {
     pub(crate) ticket: Ticket,
     pub(crate) id: Ident,

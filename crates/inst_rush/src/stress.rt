@@ -1,11 +1,11 @@
 //! A stress of a small hub: threads race for the outcomes of transfers, and afterwards what they were told, the
 //! positions and the statements are compared.
-ghost use Rattle.inst_hub.specs.Calls.{IsOf};
+ghost use Rattle.inst_hub.specs.Calls.{AreOf, IsOf};
 ghost use Rattle.inst_rush.specs.Jobs.{AreJobsOf};
 
 use crate::accounts::check_accounts;
 use crate::asking::fund_all;
-use crate::flaw::Failure;
+use crate::flaw::{Failure, Flaw};
 use crate::inbox::check_inbox;
 use crate::job::{Job, jobs, last};
 use crate::load::threads_of;
@@ -22,7 +22,26 @@ use std::alloc::Global;
 use std::sync::Wait;
 use std::thread::{Threads, join};
 
-/// All tellers see the same, what was submitted came to its beneficiary, and each transfer comes to its end.
+/// What was submitted came to its beneficiary, and each transfer comes to its end.
+fn settle_all<R: Wait>(
+    rt: &R,
+    alloc: Global,
+    hub: &Hub,
+    teller: &mut Teller,
+    round: StressRound,
+    sights: &mut Sights,
+) -> Result<(), Flaw>
+    requires { IsOf hub.now teller.old }
+    ensures { IsOf hub.now teller.new }
+{
+    bring_all(rt, hub, teller, round)?;
+    fetch_all(rt, hub, teller, sights)?;
+    check_inbox(alloc, sights)?;
+    settle(rt, hub, teller, sights)?;
+    sweep_all(rt, hub, teller, round)
+}
+
+/// All tellers see the same, before all transfers come to their end and after that.
 fn end<R: Wait>(
     rt: &R,
     alloc: Global,
@@ -40,11 +59,7 @@ fn end<R: Wait>(
     let jobs = meet_all(alloc, hub, teller, jobs)?;
     peek_all(teller, sights)?;
     let jobs = agree(alloc, hub, jobs, sights)?;
-    bring_all(rt, hub, teller, round)?;
-    fetch_all(rt, hub, teller, sights)?;
-    check_inbox(alloc, sights)?;
-    settle(rt, hub, teller, sights)?;
-    sweep_all(rt, hub, teller, round)?;
+    settle_all(rt, alloc, hub, teller, round, sights)?;
     agree(alloc, hub, jobs, sights)?;
     Ok(())
 }
@@ -56,6 +71,24 @@ fn check<R: Wait>(rt: &R, hub: &Hub, teller: &mut Teller, sights: &Sights) -> Re
     let tally = Tally::of(sights)?;
     check_accounts(rt, hub, teller, sights)?;
     Ok(tally)
+}
+
+/// The stress of a round, by threads with these tellers: how the transfers ended.
+fn race<R: Threads + Wait + Sync>(
+    rt: &R,
+    alloc: Global,
+    hub: &Hub,
+    teller: &mut Teller,
+    tellers: Vec<Teller>,
+    round: StressRound,
+) -> Result<Tally, Failure>
+    requires { IsOf hub.now teller.old × AreOf hub.now tellers.items }
+{
+    let jobs = jobs(alloc, hub, tellers)?;
+    fund_all(rt, hub, teller, PARTICIPANTS, FUNDS)?;
+    let (jobs, mut sights) = run(rt, alloc, hub, round, jobs)?;
+    end(rt, alloc, hub, teller, round, jobs, &mut sights)?;
+    check(rt, hub, teller, &sights)
 }
 
 /// A round at a hub that opens anew.
@@ -71,15 +104,11 @@ fn round<R: Threads + Wait + Sync>(
     };
     let (hub, mut tellers) = open(alloc, size, round.threads)?;
     let mut teller = last(&hub, &mut tellers)?;
-    fund_all(rt, &hub, &mut teller, PARTICIPANTS, FUNDS)?;
-    let jobs = jobs(alloc, &hub, tellers)?;
-    let (jobs, mut sights) = run(rt, alloc, &hub, round, jobs)?;
-    end(rt, alloc, &hub, &mut teller, round, jobs, &mut sights)?;
-    check(rt, &hub, &mut teller, &sights)
+    race(rt, alloc, &hub, &mut teller, tellers, round)
 }
 
 /// What a stress is.
-#[derive(Clone, Copy, Debug)]
+#[derive(Clone, Copy)]
 pub(crate) struct Stress {
     /// 1 to 15.
     threads: u8,

@@ -2,7 +2,7 @@
 const MARGIN: u32 = 500;
 
 /// What a round of a stress is about.
-#[derive(Clone, Copy, Debug)]
+#[derive(Clone, Copy)]
 pub(crate) struct StressRound {
     /// From 0.
     pub(crate) number: u32,

@@ -4,7 +4,7 @@ use inst_command::{Outcome, State};
 use std::fmt::{self, Display, Formatter};
 
 /// How many calls were made until all transfers had ended, how these ended, and how many steps were refused memory.
-#[derive(Clone, Copy, Debug, PartialEq, Eq)]
+#[derive(Clone, Copy)]
 pub(crate) struct Tally {
     pub(crate) calls: u64,
     pub(crate) accepted: u64,

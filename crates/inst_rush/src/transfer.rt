@@ -20,7 +20,7 @@ const STRIDE: u64 = 10;
 
 /// A transfer that the threads submit and decide. All of it follows from its originator and its number, so that another
 /// submission of it is a repeat.
-#[derive(Clone, Copy, Debug)]
+#[derive(Clone, Copy)]
 pub(crate) struct Transfer {
     pub(crate) from: u8,
     pub(crate) to: u8,
