@@ -1,20 +1,18 @@
 //! Rows that are answered: by the ledger, by the plain functions on its events, and a statement by a walk over them.
-ghost use Rattle.std.specs.Prelude.{◌≡◌, true, [], IfOk};
-ghost use Rattle.inst_settings.specs.Lawful.{IsSettings};
+ghost use Rattle.std.specs.Prelude.{◌≡◌, true};
 ghost use Rattle.inst_command.specs.Ask.{command_fits};
 
 use crate::asked::{Asks, command, outcome};
-use crate::comparing::{same, same_at};
+use crate::comparing::same_at;
 use crate::told::{Told, is_refused, is_reply};
 use inst_base::{Fault, Moment};
 use inst_command::{Ask, Outcome};
 use inst_journal::{Event, Handled, handle_command, reply_of};
 use inst_ledger::Ledger;
-use inst_rows::{End, are_lines, settings};
+use inst_rows::{End, Shown, are_lines};
 use inst_statement::statement;
 use std::alloc::Global;
 use std::process::Abort;
-use std::test::Fail;
 
 /// What is asked, its reading, what is found of its transfer, and what is told.
 pub(crate) type Row = (Asks, u64, Option<End>, Told);
@@ -73,24 +71,34 @@ fn plainly(
     same_at(rt, *ask, is_handled, true);
 }
 
-/// Compares the lines that a walk over the events gives, where a statement is asked for.
+/// Compares the lines that a walk over the events gives.
+pub(crate) fn walks(
+    rt: &(impl Abort + AllocGlobal),
+    ledger: &Ledger,
+    skip: u64,
+    count: u32,
+    wanted: &[Shown],
+) -> Result<(), Fault> {
+    let _ = ledger.settings();
+    let lines = statement(rt.alloc(), ledger.journal(), skip, count)?;
+    let lines = lines.as_slice();
+    same_at(rt, lines, are_lines(lines, wanted), true);
+    Ok(())
+}
+
+/// Compares them where a statement is asked for.
 fn by_a_walk(
     rt: &(impl Abort + AllocGlobal),
     ledger: &Ledger,
     asks: &Asks,
     told: &Told,
-) -> Result<(), Fail> {
-    if let (Asks::Statement(skip, count), Told::Lines(wanted)) = (asks, told) {
-        let _ = ledger.settings();
-        let lines = statement(rt.alloc(), ledger.journal(), *skip, *count)?;
-        same_at(
-            rt,
-            lines.as_slice(),
-            are_lines(lines.as_slice(), wanted),
-            true,
-        );
+) -> Result<(), Fault> {
+    match (asks, told) {
+        (Asks::Statement(skip, count), Told::Lines(wanted)) => {
+            walks(rt, ledger, *skip, *count, wanted)
+        }
+        _ => Ok(()),
     }
-    Ok(())
 }
 
 /// Compares what the ledger and the plain functions answer, and keeps what is to be kept.
@@ -100,7 +108,7 @@ fn by_the_ledger(
     ask: &Ask,
     found: &Option<Outcome>,
     told: &Told,
-) -> Result<(), Fail>
+) -> Result<(), Fault>
     requires { command_fits ledger.old.book.settings ask.now.command ≡ true }
 {
     match ledger.handle(rt.alloc(), &ask.command, ask.at, *found) {
@@ -136,7 +144,7 @@ fn found(end: &Option<End>) -> Result<Option<Outcome>, Fault> {
     }
 }
 
-fn answer(rt: &(impl Abort + AllocGlobal), ledger: &mut Ledger, row: &Row) -> Result<(), Fail> {
+fn answer(rt: &(impl Abort + AllocGlobal), ledger: &mut Ledger, row: &Row) -> Result<(), Fault> {
     let (asks, at, end, told) = row;
     let found = found(end)?;
     let ask = ask(ledger.who(), asks, *at)?;
@@ -150,57 +158,9 @@ pub(crate) fn answers(
     rt: &(impl Abort + AllocGlobal),
     ledger: &mut Ledger,
     rows: &[Row],
-) -> Result<(), Fail> {
+) -> Result<(), Fault> {
     for row in rows {
         answer(rt, ledger, row)?;
     }
     Ok(())
-}
-
-/// So many events were kept.
-pub(crate) fn keeps(rt: &impl Abort, ledger: &Ledger, count: usize) {
-    same(rt, ledger.journal().events().len(), count);
-}
-
-/// The ledger of the participant `who`, with no history.
-pub(crate) fn opened(alloc: Global, who: u8) -> Result<Ledger, Fail>
-    ensures blank { IfOk result (λ ledger. ledger.book.events ≡ []) }
-    ensures own { IfOk result (λ ledger. ledger.book.who ≡ who) }
-    ensures lawful { IfOk result (λ ledger. IsSettings ledger.book.settings) }
-{
-    let settings = settings(alloc)?;
-    Ok(Ledger::open(alloc, &settings, who)?)
-}
-
-/// The ledger of the participant `who` after these rows, which are its first.
-pub(crate) fn answered(
-    rt: &(impl Abort + AllocGlobal),
-    who: u8,
-    rows: &[Row],
-) -> Result<Ledger, Fail> {
-    let mut ledger = opened(rt.alloc(), who)?;
-    answers(rt, &mut ledger, rows)?;
-    Ok(ledger)
-}
-
-/// The participant `who` answers these rows, which are its first, and keeps so many events.
-pub(crate) fn answers_first(
-    rt: &(impl Abort + AllocGlobal),
-    who: u8,
-    rows: &[Row],
-    count: usize,
-) -> Result<(), Fail> {
-    let ledger = answered(rt, who, rows)?;
-    keeps(rt, &ledger, count);
-    Ok(())
-}
-
-/// A ledger that opens from the books of this one.
-pub(crate) fn opened_again(
-    rt: &(impl Abort + AllocGlobal),
-    ledger: &Ledger,
-) -> Result<Ledger, Fail> {
-    let journal = ledger.journal();
-    assert!(rt; journal.has_openings_left());
-    Ok(Ledger::open_from(rt.alloc(), ledger.settings(), ledger.who(), journal)?)
 }

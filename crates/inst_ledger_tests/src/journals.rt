@@ -3,29 +3,32 @@ use crate::comparing::same;
 use inst_base::{Cents, Fault, Ident, Moment};
 use inst_command::Outcome;
 use inst_journal::{Event, Journal};
-use std::alloc::Global;
 use std::process::Abort;
-use std::test::Fail;
 
 /// The journal has this one event, and so does a copy of it.
-fn has_one(rt: &impl Abort, journal: &Journal, event: Event) -> Result<(), Fail> {
+fn has_one(rt: &impl Abort, journal: &Journal, event: Event) -> Result<(), Fault> {
     same(rt, journal.events(), [event].as_slice());
     same(rt, journal.copy()?.events(), [event].as_slice());
     Ok(())
 }
 
-#[test]
-fn reserves_and_pushes(rt: HostRuntime) -> Result<(), Fail> {
+/// Room that is made is no event, and what is pushed is one.
+fn pushes_one(rt: &impl Abort, journal: &mut Journal) -> Result<(), Fault> {
     let funded = Event::Funded {
         reference: Ident::new("F1")?,
         cents: Cents::new(50_000)?,
     };
-    let mut journal = Journal::new(rt.alloc());
-    same(&rt, journal.events().len(), 0);
+    same(rt, journal.events().len(), 0);
     journal.reserve()?;
-    same(&rt, journal.events().len(), 0);
+    same(rt, journal.events().len(), 0);
     journal.push(funded)?;
-    has_one(&rt, &journal, funded)
+    has_one(rt, journal, funded)
+}
+
+#[test]
+fn reserves_and_pushes(rt: HostRuntime) -> Result<(), Fault> {
+    let mut journal = Journal::new(rt.alloc());
+    pushes_one(&rt, &mut journal)
 }
 
 /// The event that takes a transfer over 100 cents to participant 1.
@@ -40,9 +43,9 @@ fn taken(id: Ident) -> Result<Event, Fault> {
 
 /// Participant 0 has its first transfer settled before the hub is opened again, and its third taken after it. One of
 /// the first one's name comes from participant 2.
-fn opened(alloc: Global, ids: [Ident; 3]) -> Result<Journal, Fault> {
+fn events(ids: [Ident; 3]) -> Result<[Event; 6], Fault> {
     let [first, second, third] = ids;
-    let events = [
+    Ok([
         taken(first)?,
         taken(second)?,
         Event::Booked {
@@ -58,69 +61,74 @@ fn opened(alloc: Global, ids: [Ident; 3]) -> Result<Journal, Fault> {
             cents: Cents::new(100)?,
             deadline: Moment::new(0, 1000)?,
         },
-    ];
-    let mut journal = Journal::new(alloc);
-    for event in events.as_slice() {
+    ])
+}
+
+fn push_all(journal: &mut Journal, events: &[Event]) -> Result<(), Fault> {
+    for event in events {
         journal.push(*event)?;
     }
-    Ok(journal)
+    Ok(())
 }
 
 /// The live transfers are T2 at the first place and T3 at the second.
-fn has_two_live(rt: &impl Abort, journal: &Journal, ids: [Ident; 3]) -> Result<(), Fail> {
+fn has_two_live(rt: &impl Abort, journal: &Journal, ids: [Ident; 3]) -> Result<(), Fault> {
     let [first, second, third] = ids;
-    same(rt, journal.openings(), 1);
-    same(rt, journal.has_openings_left(), true);
+    let openings = (journal.openings(), journal.has_openings_left());
+    same(rt, openings, (1, true));
     same(rt, journal.live_submissions(0), 2);
-    same(rt, journal.live_index(0, &first), None);
-    same(rt, journal.live_index(0, &second), Some(0));
-    same(rt, journal.live_index(0, &third), Some(1));
-    same(rt, journal.taken_at(0, 0), Some(taken(second)?));
-    same(rt, journal.taken_at(0, 1), Some(taken(third)?));
-    same(rt, journal.taken_at(0, 2), None);
+    let places = [
+        journal.live_index(0, &first),
+        journal.live_index(0, &second),
+        journal.live_index(0, &third),
+    ];
+    same(rt, places, [None, Some(0), Some(1)]);
+    let kept = [
+        journal.taken_at(0, 0),
+        journal.taken_at(0, 1),
+        journal.taken_at(0, 2),
+    ];
+    same(rt, kept, [Some(taken(second)?), Some(taken(third)?), None]);
     Ok(())
 }
 
 /// T1 of participant 0 is booked, and that of participant 2 was forwarded.
 fn has_two_of_one_name(rt: &impl Abort, journal: &Journal, id: &Ident) {
-    same(rt, journal.booked(0, id), Some(Outcome::Accepted));
-    same(rt, journal.booked(2, id), None);
-    same(rt, journal.is_forwarded(2, id), true);
-    same(rt, journal.is_forwarded(0, id), false);
+    let booked = [journal.booked(0, id), journal.booked(2, id)];
+    same(rt, booked, [Some(Outcome::Accepted), None]);
+    let forwarded = [journal.is_forwarded(2, id), journal.is_forwarded(0, id)];
+    same(rt, forwarded, [true, false]);
 }
 
 /// T1 is settled before the hub is opened again, T2 goes on at the first place, T3 comes to the second.
-#[test]
-fn tells_where_live_transfers_lie(rt: HostRuntime) -> Result<(), Fail> {
+fn opens_with_two_live(rt: &impl Abort, journal: &mut Journal) -> Result<(), Fault> {
     let first = Ident::new("T1")?;
     let ids = [first, Ident::new("T2")?, Ident::new("T3")?];
-    let journal = opened(rt.alloc(), ids)?;
-    has_two_live(&rt, &journal, ids)?;
-    has_two_of_one_name(&rt, &journal, &first);
+    push_all(journal, &events(ids)?)?;
+    has_two_live(rt, journal, ids)?;
+    has_two_of_one_name(rt, journal, &first);
     Ok(())
 }
 
-/// A journal with nothing but so many openings.
-fn opened_often(alloc: Global, openings: usize) -> Result<Journal, Fault> {
-    let mut journal = Journal::new(alloc);
-    for _ in 0..openings {
-        journal.push(Event::Opened)?;
-    }
-    Ok(journal)
+#[test]
+fn tells_where_live_transfers_lie(rt: HostRuntime) -> Result<(), Fault> {
+    let mut journal = Journal::new(rt.alloc());
+    opens_with_two_live(&rt, &mut journal)
 }
 
 /// Books are opened from 500 times, and not once more.
-#[test]
-fn is_opened_from_500_times(rt: HostRuntime) -> Result<(), Fail> {
-    same(
-        &rt,
-        opened_often(rt.alloc(), 499)?.has_openings_left(),
-        true,
-    );
-    same(
-        &rt,
-        opened_often(rt.alloc(), 500)?.has_openings_left(),
-        false,
-    );
+fn opens_often(rt: &impl Abort, journal: &mut Journal) -> Result<(), Fault> {
+    for _ in 0..499 {
+        journal.push(Event::Opened)?;
+    }
+    same(rt, journal.has_openings_left(), true);
+    journal.push(Event::Opened)?;
+    same(rt, journal.has_openings_left(), false);
     Ok(())
+}
+
+#[test]
+fn is_opened_from_500_times(rt: HostRuntime) -> Result<(), Fault> {
+    let mut journal = Journal::new(rt.alloc());
+    opens_often(&rt, &mut journal)
 }

@@ -8,6 +8,8 @@ mod asked;
 #[cfg(test)]
 mod beneficiary;
 #[cfg(test)]
+mod cases;
+#[cfg(test)]
 mod comparing;
 #[cfg(test)]
 mod journals;

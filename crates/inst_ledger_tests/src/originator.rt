@@ -1,15 +1,11 @@
 //! What a participant is answered that funds, submits and learns outcomes.
-use crate::answering::{Row, answered, answers_first, keeps};
+use crate::answering::Row;
 use crate::asked::Asks;
-use crate::comparing::{same, same_at};
+use crate::cases::{Does, First, goes};
 use crate::told::Told;
-use inst_base::{Fault, Ident};
-use inst_command::{LineKind, Outcome};
-use inst_journal::Journal;
-use inst_ledger::Ledger;
+use inst_base::Fault;
+use inst_command::LineKind;
 use inst_rows::End;
-use std::process::Abort;
-use std::test::Fail;
 
 const FUNDS_AND_LEARNS: &[Row] = &[
     (
@@ -106,43 +102,22 @@ const FUNDS_AND_LEARNS: &[Row] = &[
     (Asks::Statement(u64::MAX, 100), 3000, None, Told::Lines(&[])),
 ];
 
-/// The net funding of a journal, and then its debits, credits, reserved sum, position and available sum.
-fn sums(journal: &Journal) -> (i128, [u128; 5]) {
-    (
-        journal.net(),
-        [
-            journal.debits(),
-            journal.credits(),
-            journal.reserved(),
-            journal.position(),
-            journal.available(),
-        ],
-    )
-}
-
-/// The reserved sum, the position and the available sum of a ledger.
-fn totals(ledger: &Ledger) -> [u128; 3] {
-    [ledger.reserved(), ledger.position(), ledger.available()]
-}
-
-/// T1 is paid, T2 timed out.
-fn has_paid(rt: &impl Abort, ledger: &Ledger) -> Result<(), Fail> {
-    keeps(rt, ledger, 6);
-    let wanted = (45_000, [20_000, 0, 0, 25_000, 25_000]);
-    same(rt, sums(ledger.journal()), wanted);
-    same(rt, totals(ledger), [0, 25_000, 25_000]);
-    same(rt, (ledger.fundings(), ledger.live_submissions()), (2, 2));
-    let second = Ident::new("T2")?;
-    same(rt, ledger.booked(0, &second), Some(Outcome::TimedOut));
-    Ok(())
-}
+const FUNDS_AND_PAYS: &[Does] = &[
+    Does::Answers(FUNDS_AND_LEARNS),
+    Does::Holds((
+        [6, 2, 2],
+        [0, 25_000, 25_000],
+        45_000,
+        [20_000, 0, 0, 25_000, 25_000],
+    )),
+    Does::Knows("T2", (true, Some(1), [false; 2]), Some(End::TimedOut)),
+];
 
 /// A participant funds, submits, learns outcomes, defunds, and reads its statement. A settled transfer
-/// keeps its place.
+/// keeps its place: T1 is paid, T2 timed out.
 #[test]
-fn funds_submits_and_learns(rt: HostRuntime) -> Result<(), Fail> {
-    let ledger = answered(&rt, 0, FUNDS_AND_LEARNS)?;
-    has_paid(&rt, &ledger)
+fn funds_submits_and_learns(rt: HostRuntime) -> Result<(), Fault> {
+    goes(&rt, 0, First::Nothing, FUNDS_AND_PAYS)
 }
 
 const REPEATS: &[Row] = &[
@@ -186,31 +161,23 @@ const REPEATS: &[Row] = &[
     ),
 ];
 
-/// Whether a ledger has taken this transfer, and its beneficiary.
-fn knows(ledger: &Ledger, id: &Ident) -> (bool, Option<u8>) {
-    (ledger.is_taken(id), ledger.beneficiary_of(id))
-}
-
-/// One funding and one transfer were kept.
-fn has_one_transfer(rt: &impl Abort, ledger: &Ledger) -> Result<(), Fail> {
-    keeps(rt, ledger, 2);
-    same(rt, ledger.fundings(), 1);
-    same(rt, totals(ledger), [20_000, 50_000, 30_000]);
-    for (text, expected) in [
-        ("T1", (true, Some(1))),
-        ("T2", (false, None)),
-        ("F1", (false, None)),
-    ] {
-        same_at(rt, text, knows(ledger, &Ident::new(text)?), expected);
-    }
-    Ok(())
-}
+const REPEATS_ITSELF: &[Does] = &[
+    Does::Answers(REPEATS),
+    Does::Holds((
+        [2, 1, 1],
+        [20_000, 50_000, 30_000],
+        50_000,
+        [0, 0, 20_000, 50_000, 30_000],
+    )),
+    Does::Knows("T1", (true, Some(1), [false; 2]), None),
+    Does::Knows("T2", (false, None, [false; 2]), None),
+    Does::Knows("F1", (false, None, [false; 2]), None),
+];
 
 /// Repeats get their replies again and keep nothing; duplicates and a submission above what is available are refused.
 #[test]
-fn repeats_its_commands(rt: HostRuntime) -> Result<(), Fail> {
-    let ledger = answered(&rt, 0, REPEATS)?;
-    has_one_transfer(&rt, &ledger)
+fn repeats_its_commands(rt: HostRuntime) -> Result<(), Fault> {
+    goes(&rt, 0, First::Nothing, REPEATS_ITSELF)
 }
 
 const ONE_REJECTED: &[Row] = &[
@@ -258,8 +225,10 @@ const ONE_REJECTED: &[Row] = &[
     ),
 ];
 
+const IS_REJECTED: &[Does] = &[Does::Answers(ONE_REJECTED), Does::Keeps(6)];
+
 /// A rejected transfer has no line.
 #[test]
-fn pays_and_is_rejected(rt: HostRuntime) -> Result<(), Fail> {
-    answers_first(&rt, 0, ONE_REJECTED, 6)
+fn pays_and_is_rejected(rt: HostRuntime) -> Result<(), Fault> {
+    goes(&rt, 0, First::Nothing, IS_REJECTED)
 }

@@ -1,10 +1,10 @@
 //! Commands that are refused.
-use crate::answering::{Row, answers_first};
+use crate::answering::Row;
 use crate::asked::Asks;
+use crate::cases::{Does, First, goes};
 use crate::told::Told;
 use inst_base::Fault;
 use inst_rows::End;
-use std::test::Fail;
 
 const REFUSED: &[Row] = &[
     (Asks::Fund("F1", 1000), 0, None, Told::Done("F1")),
@@ -70,9 +70,11 @@ const REFUSED: &[Row] = &[
     ),
 ];
 
+const IS_REFUSED: &[Does] = &[Does::Answers(REFUSED), Does::Keeps(3)];
+
 /// Each refused command meets the refusal that it gets and some of the later ones, so that the first in
 /// order answers: all seven that a participant's books can give, by number.
 #[test]
-fn meets_the_first_refusal(rt: HostRuntime) -> Result<(), Fail> {
-    answers_first(&rt, 0, REFUSED, 3)
+fn meets_the_first_refusal(rt: HostRuntime) -> Result<(), Fault> {
+    goes(&rt, 0, First::Nothing, IS_REFUSED)
 }

@@ -1,17 +1,13 @@
 //! What is funded, paid, received and defunded, in parts of a statement: as the ledger keeps its lines, and as a walk
 //! over the events gives them.
-use crate::answering::{Row, answers};
+use crate::answering::Row;
 use crate::asked::Asks;
-use crate::beneficiary::forwarded;
-use crate::comparing::same;
-use crate::openings::{FUNDED_AGAIN, opens_again};
+use crate::cases::{Does, First, goes};
+use crate::openings::FUNDED_AGAIN;
 use crate::told::Told;
+use inst_base::Fault;
 use inst_command::LineKind;
-use inst_ledger::Ledger;
-use inst_rows::{End, Shown, are_lines};
-use inst_statement::statement;
-use std::process::Abort;
-use std::test::Fail;
+use inst_rows::{End, Shown};
 
 const MOVES: &[Row] = &[
     (Asks::Statement(0, 10), 1000, None, Told::Lines(&[])),
@@ -65,31 +61,20 @@ const PARTS: &[Row] = &[
     (Asks::Statement(u64::MAX, 100), 1000, None, Told::Lines(&[])),
 ];
 
-/// A walk gives so many lines where none or more than all are asked for.
-fn walks(rt: &(impl Abort + AllocGlobal), ledger: &Ledger) -> Result<(), Fail> {
-    let journal = ledger.journal();
-    let none = statement(rt.alloc(), journal, 0, 0)?;
-    same(rt, none.is_empty(), true);
-    let all = statement(rt.alloc(), journal, 0, u32::MAX)?;
-    same(rt, are_lines(all.as_slice(), LINES), true);
-    let none = statement(rt.alloc(), journal, u64::MAX, u32::MAX)?;
-    same(rt, none.is_empty(), true);
-    Ok(())
-}
-
-/// Parts of the lines are shown, as a walk gives them, and the lines after an opening.
-fn shows_parts(rt: &(impl Abort + AllocGlobal), ledger: &mut Ledger) -> Result<(), Fail> {
-    answers(rt, ledger, MOVES)?;
-    answers(rt, ledger, PARTS)?;
-    walks(rt, ledger)?;
-    opens_again(rt, ledger, FUNDED_AGAIN)
-}
+const SHOWS_PARTS: &[Does] = &[
+    Does::Answers(MOVES),
+    Does::Answers(PARTS),
+    Does::Walks(0, 0, &[]),
+    Does::Walks(0, u32::MAX, LINES),
+    Does::Walks(u64::MAX, u32::MAX, &[]),
+    Does::OpensAgain,
+    Does::Answers(FUNDED_AGAIN),
+];
 
 /// 500 cents are funded, 200 paid, 300 received and 100 defunded, while another transfer of the same name is pending:
-/// four lines, of which parts are asked for. After an opening the lines count from 1 again, from the position that was
-/// reached.
+/// four lines, of which parts are asked for; a walk gives none or all where none or more than all are. After an opening
+/// the lines count from 1 again, from the position that was reached.
 #[test]
-fn shows_what_moved_the_position(rt: HostRuntime) -> Result<(), Fail> {
-    let mut ledger = forwarded(&rt, 100, 300)?;
-    shows_parts(&rt, &mut ledger)
+fn shows_what_moved_the_position(rt: HostRuntime) -> Result<(), Fault> {
+    goes(&rt, 1, First::Forwarded(100, 300), SHOWS_PARTS)
 }
