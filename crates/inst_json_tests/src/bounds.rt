@@ -1,13 +1,9 @@
 //! Values of fields on both sides of their bounds.
 use crate::comparing::same_at;
-use crate::hub::{MOST, hub};
-use inst_base::{Fault, mention};
-use inst_command::Command;
-use inst_json::read_command;
-use inst_settings::Settings;
+use crate::hub::{self, MOST};
+use inst_base::Fault;
 use std::alloc::Global;
 use std::process::Abort;
-use std::test::Fail;
 
 /// The last moment, in milliseconds past the base.
 const LAST: u64 = 2_199_023_255_551;
@@ -72,131 +68,107 @@ const CODES: &[Row] = &[
     ("ddddesmm", Some(Fault::BadField)),
 ];
 
-/// What a line with this value between these texts is refused for.
+/// What a line with this value between these texts is refused for, at this ceiling.
 fn refusal(
     alloc: Global,
-    hub: &Settings,
+    ceiling: u64,
     front: &str,
     value: &str,
     back: &str,
-) -> Result<Option<Fault>, Fail> {
-    mention::<Command>();
+) -> Result<Option<Fault>, Fault> {
     let line = format!(in alloc; "{front}{value}{back}")?;
-    Ok(read_command(alloc, hub, line.as_bytes()).err())
+    Ok(hub::refusal(alloc, ceiling, 0, line.as_bytes()))
 }
 
 /// Each value between these texts is refused so.
 fn refuses(
     rt: &(impl Abort + AllocGlobal),
-    hub: &Settings,
+    ceiling: u64,
     front: &str,
     rows: &[Row],
     back: &str,
-) -> Result<(), Fail> {
+) -> Result<(), Fault> {
     for (value, fault) in rows {
-        let refusal = refusal(rt.alloc(), hub, front, value, back)?;
+        let refusal = refusal(rt.alloc(), ceiling, front, value, back)?;
         same_at(rt, *value, refusal, *fault);
     }
     Ok(())
 }
 
 #[test]
-fn reads_amounts_to_their_bounds(rt: HostRuntime) -> Result<(), Fail> {
-    let hub = hub(rt.alloc(), 1000, 0)?;
+fn reads_amounts_to_their_bounds(rt: HostRuntime) -> Result<(), Fault> {
     let back = r#","cmd":"fund","ref":"F1","who":"AAAADEFF"}"#;
-    refuses(&rt, &hub, r#"{"at":0,"cents":"#, AMOUNTS, back)
+    refuses(&rt, 1000, r#"{"at":0,"cents":"#, AMOUNTS, back)
 }
 
 #[test]
-fn reads_identifiers_to_their_bounds(rt: HostRuntime) -> Result<(), Fail> {
-    let hub = hub(rt.alloc(), MOST, 0)?;
+fn reads_identifiers_to_their_bounds(rt: HostRuntime) -> Result<(), Fault> {
     let front = r#"{"at":0,"cmd":"investigate","id":""#;
-    refuses(&rt, &hub, front, IDENTIFIERS, r#"","who":"AAAADEFF"}"#)
+    refuses(&rt, MOST, front, IDENTIFIERS, r#"","who":"AAAADEFF"}"#)
 }
 
 #[test]
-fn reads_codes_to_their_bounds(rt: HostRuntime) -> Result<(), Fail> {
-    let hub = hub(rt.alloc(), MOST, 0)?;
-    refuses(
-        &rt,
-        &hub,
-        r#"{"at":0,"cmd":"position","who":""#,
-        CODES,
-        r#""}"#,
-    )
+fn reads_codes_to_their_bounds(rt: HostRuntime) -> Result<(), Fault> {
+    let front = r#"{"at":0,"cmd":"position","who":""#;
+    refuses(&rt, MOST, front, CODES, r#""}"#)
 }
 
-/// What a line of this reading is refused for.
-fn refusal_at(alloc: Global, hub: &Settings, at: u64) -> Result<Option<Fault>, Fail> {
-    let at = format!(in alloc; "{at}")?;
-    let back = r#","cmd":"position","who":"AAAADEFF"}"#;
-    refusal(alloc, hub, r#"{"at":"#, at.as_str(), back)
+/// What a line of this reading is refused for, at this base.
+fn refusal_at(alloc: Global, base: u64, at: u64) -> Result<Option<Fault>, Fault> {
+    let line = format!(in alloc; "{{\"at\":{at},\"cmd\":\"position\",\"who\":\"AAAADEFF\"}}")?;
+    Ok(hub::refusal(alloc, MOST, base, line.as_bytes()))
 }
 
-/// Each reading of this hub is refused so.
+/// Each reading is refused so, at this base.
 fn refuses_readings(
     rt: &(impl Abort + AllocGlobal),
-    hub: &Settings,
+    base: u64,
     rows: [(u64, Option<Fault>); 4],
-) -> Result<(), Fail> {
+) -> Result<(), Fault> {
     for (at, fault) in rows {
-        same_at(rt, at, refusal_at(rt.alloc(), hub, at)?, fault);
+        same_at(rt, at, refusal_at(rt.alloc(), base, at)?, fault);
     }
     Ok(())
 }
 
 #[test]
-fn reads_moments_to_their_bounds(rt: HostRuntime) -> Result<(), Fail> {
-    let low = hub(rt.alloc(), MOST, 0)?;
+fn reads_moments_to_their_bounds(rt: HostRuntime) -> Result<(), Fault> {
     let rows = [
         (0, None),
         (LAST, None),
         (LAST + 1, Some(Fault::BadMoment)),
         (u64::MAX, Some(Fault::BadMoment)),
     ];
-    refuses_readings(&rt, &low, rows)
+    refuses_readings(&rt, 0, rows)
 }
 
 #[test]
-fn reads_moments_past_a_base_to_their_bounds(rt: HostRuntime) -> Result<(), Fail> {
-    let high = hub(rt.alloc(), MOST, HIGH_BASE)?;
+fn reads_moments_past_a_base_to_their_bounds(rt: HostRuntime) -> Result<(), Fault> {
     let rows = [
         (HIGH_BASE - 1, Some(Fault::BadMoment)),
         (HIGH_BASE, None),
         (HIGH_BASE + LAST, None),
         (HIGH_BASE + LAST + 1, Some(Fault::BadMoment)),
     ];
-    refuses_readings(&rt, &high, rows)
+    refuses_readings(&rt, HIGH_BASE, rows)
 }
 
 /// What a line is refused for that has a field of so many arrays in one another.
-fn nested(alloc: Global, hub: &Settings, depth: usize) -> Result<Option<Fault>, Fail> {
-    let mut arrays = String::new(alloc);
-    for _ in 0..depth {
-        arrays.push_str("[")?;
-    }
-    for _ in 0..depth {
-        arrays.push_str("]")?;
-    }
+fn nested(alloc: Global, depth: usize) -> Result<Option<Fault>, Fault> {
+    let open = "[".repeat(alloc, depth)?;
+    let close = "]".repeat(alloc, depth)?;
     let front = r#"{"at":0,"cmd":"position","who":"AAAADEFF","x":"#;
-    let refusal = refusal(alloc, hub, front, arrays.as_str(), "}")?;
-    Ok(refusal)
+    let back = format!(in alloc; "{close}}}")?;
+    refusal(alloc, MOST, front, open.as_str(), back.as_str())
 }
 
-/// A line with so many arrays in one another is refused so.
-fn nests(
-    rt: &(impl Abort + AllocGlobal),
-    hub: &Settings,
-    depth: usize,
-    fault: Option<Fault>,
-) -> Result<(), Fail> {
-    same_at(rt, depth, nested(rt.alloc(), hub, depth)?, fault);
-    Ok(())
-}
+/// So many arrays in one another, and what a line with them is refused for.
+const DEPTHS: &[(usize, Option<Fault>)] = &[(126, None), (127, Some(Fault::NotJson))];
 
 #[test]
-fn reads_nesting_to_its_bound(rt: HostRuntime) -> Result<(), Fail> {
-    let hub = hub(rt.alloc(), MOST, 0)?;
-    nests(&rt, &hub, 126, None)?;
-    nests(&rt, &hub, 127, Some(Fault::NotJson))
+fn reads_nesting_to_its_bound(rt: HostRuntime) -> Result<(), Fault> {
+    for &(depth, fault) in DEPTHS {
+        same_at(&rt, depth, nested(rt.alloc(), depth)?, fault);
+    }
+    Ok(())
 }

@@ -1,14 +1,9 @@
 //! Which lines one pass knows to be no JSON, and which it leaves to be read in another way.
 use crate::comparing::same_at;
-use crate::hub::{MOST, hub};
-use inst_base::{Fault, mention};
-use inst_command::Command;
-use inst_json::read_command;
+use crate::hub::{MOST, refusal};
+use inst_base::Fault;
 use inst_scan::{Fields, Form, scan_into};
-use inst_settings::Settings;
-use std::alloc::Global;
 use std::process::Abort;
-use std::test::Fail;
 
 /// Lines that are no JSON, and are known to be none where the pass stops.
 const BROKEN: &[&[u8]] = &[
@@ -130,58 +125,41 @@ fn is_left(line: &[u8]) -> bool {
     matches!(scan_into(line, &mut fields), Form::Other)
 }
 
-/// Why a line is refused, if it is.
-pub(crate) fn refusal(alloc: Global, hub: &Settings, line: &[u8]) -> Option<Fault> {
-    mention::<Command>();
-    read_command(alloc, hub, line).err()
-}
-
 /// Each line is known to be broken or left to another way, as wanted, and is refused for that.
-fn refuses(
-    rt: &(impl Abort + AllocGlobal),
-    hub: &Settings,
-    lines: &[&[u8]],
-    is_known: bool,
-    fault: Fault,
-) {
+fn refuses(rt: &(impl Abort + AllocGlobal), lines: &[&[u8]], is_known: bool, fault: Fault) {
     for (place, line) in lines.iter().enumerate() {
         let found = (
             is_broken(line),
             is_left(line),
-            refusal(rt.alloc(), hub, line),
+            refusal(rt.alloc(), MOST, 0, line),
         );
         same_at(rt, place, found, (is_known, !is_known, Some(fault)));
     }
 }
 
-/// All the lines are refused so.
-fn refuses_all(rt: &(impl Abort + AllocGlobal), hub: &Settings) {
-    refuses(rt, hub, BROKEN, true, Fault::NotJson);
-    refuses(rt, hub, LEFT, false, Fault::NotJson);
-    refuses(rt, hub, OTHER, false, Fault::BadField);
-}
-
 #[test]
-fn broken_lines_are_known_in_one_pass(rt: HostRuntime) -> Result<(), Fail> {
-    let hub = hub(rt.alloc(), MOST, 0)?;
-    refuses_all(&rt, &hub);
-    Ok(())
+fn broken_lines_are_known_in_one_pass(rt: HostRuntime) {
+    refuses(&rt, BROKEN, true, Fault::NotJson);
+    refuses(&rt, LEFT, false, Fault::NotJson);
+    refuses(&rt, OTHER, false, Fault::BadField);
 }
 
 /// A whole line, with a space in front.
 const WHOLE: &[u8] = br#" {"at":1000,"cmd":"position","who":"AAAADEFF"}"#;
 
-fn refuses_cut_lines(rt: &(impl Abort + AllocGlobal), hub: &Settings) {
-    for end in 0..WHOLE.len() {
-        let refusal = refusal(rt.alloc(), hub, &WHOLE[..end]);
-        same_at(rt, end, refusal, Some(Fault::NotJson));
-    }
-    same_at(rt, WHOLE.len(), refusal(rt.alloc(), hub, WHOLE), None);
-}
-
 #[test]
-fn a_cut_line_is_no_json(rt: HostRuntime) -> Result<(), Fail> {
-    let hub = hub(rt.alloc(), MOST, 0)?;
-    refuses_cut_lines(&rt, &hub);
-    Ok(())
+fn a_cut_line_is_no_json(rt: HostRuntime) {
+    for end in 0..=WHOLE.len() {
+        let wanted = if end < WHOLE.len() {
+            Some(Fault::NotJson)
+        } else {
+            None
+        };
+        same_at(
+            &rt,
+            end,
+            refusal(rt.alloc(), MOST, 0, &WHOLE[..end]),
+            wanted,
+        );
+    }
 }

@@ -1,17 +1,18 @@
-//! The hub that lines are read and written for.
+//! The hub that lines are read and written for, and how it reads them.
 ghost use Rattle.std.specs.Prelude.{◌≡◌, IfOk};
 ghost use Rattle.inst_settings.specs.Settings.{participants};
 
-use inst_base::Code;
+use inst_base::{Code, Fault, mention};
+use inst_command::{Ask, Command, Step};
+use inst_json::{read_command, read_step};
 use inst_settings::{Numbers, Settings};
 use std::alloc::Global;
-use std::test::Fail;
 
 /// The largest ceiling, in cents.
 pub(crate) const MOST: u64 = 99_999_999_999;
 
 /// A hub of AAAADEFF, BBBBFRPP and CCCCITMM, numbered 0, 1 and 2, with a limit of 10,000 ms.
-pub(crate) fn hub(alloc: Global, ceiling: u64, base: u64) -> Result<Settings, Fail>
+pub(crate) fn hub(alloc: Global, ceiling: u64, base: u64) -> Result<Settings, Fault>
     ensures { IfOk result (λ s. participants s ≡ 3) }
 {
     let codes = [
@@ -24,5 +25,23 @@ pub(crate) fn hub(alloc: Global, ceiling: u64, base: u64) -> Result<Settings, Fa
         base,
         ..Numbers::DEFAULT
     };
-    Ok(Settings::check(codes.to_vec(alloc)?, numbers)?)
+    Settings::check(codes.to_vec(alloc)?, numbers)
+}
+
+/// What a line is read as by the hub with this ceiling and base.
+pub(crate) fn read(alloc: Global, ceiling: u64, base: u64, line: &[u8]) -> Result<Ask, Fault> {
+    let hub = hub(alloc, ceiling, base)?;
+    read_command(alloc, &hub, line)
+}
+
+/// What it is refused for, if it is.
+pub(crate) fn refusal(alloc: Global, ceiling: u64, base: u64, line: &[u8]) -> Option<Fault> {
+    mention::<Command>();
+    read(alloc, ceiling, base, line).err()
+}
+
+/// What a line of a script is read as by the hub with the largest ceiling.
+pub(crate) fn read_script(alloc: Global, line: &[u8]) -> Result<Step, Fault> {
+    let hub = hub(alloc, MOST, 0)?;
+    read_step(alloc, &hub, line)
 }

@@ -1,12 +1,9 @@
 //! Each command and each step as it is read.
 use crate::comparing::same_at;
-use crate::hub::{MOST, hub};
+use crate::hub::{MOST, read, read_script};
 use inst_base::{Cents, Fault, Ident, Moment, Reason};
 use inst_command::{Ask, Command, Step, Submission};
-use inst_json::{read_command, read_step};
-use inst_settings::Settings;
 use std::process::Abort;
-use std::test::Fail;
 
 /// Who asks what, and when.
 type Asked = (u8, Command, u64);
@@ -74,20 +71,17 @@ fn asks() -> Result<[Asked; 11], Fault> {
 }
 
 /// Each line is read as its ask.
-fn reads(rt: &(impl Abort + AllocGlobal), hub: &Settings, asks: &[Asked]) -> Result<(), Fail> {
+fn reads(rt: &(impl Abort + AllocGlobal), asks: &[Asked]) -> Result<(), Fault> {
     for (line, asked) in COMMANDS.iter().zip(asks) {
-        let ask = ask(asked)?;
-        let read = read_command(rt.alloc(), hub, line.as_bytes());
-        same_at(rt, *line, read, Ok(ask));
+        let read = read(rt.alloc(), MOST, 0, line.as_bytes());
+        same_at(rt, *line, read, Ok(ask(asked)?));
     }
     Ok(())
 }
 
 #[test]
-fn reads_each_command(rt: HostRuntime) -> Result<(), Fail> {
-    let hub = hub(rt.alloc(), MOST, 0)?;
-    let asks = asks()?;
-    reads(&rt, &hub, &asks)
+fn reads_each_command(rt: HostRuntime) -> Result<(), Fault> {
+    reads(&rt, &asks()?)
 }
 
 /// Lines of scripts.
@@ -126,17 +120,15 @@ fn steps() -> Result<[Step; 4], Fault> {
 }
 
 /// Each line of a script is read as its step.
-fn reads_steps(rt: &(impl Abort + AllocGlobal), hub: &Settings, steps: &[Step]) {
+fn reads_steps(rt: &(impl Abort + AllocGlobal), steps: &[Step]) {
     for (line, step) in STEPS.iter().zip(steps) {
-        let read = read_step(rt.alloc(), hub, line.as_bytes());
+        let read = read_script(rt.alloc(), line.as_bytes());
         same_at(rt, *line, read, Ok(*step));
     }
 }
 
 #[test]
-fn reads_each_step(rt: HostRuntime) -> Result<(), Fail> {
-    let hub = hub(rt.alloc(), MOST, 0)?;
-    let steps = steps()?;
-    reads_steps(&rt, &hub, &steps);
+fn reads_each_step(rt: HostRuntime) -> Result<(), Fault> {
+    reads_steps(&rt, &steps()?);
     Ok(())
 }

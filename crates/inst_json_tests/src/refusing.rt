@@ -1,12 +1,11 @@
 //! What lines are refused for, in the order of the refusals.
-use crate::breaking::refusal;
 use crate::comparing::{same, same_at};
-use crate::hub::{MOST, hub};
-use inst_base::Fault;
-use inst_json::{LineReader, Name, Refusal, read_step};
+use crate::hub::{hub, read_script, refusal};
+use inst_base::{Fault, mention};
+use inst_command::{Ask, Command};
+use inst_json::{LineReader, Name, Refusal};
 use inst_settings::Settings;
 use std::process::Abort;
-use std::test::Fail;
 
 /// A line, and what it is refused for.
 type Row = (&'static str, Fault);
@@ -122,34 +121,27 @@ const STEPS: &[Row] = &[
     ("{\"step\"", Fault::NotJson),
 ];
 
-fn refuses_commands(rt: &(impl Abort + AllocGlobal), hub: &Settings) {
+#[test]
+fn refuses_in_order(rt: HostRuntime) {
     for (line, fault) in COMMANDS {
-        let refusal = refusal(rt.alloc(), hub, line.as_bytes());
-        same_at(rt, *line, refusal, Some(*fault));
+        let refusal = refusal(rt.alloc(), 1000, 0, line.as_bytes());
+        same_at(&rt, *line, refusal, Some(*fault));
     }
     let broken = b"{\"at\":0,\"cmd\":\"position\",\"who\":\"AAAADEFF\",\"x\":\"\xff\"}";
-    same(rt, refusal(rt.alloc(), hub, broken), Some(Fault::NotJson));
+    same(
+        &rt,
+        refusal(rt.alloc(), 1000, 0, broken),
+        Some(Fault::NotJson),
+    );
 }
 
 #[test]
-fn refuses_in_order(rt: HostRuntime) -> Result<(), Fail> {
-    let hub = hub(rt.alloc(), 1000, 0)?;
-    refuses_commands(&rt, &hub);
-    Ok(())
-}
-
-fn refuses_steps(rt: &(impl Abort + AllocGlobal), hub: &Settings) {
+fn refuses_steps_in_order(rt: HostRuntime) {
+    mention::<(Ask, Command)>();
     for (line, fault) in STEPS {
-        let refusal = read_step(rt.alloc(), hub, line.as_bytes()).err();
-        same_at(rt, *line, refusal, Some(*fault));
+        let refusal = read_script(rt.alloc(), line.as_bytes()).err();
+        same_at(&rt, *line, refusal, Some(*fault));
     }
-}
-
-#[test]
-fn refuses_steps_in_order(rt: HostRuntime) -> Result<(), Fail> {
-    let hub = hub(rt.alloc(), MOST, 0)?;
-    refuses_steps(&rt, &hub);
-    Ok(())
 }
 
 /// A line, what it is refused for, and the name of the field by which.
@@ -179,31 +171,24 @@ const BLAMED: &[Blame] = &[
     ),
 ];
 
-/// Each line is refused by its field.
-fn blames_commands(rt: &impl Abort, reader: &mut LineReader, hub: &Settings) {
+/// Each line is refused by its field, and a step that tells no place by that.
+fn blames(rt: &impl Abort, reader: &mut LineReader, hub: &Settings) {
     for &(line, fault, field, name) in BLAMED {
         let read = reader.read_blamed_command(hub, line.as_bytes());
         let found = (read, field.map_or("", Name::as_str));
         same_at(rt, line, found, (Err(Refusal { fault, field }), name));
     }
-}
-
-/// A step that tells no place is refused by that.
-fn blames_a_step(rt: &impl Abort, reader: &mut LineReader, hub: &Settings) {
-    let step = reader.read_blamed_step(
-        hub,
-        br#"{"from":"AAAADEFF","step":"learn","who":"AAAADEFF"}"#,
-    );
+    let placeless = br#"{"from":"AAAADEFF","step":"learn","who":"AAAADEFF"}"#;
     let field = Some(Name::Place);
     let fault = Fault::BadField;
+    let step = reader.read_blamed_step(hub, placeless);
     same(rt, step, Err(Refusal { fault, field }));
 }
 
 #[test]
-fn blames_the_first_wrong_field(rt: HostRuntime) -> Result<(), Fail> {
+fn blames_the_first_wrong_field(rt: HostRuntime) -> Result<(), Fault> {
     let hub = hub(rt.alloc(), 1_000, 0)?;
     let mut reader = LineReader::new(rt.alloc());
-    blames_commands(&rt, &mut reader, &hub);
-    blames_a_step(&rt, &mut reader, &hub);
+    blames(&rt, &mut reader, &hub);
     Ok(())
 }

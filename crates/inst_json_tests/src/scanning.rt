@@ -1,9 +1,9 @@
 //! Which lines are read in one pass, without a tree. What they are read as a contract says, whichever way it is.
 use crate::comparing::same_at;
+use inst_base::Fault;
 use inst_scan::scan;
 use std::alloc::Global;
 use std::process::Abort;
-use std::test::Fail;
 
 /// The members of each command and step.
 const LINES: &[&[&str]] = &[
@@ -128,7 +128,7 @@ const MEMBERS: &[(&str, bool)] = &[
 ];
 
 /// Adds the members to the line, each with a comma before it unless it is the first.
-fn push_members(line: &mut String, members: &[&str]) -> Result<(), Fail> {
+fn push_members(line: &mut String, members: &[&str]) -> Result<(), Fault> {
     for member in members {
         line.push_str(if line.len() == 1 { "" } else { "," })?;
         line.push_str(member)?;
@@ -136,18 +136,33 @@ fn push_members(line: &mut String, members: &[&str]) -> Result<(), Fail> {
     Ok(())
 }
 
+/// Adds all that comes behind the first brace.
+fn push_object(
+    line: &mut String,
+    front: &[&str],
+    middle: &[&str],
+    back: &[&str],
+) -> Result<(), Fault> {
+    push_members(line, front)?;
+    push_members(line, middle)?;
+    push_members(line, back)?;
+    Ok(line.push_str("}")?)
+}
+
 /// Whether one pass reads an object of these members.
-fn is_scanned(alloc: Global, front: &[&str], middle: &[&str], back: &[&str]) -> Result<bool, Fail> {
+fn is_scanned(
+    alloc: Global,
+    front: &[&str],
+    middle: &[&str],
+    back: &[&str],
+) -> Result<bool, Fault> {
     let mut line = String::from_str(alloc, "{")?;
-    push_members(&mut line, front)?;
-    push_members(&mut line, middle)?;
-    push_members(&mut line, back)?;
-    line.push_str("}")?;
+    push_object(&mut line, front, middle, back)?;
     Ok(scan(line.as_bytes()).is_some())
 }
 
 /// The members in each order, each of them once in front.
-fn scans_each_order(rt: &(impl Abort + AllocGlobal), members: &[&str]) -> Result<(), Fail> {
+fn scans_each_order(rt: &(impl Abort + AllocGlobal), members: &[&str]) -> Result<(), Fault> {
     for first in 0..members.len() {
         let scanned = is_scanned(rt.alloc(), &members[first..], &members[..first], &[])?;
         same_at(rt, first, scanned, true);
@@ -156,7 +171,7 @@ fn scans_each_order(rt: &(impl Abort + AllocGlobal), members: &[&str]) -> Result
 }
 
 #[test]
-fn keys_in_any_order_are_read_in_one_pass(rt: HostRuntime) -> Result<(), Fail> {
+fn keys_in_any_order_are_read_in_one_pass(rt: HostRuntime) -> Result<(), Fault> {
     for members in LINES {
         scans_each_order(&rt, members)?;
     }
@@ -169,7 +184,7 @@ fn is_scanned_with(
     members: &[&str],
     more: &str,
     is_behind: bool,
-) -> Result<bool, Fail> {
+) -> Result<bool, Fault> {
     if is_behind {
         is_scanned(alloc, members, &[], &[more])
     } else {
@@ -182,7 +197,7 @@ fn scans_with_more(
     rt: &(impl Abort + AllocGlobal),
     members: &[&str],
     is_behind: bool,
-) -> Result<(), Fail> {
+) -> Result<(), Fault> {
     for (more, wanted) in MEMBERS {
         let scanned = is_scanned_with(rt.alloc(), members, more, is_behind)?;
         same_at(rt, *more, scanned, *wanted);
@@ -191,7 +206,7 @@ fn scans_with_more(
 }
 
 #[test]
-fn more_members_may_be_read_in_one_pass(rt: HostRuntime) -> Result<(), Fail> {
+fn more_members_may_be_read_in_one_pass(rt: HostRuntime) -> Result<(), Fault> {
     for members in LINES {
         scans_with_more(&rt, members, false)?;
         scans_with_more(&rt, members, true)?;

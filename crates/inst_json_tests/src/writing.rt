@@ -1,7 +1,8 @@
 //! The lines of answers.
-ghost use Rattle.std.specs.Prelude.{◌≡◌, ◌<◌, true};
-ghost use Rattle.inst_settings.specs.Settings.{participants};
-ghost use Rattle.inst_command.specs.declared.reply.Answer.{Answer};
+ghost use Rattle.std.specs.Prelude.{◌≡◌, ◌<◌, true, IfOk};
+ghost use Rattle.std.specs.List.{list_all};
+ghost use Rattle.inst_settings.specs.Settings.{participants, is_participant};
+ghost use Rattle.inst_command.specs.LineText.{line_fits};
 ghost use Rattle.inst_json.specs.Replies.{answer_can_be_written, is_used};
 
 use crate::comparing::same;
@@ -10,57 +11,52 @@ use inst_base::{Cents, Fault, Ident, Moment, Reason};
 use inst_command::{Answer, Entries, Entry, Line, LineKind, Lines, Outcome, Reply, State};
 use inst_json::{write_answer, write_reply};
 use inst_settings::Settings;
-use std::alloc::Global;
 use std::process::Abort;
-use std::test::Fail;
 
-fn assert_writes(
-    rt: &impl Abort,
-    alloc: Global,
-    settings: &Settings,
-    answer: Answer,
-    wanted: &str,
-) -> Result<(), Fail>
+/// The answer is written as this line, and so is the reply that it is.
+fn is_written(rt: &(impl Abort + AllocGlobal), settings: &Settings, answer: &Answer, wanted: &str)
+    requires { answer_can_be_written settings.now answer.now ≡ true }
+{
+    let line = write_answer(rt.alloc(), settings, answer).expect(rt, "a line");
+    same(rt, line.as_slice(), wanted.as_bytes());
+    if let Answer::Reply(reply) = answer {
+        let line = write_reply(rt.alloc(), settings, reply).expect(rt, "a line");
+        same(rt, line.as_slice(), wanted.as_bytes());
+    }
+}
+
+/// The same of an answer that is not used again.
+fn writes(rt: &(impl Abort + AllocGlobal), settings: &Settings, answer: Answer, wanted: &str)
     requires { answer_can_be_written settings.now answer ≡ true }
 {
-    let line = write_answer(alloc, settings, &answer)?;
-    same(rt, line.as_slice(), wanted.as_bytes());
-    Ok(())
+    is_written(rt, settings, &answer, wanted);
 }
 
-fn assert_replies(
-    rt: &impl Abort,
-    alloc: Global,
-    settings: &Settings,
-    reply: Reply,
-    wanted: &str,
-) -> Result<(), Fail>
-    requires { answer_can_be_written settings.now (Answer.Reply reply) ≡ true }
-{
-    let line = write_reply(alloc, settings, &reply)?;
-    same(rt, line.as_slice(), wanted.as_bytes());
-    assert_writes(rt, alloc, settings, Answer::Reply(reply), wanted)
-}
-
-fn writes_short(rt: &impl Abort, alloc: Global, hub: &Settings) -> Result<(), Fail>
+fn writes_short(rt: &(impl Abort + AllocGlobal), hub: &Settings) -> Result<(), Fault>
     requires { participants hub.now ≡ 3 }
 {
     let id = Ident::new("T1")?;
     let reference = Ident::new("F1")?;
     let deadline = Moment::new(0, 11_000)?;
     let line = r#"{"ref":"F1","reply":"done"}"#;
-    assert_replies(rt, alloc, hub, Reply::Done { reference }, line)?;
+    writes(rt, hub, Answer::Reply(Reply::Done { reference }), line);
     let line = r#"{"deadline":1011000,"id":"T1","reply":"taken"}"#;
-    assert_replies(rt, alloc, hub, Reply::Taken { id, deadline }, line)?;
+    writes(rt, hub, Answer::Reply(Reply::Taken { id, deadline }), line);
     let line = r#"{"fault":"Shortage","number":13,"reply":"refused"}"#;
-    assert_replies(rt, alloc, hub, Reply::Refused(Fault::Shortage), line)?;
+    writes(
+        rt,
+        hub,
+        Answer::Reply(Reply::Refused(Fault::Shortage)),
+        line,
+    );
     let line = r#"{"new":true,"reply":"step"}"#;
-    assert_writes(rt, alloc, hub, Answer::New(true), line)?;
+    writes(rt, hub, Answer::New(true), line);
     let line = r#"{"new":false,"reply":"step"}"#;
-    assert_writes(rt, alloc, hub, Answer::New(false), line)
+    writes(rt, hub, Answer::New(false), line);
+    Ok(())
 }
 
-fn writes_position(rt: &impl Abort, alloc: Global, hub: &Settings) -> Result<(), Fail>
+fn writes_position(rt: &(impl Abort + AllocGlobal), hub: &Settings)
     requires { participants hub.now ≡ 3 }
 {
     let position = Reply::Position {
@@ -69,42 +65,56 @@ fn writes_position(rt: &impl Abort, alloc: Global, hub: &Settings) -> Result<(),
         available: 49_993,
     };
     let line = r#"{"available":49993,"position":50000,"reply":"position","reserved":7}"#;
-    assert_replies(rt, alloc, hub, position, line)
+    writes(rt, hub, Answer::Reply(position), line);
 }
 
-/// The state of the transfer T1 of this originator is written so.
+/// The state of this transfer of this originator is written so.
 fn writes_state(
-    rt: &impl Abort,
-    alloc: Global,
+    rt: &(impl Abort + AllocGlobal),
     hub: &Settings,
     from: u8,
+    id: Ident,
     state: State,
     wanted: &str,
-) -> Result<(), Fail>
+)
     requires three { participants hub.now ≡ 3 }
     requires there { from < 3 }
     requires used { is_used state ≡ true }
 {
-    let id = Ident::new("T1")?;
-    assert_replies(rt, alloc, hub, Reply::State { from, id, state }, wanted)
+    writes(
+        rt,
+        hub,
+        Answer::Reply(Reply::State { from, id, state }),
+        wanted,
+    );
 }
 
-fn writes_each_state(rt: &impl Abort, alloc: Global, hub: &Settings) -> Result<(), Fail>
+fn writes_each_state(rt: &(impl Abort + AllocGlobal), hub: &Settings) -> Result<(), Fault>
     requires { participants hub.now ≡ 3 }
 {
-    let line = r#"{"from":"AAAADEFF","id":"T1","reply":"state","state":"pending"}"#;
-    writes_state(rt, alloc, hub, 0, State::Pending, line)?;
-    let line = r#"{"from":"AAAADEFF","id":"T1","reply":"state","state":"accepted"}"#;
-    writes_state(rt, alloc, hub, 0, State::Decided(Outcome::Accepted), line)?;
+    let id = Ident::new("T1")?;
     let rejected = Outcome::Rejected(Reason::new("AC04")?);
+    let line = r#"{"from":"AAAADEFF","id":"T1","reply":"state","state":"pending"}"#;
+    writes_state(rt, hub, 0, id, State::Pending, line);
+    let line = r#"{"from":"AAAADEFF","id":"T1","reply":"state","state":"accepted"}"#;
+    writes_state(rt, hub, 0, id, State::Decided(Outcome::Accepted), line);
     let line =
         r#"{"from":"AAAADEFF","id":"T1","reason":"AC04","reply":"state","state":"rejected"}"#;
-    writes_state(rt, alloc, hub, 0, State::Decided(rejected), line)?;
+    writes_state(rt, hub, 0, id, State::Decided(rejected), line);
     let line = r#"{"from":"CCCCITMM","id":"T1","reply":"state","state":"timed_out"}"#;
-    writes_state(rt, alloc, hub, 2, State::Decided(Outcome::TimedOut), line)
+    writes_state(rt, hub, 2, id, State::Decided(Outcome::TimedOut), line);
+    Ok(())
 }
 
-fn writes_each_inbox(rt: &impl Abort, alloc: Global, hub: &Settings) -> Result<(), Fail>
+/// An inbox of these entries is written so.
+fn writes_inbox(rt: &(impl Abort + AllocGlobal), hub: &Settings, entries: &[Entry], wanted: &str)
+    requires { list_all (λ entry. is_participant hub.now entry.from) entries.now ≡ true }
+{
+    let entries = Entries::new(entries.to_vec(rt.alloc()).expect(rt, "entries"));
+    writes(rt, hub, Answer::Reply(Reply::Inbox { entries }), wanted);
+}
+
+fn writes_each_inbox(rt: &(impl Abort + AllocGlobal), hub: &Settings) -> Result<(), Fault>
     requires { participants hub.now ≡ 3 }
 {
     let first = Entry {
@@ -118,22 +128,27 @@ fn writes_each_inbox(rt: &impl Abort, alloc: Global, hub: &Settings) -> Result<(
         id: Ident::new("O'B, (1)")?,
         ..first
     };
-    let entries = Entries::new(Vec::new(alloc));
-    let line = r#"{"entries":[],"reply":"inbox"}"#;
-    assert_replies(rt, alloc, hub, Reply::Inbox { entries }, line)?;
-    let entries = Entries::new(vec![in alloc; first]?);
+    writes_inbox(rt, hub, &[], r#"{"entries":[],"reply":"inbox"}"#);
     let line =
         r#"{"entries":[{"cents":100,"deadline":11000,"from":"AAAADEFF","id":"T1"}],"reply":"inbox"}"#;
-    assert_replies(rt, alloc, hub, Reply::Inbox { entries }, line)?;
-    let entries = Entries::new(vec![in alloc; first, second]?);
+    writes_inbox(rt, hub, &[first], line);
     let line = "{\"entries\":[\
         {\"cents\":100,\"deadline\":11000,\"from\":\"AAAADEFF\",\"id\":\"T1\"},\
         {\"cents\":100,\"deadline\":11000,\"from\":\"CCCCITMM\",\"id\":\"O'B, (1)\"}],\
         \"reply\":\"inbox\"}";
-    assert_replies(rt, alloc, hub, Reply::Inbox { entries }, line)
+    writes_inbox(rt, hub, &[first, second], line);
+    Ok(())
 }
 
-fn writes_each_statement(rt: &impl Abort, alloc: Global, hub: &Settings) -> Result<(), Fail>
+/// A statement of these lines is written so.
+fn writes_statement(rt: &(impl Abort + AllocGlobal), hub: &Settings, lines: &[Line], wanted: &str)
+    requires { list_all (line_fits hub.now) lines.now ≡ true }
+{
+    let lines = Lines::new(lines.to_vec(rt.alloc()).expect(rt, "lines"));
+    writes(rt, hub, Answer::Reply(Reply::Statement { lines }), wanted);
+}
+
+fn writes_each_statement(rt: &(impl Abort + AllocGlobal), hub: &Settings) -> Result<(), Fault>
     requires { participants hub.now ≡ 3 }
 {
     let received = Line {
@@ -152,42 +167,39 @@ fn writes_each_statement(rt: &impl Abort, alloc: Global, hub: &Settings) -> Resu
         cents: Cents::new(50_000)?,
         position: 70_000,
     };
-    let lines = Lines::new(Vec::new(alloc));
-    let line = r#"{"lines":[],"reply":"statement"}"#;
-    assert_replies(rt, alloc, hub, Reply::Statement { lines }, line)?;
-    let lines = Lines::new(vec![in alloc; received]?);
+    writes_statement(rt, hub, &[], r#"{"lines":[],"reply":"statement"}"#);
     let line =
         r#"{"lines":["     1 IN  AAAADEFF    T1                                        20000                20000"],"reply":"statement"}"#;
-    assert_replies(rt, alloc, hub, Reply::Statement { lines }, line)?;
-    let lines = Lines::new(vec![in alloc; received, funded]?);
+    writes_statement(rt, hub, &[received], line);
     let line = "{\"lines\":[\
         \"     1 IN  AAAADEFF    T1                                        20000                20000\",\
         \"     2 FND             F1                                        50000                70000\"],\
         \"reply\":\"statement\"}";
-    assert_replies(rt, alloc, hub, Reply::Statement { lines }, line)
+    writes_statement(rt, hub, &[received, funded], line);
+    Ok(())
 }
 
 #[test]
-fn writes_short_replies(rt: HostRuntime) -> Result<(), Fail> {
+fn writes_short_replies(rt: HostRuntime) -> Result<(), Fault> {
     let hub = hub(rt.alloc(), MOST, 1_000_000)?;
-    writes_short(&rt, rt.alloc(), &hub)?;
-    writes_position(&rt, rt.alloc(), &hub)
+    writes_position(&rt, &hub);
+    writes_short(&rt, &hub)
 }
 
 #[test]
-fn writes_states(rt: HostRuntime) -> Result<(), Fail> {
+fn writes_states(rt: HostRuntime) -> Result<(), Fault> {
     let hub = hub(rt.alloc(), MOST, 0)?;
-    writes_each_state(&rt, rt.alloc(), &hub)
+    writes_each_state(&rt, &hub)
 }
 
 #[test]
-fn writes_inboxes(rt: HostRuntime) -> Result<(), Fail> {
+fn writes_inboxes(rt: HostRuntime) -> Result<(), Fault> {
     let hub = hub(rt.alloc(), MOST, 0)?;
-    writes_each_inbox(&rt, rt.alloc(), &hub)
+    writes_each_inbox(&rt, &hub)
 }
 
 #[test]
-fn writes_statements(rt: HostRuntime) -> Result<(), Fail> {
+fn writes_statements(rt: HostRuntime) -> Result<(), Fault> {
     let hub = hub(rt.alloc(), MOST, 0)?;
-    writes_each_statement(&rt, rt.alloc(), &hub)
+    writes_each_statement(&rt, &hub)
 }
