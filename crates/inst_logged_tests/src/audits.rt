@@ -1,4 +1,5 @@
 //! Books that were changed in the file of a log.
+use crate::comparing::{same, same_at};
 use crate::keeping::{filled, text_of};
 use inst_lines::Mode;
 use inst_log::LogError;
@@ -125,7 +126,7 @@ fn is_refused(
     books: &[&[u8]],
 ) -> Result<(), Fail> {
     let opened = open(rt.alloc(), settings, books)?;
-    assert!(rt; matches!(opened, Err(LoggedError::Books)), "{:?}", books);
+    same_at(rt, books, matches!(opened, Err(LoggedError::Books)), true);
     Ok(())
 }
 
@@ -133,7 +134,7 @@ fn is_refused(
 fn books_that_fit_open(rt: HostRuntime) -> Result<(), Fail> {
     let settings = settings(rt.alloc())?;
     let opened = open(rt.alloc(), &settings, &[FUNDED, TAKEN, CAME, FETCHED])?;
-    assert!(&rt; opened.is_ok());
+    same(&rt, opened.is_ok(), true);
     Ok(())
 }
 
@@ -152,7 +153,8 @@ fn is_in_another_form(
     books: &[&[u8]],
 ) -> Result<(), Fail> {
     let opened = open(rt.alloc(), settings, books)?;
-    assert!(rt; matches!(opened, Err(LoggedError::Log(LogError::OtherSettings))));
+    let is_other = matches!(opened, Err(LoggedError::Log(LogError::OtherSettings)));
+    same(rt, is_other, true);
     Ok(())
 }
 

@@ -1,4 +1,5 @@
 //! Lines that are cut into two runs of one log.
+use crate::comparing::same_at;
 use crate::keeping::{LINES, Wanted, front_len, go_on, wanted_of};
 use inst_lines::Mode;
 use inst_rows::settings;
@@ -32,7 +33,7 @@ fn cut_after(
     count: usize,
 ) -> Result<(), Fail> {
     let written = in_two_runs(rt.alloc(), mode, settings, &wanted.input, count)?;
-    assert_eq!(rt; written.as_slice(), wanted.replies.as_slice(), "{count}");
+    same_at(rt, count, written.as_slice(), wanted.replies.as_slice());
     Ok(())
 }
 

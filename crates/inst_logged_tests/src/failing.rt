@@ -1,4 +1,5 @@
 //! A reader that fails behind each byte, and another run that goes on behind the lines that it gave.
+use crate::comparing::same_at;
 use crate::keeping::{Wanted, front_len, go_on, newlines, serve, wanted_of};
 use inst_lines::Mode;
 use inst_logged::LoggedError;
@@ -24,11 +25,11 @@ fn fail(
     };
     let ended = serve(rt.alloc(), mode, settings, b"", None, &mut reader, written)?;
     let is_read = matches!(ended.outcome, Err(LoggedError::Read));
-    assert_eq!(rt;
+    same_at(
+        rt,
+        bytes.len(),
         (is_read, written.as_slice()),
         (true, front),
-        "{}",
-        bytes.len()
     );
     Ok(ended.disk)
 }
@@ -50,7 +51,7 @@ fn fail_behind(
     let disk = fail(rt, mode, settings, bytes, front, &mut written)?;
     let log = disk.bytes();
     go_on(alloc, mode, settings, log, None, rest, &mut written)?;
-    assert_eq!(rt; written.as_slice(), wanted.replies.as_slice(), "{len}");
+    same_at(rt, len, written.as_slice(), wanted.replies.as_slice());
     Ok(())
 }
 

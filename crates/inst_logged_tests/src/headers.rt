@@ -1,4 +1,5 @@
 //! With which bytes a log begins.
+use crate::comparing::same;
 use inst_lines::Mode;
 use inst_logged::first_batch;
 use inst_rows::{settings, settings_with};
@@ -25,7 +26,7 @@ fn begins(
     header: &str,
 ) -> Result<(), Fail> {
     let batch = first_batch(rt.alloc(), mode, settings)?;
-    assert_eq!(rt; batch.as_slice(), header.as_bytes());
+    same(rt, batch.as_slice(), header.as_bytes());
     Ok(())
 }
 

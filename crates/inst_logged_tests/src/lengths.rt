@@ -1,4 +1,5 @@
 //! Lines of each length, read in pieces of each size, and answered again.
+use crate::comparing::same_at;
 use crate::keeping::{Wanted, go_on, plainly, serve};
 use inst_lines::Mode;
 use inst_rows::{Pieces, settings};
@@ -74,7 +75,7 @@ fn answer(
         &mut written,
     )?;
     ended.outcome?;
-    assert_eq!(rt; written.as_slice(), wanted.replies.as_slice(), "{most}");
+    same_at(rt, most, written.as_slice(), wanted.replies.as_slice());
     Ok(ended.disk)
 }
 
@@ -89,7 +90,7 @@ fn answer_again(
 ) -> Result<(), Fail> {
     let mut written = Vec::new(rt.alloc());
     go_on(rt.alloc(), mode, settings, log, Some(0), b"", &mut written)?;
-    assert_eq!(rt; written.as_slice(), wanted.replies.as_slice(), "{most}");
+    same_at(rt, most, written.as_slice(), wanted.replies.as_slice());
     Ok(())
 }
 

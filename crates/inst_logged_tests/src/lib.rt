@@ -6,6 +6,8 @@
 #[cfg(test)]
 mod audits;
 #[cfg(test)]
+mod comparing;
+#[cfg(test)]
 mod cuts;
 #[cfg(test)]
 mod errors;

@@ -1,9 +1,12 @@
 //! Logs that begin with the books of others.
 ghost use Rattle.std.specs.Prelude.{IsTrue};
 ghost use Rattle.sqlite_disk.specs.Disk.{Only};
+ghost use Rattle.inst_world.specs.NextOpening.{CanOpenFrom};
 ghost use Rattle.inst_logged.specs.Logged.{IsUnbegun};
 
+use crate::comparing::{same, same_at};
 use crate::keeping::{filled, text_of};
+use inst_journal::Journal;
 use inst_lines::Mode;
 use inst_logged::LoggedHub;
 use inst_rows::settings;
@@ -109,33 +112,34 @@ fn run_on(
     Ok(disk.bytes().to_vec(alloc)?)
 }
 
-/// The second disk with the log that begins with the books of the log on the first one.
-fn begin_next<D: Disk + Drop>(
-    alloc: Global,
-    settings: &Settings,
-    disk: D,
-    next: D,
-) -> Result<Option<D>, Fail>
-    requires usable { IsTrue (D.Disk.is_usable disk) × IsTrue (D.Disk.is_usable next) }
-    requires known { Only (D.Disk.seen disk) (D.Disk.may_leave disk) × Only (D.Disk.seen next) (D.Disk.may_leave next) }
+/// The log that begins with these books.
+fn begun_from(alloc: Global, settings: &Settings, books: &[Journal]) -> Result<Vec<u8>, Fail>
+    requires { CanOpenFrom settings.now books.now }
 {
-    let mut hub = LoggedHub::of_log(alloc, Mode::Run, settings, disk)?;
-    let Some(books) = hub.close(alloc)? else {
-        return Ok(None);
-    };
-    let next = LoggedHub::new_from(alloc, Mode::Run, hub.settings(), &books, next)?;
-    let disk = run_through(alloc, next, b"", &mut Vec::new(alloc))?;
-    Ok(Some(disk))
+    let disk = filled(Memory::new(alloc), b"")?;
+    let hub = LoggedHub::new_from(alloc, Mode::Run, settings, books, disk)?;
+    let disk = run_through(alloc, hub, b"", &mut Vec::new(alloc))?;
+    Ok(disk.bytes().to_vec(alloc)?)
+}
+
+/// The log that begins with the books that this hub leaves.
+fn next_of<D: Disk + Drop>(alloc: Global, hub: &mut LoggedHub<D>) -> Result<Option<Vec<u8>>, Fail>
+    requires unbegun { IsUnbegun hub.old.header.items hub.old.intake }
+    requires usable { IsTrue (D.Disk.is_usable hub.old.recorder.log.disk) }
+    requires known { IsTrue (D.Disk.is_clean hub.old.recorder.log.disk)
+        → Only (D.Disk.seen hub.old.recorder.log.disk) (D.Disk.may_leave hub.old.recorder.log.disk) }
+{
+    match hub.close(alloc)? {
+        Some(books) => Ok(Some(begun_from(alloc, hub.settings(), &books)?)),
+        None => Ok(None),
+    }
 }
 
 /// The log that begins with the books of this one.
 fn next(alloc: Global, settings: &Settings, log: &[u8]) -> Result<Option<Vec<u8>>, Fail> {
     let disk = filled(Memory::new(alloc), log)?;
-    let empty = filled(Memory::new(alloc), b"")?;
-    match begin_next(alloc, settings, disk, empty)? {
-        Some(disk) => Ok(Some(disk.bytes().to_vec(alloc)?)),
-        None => Ok(None),
-    }
+    let mut hub = LoggedHub::of_log(alloc, Mode::Run, settings, disk)?;
+    next_of(alloc, &mut hub)
 }
 
 /// The log that the lines of the first opening leave.
@@ -155,7 +159,7 @@ fn a_log_begins_with_the_books_of_another(rt: HostRuntime) -> Result<(), Fail> {
     let settings = settings(rt.alloc())?;
     let found = next_of_first(rt.alloc(), &settings)?;
     let expected = log_of(rt.alloc(), NEXT)?;
-    assert_eq!(&rt; found.as_deref(), Some(expected.as_slice()));
+    same(&rt, found.as_deref(), Some(expected.as_slice()));
     Ok(())
 }
 
@@ -173,7 +177,7 @@ fn the_next_opening_goes_on(rt: HostRuntime) -> Result<(), Fail> {
     let settings = settings(rt.alloc())?;
     let written = gone_on(rt.alloc(), &settings)?;
     let replies = text_of(rt.alloc(), REPLIES)?;
-    assert_eq!(&rt; written, replies);
+    same(&rt, written.as_slice(), replies.as_slice());
     Ok(())
 }
 
@@ -206,7 +210,7 @@ fn run_once_more(
     let replies = replies(alloc, number)?;
     let mut written = Vec::new(alloc);
     let log = run_on(alloc, settings, log, input.as_bytes(), &mut written)?;
-    assert_eq!(rt; written.as_slice(), replies.as_bytes(), "{number}");
+    same_at(rt, number, written.as_slice(), replies.as_bytes());
     Ok(log)
 }
 
@@ -234,7 +238,7 @@ fn ends_with(
 ) -> Result<(), Fail> {
     let mut written = Vec::new(rt.alloc());
     run_on(rt.alloc(), settings, log, line.as_bytes(), &mut written)?;
-    assert_eq!(rt; written.as_slice(), reply.as_bytes());
+    same(rt, written.as_slice(), reply.as_bytes());
     Ok(())
 }
 

@@ -1,4 +1,5 @@
 //! Logs that aren't taken: they are left as they are, and nothing is written.
+use crate::comparing::{same, same_at};
 use crate::keeping::{LINES, go_on, serve, text_of};
 use inst_base::Code;
 use inst_lines::Mode;
@@ -47,7 +48,7 @@ fn refusal(
         &mut reader,
         &mut written,
     )?;
-    assert_eq!(rt; (ended.disk.bytes(), written.len()), (bytes, 0));
+    same(rt, (ended.disk.bytes(), written.len()), (bytes, 0));
     match ended.outcome {
         Err(LoggedError::Log(error)) => Ok(error),
         _ => panic!(rt; "taken"),
@@ -61,7 +62,7 @@ fn is_of_others(
     log: &[u8],
 ) -> Result<(), Fail> {
     let error = refusal(rt, mode, settings, log)?;
-    assert!(rt; matches!(error, LogError::OtherSettings));
+    same(rt, matches!(error, LogError::OtherSettings), true);
     Ok(())
 }
 
@@ -72,14 +73,26 @@ fn log_of(alloc: Global, mode: Mode, settings: &Settings) -> Result<Vec<u8>, Fai
     go_on(alloc, mode, settings, b"", None, &input, &mut written)
 }
 
+/// The log is refused with so many places and this margin.
+fn others_with(
+    rt: &(impl Abort + AllocGlobal),
+    mode: Mode,
+    places: u16,
+    margin: u32,
+    log: &[u8],
+) -> Result<(), Fail> {
+    let settings = settings_with(rt.alloc(), places, margin)?;
+    is_of_others(rt, mode, &settings, log)
+}
+
 /// The log is refused with other settings.
 fn other_settings_are_refused(
     rt: &(impl Abort + AllocGlobal),
     mode: Mode,
     log: &[u8],
 ) -> Result<(), Fail> {
-    is_of_others(rt, mode, &settings_with(rt.alloc(), 3, 0)?, log)?;
-    is_of_others(rt, mode, &settings_with(rt.alloc(), 2, 1)?, log)?;
+    others_with(rt, mode, 3, 0, log)?;
+    others_with(rt, mode, 2, 1, log)?;
     is_of_others(rt, mode, &reordered(rt.alloc())?, log)
 }
 
@@ -107,7 +120,7 @@ fn is_no_log(
     bytes: &[u8],
 ) -> Result<(), Fail> {
     let error = refusal(rt, mode, settings, bytes)?;
-    assert!(rt; matches!(error, LogError::NoLog), "{:?}", bytes);
+    same_at(rt, bytes, matches!(error, LogError::NoLog), true);
     Ok(())
 }
 

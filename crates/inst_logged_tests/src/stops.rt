@@ -1,4 +1,5 @@
 //! A machine that stops at each call of its disk in turn, and another run that goes on from what is left.
+use crate::comparing::same;
 use crate::keeping::{Wanted, filled, front_len, go_on, newlines, serve_on, wanted_of};
 use inst_lines::Mode;
 use inst_log::{LogError, read};
@@ -55,7 +56,7 @@ fn kept_lines(rt: &(impl Abort + AllocGlobal), log: &[u8]) -> Result<usize, Fail
     match read(rt.alloc(), &mut disk) {
         Ok(reading) => Ok(reading.behind),
         Err(error) => {
-            assert!(rt; matches!(error, LogError::NoLog));
+            same(rt, matches!(error, LogError::NoLog), true);
             Ok(0)
         }
     }
@@ -83,7 +84,7 @@ fn go_on_behind(
         rest,
         &mut replies,
     )?;
-    assert_eq!(rt; replies.as_slice(), wanted.replies.as_slice());
+    same(rt, replies.as_slice(), wanted.replies.as_slice());
     Ok(())
 }
 

@@ -1,4 +1,5 @@
 //! Replies that are handed out again, to a reader that has some of them.
+use crate::comparing::same_at;
 use crate::keeping::{LINES, Wanted, front_len, go_on, serve, wanted_of};
 use inst_lines::Mode;
 use inst_log::LogError;
@@ -36,7 +37,7 @@ fn tell(
         &mut written,
     )?;
     let front = front_len(&whole.replies, told);
-    assert_eq!(rt; written.as_slice(), &whole.replies[front..], "{told}");
+    same_at(rt, told, written.as_slice(), &whole.replies[front..]);
     Ok(())
 }
 
@@ -60,11 +61,8 @@ fn tell_too_many(
         &mut written,
     )?;
     let is_told = matches!(ended.outcome, Err(LoggedError::Log(LogError::Told)));
-    assert_eq!(rt;
-        (is_told, written.len(), ended.disk.bytes()),
-        (true, 0, log),
-        "{told}"
-    );
+    let found = (is_told, written.len(), ended.disk.bytes());
+    same_at(rt, told, found, (true, 0, log));
     Ok(())
 }
 
