@@ -50,10 +50,11 @@ fn opened(alloc: Global, place: Place) -> Result<PlainBoard, Fault>
     requires { (place.owner ≡ 0) × (place.index ≡ 2) }
     ensures { IfOk result (λ b. plain_knows b (about place Opened)) }
 {
+    let deadline = Moment::new(0, DEADLINE)?;
+    let terms = terms()?;
     let settings = settings(alloc)?;
     let mut board = PlainBoard::new(alloc, &settings)?;
-    let deadline = Moment::new(0, DEADLINE)?;
-    board.write_terms(place, &terms()?);
+    board.write_terms(place, &terms);
     board.open(place, deadline);
     Ok(board)
 }
@@ -61,8 +62,9 @@ fn opened(alloc: Global, place: Place) -> Result<PlainBoard, Fault>
 /// What a wish answers, and what a look shows afterwards.
 fn decided(alloc: Global, wish: Wish, at: u64) -> Result<(Option<Outcome>, Look), Fault> {
     let place = Place { owner: 0, index: 2 };
+    let at = moment(at)?;
     let mut board = opened(alloc, place)?;
-    let found = board.decide(place, wish, moment(at)?);
+    let found = board.decide(place, wish, at);
     Ok((found, board.look(place)))
 }
 

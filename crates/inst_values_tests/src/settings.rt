@@ -4,7 +4,6 @@ use inst_base::{Code, Fault};
 use inst_settings::{Numbers, Settings};
 use std::alloc::Global;
 use std::process::Abort;
-use std::test::Fail;
 
 const LEAST: Numbers = Numbers {
     places: 1,
@@ -39,13 +38,31 @@ fn told(settings: &Settings) -> Numbers {
     }
 }
 
-/// So many codes: `AAAAD100`, `AAAAD101` and so on.
-fn codes(alloc: Global, count: u32) -> Result<Vec<Code>, Fail> {
+const COUNTRIES: [&str; 8] = ["DE", "FR", "IT", "ES", "NL", "BE", "AT", "IE"];
+
+const BANKS: [&str; 8] = [
+    "LERC", "MEIS", "NEUN", "PIRO", "RABE", "SPEC", "TAUB", "UHUX",
+];
+
+/// The code with this number as banks have them, every third with a branch: other banks, the same bank in other
+/// countries and places, and other branches of one bank.
+fn code_of(alloc: Global, index: u32) -> Result<Code, Fault> {
+    let bank = BANKS[(index % 8) as usize];
+    let country = COUNTRIES[(index / 8 % 8) as usize];
+    let place = 10 + index / 64;
+    let text = if index % 3 == 0 {
+        format!(in alloc; "{bank}{country}{place}{}", 100 + u64::from(index))?
+    } else {
+        format!(in alloc; "{bank}{country}{place}")?
+    };
+    Code::new(text.as_str())
+}
+
+/// So many of them.
+fn codes(alloc: Global, count: u32) -> Result<Vec<Code>, Fault> {
     let mut codes = Vec::new(alloc);
     for index in 0..count {
-        let number = u64::from(index) + 100;
-        let text = format!(in alloc; "AAAAD{number}")?;
-        codes.push(Code::new(text.as_str())?)?;
+        codes.push(code_of(alloc, index)?)?;
     }
     Ok(codes)
 }
@@ -94,7 +111,7 @@ const PAST_BOUNDS: &[Numbers] = &[
 ];
 
 /// Settings of these numbers tell them again.
-fn takes(rt: &(impl Abort + AllocGlobal), numbers: Numbers) -> Result<(), Fail> {
+fn takes(rt: &(impl Abort + AllocGlobal), numbers: Numbers) -> Result<(), Fault> {
     let settings = Settings::check(codes(rt.alloc(), 1)?, numbers)?;
     same(
         rt,
@@ -105,12 +122,12 @@ fn takes(rt: &(impl Abort + AllocGlobal), numbers: Numbers) -> Result<(), Fail> 
 }
 
 /// What so many participants with these numbers are refused for.
-fn refusal(alloc: Global, count: u32, numbers: Numbers) -> Result<Option<Fault>, Fail> {
+fn refusal(alloc: Global, count: u32, numbers: Numbers) -> Result<Option<Fault>, Fault> {
     Ok(Settings::check(codes(alloc, count)?, numbers).err())
 }
 
 #[test]
-fn numbers_to_their_bounds(rt: HostRuntime) -> Result<(), Fail> {
+fn numbers_to_their_bounds(rt: HostRuntime) -> Result<(), Fault> {
     takes(&rt, LEAST)?;
     takes(&rt, MOST)?;
     for numbers in PAST_BOUNDS {
@@ -121,10 +138,10 @@ fn numbers_to_their_bounds(rt: HostRuntime) -> Result<(), Fail> {
 }
 
 /// There are 256 participants, the last has the last number, and no other code has one.
-fn ends_at_the_last(rt: &impl Abort, settings: &Settings) -> Result<(), Fail> {
+fn ends_at_the_last(rt: &(impl Abort + AllocGlobal), settings: &Settings) -> Result<(), Fault> {
     same(rt, settings.participants(), 256);
-    has_code(rt, settings, 255, &Code::new("AAAAD355")?);
-    same(rt, settings.index_of(&Code::new("AAAAD356")?), None);
+    has_code(rt, settings, 255, &code_of(rt.alloc(), 255)?);
+    same(rt, settings.index_of(&code_of(rt.alloc(), 256)?), None);
     Ok(())
 }
 
@@ -137,7 +154,7 @@ const COUNTS: &[(u32, Option<Fault>)] = &[
 ];
 
 #[test]
-fn participants_to_their_bounds(rt: HostRuntime) -> Result<(), Fail> {
+fn participants_to_their_bounds(rt: HostRuntime) -> Result<(), Fault> {
     for &(count, fault) in COUNTS {
         same_at(&rt, count, refusal(rt.alloc(), count, MOST)?, fault);
     }
@@ -152,26 +169,26 @@ fn has_code(rt: &impl Abort, settings: &Settings, index: u8, code: &Code) {
 }
 
 /// There are three codes, numbered as they were given, and no other.
-fn numbers_codes(rt: &impl Abort, settings: &Settings, codes: &[Code; 3]) -> Result<(), Fail> {
+fn numbers_codes(rt: &impl Abort, settings: &Settings, codes: &[Code; 3]) -> Result<(), Fault> {
+    let other = settings.index_of(&Code::new("DDDDESMM")?);
     same(rt, told(settings), LEAST);
-    same(rt, settings.participants(), 3);
+    same(rt, (settings.participants(), other), (3, None));
     has_code(rt, settings, 0, &codes[0]);
     has_code(rt, settings, 1, &codes[1]);
     has_code(rt, settings, 2, &codes[2]);
     same(rt, settings.code(3), None);
-    same(rt, settings.index_of(&Code::new("DDDDESMM")?), None);
     Ok(())
 }
 
 /// The settings number the codes so, and a copy of them does.
-fn copies_codes(rt: &impl Abort, settings: &Settings, codes: &[Code; 3]) -> Result<(), Fail> {
+fn copies_codes(rt: &impl Abort, settings: &Settings, codes: &[Code; 3]) -> Result<(), Fault> {
     numbers_codes(rt, settings, codes)?;
     let copy = settings.copy()?;
     numbers_codes(rt, &copy, codes)
 }
 
 /// Three codes of which two are the same are refused.
-fn refuses_a_code_twice(rt: &(impl Abort + AllocGlobal), codes: &[Code; 3]) -> Result<(), Fail> {
+fn refuses_a_code_twice(rt: &(impl Abort + AllocGlobal), codes: &[Code; 3]) -> Result<(), Fault> {
     let [first, second, _] = *codes;
     for twice in [
         [first, first, second],
@@ -185,7 +202,7 @@ fn refuses_a_code_twice(rt: &(impl Abort + AllocGlobal), codes: &[Code; 3]) -> R
 }
 
 #[test]
-fn codes_are_numbered_as_given(rt: HostRuntime) -> Result<(), Fail> {
+fn codes_are_numbered_as_given(rt: HostRuntime) -> Result<(), Fault> {
     let codes = [
         Code::new("CCCCITMM")?,
         Code::new("AAAADEFF")?,
@@ -194,34 +211,6 @@ fn codes_are_numbered_as_given(rt: HostRuntime) -> Result<(), Fail> {
     refuses_a_code_twice(&rt, &codes)?;
     let settings = Settings::check(codes.to_vec(rt.alloc())?, LEAST)?;
     copies_codes(&rt, &settings, &codes)
-}
-
-const COUNTRIES: [&str; 8] = ["DE", "FR", "IT", "ES", "NL", "BE", "AT", "IE"];
-
-const BANKS: [&str; 8] = [
-    "LERC", "MEIS", "NEUN", "PIRO", "RABE", "SPEC", "TAUB", "UHUX",
-];
-
-/// The code with this number as banks have them, every third with a branch: other banks, the same bank in other
-/// countries and places, and other branches of one bank.
-fn bank_code(alloc: Global, index: u32) -> Result<Code, Fail> {
-    let bank = BANKS[(index % 8) as usize];
-    let country = COUNTRIES[(index / 8 % 8) as usize];
-    let place = 10 + index / 64;
-    let mut text = format!(in alloc; "{bank}{country}{place}")?;
-    if index % 3 == 0 {
-        text.push_str(format!(in alloc; "{}", 100 + u64::from(index))?.as_str())?;
-    }
-    Ok(Code::new(text.as_str())?)
-}
-
-/// So many of them.
-fn bank_codes(alloc: Global, count: u32) -> Result<Vec<Code>, Fail> {
-    let mut codes = Vec::new(alloc);
-    for index in 0..count {
-        codes.push(bank_code(alloc, index)?)?;
-    }
-    Ok(codes)
 }
 
 /// The first 64 codes have their numbers, and the others none.
@@ -233,9 +222,9 @@ fn numbers_the_first(rt: &impl Abort, settings: &Settings, codes: &[Code]) {
 }
 
 #[test]
-fn every_code_of_a_bank_has_its_number(rt: HostRuntime) -> Result<(), Fail> {
-    let codes = bank_codes(rt.alloc(), 128)?;
-    let settings = Settings::check(bank_codes(rt.alloc(), 64)?, MOST)?;
-    numbers_the_first(&rt, &settings, &codes);
+fn every_code_of_a_bank_has_its_number(rt: HostRuntime) -> Result<(), Fault> {
+    let all = codes(rt.alloc(), 128)?;
+    let settings = Settings::check(codes(rt.alloc(), 64)?, MOST)?;
+    numbers_the_first(&rt, &settings, &all);
     Ok(())
 }

@@ -4,36 +4,29 @@ ghost use Rattle.inst_settings.specs.Settings.{participants};
 ghost use Rattle.inst_command.specs.LineText.{line_fits};
 
 use crate::comparing::same;
-use inst_base::{Cents, Code, Ident};
+use inst_base::{Cents, Code, Fault, Ident};
 use inst_command::{Line, LineKind, line_text};
 use inst_settings::{Numbers, Settings};
 use std::alloc::Global;
 use std::process::Abort;
-use std::test::Fail;
 
-fn hub(alloc: Global) -> Result<Settings, Fail>
+fn hub(alloc: Global) -> Result<Settings, Fault>
     ensures { IfOk result (λ s. participants s ≡ 2) }
 {
     let codes = [Code::new("AAAADEFF")?, Code::new("BBBBFRPP123")?];
-    Ok(Settings::check(codes.to_vec(alloc)?, Numbers::DEFAULT)?)
+    Settings::check(codes.to_vec(alloc)?, Numbers::DEFAULT)
 }
 
 /// The line is laid out in 91 columns, so.
-fn assert_text(
-    rt: &(impl Abort + AllocGlobal),
-    settings: &Settings,
-    line: &Line,
-    wanted: &str,
-) -> Result<(), Fail>
+fn assert_text(rt: &(impl Abort + AllocGlobal), settings: &Settings, line: &Line, wanted: &str)
     requires { line_fits settings.now line.now ≡ true }
 {
-    let text = line_text(rt.alloc(), settings, line)?;
+    let text = line_text(rt.alloc(), settings, line).expect(rt, "a text");
     same(rt, (text.len(), text.as_str()), (91, wanted));
-    Ok(())
 }
 
 /// Fundings have no other side.
-fn lays_out_fundings(rt: &(impl Abort + AllocGlobal), hub: &Settings) -> Result<(), Fail>
+fn lays_out_fundings(rt: &(impl Abort + AllocGlobal), hub: &Settings) -> Result<(), Fault>
     requires { participants hub.now ≡ 2 }
 {
     let funded = Line {
@@ -46,7 +39,7 @@ fn lays_out_fundings(rt: &(impl Abort + AllocGlobal), hub: &Settings) -> Result<
     };
     let text =
         "     1 FND             F1                                        50000                50000";
-    assert_text(rt, hub, &funded, text)?;
+    assert_text(rt, hub, &funded, text);
     let defunded = Line {
         number: 3,
         kind: LineKind::Defunded,
@@ -57,11 +50,12 @@ fn lays_out_fundings(rt: &(impl Abort + AllocGlobal), hub: &Settings) -> Result<
     };
     let text =
         "     3 DFD             D1                                         5000                25000";
-    assert_text(rt, hub, &defunded, text)
+    assert_text(rt, hub, &defunded, text);
+    Ok(())
 }
 
 /// Transfers have one, and all columns may be full.
-fn lays_out_transfers(rt: &(impl Abort + AllocGlobal), hub: &Settings) -> Result<(), Fail>
+fn lays_out_transfers(rt: &(impl Abort + AllocGlobal), hub: &Settings) -> Result<(), Fault>
     requires { participants hub.now ≡ 2 }
 {
     let paid = Line {
@@ -74,7 +68,7 @@ fn lays_out_transfers(rt: &(impl Abort + AllocGlobal), hub: &Settings) -> Result
     };
     let text =
         "     2 OUT AAAADEFF    T1                                        20000                30000";
-    assert_text(rt, hub, &paid, text)?;
+    assert_text(rt, hub, &paid, text);
     let widest = Line {
         number: 999_999,
         kind: LineKind::Received,
@@ -85,11 +79,12 @@ fn lays_out_transfers(rt: &(impl Abort + AllocGlobal), hub: &Settings) -> Result
     };
     let text =
         "999999 IN  BBBBFRPP123 INV/2026-07 O'Brien (final) part 01 99999999999 18446744073709551615";
-    assert_text(rt, hub, &widest, text)
+    assert_text(rt, hub, &widest, text);
+    Ok(())
 }
 
 #[test]
-fn lays_out_lines(rt: HostRuntime) -> Result<(), Fail> {
+fn lays_out_lines(rt: HostRuntime) -> Result<(), Fault> {
     let hub = hub(rt.alloc())?;
     lays_out_fundings(&rt, &hub)?;
     lays_out_transfers(&rt, &hub)

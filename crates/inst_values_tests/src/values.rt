@@ -1,7 +1,6 @@
 //! Amounts, moments, codes, identifiers and faults, at their bounds.
 use crate::comparing::{same, same_at};
 use inst_base::{Cents, Code, Fault, Ident, Moment, Reason};
-use std::test::Fail;
 
 const BASE: u64 = 4_611_686_018_427_387_904;
 
@@ -38,7 +37,7 @@ const MOMENTS: &[(u64, u64, Result<u64, Fault>)] = &[
 ];
 
 #[test]
-fn moments_to_their_bounds(rt: HostRuntime) -> Result<(), Fail> {
+fn moments_to_their_bounds(rt: HostRuntime) -> Result<(), Fault> {
     for (base, ms, wanted) in MOMENTS {
         let past_base = Moment::new(*base, *ms).map(|moment| moment.past_base());
         same_at(&rt, (*base, *ms), past_base, *wanted);
@@ -61,7 +60,7 @@ const DEADLINES: &[(u64, u32, Option<u64>)] = &[
 ];
 
 #[test]
-fn deadlines_to_the_last_moment(rt: HostRuntime) -> Result<(), Fail> {
+fn deadlines_to_the_last_moment(rt: HostRuntime) -> Result<(), Fault> {
     for &(ms, limit, wanted) in DEADLINES {
         let stamp = Moment::new(0, ms)?;
         let deadline = if stamp.has_deadline(limit) {
@@ -85,7 +84,7 @@ const READINGS: &[(u64, bool, bool, bool)] = &[
 ];
 
 #[test]
-fn readings_on_either_side_of_a_deadline(rt: HostRuntime) -> Result<(), Fail> {
+fn readings_on_either_side_of_a_deadline(rt: HostRuntime) -> Result<(), Fault> {
     let deadline = Moment::new(0, 11_000)?;
     for &(ms, in_time, to_accept, due) in READINGS {
         let at = Moment::new(0, ms)?;
@@ -104,7 +103,7 @@ fn readings_on_either_side_of_a_deadline(rt: HostRuntime) -> Result<(), Fail> {
 const STAMPS: &[(u64, bool)] = &[(0, false), (1000, false), (2000, false), (2001, true)];
 
 #[test]
-fn stamps_on_either_side_of_what_is_ahead(rt: HostRuntime) -> Result<(), Fail> {
+fn stamps_on_either_side_of_what_is_ahead(rt: HostRuntime) -> Result<(), Fault> {
     let at = Moment::new(0, 1000)?;
     for &(ms, is_ahead) in STAMPS {
         same_at(&rt, ms, Moment::new(0, ms)?.is_ahead(1000, at), is_ahead);
@@ -112,94 +111,129 @@ fn stamps_on_either_side_of_what_is_ahead(rt: HostRuntime) -> Result<(), Fail> {
     Ok(())
 }
 
-const CODES: &[&str] = &["AAAADEFF", "DDDDESMM123", "AZ09AZ09", "00000000000"];
-
-const NO_CODES: &[&str] = &[
-    "",
-    "AAAADEF",
-    "AAAADEFF1",
-    "AAAADEFF12",
-    "AAAADEFF1234",
-    "AAAADEFf",
-    "aAAADEFF",
-    "AAAA EFF",
-    "AAAADE/F",
-    "AAAADE:F",
-    "AAAADE@F",
-    "AAAADE[F",
-    "AAAADEÉ",
+/// Texts, and whether each is a code.
+const CODES: &[(&str, bool)] = &[
+    ("AAAADEFF", true),
+    ("DDDDESMM123", true),
+    ("AZ09AZ09", true),
+    ("00000000000", true),
+    ("", false),
+    ("AAAADEF", false),
+    ("AAAADEFF1", false),
+    ("AAAADEFF12", false),
+    ("AAAADEFF1234", false),
+    ("AAAADEFf", false),
+    ("aAAADEFF", false),
+    ("AAAA EFF", false),
+    ("AAAADE/F", false),
+    ("AAAADE:F", false),
+    ("AAAADE@F", false),
+    ("AAAADE[F", false),
+    ("AAAADEÉ", false),
 ];
 
-#[test]
-fn codes_by_length_and_set(rt: HostRuntime) -> Result<(), Fail> {
-    for text in CODES {
-        same(&rt, Code::new(text)?.text(), *text);
+fn code_text(code: &Result<Code, Fault>) -> Result<&str, Fault> {
+    match code {
+        Ok(code) => Ok(code.text()),
+        Err(fault) => Err(*fault),
     }
-    for text in NO_CODES {
-        same_at(&rt, *text, Code::new(text).err(), Some(Fault::BadField));
-    }
-    Ok(())
 }
 
-const REASONS: &[&str] = &["AC04", "AZ09", "0000"];
-
-const NO_REASONS: &[&str] = &[
-    "", "AC0", "AC045", "ac04", "AC0z", "AC 4", "A/04", "A:04", "A@04", "A[04", "ACÉ",
-];
-
 #[test]
-fn reasons_by_length_and_set(rt: HostRuntime) -> Result<(), Fail> {
-    for text in REASONS {
-        same(&rt, Reason::new(text)?.text(), *text);
+fn codes_by_length_and_set(rt: HostRuntime) {
+    for (text, is_one) in CODES {
+        let code = Code::new(text);
+        let wanted = if *is_one {
+            Ok(*text)
+        } else {
+            Err(Fault::BadField)
+        };
+        same_at(&rt, *text, code_text(&code), wanted);
     }
-    for text in NO_REASONS {
-        same_at(&rt, *text, Reason::new(text).err(), Some(Fault::BadField));
-    }
-    Ok(())
 }
 
-const IDENTIFIERS: &[&str] = &[
-    "a",
-    " ",
-    "azAZ09/-?:().,'+ ",
-    "INV/2026-07 O'Brien (final) part 01",
+/// Texts, and whether each is a reason.
+const REASONS: &[(&str, bool)] = &[
+    ("AC04", true),
+    ("AZ09", true),
+    ("0000", true),
+    ("", false),
+    ("AC0", false),
+    ("AC045", false),
+    ("ac04", false),
+    ("AC0z", false),
+    ("AC 4", false),
+    ("A/04", false),
+    ("A:04", false),
+    ("A@04", false),
+    ("A[04", false),
+    ("ACÉ", false),
 ];
 
-const NO_IDENTIFIERS: &[&str] = &[
-    "",
-    "INV/2026-07 O'Brien (final) part 012",
-    "`",
-    "{",
-    "@",
-    "[",
-    ";",
-    ">",
-    "*",
-    "&",
-    "!",
-    "\"",
-    "\u{1f}",
-    "\n",
-    "=",
-    "_",
-    "é",
-    "T1\0",
-];
+fn reason_text(reason: &Result<Reason, Fault>) -> Result<&str, Fault> {
+    match reason {
+        Ok(reason) => Ok(reason.text()),
+        Err(fault) => Err(*fault),
+    }
+}
 
 #[test]
-fn identifiers_by_length_and_set(rt: HostRuntime) -> Result<(), Fail> {
-    for text in IDENTIFIERS {
-        same(&rt, Ident::new(text)?.text(), *text);
+fn reasons_by_length_and_set(rt: HostRuntime) {
+    for (text, is_one) in REASONS {
+        let reason = Reason::new(text);
+        let wanted = if *is_one {
+            Ok(*text)
+        } else {
+            Err(Fault::BadField)
+        };
+        same_at(&rt, *text, reason_text(&reason), wanted);
     }
-    for text in NO_IDENTIFIERS {
-        same_at(
-            &rt,
-            *text,
-            Ident::new(text).err(),
-            Some(Fault::BadIdentifier),
-        );
+}
+
+/// Texts, and whether each is an identifier.
+const IDENTIFIERS: &[(&str, bool)] = &[
+    ("a", true),
+    (" ", true),
+    ("azAZ09/-?:().,'+ ", true),
+    ("INV/2026-07 O'Brien (final) part 01", true),
+    ("", false),
+    ("INV/2026-07 O'Brien (final) part 012", false),
+    ("`", false),
+    ("{", false),
+    ("@", false),
+    ("[", false),
+    (";", false),
+    (">", false),
+    ("*", false),
+    ("&", false),
+    ("!", false),
+    ("\"", false),
+    ("\u{1f}", false),
+    ("\n", false),
+    ("=", false),
+    ("_", false),
+    ("é", false),
+    ("T1\0", false),
+];
+
+fn identifier_text(identifier: &Result<Ident, Fault>) -> Result<&str, Fault> {
+    match identifier {
+        Ok(identifier) => Ok(identifier.text()),
+        Err(fault) => Err(*fault),
     }
-    Ok(())
+}
+
+#[test]
+fn identifiers_by_length_and_set(rt: HostRuntime) {
+    for (text, is_one) in IDENTIFIERS {
+        let identifier = Ident::new(text);
+        let wanted = if *is_one {
+            Ok(*text)
+        } else {
+            Err(Fault::BadIdentifier)
+        };
+        same_at(&rt, *text, identifier_text(&identifier), wanted);
+    }
 }
 
 const SENTENCES: &[(Fault, &str)] = &[
@@ -210,7 +244,7 @@ const SENTENCES: &[(Fault, &str)] = &[
 ];
 
 #[test]
-fn faults_as_people_read_them(rt: HostRuntime) -> Result<(), Fail> {
+fn faults_as_people_read_them(rt: HostRuntime) -> Result<(), Fault> {
     for (fault, sentence) in SENTENCES {
         let text = format!(in rt.alloc(); "{fault}")?;
         same(&rt, text.as_str(), *sentence);
@@ -240,9 +274,8 @@ const NAMES: &[(Fault, u8, &str)] = &[
 ];
 
 #[test]
-fn faults_by_number_and_name(rt: HostRuntime) -> Result<(), Fail> {
+fn faults_by_number_and_name(rt: HostRuntime) {
     for (fault, number, name) in NAMES {
         same(&rt, (fault.number(), fault.name()), (*number, *name));
     }
-    Ok(())
 }
