@@ -131,12 +131,23 @@ fn slots_go_on(
     Ok(())
 }
 
+/// The slots of a hub that opens from the books that these steps leave go on.
+fn slots_go_on_after(
+    rt: &(impl Abort + AllocGlobal),
+    settings: &Settings,
+    steps: &[Step],
+) -> Result<(), Fail>
+    requires { IsInterleaving settings.now steps.now }
+{
+    let books = books(rt.alloc(), settings, steps)?;
+    slots_go_on(rt, settings, &books)
+}
+
 #[test]
 fn slots_by_number(rt: HostRuntime) -> Result<(), Fail> {
     let steps = delivered()?;
     let settings = settings(rt.alloc())?;
-    let books = books(rt.alloc(), &settings, &steps)?;
-    slots_go_on(&rt, &settings, &books)
+    slots_go_on_after(&rt, &settings, &steps)
 }
 
 /// The steps are answered so at a hub that opens again from these journals.
@@ -155,13 +166,27 @@ fn runs_from(
     Ok(())
 }
 
+/// The same from the books that those before them leave.
+fn runs_after(
+    rt: &(impl Abort + AllocGlobal),
+    settings: &Settings,
+    before: &[Step],
+    steps: &[Step],
+    told: &[Told],
+) -> Result<(), Fail>
+    requires before { IsInterleaving settings.now before.now }
+    requires fits { IsInterleaving settings.now steps.now }
+{
+    let books = books(rt.alloc(), settings, before)?;
+    runs_from(rt, settings, &books, steps, told)
+}
+
 #[test]
 fn run_from_books(rt: HostRuntime) -> Result<(), Fail> {
     let before = delivered()?;
     let steps = carried_over_an_opening_steps()?;
     let settings = settings(rt.alloc())?;
-    let books = books(rt.alloc(), &settings, &before)?;
-    runs_from(&rt, &settings, &books, &steps, &CARRIED)
+    runs_after(&rt, &settings, &before, &steps, &CARRIED)
 }
 
 fn one_settled() -> Result<[Step; 7], Fault>
@@ -233,6 +258,5 @@ fn places_given_back(rt: HostRuntime) -> Result<(), Fail> {
     let before = one_settled()?;
     let steps = places_given_back_steps()?;
     let settings = settings(rt.alloc())?;
-    let books = books(rt.alloc(), &settings, &before)?;
-    runs_from(&rt, &settings, &books, &steps, &GIVEN_BACK)
+    runs_after(&rt, &settings, &before, &steps, &GIVEN_BACK)
 }

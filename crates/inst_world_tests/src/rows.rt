@@ -1,33 +1,52 @@
 //! Worked rows: lines in, lines out, over three participants with 2 places and 4 fundings each.
 use crate::comparing::same;
-use inst_lines::run_lines;
+use inst_lines::{Mode, play_lines, run_lines};
 use inst_rows::settings;
+use inst_settings::Settings;
+use std::alloc::Global;
 use std::process::Abort;
 use std::test::Fail;
 
-/// Compares what a run over these lines writes.
+/// Writes what a run or a play answers to these lines.
+fn write(
+    alloc: Global,
+    mode: Mode,
+    settings: &Settings,
+    input: &str,
+    written: &mut Vec<u8>,
+) -> Result<(), Fail> {
+    let mut reader = input.as_bytes();
+    match mode {
+        Mode::Run => run_lines(alloc, settings, &mut reader, written)?,
+        Mode::Play => play_lines(alloc, settings, &mut reader, written)?,
+    };
+    Ok(())
+}
+
+/// Compares it.
 pub(crate) fn row(
     rt: &(impl Abort + AllocGlobal),
+    mode: Mode,
     input: &str,
     expected: &str,
 ) -> Result<(), Fail> {
     let settings = settings(rt.alloc())?;
-    let mut reader = input.as_bytes();
     let mut written = Vec::new(rt.alloc());
-    run_lines(rt.alloc(), &settings, &mut reader, &mut written)?;
+    write(rt.alloc(), mode, &settings, input, &mut written)?;
     same(rt, written.as_slice(), expected.as_bytes());
     Ok(())
 }
 
 #[test]
 fn empty_input(rt: HostRuntime) -> Result<(), Fail> {
-    row(&rt, "", "")
+    row(&rt, Mode::Run, "", "")
 }
 
 #[test]
 fn fundings_full(rt: HostRuntime) -> Result<(), Fail> {
     row(
         &rt,
+        Mode::Run,
         r#"{"at":0,"cents":50000,"cmd":"fund","ref":"F1","who":"AAAADEFF"}
 {"at":0,"cents":50000,"cmd":"fund","ref":"F1","who":"AAAADEFF"}
 {"at":0,"cents":1,"cmd":"fund","ref":"F1","who":"AAAADEFF"}
@@ -53,6 +72,7 @@ fn fundings_full(rt: HostRuntime) -> Result<(), Fail> {
 fn submit_reserves(rt: HostRuntime) -> Result<(), Fail> {
     row(
         &rt,
+        Mode::Run,
         r#"{"at":0,"cents":50000,"cmd":"fund","ref":"F1","who":"AAAADEFF"}
 {"at":0,"cmd":"position","who":"AAAADEFF"}
 {"at":1000,"cents":50000,"cmd":"submit","id":"T1","stamp":1000,"to":"BBBBFRPP","who":"AAAADEFF"}
@@ -70,6 +90,7 @@ fn submit_reserves(rt: HostRuntime) -> Result<(), Fail> {
 fn shortage_by_available(rt: HostRuntime) -> Result<(), Fail> {
     row(
         &rt,
+        Mode::Run,
         r#"{"at":0,"cents":50000,"cmd":"fund","ref":"F1","who":"AAAADEFF"}
 {"at":0,"cmd":"position","who":"AAAADEFF"}
 {"at":1000,"cents":50000,"cmd":"submit","id":"T1","stamp":1000,"to":"BBBBFRPP","who":"AAAADEFF"}
@@ -91,6 +112,7 @@ fn shortage_by_available(rt: HostRuntime) -> Result<(), Fail> {
 fn repeat_and_duplicate(rt: HostRuntime) -> Result<(), Fail> {
     row(
         &rt,
+        Mode::Run,
         r#"{"at":0,"cents":50000,"cmd":"fund","ref":"F1","who":"AAAADEFF"}
 {"at":0,"cmd":"position","who":"AAAADEFF"}
 {"at":1000,"cents":50000,"cmd":"submit","id":"T1","stamp":1000,"to":"BBBBFRPP","who":"AAAADEFF"}
@@ -116,6 +138,7 @@ fn repeat_and_duplicate(rt: HostRuntime) -> Result<(), Fail> {
 fn largest_amount_and_identifier(rt: HostRuntime) -> Result<(), Fail> {
     row(
         &rt,
+        Mode::Run,
         r#"{"at":0,"cents":99999999999,"cmd":"fund","ref":"F1","who":"AAAADEFF"}
 {"at":1000,"cents":99999999999,"cmd":"submit","id":"INV/2026-07 O'Brien (final) part 01","stamp":1000,"to":"BBBBFRPP","who":"AAAADEFF"}
 {"at":1000,"cents":99999999999,"cmd":"submit","id":"INV/2026-07 O'Brien (final) part 012","stamp":1000,"to":"BBBBFRPP","who":"AAAADEFF"}
@@ -133,6 +156,7 @@ fn largest_amount_and_identifier(rt: HostRuntime) -> Result<(), Fail> {
 fn defund_and_full_fundings(rt: HostRuntime) -> Result<(), Fail> {
     row(
         &rt,
+        Mode::Run,
         r#"{"at":0,"cents":50000,"cmd":"fund","ref":"F1","who":"AAAADEFF"}
 {"at":1000,"cents":20000,"cmd":"submit","id":"T1","stamp":1000,"to":"BBBBFRPP","who":"AAAADEFF"}
 {"at":1000,"cents":30001,"cmd":"defund","ref":"D1","who":"AAAADEFF"}
@@ -162,6 +186,7 @@ fn defund_and_full_fundings(rt: HostRuntime) -> Result<(), Fail> {
 fn submissions_full(rt: HostRuntime) -> Result<(), Fail> {
     row(
         &rt,
+        Mode::Run,
         r#"{"at":0,"cents":50000,"cmd":"fund","ref":"F1","who":"AAAADEFF"}
 {"at":1000,"cents":100,"cmd":"submit","id":"T1","stamp":1000,"to":"BBBBFRPP","who":"AAAADEFF"}
 {"at":1000,"cents":100,"cmd":"submit","id":"T2","stamp":1000,"to":"BBBBFRPP","who":"AAAADEFF"}
@@ -181,6 +206,7 @@ fn submissions_full(rt: HostRuntime) -> Result<(), Fail> {
 fn submissions_of_wrong_deliveries(rt: HostRuntime) -> Result<(), Fail> {
     row(
         &rt,
+        Mode::Run,
         r#"{"at":0,"cents":50000,"cmd":"fund","ref":"F1","who":"AAAADEFF"}
 {"at":1000,"cents":20000,"cmd":"submit","id":"T1","stamp":1000,"to":"BBBBFRPP","who":"AAAADEFF"}
 {"at":1000,"cents":1,"cmd":"submit","id":"T2","stamp":2001,"to":"BBBBFRPP","who":"AAAADEFF"}
@@ -198,6 +224,7 @@ fn submissions_of_wrong_deliveries(rt: HostRuntime) -> Result<(), Fail> {
 fn refusals_in_order_of_submissions(rt: HostRuntime) -> Result<(), Fail> {
     row(
         &rt,
+        Mode::Run,
         r#"{"at":0,"cents":50000,"cmd":"fund","ref":"F1","who":"AAAADEFF"}
 {"at":11000,"cents":20000,"cmd":"submit","id":"T1","stamp":1000,"to":"BBBBFRPP","who":"AAAADEFF"}
 {"at":1000,"cents":20000,"cmd":"submit","id":"T1","stamp":1000,"to":"AAAADEFF","who":"AAAADEFF"}

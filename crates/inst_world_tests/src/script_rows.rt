@@ -1,24 +1,13 @@
 //! Worked rows of a script of steps, over three participants with 2 places and 4 fundings each.
-use crate::comparing::same;
-use inst_lines::play_lines;
-use inst_rows::settings;
-use std::process::Abort;
+use crate::rows::row;
+use inst_lines::Mode;
 use std::test::Fail;
-
-/// Compares what playing these lines writes.
-fn row(rt: &(impl Abort + AllocGlobal), input: &str, expected: &str) -> Result<(), Fail> {
-    let settings = settings(rt.alloc())?;
-    let mut reader = input.as_bytes();
-    let mut written = Vec::new(rt.alloc());
-    play_lines(rt.alloc(), &settings, &mut reader, &mut written)?;
-    same(rt, written.as_slice(), expected.as_bytes());
-    Ok(())
-}
 
 #[test]
 fn confirm_before_expire(rt: HostRuntime) -> Result<(), Fail> {
     row(
         &rt,
+        Mode::Play,
         r#"{"at":0,"cents":50000,"cmd":"fund","ref":"F1","who":"AAAADEFF"}
 {"at":1000,"cents":20000,"cmd":"submit","id":"T1","stamp":1000,"to":"BBBBFRPP","who":"AAAADEFF"}
 {"from":"AAAADEFF","place":0,"step":"deliver","who":"BBBBFRPP"}
@@ -44,6 +33,7 @@ fn confirm_before_expire(rt: HostRuntime) -> Result<(), Fail> {
 fn expire_before_confirm(rt: HostRuntime) -> Result<(), Fail> {
     row(
         &rt,
+        Mode::Play,
         r#"{"at":0,"cents":50000,"cmd":"fund","ref":"F1","who":"AAAADEFF"}
 {"at":1000,"cents":20000,"cmd":"submit","id":"T1","stamp":1000,"to":"BBBBFRPP","who":"AAAADEFF"}
 {"from":"AAAADEFF","place":0,"step":"deliver","who":"BBBBFRPP"}
@@ -67,6 +57,7 @@ fn expire_before_confirm(rt: HostRuntime) -> Result<(), Fail> {
 fn untold_then_learnt(rt: HostRuntime) -> Result<(), Fail> {
     row(
         &rt,
+        Mode::Play,
         r#"{"at":0,"cents":50000,"cmd":"fund","ref":"F1","who":"AAAADEFF"}
 {"at":1000,"cents":20000,"cmd":"submit","id":"T1","stamp":1000,"to":"BBBBFRPP","who":"AAAADEFF"}
 {"from":"AAAADEFF","place":0,"step":"deliver","who":"BBBBFRPP"}
@@ -92,6 +83,7 @@ fn untold_then_learnt(rt: HostRuntime) -> Result<(), Fail> {
 fn wrong_deliveries_and_stamp_ahead(rt: HostRuntime) -> Result<(), Fail> {
     row(
         &rt,
+        Mode::Play,
         r#"{"at":0,"cents":50000,"cmd":"fund","ref":"F1","who":"AAAADEFF"}
 {"at":1000,"cents":20000,"cmd":"submit","id":"T1","stamp":1000,"to":"BBBBFRPP","who":"AAAADEFF"}
 {"from":"AAAADEFF","place":0,"step":"deliver","who":"BBBBFRPP"}
@@ -117,6 +109,7 @@ fn wrong_deliveries_and_stamp_ahead(rt: HostRuntime) -> Result<(), Fail> {
 fn expired_before_delivery(rt: HostRuntime) -> Result<(), Fail> {
     row(
         &rt,
+        Mode::Play,
         r#"{"at":0,"cents":50000,"cmd":"fund","ref":"F1","who":"AAAADEFF"}
 {"at":1000,"cents":20000,"cmd":"submit","id":"T1","stamp":1000,"to":"BBBBFRPP","who":"AAAADEFF"}
 {"at":11000,"place":0,"step":"expire","who":"AAAADEFF"}
@@ -136,6 +129,7 @@ fn expired_before_delivery(rt: HostRuntime) -> Result<(), Fail> {
 fn other_traffic_unseen_alone(rt: HostRuntime) -> Result<(), Fail> {
     row(
         &rt,
+        Mode::Play,
         r#"{"at":0,"cents":50000,"cmd":"fund","ref":"F1","who":"AAAADEFF"}
 {"at":1000,"cents":20000,"cmd":"submit","id":"T1","stamp":1000,"to":"BBBBFRPP","who":"AAAADEFF"}
 {"from":"AAAADEFF","place":0,"step":"deliver","who":"BBBBFRPP"}
@@ -159,6 +153,7 @@ fn other_traffic_unseen_alone(rt: HostRuntime) -> Result<(), Fail> {
 fn other_traffic_unseen_among_others(rt: HostRuntime) -> Result<(), Fail> {
     row(
         &rt,
+        Mode::Play,
         r#"{"at":5,"cents":700,"cmd":"fund","ref":"F9","who":"CCCCITMM"}
 {"at":1200,"cents":300,"cmd":"submit","id":"Z1","stamp":1200,"to":"AAAADEFF","who":"CCCCITMM"}
 {"at":3,"cents":90000,"cmd":"fund","ref":"F7","who":"AAAADEFF"}

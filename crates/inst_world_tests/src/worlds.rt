@@ -6,8 +6,9 @@ use inst_board::Place;
 use inst_command::{Answer, Ask, Command, Outcome, Reply, Step, Submission};
 use inst_journal::Event;
 use inst_json::LineReader;
-use inst_rows::{confirm, fund, settings, submit};
+use inst_rows::{End, confirm, fund, settings, submit};
 use inst_world::World;
+use std::alloc::Global;
 use std::process::Abort;
 use std::test::Fail;
 
@@ -162,39 +163,63 @@ fn run_lines(
     Ok(())
 }
 
-/// Answers these lines at a hub of its own.
-fn run_after(rt: &(impl Abort + AllocGlobal), lines: &str) -> Result<Runner, Fail> {
-    let settings = settings(rt.alloc())?;
-    let mut runner = Runner::open(rt.alloc(), &settings)?;
-    run_lines(rt, &mut runner, lines)?;
-    Ok(runner)
+/// How a transfer of the first participant ended: its beneficiary, its identifier, its cents, and the end.
+type Ended = (u8, &'static str, u64, End);
+
+fn outcome(end: End) -> Result<Outcome, Fault> {
+    Ok(match end {
+        End::Accepted => Outcome::Accepted,
+        End::Rejected(reason) => Outcome::Rejected(Reason::new(reason)?),
+        End::TimedOut => Outcome::TimedOut,
+    })
 }
 
-/// Both beneficiaries have booked how theirs ended: the one rejected it, the other one let it time out.
-fn both_are_told(rt: &impl Abort, world: &World) -> Result<(), Fail> {
-    let at_second = [
-        forwarded(0, "T1", 20_000, 11_000)?,
-        booked(0, "T1", Outcome::Rejected(Reason::new("AC04")?))?,
+/// The beneficiary was told of the transfer, and has booked how it ended.
+fn is_booked(rt: &impl Abort, world: &World, ended: &Ended) -> Result<(), Fail> {
+    let (to, id, cents, end) = *ended;
+    let events = [
+        forwarded(0, id, cents, 11_000)?,
+        booked(0, id, outcome(end)?)?,
     ];
-    journal_is(rt, world, 1, &at_second)?;
-    let at_third = [
-        forwarded(0, "T2", 5000, 11_000)?,
-        booked(0, "T2", Outcome::TimedOut)?,
-    ];
-    journal_is(rt, world, 2, &at_third)
+    journal_is(rt, world, to, &events)
 }
 
-/// Both beneficiaries are told, and the first participant has its money back.
-fn both_have_ended(rt: &impl Abort, world: &World) -> Result<(), Fail> {
-    both_are_told(rt, world)?;
-    money_is(rt, world, [(50_000, 0), (0, 0), (0, 0)])
+/// Runs the lines; then the transfers have ended so, and the money is there.
+fn runs_to(
+    rt: &(impl Abort + AllocGlobal),
+    runner: &mut Runner,
+    lines: &str,
+    ends: &[Ended],
+    money: [(u64, u64); 3],
+) -> Result<(), Fail> {
+    run_lines(rt, runner, lines)?;
+    for ended in ends {
+        is_booked(rt, &runner.world, ended)?;
+    }
+    money_is(rt, &runner.world, money)
+}
+
+fn opened(alloc: Global) -> Result<Runner, Fault> {
+    let settings = settings(alloc)?;
+    Ok(Runner::open(alloc, &settings)?)
+}
+
+/// The same at a hub of its own.
+fn opens_and_runs_to(
+    rt: &(impl Abort + AllocGlobal),
+    lines: &str,
+    ends: &[Ended],
+    money: [(u64, u64); 3],
+) -> Result<(), Fail> {
+    let mut runner = opened(rt.alloc())?;
+    runs_to(rt, &mut runner, lines, ends, money)
 }
 
 /// The histories show what the replies of a run don't: that each side books each outcome, the originator
-/// before its transfer may expire.
+/// before its transfer may expire. One is rejected, the other times out, and the first participant has its money back.
 #[test]
 fn a_run_tells_both_sides(rt: HostRuntime) -> Result<(), Fail> {
-    let runner = run_after(
+    opens_and_runs_to(
         &rt,
         r#"{"at":0,"cents":50000,"cmd":"fund","ref":"F1","who":"AAAADEFF"}
 {"at":1000,"cents":20000,"cmd":"submit","id":"T1","stamp":1000,"to":"BBBBFRPP","who":"AAAADEFF"}
@@ -202,13 +227,17 @@ fn a_run_tells_both_sides(rt: HostRuntime) -> Result<(), Fail> {
 {"at":2000,"cmd":"reject","from":"AAAADEFF","id":"T1","reason":"AC04","who":"BBBBFRPP"}
 {"at":11000,"cmd":"position","who":"BBBBFRPP"}
 "#,
-    )?;
-    both_have_ended(&rt, &runner.world)
+        &[
+            (1, "T1", 20_000, End::Rejected("AC04")),
+            (2, "T2", 5000, End::TimedOut),
+        ],
+        [(50_000, 0), (0, 0), (0, 0)],
+    )
 }
 
 #[test]
 fn a_run_moves_money(rt: HostRuntime) -> Result<(), Fail> {
-    let runner = run_after(
+    opens_and_runs_to(
         &rt,
         r#"{"at":0,"cents":50000,"cmd":"fund","ref":"F1","who":"AAAADEFF"}
 {"at":0,"cents":700,"cmd":"fund","ref":"F2","who":"CCCCITMM"}
@@ -219,6 +248,7 @@ fn a_run_moves_money(rt: HostRuntime) -> Result<(), Fail> {
 {"at":3000,"cents":5000,"cmd":"submit","id":"T2","stamp":3000,"to":"CCCCITMM","who":"BBBBFRPP"}
 {"at":11000,"cmd":"investigate","id":"T1","who":"CCCCITMM"}
 "#,
-    )?;
-    money_is(&rt, &runner.world, [(30_000, 0), (20_000, 5000), (700, 0)])
+        &[],
+        [(30_000, 0), (20_000, 5000), (700, 0)],
+    )
 }
