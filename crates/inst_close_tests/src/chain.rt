@@ -1,13 +1,18 @@
 //! Ten openings, each from the books of the one before: no key, no outcome and no cent is lost.
+ghost use Rattle.inst_hub.specs.Calls.{AreOf};
+ghost use Rattle.inst_hub.specs.Opening.{HaveAllParts};
+
 use crate::asking::{investigated, one_paid};
 use crate::closing::{closed, opened, opened_again};
+use crate::comparing::same;
 use inst_base::Fault;
 use inst_close::Books;
 use inst_command::{Outcome, State};
+use inst_hub::{Hub, Teller};
 use inst_journal::{Event, Journal};
 use std::alloc::Global;
+use std::process::Abort;
 use std::sync::Wait;
-use std::test::Fail;
 
 /// What is paid in the openings, one after the other.
 const IDS: [&str; 10] = ["T1", "T2", "T3", "T4", "T5", "T6", "T7", "T8", "T9", "T10"];
@@ -15,15 +20,15 @@ const IDS: [&str; 10] = ["T1", "T2", "T3", "T4", "T5", "T6", "T7", "T8", "T9", "
 /// The books of the next opening, in which this is paid.
 fn next_books<R: Wait>(rt: &R, alloc: Global, books: &Books, id: &str) -> Result<Books, Fault> {
     let (hub, mut tellers) = opened_again(alloc, books)?;
-    one_paid(rt, &hub, &mut tellers, id)?;
-    closed(alloc, hub, tellers)
+    let paid = one_paid(rt, &hub, &mut tellers, id);
+    paid.and(closed(alloc, hub, tellers))
 }
 
 /// The books of the first opening.
 fn first_books<R: Wait>(rt: &R, alloc: Global) -> Result<Books, Fault> {
     let (hub, mut tellers) = opened(alloc)?;
-    one_paid(rt, &hub, &mut tellers, IDS[0])?;
-    closed(alloc, hub, tellers)
+    let paid = one_paid(rt, &hub, &mut tellers, IDS[0]);
+    paid.and(closed(alloc, hub, tellers))
 }
 
 /// The books of ten openings.
@@ -80,14 +85,26 @@ fn both_counted(books: &Books) -> Result<(Kept, Kept), Fault> {
 }
 
 /// What the originator is told, once more, of the first and the last that it paid.
+fn both_investigated<R: Wait>(
+    rt: &R,
+    hub: &Hub,
+    tellers: &mut Vec<Teller>,
+) -> Result<[(Option<State>, bool); 2], Fault>
+    requires of { AreOf hub.now tellers.old.items }
+    requires parts { HaveAllParts tellers.old.items }
+{
+    let first = investigated(rt, hub, tellers, IDS[0])?;
+    Ok([first, investigated(rt, hub, tellers, IDS[9])?])
+}
+
+/// The same in the opening behind these books.
 fn first_and_last<R: Wait>(
     rt: &R,
     alloc: Global,
     books: &Books,
 ) -> Result<[(Option<State>, bool); 2], Fault> {
     let (hub, mut tellers) = opened_again(alloc, books)?;
-    let first = investigated(rt, &hub, &mut tellers, IDS[0])?;
-    Ok([first, investigated(rt, &hub, &mut tellers, IDS[9])?])
+    both_investigated(rt, &hub, &mut tellers)
 }
 
 /// What books tell: what both participants have, what all sum to, and what the originator is told in the next opening.
@@ -111,8 +128,7 @@ fn told_of<R: Wait>(rt: &R, alloc: Global, books: &Books) -> Result<Told, Fault>
     })
 }
 
-#[test]
-fn ten_openings_lose_nothing(rt: HostRuntime) -> Result<(), Fail> {
+fn loses_nothing(rt: &(impl Wait + Abort + AllocGlobal), books: &Books) -> Result<(), Fault> {
     let originator = Kept {
         opened: 9,
         funded: 10_000,
@@ -135,7 +151,12 @@ fn ten_openings_lose_nothing(rt: HostRuntime) -> Result<(), Fail> {
         sum: 10_000,
         first_and_last: [accepted, accepted],
     };
-    let books = ten_openings(&rt, rt.alloc())?;
-    assert_eq!(rt; told_of(&rt, rt.alloc(), &books)?, expected);
+    same(rt, told_of(rt, rt.alloc(), books)?, expected);
     Ok(())
+}
+
+#[test]
+fn ten_openings_lose_nothing(rt: HostRuntime) -> Result<(), Fault> {
+    let books = ten_openings(&rt, rt.alloc())?;
+    loses_nothing(&rt, &books)
 }

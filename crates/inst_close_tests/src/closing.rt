@@ -6,6 +6,7 @@ ghost use Rattle.inst_hub.specs.Opening.{HaveAllParts};
 ghost use Rattle.inst_close.specs.Closing.{IsOpenedSo};
 
 use crate::asking::{confirm, one_confirmed, position};
+use crate::comparing::same;
 use crate::reading::{Sums, sums_of, told};
 use inst_base::{Code, Fault};
 use inst_close::{Books, close};
@@ -13,8 +14,8 @@ use inst_command::{Outcome, State};
 use inst_hub::{Hub, Teller, Ticket};
 use inst_rows::settings;
 use std::alloc::Global;
+use std::process::Abort;
 use std::sync::Wait;
-use std::test::Fail;
 
 /// The hub of the first opening, with two tellers.
 pub(crate) fn opened(alloc: Global) -> Result<(Hub, Vec<Teller>), Fault>
@@ -46,16 +47,26 @@ pub(crate) fn closed(alloc: Global, hub: Hub, tellers: Vec<Teller>) -> Result<Bo
     }
 }
 
+/// The books with what was told before them, or the first fault.
+fn with_books<T: Drop>(
+    told: Result<T, Fault>,
+    books: Result<Books, Fault>,
+) -> Result<(Books, T), Fault> {
+    match (told, books) {
+        (Ok(told), Ok(books)) => Ok((books, told)),
+        (Err(fault), _) => Err(fault),
+        (_, Err(fault)) => Err(fault),
+    }
+}
+
 /// The books of a hub in which one transfer was confirmed and one stayed pending, with the tickets of both.
 fn first_books<R: Wait>(rt: &R, alloc: Global) -> Result<(Books, (Ticket, Ticket)), Fault> {
     let (hub, mut tellers) = opened(alloc)?;
-    let tickets = one_confirmed(rt, &hub, &mut tellers)?;
-    Ok((closed(alloc, hub, tellers)?, tickets))
+    let tickets = one_confirmed(rt, &hub, &mut tellers);
+    with_books(tickets, closed(alloc, hub, tellers))
 }
 
-#[test]
-fn closes_and_tells(rt: HostRuntime) -> Result<(), Fault> {
-    let (books, tickets) = first_books(&rt, rt.alloc())?;
+fn tells(rt: &impl Abort, books: &Books, tickets: &(Ticket, Ticket)) -> Result<(), Fault> {
     let accepted = State::Decided(Outcome::Accepted);
     let expected = Sums {
         first: 30_000,
@@ -64,31 +75,29 @@ fn closes_and_tells(rt: HostRuntime) -> Result<(), Fault> {
         sum: 50_000,
         net: 50_000,
     };
-    let found = (told(&books, &tickets), sums_of(&books)?);
-    assert_eq!(rt; found, ((accepted, State::Pending), expected));
+    let found = (told(books, tickets), sums_of(books)?);
+    same(rt, found, ((accepted, State::Pending), expected));
     Ok(())
 }
 
-/// The state that the confirmation of the pending transfer tells in the next opening, and the books of this one.
+#[test]
+fn closes_and_tells(rt: HostRuntime) -> Result<(), Fault> {
+    let (books, tickets) = first_books(&rt, rt.alloc())?;
+    tells(&rt, &books, &tickets)
+}
+
+/// The books of the next opening, and the state that the confirmation of the pending transfer tells in it.
 fn next_books<R: Wait>(
     rt: &R,
     alloc: Global,
     books: &Books,
-) -> Result<(Option<State>, Books), Fault> {
+) -> Result<(Books, Option<State>), Fault> {
     let (hub, mut tellers) = opened_again(alloc, books)?;
-    let state = confirm(rt, &hub, &mut tellers, 0, "T2")?;
-    Ok((state, closed(alloc, hub, tellers)?))
+    let state = confirm(rt, &hub, &mut tellers, 0, "T2");
+    with_books(state, closed(alloc, hub, tellers))
 }
 
-/// The state that it tells, and what the books of the next opening sum to.
-fn next_sums<R: Wait>(rt: &R, alloc: Global) -> Result<(Option<State>, Sums), Fault> {
-    let (books, _) = first_books(rt, alloc)?;
-    let (state, next) = next_books(rt, alloc, &books)?;
-    Ok((state, sums_of(&next)?))
-}
-
-#[test]
-fn opens_again_from_its_books(rt: HostRuntime) -> Result<(), Fault> {
+fn has_moved(rt: &impl Abort, books: &Books, state: Option<State>) -> Result<(), Fault> {
     let accepted = Some(State::Decided(Outcome::Accepted));
     let expected = Sums {
         first: 25_000,
@@ -97,8 +106,19 @@ fn opens_again_from_its_books(rt: HostRuntime) -> Result<(), Fault> {
         sum: 50_000,
         net: 50_000,
     };
-    assert_eq!(rt; next_sums(&rt, rt.alloc())?, (accepted, expected));
+    same(rt, (state, sums_of(books)?), (accepted, expected));
     Ok(())
+}
+
+fn moves_on<R: Wait + Abort>(rt: &R, alloc: Global, books: &Books) -> Result<(), Fault> {
+    let (next, state) = next_books(rt, alloc, books)?;
+    has_moved(rt, &next, state)
+}
+
+#[test]
+fn opens_again_from_its_books(rt: HostRuntime) -> Result<(), Fault> {
+    let (books, _) = first_books(&rt, rt.alloc())?;
+    moves_on(&rt, rt.alloc(), &books)
 }
 
 /// The hub of the next opening, which `DDDDESMM` joins, with one teller.
@@ -110,24 +130,27 @@ fn joined(alloc: Global, books: &Books) -> Result<(Hub, Vec<Teller>), Fault>
     books.open_wider(alloc, codes, 1)
 }
 
-/// The money of the first participant and of the one that joined: position, reserved and available.
-fn money<R: Wait>(
-    rt: &R,
-    alloc: Global,
-    books: &Books,
-) -> Result<(Option<(u64, u64, u64)>, Option<(u64, u64, u64)>), Fault> {
+/// Compares the money of the first participant and of the one that joined: position, reserved and available.
+fn have_money<R: Wait + Abort>(rt: &R, hub: &Hub, tellers: &mut Vec<Teller>) -> Result<(), Fault>
+    requires of { AreOf hub.now tellers.old.items }
+    requires parts { HaveAllParts tellers.old.items }
+{
+    let first = position(rt, hub, tellers, 0)?;
+    let found = (first, position(rt, hub, tellers, 3)?);
+    let expected = (Some((30_000, 5_000, 25_000)), Some((0, 0, 0)));
+    same(rt, found, expected);
+    Ok(())
+}
+
+fn joins<R: Wait + Abort>(rt: &R, alloc: Global, books: &Books) -> Result<(), Fault> {
     let (hub, mut tellers) = joined(alloc, books)?;
-    let first = position(rt, &hub, &mut tellers, 0)?;
-    Ok((first, position(rt, &hub, &mut tellers, 3)?))
+    have_money(rt, &hub, &mut tellers)
 }
 
 #[test]
-fn one_joins_between_openings(rt: HostRuntime) -> Result<(), Fail> {
-    let alloc = rt.alloc();
-    let (books, _) = first_books(&rt, alloc)?;
-    let expected = (Some((30_000, 5_000, 25_000)), Some((0, 0, 0)));
-    assert_eq!(rt; money(&rt, alloc, &books)?, expected);
-    Ok(())
+fn one_joins_between_openings(rt: HostRuntime) -> Result<(), Fault> {
+    let (books, _) = first_books(&rt, rt.alloc())?;
+    joins(&rt, rt.alloc(), &books)
 }
 
 /// The fault where `AAAADEFF` joins once more.
@@ -137,15 +160,17 @@ fn joined_twice(alloc: Global, books: &Books) -> Result<(), Fault> {
     Ok(())
 }
 
-#[test]
-fn no_code_joins_twice(rt: HostRuntime) -> Result<(), Fail> {
-    let alloc = rt.alloc();
-    let (books, _) = first_books(&rt, alloc)?;
-    let joined = joined_twice(alloc, &books);
+/// Neither that code nor seventeen tellers are taken.
+fn refuses(rt: &impl Abort, alloc: Global, books: &Books) {
+    let joined = joined_twice(alloc, books);
     let opened = books.open_next(alloc, 17).err();
-    assert_eq!(rt;
-        (joined, opened),
-        (Err(Fault::BadSettings), Some(Fault::BadSettings))
-    );
+    let refused = Fault::BadSettings;
+    same(rt, (joined, opened), (Err(refused), Some(refused)));
+}
+
+#[test]
+fn no_code_joins_twice(rt: HostRuntime) -> Result<(), Fault> {
+    let (books, _) = first_books(&rt, rt.alloc())?;
+    refuses(&rt, rt.alloc(), &books);
     Ok(())
 }

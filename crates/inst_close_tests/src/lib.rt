@@ -9,4 +9,6 @@ mod chain;
 #[cfg(test)]
 mod closing;
 #[cfg(test)]
+mod comparing;
+#[cfg(test)]
 mod reading;
