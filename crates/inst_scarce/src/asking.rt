@@ -1,12 +1,13 @@
 //! What a hub of many threads is asked.
 ghost use Rattle.std.specs.Prelude.{◌≡◌, true, IfOk};
 ghost use Rattle.inst_command.specs.Ask.{ask_fits};
-ghost use Rattle.inst_hub.specs.Calls.{AreOf};
+ghost use Rattle.inst_hub.specs.Calls.{AreOf, IsOf};
 ghost use Rattle.inst_hub.specs.Opening.{HaveAllParts};
 
 use crate::flaw::Flaw;
 use inst_base::Fault;
 use inst_command::{Ask, Reply, Step};
+use inst_hoard::Hoard;
 use inst_hub::{Hub, Teller, Ticket};
 use std::sync::Wait;
 
@@ -54,4 +55,43 @@ pub(crate) fn ask_by<R: Wait>(
         return Err(Fault::BadField);
     }
     Ok(hub.call(rt, &mut tellers[index], ask)?)
+}
+
+/// The same, and its ticket, where the reply says that the submission is taken.
+pub(crate) fn submit_by<R: Wait>(
+    rt: &R,
+    hub: &Hub,
+    tellers: &mut Vec<Teller>,
+    index: usize,
+    ask: &Ask,
+) -> Result<Ticket, Flaw>
+    requires of { AreOf hub.now tellers.old.items }
+    requires parts { HaveAllParts tellers.old.items }
+    requires fits { ask_fits hub.now.settings ask.now ≡ true }
+    ensures of { AreOf hub.now tellers.new.items }
+    ensures parts { HaveAllParts tellers.new.items }
+{
+    let (reply, ticket) = ask_by(rt, hub, tellers, index, ask)?;
+    ticket_of(&reply, ticket)
+}
+
+/// What the ask is answered with so many bytes of memory left, if they are enough. All memory is there again afterwards.
+pub(crate) fn ask_in_want<R: Wait>(
+    rt: &R,
+    hub: &Hub,
+    hoard: &mut Hoard,
+    teller: &mut Teller,
+    ask: &Ask,
+    bytes: usize,
+) -> Result<Option<(Reply, Option<Ticket>)>, Flaw>
+    requires of { IsOf hub.now teller.old }
+    requires fits { ask_fits hub.now.settings ask.now ≡ true }
+    ensures { IsOf hub.now teller.new }
+{
+    if !hoard.leave(bytes) {
+        return Err(Flaw::NoHoard);
+    }
+    let answer = hub.call(rt, teller, ask);
+    hoard.give_back();
+    Ok(answer.ok())
 }

@@ -7,10 +7,10 @@ ghost use Rattle.inst_hub.specs.Calls.{AreOf};
 ghost use Rattle.inst_hub.specs.Opening.{HaveAllParts};
 ghost use Rattle.inst_close.specs.Closing.{IsOpenedSo};
 
-use crate::asking::{ask_by, fitting, ticket_of};
-use crate::flaw::Flaw;
+use crate::asking::{ask_by, fitting, submit_by, ticket_of};
+use crate::flaw::{Flaw, check_answer};
 use crate::tries::{MOST_TRIES, Need, QUANTUM, Tries};
-use inst_base::{Fault, Ident};
+use inst_base::{Fault, Ident, mention};
 use inst_close::{Books, CloseFault, close};
 use inst_command::{Ask, Outcome, State};
 use inst_hoard::Hoard;
@@ -20,7 +20,7 @@ use std::alloc::Global;
 use std::sync::Wait;
 
 /// What becomes of the transfer before its hub closes.
-#[derive(Clone, Copy, Debug, PartialEq, Eq)]
+#[derive(Clone, Copy)]
 enum Row {
     /// Its follow-up found no memory, and it stays pending.
     Dropped,
@@ -29,7 +29,7 @@ enum Row {
 }
 
 /// What the books say of the transfer, and what they sum to, in cents.
-#[derive(Clone, Copy, Debug, PartialEq, Eq)]
+#[derive(Clone, Copy, PartialEq, Eq)]
 struct Said {
     told: State,
     has_come: bool,
@@ -78,16 +78,22 @@ fn read(books: &Books, ticket: &Ticket) -> Result<Said, Flaw> {
     })
 }
 
-/// A hub with two tellers, at which participant 0 is funded.
-fn funded<R: Wait>(rt: &R, alloc: Global) -> Result<(Hub, Vec<Teller>), Flaw>
-    ensures of { IfOk result (λ r. AreOf r.0 r.1.items) }
-    ensures parts { IfOk result (λ r. HaveAllParts r.1.items) }
-    ensures opened { IfOk result (λ r. (O : Opening) × IsOpenedSo O r.0) }
+/// The books of the row say what they are to.
+fn check_books(books: &Books, ticket: &Ticket, row: Row) -> Result<(), Flaw> {
+    mention::<(State, Outcome)>();
+    check_answer(read(books, ticket)? == row.expected())
+}
+
+/// Participant 0 is funded.
+fn fund_first<R: Wait>(rt: &R, hub: &Hub, tellers: &mut Vec<Teller>) -> Result<(), Flaw>
+    requires of { AreOf hub.now tellers.old.items }
+    requires parts { HaveAllParts tellers.old.items }
+    ensures of { AreOf hub.now tellers.new.items }
+    ensures parts { HaveAllParts tellers.new.items }
 {
-    let (hub, mut tellers) = Hub::open(alloc, settings(alloc)?, 2)?;
-    let ask = fitting(&hub, fund(A, "F1", 50_000, 0)?)?;
-    ask_by(rt, &hub, &mut tellers, 0, &ask)?;
-    Ok((hub, tellers))
+    let ask = fitting(hub, fund(A, "F1", 50_000, 0)?)?;
+    ask_by(rt, hub, tellers, 0, &ask)?;
+    Ok(())
 }
 
 /// It submits the transfer, with as little memory as serves: none is left for what follows.
@@ -117,6 +123,25 @@ fn submit_dropping<R: Wait>(
     Err(Flaw::NeverServed)
 }
 
+/// It submits the transfer, and participant 1 confirms it.
+fn submit_confirmed<R: Wait>(
+    rt: &R,
+    hub: &Hub,
+    tellers: &mut Vec<Teller>,
+    ask: &Ask,
+) -> Result<Ticket, Flaw>
+    requires of { AreOf hub.now tellers.old.items }
+    requires parts { HaveAllParts tellers.old.items }
+    requires fits { ask_fits hub.now.settings ask.now ≡ true }
+    ensures of { AreOf hub.now tellers.new.items }
+    ensures parts { HaveAllParts tellers.new.items }
+{
+    let ticket = submit_by(rt, hub, tellers, 0, ask)?;
+    let ask = fitting(hub, confirm(B, A, "T1", 2_000)?)?;
+    ask_by(rt, hub, tellers, 1, &ask)?;
+    Ok(ticket)
+}
+
 /// The ticket of the row's transfer, once all of the row was asked.
 fn asked<R: Wait>(
     rt: &R,
@@ -130,15 +155,11 @@ fn asked<R: Wait>(
     ensures of { AreOf hub.now tellers.new.items }
     ensures parts { HaveAllParts tellers.new.items }
 {
+    fund_first(rt, hub, tellers)?;
     let ask = fitting(hub, submit(A, "T1", B, 20_000, 1_000, 1_000)?)?;
     match row {
         Row::Dropped => submit_dropping(rt, hub, hoard, tellers, &ask),
-        Row::Confirmed => {
-            let (reply, ticket) = ask_by(rt, hub, tellers, 0, &ask)?;
-            let ask = fitting(hub, confirm(B, A, "T1", 2_000)?)?;
-            ask_by(rt, hub, tellers, 1, &ask)?;
-            ticket_of(&reply, ticket)
-        }
+        Row::Confirmed => submit_confirmed(rt, hub, tellers, &ask),
     }
 }
 
@@ -153,7 +174,7 @@ fn opened<R: Wait>(
     ensures parts { IfOk result (λ r. HaveAllParts r.1.items) }
     ensures opened { IfOk result (λ r. (O : Opening) × IsOpenedSo O r.0) }
 {
-    let (hub, mut tellers) = funded(rt, alloc)?;
+    let (hub, mut tellers) = Hub::open(alloc, settings(alloc)?, 2)?;
     let ticket = asked(rt, &hub, hoard, &mut tellers, row)?;
     Ok((hub, tellers, ticket))
 }
@@ -194,9 +215,7 @@ fn is_refused<R: Wait>(
 ) -> Result<bool, Flaw> {
     let (hub, tellers, ticket) = opened(rt, alloc, hoard, row)?;
     let (books, is_refused) = close_in_want(alloc, hoard, quanta, hub, tellers)?;
-    if read(&books, &ticket)? != row.expected() {
-        return Err(Flaw::OtherAnswer);
-    }
+    check_books(&books, &ticket, row)?;
     Ok(is_refused)
 }
 

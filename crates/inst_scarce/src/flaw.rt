@@ -39,3 +39,11 @@ impl<T: Drop> From<AllocFailed<T>> for Flaw {
         Flaw::Refused(Fault::Memory)
     }
 }
+
+/// `OtherAnswer` where an answer isn't the row's.
+pub(crate) fn check_answer(is_right: bool) -> Result<(), Flaw> {
+    if !is_right {
+        return Err(Flaw::OtherAnswer);
+    }
+    Ok(())
+}

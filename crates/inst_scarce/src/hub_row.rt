@@ -4,8 +4,8 @@ ghost use Rattle.inst_command.specs.Ask.{ask_fits};
 ghost use Rattle.inst_settings.specs.Settings.{is_participant};
 ghost use Rattle.inst_hub.specs.Calls.{IsOf, AreOf};
 
-use crate::asking::{fitting, ticket_of};
-use crate::flaw::Flaw;
+use crate::asking::{ask_in_want, fitting, ticket_of};
+use crate::flaw::{Flaw, check_answer};
 use crate::tries::{MOST_TRIES, Need, QUANTUM, Tries};
 use inst_base::{Fault, Moment};
 use inst_command::{Ask, Command, Outcome, Reply, State};
@@ -14,6 +14,9 @@ use inst_hub::{Hub, Teller, Ticket};
 use inst_rows::{A, B, ask, confirm, fund, settings, submit};
 use std::alloc::Global;
 use std::sync::Wait;
+
+/// What becomes of the transfer.
+const ACCEPTED: State = State::Decided(Outcome::Accepted);
 
 /// The hub with its tellers, opened in want, and how often it was refused memory.
 fn open_in_want(alloc: Global, hoard: &mut Hoard) -> Result<(Hub, Vec<Teller>, u32), Flaw>
@@ -48,25 +51,13 @@ fn last(hub: &Hub, tellers: &mut Vec<Teller>) -> Result<Teller, Flaw>
     }
 }
 
-/// Position, reserved and available cents of a participant; no memory is left for it.
-fn money<R: Wait>(
-    rt: &R,
-    hub: &Hub,
-    hoard: &mut Hoard,
-    teller: &mut Teller,
-    who: u8,
-) -> Result<(u64, u64, u64), Flaw>
-    requires { IsOf hub.now teller.old }
-    ensures { IsOf hub.now teller.new }
-{
-    let ask = fitting(hub, ask(who, Command::Position, 2_000)?)?;
-    if !hoard.leave(0) {
-        return Err(Flaw::NoHoard);
-    }
-    let answer = hub.call(rt, teller, &ask);
-    hoard.give_back();
+/// Position, reserved and available cents.
+type Money = (u64, u64, u64);
+
+/// What the reply tells of a position.
+fn told_money(answer: &Option<(Reply, Option<Ticket>)>) -> Result<Money, Flaw> {
     match answer {
-        Ok(
+        Some(
             (
                 Reply::Position {
                     position,
@@ -75,10 +66,40 @@ fn money<R: Wait>(
                 },
                 None,
             ),
-        ) => Ok((position, reserved, available)),
-        Ok(_) => Err(Flaw::OtherAnswer),
-        Err(_) => Err(Flaw::Needless),
+        ) => Ok((*position, *reserved, *available)),
+        Some(_) => Err(Flaw::OtherAnswer),
+        None => Err(Flaw::Needless),
     }
+}
+
+/// What a participant has; no memory is left for it.
+fn money<R: Wait>(
+    rt: &R,
+    hub: &Hub,
+    hoard: &mut Hoard,
+    teller: &mut Teller,
+    who: u8,
+) -> Result<Money, Flaw>
+    requires { IsOf hub.now teller.old }
+    ensures { IsOf hub.now teller.new }
+{
+    let ask = fitting(hub, ask(who, Command::Position, 2_000)?)?;
+    told_money(&ask_in_want(rt, hub, hoard, teller, &ask, 0)?)
+}
+
+/// What originator and beneficiary have.
+fn both_money<R: Wait>(
+    rt: &R,
+    hub: &Hub,
+    hoard: &mut Hoard,
+    teller: &mut Teller,
+) -> Result<(Money, Money), Flaw>
+    requires { IsOf hub.now teller.old }
+    ensures { IsOf hub.now teller.new }
+{
+    let originator = money(rt, hub, hoard, teller, 0)?;
+    let beneficiary = money(rt, hub, hoard, teller, 1)?;
+    Ok((originator, beneficiary))
 }
 
 /// The answer to an ask, tried with more and more memory, and how often it was refused memory. Each refused try has left
@@ -94,22 +115,13 @@ fn call_in_want<R: Wait>(
     requires fits { ask_fits hub.now.settings ask.now ≡ true }
     ensures { IsOf hub.now teller.new }
 {
-    let originator = money(rt, hub, hoard, teller, 0)?;
-    let beneficiary = money(rt, hub, hoard, teller, 1)?;
+    let before = both_money(rt, hub, hoard, teller)?;
     let mut refused = 0u32;
     for quanta in 0..MOST_TRIES {
-        if !hoard.leave(quanta * QUANTUM) {
-            return Err(Flaw::NoHoard);
-        }
-        let answer = hub.call(rt, teller, ask);
-        hoard.give_back();
-        if let Ok((reply, ticket)) = answer {
+        if let Some((reply, ticket)) = ask_in_want(rt, hub, hoard, teller, ask, quanta * QUANTUM)? {
             return Ok((reply, ticket, refused));
         }
-        if money(rt, hub, hoard, teller, 0)? != originator {
-            return Err(Flaw::Changed);
-        }
-        if money(rt, hub, hoard, teller, 1)? != beneficiary {
+        if both_money(rt, hub, hoard, teller)? != before {
             return Err(Flaw::Changed);
         }
         refused = refused.saturating_add(1);
@@ -165,15 +177,10 @@ fn sweep_twice<R: Wait>(
     }
     let (new, refused) = sweep_in_want(rt, hub, hoard, teller, who, at)?;
     tries.count(Need::MayTake, refused)?;
-    if new != 1 {
-        return Err(Flaw::OtherAnswer);
-    }
+    check_answer(new == 1)?;
     let (new, refused) = sweep_in_want(rt, hub, hoard, teller, who, at)?;
     tries.count(Need::TakesNone, refused)?;
-    if new != 0 {
-        return Err(Flaw::OtherAnswer);
-    }
-    Ok(())
+    check_answer(new == 0)
 }
 
 /// Whether the reply says that the funding is done.
@@ -198,10 +205,7 @@ fn fund_in_want<R: Wait>(
     let ask = fitting(hub, fund(A, "F1", 50_000, 0)?)?;
     let (reply, ticket, refused) = call_in_want(rt, hub, hoard, teller, &ask)?;
     tries.count(Need::Takes, refused)?;
-    if ticket.is_some() || !is_done(&reply) {
-        return Err(Flaw::OtherAnswer);
-    }
-    Ok(())
+    check_answer(ticket.is_none() && is_done(&reply))
 }
 
 /// It submits a transfer to participant 1.
@@ -221,6 +225,14 @@ fn submit_in_want<R: Wait>(
     ticket_of(&reply, ticket)
 }
 
+/// Whether the reply says that the transfer is accepted.
+fn is_accepted(reply: &Reply) -> bool {
+    match reply {
+        Reply::State { state, .. } => *state == ACCEPTED,
+        _ => false,
+    }
+}
+
 /// The second teller confirms it for participant 1.
 fn confirm_in_want<R: Wait>(
     rt: &R,
@@ -235,16 +247,7 @@ fn confirm_in_want<R: Wait>(
     let ask = fitting(hub, confirm(B, A, "T1", 2_000)?)?;
     let (reply, ticket, refused) = call_in_want(rt, hub, hoard, teller, &ask)?;
     tries.count(Need::MayTake, refused)?;
-    match (reply, ticket) {
-        (
-            Reply::State {
-                state: State::Decided(Outcome::Accepted),
-                ..
-            },
-            Some(_),
-        ) => Ok(()),
-        _ => Err(Flaw::OtherAnswer),
-    }
+    check_answer(ticket.is_some() && is_accepted(&reply))
 }
 
 /// Whether the teller sees this state, with no memory left.
@@ -256,13 +259,44 @@ fn sees(hoard: &mut Hoard, teller: &mut Teller, ticket: &Ticket, state: State) -
     }
     let seen = teller.peek(ticket);
     hoard.give_back();
-    if seen != state {
-        return Err(Flaw::OtherAnswer);
-    }
-    Ok(())
+    check_answer(seen == state)
 }
 
-/// The calls of both tellers.
+/// The first teller funds participant 0, submits the transfer and sees it pending.
+fn submit_first<R: Wait>(
+    rt: &R,
+    hub: &Hub,
+    hoard: &mut Hoard,
+    first: &mut Teller,
+    tries: &mut Tries,
+) -> Result<Ticket, Flaw>
+    requires { IsOf hub.now first.old }
+    ensures { IsOf hub.now first.new }
+{
+    fund_in_want(rt, hub, hoard, first, tries)?;
+    let ticket = submit_in_want(rt, hub, hoard, first, tries)?;
+    sees(hoard, first, &ticket, State::Pending)?;
+    Ok(ticket)
+}
+
+/// The second sweeps for it, confirms it and sees it accepted.
+fn confirm_second<R: Wait>(
+    rt: &R,
+    hub: &Hub,
+    hoard: &mut Hoard,
+    second: &mut Teller,
+    tries: &mut Tries,
+    ticket: &Ticket,
+) -> Result<(), Flaw>
+    requires { IsOf hub.now second.old }
+    ensures { IsOf hub.now second.new }
+{
+    sweep_twice(rt, hub, hoard, second, tries, 1, 1_000)?;
+    confirm_in_want(rt, hub, hoard, second, tries)?;
+    sees(hoard, second, ticket, ACCEPTED)
+}
+
+/// The calls of both tellers. Once they meet, the first sees what the second does.
 fn calls<R: Wait>(
     rt: &R,
     hub: &Hub,
@@ -273,22 +307,28 @@ fn calls<R: Wait>(
 ) -> Result<(), Flaw>
     requires { IsOf hub.now first.old × IsOf hub.now second.old }
 {
-    let accepted = State::Decided(Outcome::Accepted);
-    fund_in_want(rt, hub, hoard, first, tries)?;
-    let ticket = submit_in_want(rt, hub, hoard, first, tries)?;
-    sees(hoard, first, &ticket, State::Pending)?;
-    sweep_twice(rt, hub, hoard, second, tries, 1, 1_000)?;
-    confirm_in_want(rt, hub, hoard, second, tries)?;
-    sees(hoard, second, &ticket, accepted)?;
+    let ticket = submit_first(rt, hub, hoard, first, tries)?;
+    confirm_second(rt, hub, hoard, second, tries, &ticket)?;
     hub.meet(first, second);
-    sees(hoard, first, &ticket, accepted)?;
-    if money(rt, hub, hoard, second, 0)? != (30_000, 0, 30_000) {
-        return Err(Flaw::OtherAnswer);
-    }
-    if money(rt, hub, hoard, second, 1)? != (20_000, 0, 20_000) {
-        return Err(Flaw::OtherAnswer);
-    }
-    Ok(())
+    sees(hoard, first, &ticket, ACCEPTED)?;
+    let settled = ((30_000, 0, 30_000), (20_000, 0, 20_000));
+    check_answer(both_money(rt, hub, hoard, second)? == settled)
+}
+
+/// The calls of both tellers, once their hub is open.
+fn calls_of_two<R: Wait>(
+    rt: &R,
+    hub: &Hub,
+    hoard: &mut Hoard,
+    tellers: Vec<Teller>,
+    tries: &mut Tries,
+) -> Result<(), Flaw>
+    requires { AreOf hub.now tellers.items }
+{
+    let mut tellers = tellers;
+    let mut second = last(hub, &mut tellers)?;
+    let mut first = last(hub, &mut tellers)?;
+    calls(rt, hub, hoard, &mut first, &mut second, tries)
 }
 
 /// Two tellers, of which one submits a transfer and the other confirms it, and what follows is brought by sweeps.
@@ -300,8 +340,5 @@ pub(crate) fn two_tellers<R: Wait>(
 ) -> Result<(), Flaw> {
     let (hub, tellers, refused) = open_in_want(alloc, hoard)?;
     tries.count(Need::Takes, refused)?;
-    let mut tellers = tellers;
-    let mut second = last(&hub, &mut tellers)?;
-    let mut first = last(&hub, &mut tellers)?;
-    calls(rt, &hub, hoard, &mut first, &mut second, tries)
+    calls_of_two(rt, &hub, hoard, tellers, tries)
 }

@@ -1,6 +1,9 @@
 //! Rows by slots of three participants over one board, step by step, each step in want of memory until it is refused none.
 //! A hub in one thread takes the same steps with ample memory: after each, both have the same histories and say the same.
-use crate::flaw::Flaw;
+ghost use Rattle.std.specs.Prelude.{◌≡◌, true};
+ghost use Rattle.inst_command.specs.Step.{step_fits};
+
+use crate::flaw::{Flaw, check_answer};
 use crate::rows::{self, Line};
 use crate::same::is_same;
 use crate::tries::{MOST_TRIES, Need, QUANTUM, Tries};
@@ -22,11 +25,33 @@ pub(crate) fn slot_rows(alloc: Global, hoard: &mut Hoard, tries: &mut Tries) -> 
 /// A row, from the opening on.
 fn row(alloc: Global, hoard: &mut Hoard, tries: &mut Tries, lines: &[Line]) -> Result<(), Flaw> {
     let mut world = World::open(alloc, &settings(alloc)?)?;
-    let (slots, refused) = open_in_want(alloc, hoard)?;
+    row_beside(alloc, &mut world, hoard, tries, lines)
+}
+
+/// The row by slots, beside the hub.
+fn row_beside(
+    alloc: Global,
+    world: &mut World,
+    hoard: &mut Hoard,
+    tries: &mut Tries,
+    lines: &[Line],
+) -> Result<(), Flaw> {
+    let (mut slots, refused) = open_in_want(alloc, hoard)?;
     tries.count(Need::Takes, refused)?;
-    let mut slots = slots;
+    take_lines(alloc, world, &mut slots, hoard, tries, lines)
+}
+
+/// Takes the lines one by one.
+fn take_lines(
+    alloc: Global,
+    world: &mut World,
+    slots: &mut Slots,
+    hoard: &mut Hoard,
+    tries: &mut Tries,
+    lines: &[Line],
+) -> Result<(), Flaw> {
     for line in lines {
-        let refused = take_line(alloc, &mut world, &mut slots, hoard, line)?;
+        let refused = take_line(alloc, world, slots, hoard, line)?;
         tries.count(line.need, refused)?;
     }
     Ok(())
@@ -62,11 +87,17 @@ fn take_line(
     mention::<(Ask, Command, Submission, Outcome)>();
     let step = inst_json::read_step(alloc, world.settings(), line.step.as_bytes())?;
     let (answer, refused) = act_in_want(world, slots, hoard, &step)?;
-    let wanted = world.step(&step)?;
-    if !is_same(&answer, &wanted) || !has_histories(world, slots) {
-        return Err(Flaw::OtherAnswer);
-    }
+    follow(world, slots, &step, &answer)?;
     Ok(refused)
+}
+
+/// The hub takes the step that the slots took, and answers the same, and both have the same histories.
+fn follow(world: &mut World, slots: &Slots, step: &Step, answer: &Answer) -> Result<(), Flaw>
+    requires { step_fits world.old.board.settings step.now ≡ true }
+{
+    mention::<(Ask, Command, Submission, Outcome)>();
+    let wanted = world.step(step)?;
+    check_answer(is_same(answer, &wanted) && has_histories(world, slots))
 }
 
 /// What its slot answers to the step, tried with more and more memory, and how often it was refused memory. Each refused

@@ -8,7 +8,7 @@ pub(crate) const QUANTUM: usize = 16;
 pub(crate) const MOST_TRIES: usize = 4_096;
 
 /// Whether a call takes memory.
-#[derive(Clone, Copy, Debug, PartialEq, Eq)]
+#[derive(Clone, Copy)]
 pub(crate) enum Need {
     /// It is refused memory at least once.
     Takes,
@@ -19,7 +19,7 @@ pub(crate) enum Need {
 }
 
 /// How many calls were answered, and how often one was refused memory before.
-#[derive(Clone, Copy, Debug)]
+#[derive(Clone, Copy)]
 pub(crate) struct Tries {
     pub(crate) answered: u32,
     pub(crate) refused: u32,

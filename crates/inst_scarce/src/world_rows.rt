@@ -37,11 +37,21 @@ fn row(
     tries: &mut Tries,
     lines: &[Line],
 ) -> Result<(), Flaw> {
-    let (world, refused) = open_in_want(alloc, settings, hoard)?;
+    let (mut world, refused) = open_in_want(alloc, settings, hoard)?;
     tries.count(Need::Takes, refused)?;
-    let mut world = world;
+    take_lines(alloc, &mut world, hoard, tries, lines)
+}
+
+/// Takes the lines one by one.
+fn take_lines(
+    alloc: Global,
+    world: &mut World,
+    hoard: &mut Hoard,
+    tries: &mut Tries,
+    lines: &[Line],
+) -> Result<(), Flaw> {
     for line in lines {
-        tries.count(line.need, take_line(alloc, &mut world, hoard, line)?)?;
+        tries.count(line.need, take_line(alloc, world, hoard, line)?)?;
     }
     Ok(())
 }
@@ -76,13 +86,28 @@ fn take_line(
 ) -> Result<u32, Flaw> {
     mention::<(Ask, Command, Submission, Outcome)>();
     let step = inst_json::read_step(alloc, world.settings(), line.step.as_bytes())?;
-    let histories = histories(alloc, world)?;
-    let (answer, refused) = step_in_want(world, hoard, &step, &histories)?;
+    let (answer, refused) = take_step(alloc, world, hoard, &step)?;
     let text = inst_json::write_answer(alloc, world.settings(), &answer)?;
-    if text.as_slice() != line.answer.as_bytes() {
-        return Err(Flaw::OtherAnswer);
+    if text.as_slice() == line.answer.as_bytes() {
+        Ok(refused)
+    } else {
+        Err(Flaw::OtherAnswer)
     }
-    Ok(refused)
+}
+
+/// The answer to the step, and how often it was refused memory, beside the histories that it found.
+fn take_step(
+    alloc: Global,
+    world: &mut World,
+    hoard: &mut Hoard,
+    step: &Step,
+) -> Result<(Answer, u32), Flaw>
+    requires { step_fits world.old.board.settings step.now ≡ true }
+    ensures settings { world.new.board.settings ≡ world.old.board.settings }
+    ensures model { IfOk result (λ r. IsOfModel world.old.board.settings step.now r.0) }
+{
+    let histories = histories(alloc, world)?;
+    step_in_want(world, hoard, step, &histories)
 }
 
 /// The answer to the step, tried with more and more memory, and how often it was refused memory. Each refused try has
