@@ -26,10 +26,7 @@ pub(crate) fn call<R: Wait>(
     if !ask.fits(hub.settings()) {
         return Err(Fault::BadField);
     }
-    match hub.call(rt, teller, ask) {
-        Ok(answer) => Ok(answer),
-        Err(_) => Err(Fault::Memory),
-    }
+    Ok(hub.call(rt, teller, ask)?)
 }
 
 /// What a command is answered. A refusal is an error.
