@@ -65,13 +65,21 @@ pub(crate) fn last_two(hub: &Hub, tellers: &mut Vec<Teller>) -> Result<(Teller, 
     Ok((first, second))
 }
 
+/// The hub with the last of its tellers.
+pub(crate) fn with_teller(opened: (Hub, Vec<Teller>)) -> Result<(Hub, Teller), Fault>
+    requires { AreOf opened.0 opened.1.items }
+    ensures { IfOk result (λ r. IsOf r.0 r.1) }
+{
+    let (hub, mut tellers) = opened;
+    let teller = last(&hub, &mut tellers)?;
+    Ok((hub, teller))
+}
+
 /// A hub with one teller.
 pub(crate) fn opened(alloc: Global, settings: Settings) -> Result<(Hub, Teller), Fault>
     ensures { IfOk result (λ r. IsOf r.0 r.1) }
 {
-    let (hub, mut tellers) = Hub::open(alloc, settings, 1)?;
-    let teller = last(&hub, &mut tellers)?;
-    Ok((hub, teller))
+    with_teller(Hub::open(alloc, settings, 1)?)
 }
 
 /// The state that the reply tells, if any.

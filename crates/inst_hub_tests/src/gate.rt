@@ -8,6 +8,7 @@ use inst_base::{Fault, mention};
 use inst_command::{Command, Outcome, State};
 use inst_hub::{Gate, Hub, Teller, Ticket};
 use inst_rows::settings;
+use std::process::Abort;
 use std::sync::Wait;
 use std::sync::atomic::{AtomicU32, Ordering};
 use std::thread::{Threads, join, yield_now};
@@ -201,20 +202,26 @@ fn seen<R: Threads + Wait + Sync>(
     through(rt, hub, first, (second, third, fourth), &ticket)
 }
 
-#[test]
-fn gate_lets_others_through(rt: HostRuntime) -> Result<(), Fault> {
+fn lets_through<R: Threads + Wait + Sync + Abort>(
+    rt: &R,
+    hub: &Hub,
+    tellers: &mut Vec<Teller>,
+) -> Result<(), Fault>
+    requires { AreOf hub.now tellers.old.items }
+{
     mention::<Outcome>();
-    let (hub, mut tellers) = Hub::open(rt.alloc(), settings(rt.alloc())?, 4)?;
     let expected = Passed {
         passes: 1,
         who: 0,
         through: true,
         overtaken: false,
     };
-    same(
-        &rt,
-        seen(&rt, &hub, &mut tellers)?,
-        (State::Pending, expected),
-    );
+    same(rt, seen(rt, hub, tellers)?, (State::Pending, expected));
     Ok(())
+}
+
+#[test]
+fn gate_lets_others_through(rt: HostRuntime) -> Result<(), Fault> {
+    let (hub, mut tellers) = Hub::open(rt.alloc(), settings(rt.alloc())?, 4)?;
+    lets_through(&rt, &hub, &mut tellers)
 }

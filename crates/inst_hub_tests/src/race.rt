@@ -9,6 +9,7 @@ use inst_command::{Command, Outcome, State};
 use inst_hub::{Hub, Teller};
 use inst_rows::settings_with;
 use std::alloc::Global;
+use std::process::Abort;
 use std::sync::Wait;
 use std::thread::{Threads, join};
 
@@ -180,15 +181,27 @@ fn raced<R: Threads + Wait + Sync>(
     after_race(rt, hub, &mut third, counts)
 }
 
+/// Compares what it comes to.
+fn agree<R: Threads + Wait + Sync + Abort>(
+    rt: &R,
+    alloc: Global,
+    hub: &Hub,
+    tellers: &mut Vec<Teller>,
+) -> Result<(), Fault>
+    requires { AreOf hub.now tellers.old.items }
+{
+    let ended = raced(rt, alloc, hub, tellers)?;
+    let count = ended.confirmed;
+    same(rt, ended, expected(count));
+    let all = u32::from(count.accepted) + u32::from(count.timed_out);
+    same(rt, all, u32::from(TRANSFERS));
+    Ok(())
+}
+
 // Both sides are told the same of each transfer, so they count the same, and the money is where it was decided to be.
 #[test]
 fn two_threads_agree(rt: HostRuntime) -> Result<(), Fault> {
     let settings = settings_with(rt.alloc(), TRANSFERS, 0)?;
     let (hub, mut tellers) = Hub::open(rt.alloc(), settings, 3)?;
-    let ended = raced(&rt, rt.alloc(), &hub, &mut tellers)?;
-    let count = ended.confirmed;
-    same(&rt, ended, expected(count));
-    let all = u32::from(count.accepted) + u32::from(count.timed_out);
-    same(&rt, all, u32::from(TRANSFERS));
-    Ok(())
+    agree(&rt, rt.alloc(), &hub, &mut tellers)
 }

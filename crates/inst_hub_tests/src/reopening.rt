@@ -3,13 +3,14 @@ ghost use Rattle.std.specs.Prelude.{◌≡◌, IfOk};
 ghost use Rattle.inst_model.specs.Rows as rows;
 ghost use Rattle.inst_hub.specs.Calls.{IsOf};
 
-use crate::asking::{ask, confirm, investigate, last, money, state_of, told};
+use crate::asking::{ask, confirm, investigate, money, state_of, told, with_teller};
 use crate::comparing::same;
 use inst_base::Fault;
 use inst_command::{Outcome, State, Step};
 use inst_hub::{Hub, Teller};
 use inst_rows::{A, B, books, settings};
 use std::alloc::Global;
+use std::process::Abort;
 use std::sync::Wait;
 
 /// Participant 1 gets two transfers of participant 0, and confirms the first.
@@ -42,21 +43,21 @@ fn one_settled() -> Result<[Step; 7], Fault>
     ])
 }
 
-/// The originator's position, reserved and available cents, the state that the confirmation tells, and that position
-/// afterwards.
-type Told = (
-    Option<(u64, u64, u64)>,
-    Option<State>,
-    Option<(u64, u64, u64)>,
-);
-
-fn confirmed<R: Wait>(rt: &R, hub: &Hub, teller: &mut Teller) -> Result<Told, Fault>
+/// Compares the originator's position, reserved and available cents, the state that the confirmation tells, and that
+/// position afterwards.
+fn goes_on<R: Wait + Abort>(rt: &R, hub: &Hub, teller: &mut Teller) -> Result<(), Fault>
     requires { IsOf hub.now teller.old }
 {
     let before = money(rt, hub, teller, 0, 2_000)?;
     let state = told(rt, hub, teller, 1, confirm("T2")?, 2_000)?;
     let after = money(rt, hub, teller, 0, 2_000)?;
-    Ok((before, state, after))
+    let expected = (
+        Some((49_900, 100, 49_800)),
+        Some(State::Decided(Outcome::Accepted)),
+        Some((49_800, 0, 49_800)),
+    );
+    same(rt, (before, state, after), expected);
+    Ok(())
 }
 
 /// The hub that opens from the books of the other one, with its teller.
@@ -66,42 +67,32 @@ fn opened_again(alloc: Global) -> Result<(Hub, Teller), Fault>
     let steps = one_settled()?;
     let settings = settings(alloc)?;
     let books = books(alloc, &settings, &steps)?;
-    let (hub, mut tellers) = Hub::open_from(alloc, settings, &books, 1)?;
-    let teller = last(&hub, &mut tellers)?;
-    Ok((hub, teller))
+    with_teller(Hub::open_from(alloc, settings, &books, 1)?)
 }
 
 #[test]
 fn what_was_pending_goes_on(rt: HostRuntime) -> Result<(), Fault> {
     let (hub, mut teller) = opened_again(rt.alloc())?;
-    let accepted = State::Decided(Outcome::Accepted);
-    let told = confirmed(&rt, &hub, &mut teller)?;
-    let expected = (
-        Some((49_900, 100, 49_800)),
-        Some(accepted),
-        Some((49_800, 0, 49_800)),
-    );
-    same(&rt, told, expected);
-    Ok(())
+    goes_on(&rt, &hub, &mut teller)
 }
 
-/// The state that an investigation of the settled transfer tells, and whether there is a ticket.
-fn investigated<R: Wait>(
-    rt: &R,
-    hub: &Hub,
-    teller: &mut Teller,
-) -> Result<(Option<State>, bool), Fault>
+/// Compares the state that an investigation of the settled transfer tells, and whether there is a ticket.
+fn has_no_ticket<R: Wait + Abort>(rt: &R, hub: &Hub, teller: &mut Teller) -> Result<(), Fault>
     requires { IsOf hub.now teller.old }
 {
     let (reply, ticket) = ask(rt, hub, teller, 0, investigate("T1")?, 3_000)?;
-    Ok((state_of(&reply), ticket.is_some()))
+    let accepted = State::Decided(Outcome::Accepted);
+    same(
+        rt,
+        (state_of(&reply), ticket.is_some()),
+        (Some(accepted), false),
+    );
+    Ok(())
 }
 
 // It has no place any more.
 #[test]
 fn what_was_settled_has_no_ticket(rt: HostRuntime) -> Result<(), Fault> {
     let (hub, mut teller) = opened_again(rt.alloc())?;
-    let told = investigated(&rt, &hub, &mut teller)?;
-    same(&rt, told, (Some(State::Decided(Outcome::Accepted)), false));
-    Ok(())
+    has_no_ticket(&rt, &hub, &mut teller)
 }

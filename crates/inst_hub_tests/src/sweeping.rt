@@ -11,6 +11,7 @@ use inst_command::{Command, Outcome, Reply, State, Submission};
 use inst_hub::{Gate, Hub, Teller};
 use inst_rows::{settings, settings_with};
 use std::alloc::Global;
+use std::process::Abort;
 use std::sync::Wait;
 use std::thread::{Threads, join};
 
@@ -25,12 +26,8 @@ fn sweep<R: Wait>(rt: &R, hub: &Hub, teller: &mut Teller, who: u8, at: u64) -> R
     Ok(hub.sweep(rt, teller, who, Moment::new(0, at)?)?)
 }
 
-/// What investigations before the deadline and at it tell, and how many are new then in sweeps of both sides.
-fn investigated<R: Wait>(
-    rt: &R,
-    hub: &Hub,
-    teller: &mut Teller,
-) -> Result<(Option<State>, Option<State>, u32, u32), Fault>
+/// Compares what investigations before the deadline and at it tell, and how many are new then in sweeps of both sides.
+fn investigates<R: Wait + Abort>(rt: &R, hub: &Hub, teller: &mut Teller) -> Result<(), Fault>
     requires { IsOf hub.now teller.old }
 {
     submitted(rt, hub, teller)?;
@@ -38,17 +35,17 @@ fn investigated<R: Wait>(
     let due = told(rt, hub, teller, 0, investigate("T1")?, 11_000)?;
     let originator = sweep(rt, hub, teller, 0, 11_000)?;
     let beneficiary = sweep(rt, hub, teller, 1, 11_000)?;
-    Ok((before, due, originator, beneficiary))
+    let timed_out = State::Decided(Outcome::TimedOut);
+    let found = (before, due, originator, beneficiary);
+    same(rt, found, (Some(State::Pending), Some(timed_out), 0, 0));
+    Ok(())
 }
 
 // The call has told the beneficiary, so that a sweep finds nothing.
 #[test]
 fn what_an_investigation_finds_is_learnt(rt: HostRuntime) -> Result<(), Fault> {
     let (hub, mut teller) = opened(rt.alloc(), settings(rt.alloc())?)?;
-    let timed_out = State::Decided(Outcome::TimedOut);
-    let told = investigated(&rt, &hub, &mut teller)?;
-    same(&rt, told, (Some(State::Pending), Some(timed_out), 0, 0));
-    Ok(())
+    investigates(&rt, &hub, &mut teller)
 }
 
 /// The originators of the entries that participant 1 fetches.
@@ -177,23 +174,31 @@ fn delivered<R: Threads + Wait + Sync>(
     meanwhile(rt, alloc, hub, third, last_two(hub, tellers)?)
 }
 
+/// Compares what they count and bring.
+fn delivers<R: Threads + Wait + Sync + Abort>(
+    rt: &R,
+    alloc: Global,
+    hub: &Hub,
+    tellers: &mut Vec<Teller>,
+) -> Result<(), Fault>
+    requires { AreOf hub.now tellers.old.items }
+{
+    let (new, again, originators) = delivered(rt, alloc, hub, tellers)?;
+    same(rt, (new, again, originators.as_slice()), (2, 0, &[0, 2]));
+    Ok(())
+}
+
 // A sweep gets what a beneficiary wasn't told of yet, by the originators' numbers, and what follows then brings nothing.
 #[test]
 fn sweep_delivers(rt: HostRuntime) -> Result<(), Fault> {
     let alloc = rt.alloc();
     let (hub, mut tellers) = Hub::open(alloc, settings(alloc)?, 3)?;
-    let (new, again, originators) = delivered(&rt, alloc, &hub, &mut tellers)?;
-    same(&rt, (new, again, originators.as_slice()), (2, 0, &[0, 2]));
-    Ok(())
+    delivers(&rt, alloc, &hub, &mut tellers)
 }
 
-/// How many were new in sweeps of participant 0 before the deadline and at it, of participant 1, and of participant 0
-/// again, and how the transfer then stands.
-fn timed_out<R: Wait>(
-    rt: &R,
-    hub: &Hub,
-    teller: &mut Teller,
-) -> Result<(u32, u32, u32, u32, State), Fault>
+/// Compares how many were new in sweeps of participant 0 before the deadline and at it, of participant 1, and of
+/// participant 0 again, and how the transfer then stands.
+fn times_out<R: Wait + Abort>(rt: &R, hub: &Hub, teller: &mut Teller) -> Result<(), Fault>
     requires { IsOf hub.now teller.old }
 {
     let ticket = submitted(rt, hub, teller)?;
@@ -201,15 +206,15 @@ fn timed_out<R: Wait>(
     let expired = sweep(rt, hub, teller, 0, 11_000)?;
     let learnt = sweep(rt, hub, teller, 1, 11_000)?;
     let again = sweep(rt, hub, teller, 0, 11_000)?;
-    Ok((before, expired, learnt, again, teller.peek(&ticket)))
+    same(rt, [before, expired, learnt, again], [0, 1, 1, 0]);
+    same(rt, teller.peek(&ticket), State::Decided(Outcome::TimedOut));
+    Ok(())
 }
 
 #[test]
 fn sweeps_time_out_and_learn(rt: HostRuntime) -> Result<(), Fault> {
     let (hub, mut teller) = opened(rt.alloc(), settings(rt.alloc())?)?;
-    let swept = timed_out(&rt, &hub, &mut teller)?;
-    same(&rt, swept, (0, 1, 1, 0, State::Decided(Outcome::TimedOut)));
-    Ok(())
+    times_out(&rt, &hub, &mut teller)
 }
 
 /// Participant 0 submits a transfer to participant 1 with this time stamp.
@@ -244,20 +249,21 @@ fn submit_three<R: Wait>(rt: &R, hub: &Hub, teller: &mut Teller) -> Result<(), F
     submit_stamped(rt, hub, teller, "T3", 1_000)
 }
 
-/// How many of them are new in sweeps of participant 0 before the last deadline and at it, and in a sweep of
+/// Compares how many of them are new in sweeps of participant 0 before the last deadline and at it, and in a sweep of
 /// participant 1.
-fn swept<R: Wait>(rt: &R, hub: &Hub, teller: &mut Teller) -> Result<(u32, u32, u32), Fault>
+fn goes_by_deadline<R: Wait + Abort>(rt: &R, hub: &Hub, teller: &mut Teller) -> Result<(), Fault>
     requires { IsOf hub.now teller.old }
 {
     submit_three(rt, hub, teller)?;
     let early = sweep(rt, hub, teller, 0, 11_499)?;
     let late = sweep(rt, hub, teller, 0, 11_500)?;
-    Ok((early, late, sweep(rt, hub, teller, 1, 11_500)?))
+    let learnt = sweep(rt, hub, teller, 1, 11_500)?;
+    same(rt, [early, late, learnt], [2, 1, 3]);
+    Ok(())
 }
 
 #[test]
 fn sweep_goes_by_deadline(rt: HostRuntime) -> Result<(), Fault> {
     let (hub, mut teller) = opened(rt.alloc(), settings_with(rt.alloc(), 3, 0)?)?;
-    same(&rt, swept(&rt, &hub, &mut teller)?, (2, 1, 3));
-    Ok(())
+    goes_by_deadline(&rt, &hub, &mut teller)
 }

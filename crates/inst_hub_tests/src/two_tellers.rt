@@ -1,5 +1,5 @@
 //! One teller submits a transfer, and another confirms it.
-ghost use Rattle.inst_hub.specs.Calls.{IsOf};
+ghost use Rattle.inst_hub.specs.Calls.{IsOf, AreOf};
 
 use crate::asking::{confirm, last_two, money, submitted, told};
 use crate::comparing::same;
@@ -7,6 +7,7 @@ use inst_base::Fault;
 use inst_command::{Outcome, State};
 use inst_hub::{Hub, Teller};
 use inst_rows::settings;
+use std::process::Abort;
 use std::sync::Wait;
 
 /// What the tellers are told and see, in order.
@@ -41,10 +42,11 @@ fn see<R: Wait>(rt: &R, hub: &Hub, first: &mut Teller, second: &mut Teller) -> R
     })
 }
 
-#[test]
-fn two_tellers(rt: HostRuntime) -> Result<(), Fault> {
-    let (hub, mut tellers) = Hub::open(rt.alloc(), settings(rt.alloc())?, 2)?;
-    let (mut first, mut second) = last_two(&hub, &mut tellers)?;
+/// Compares what both see.
+fn both_see<R: Wait + Abort>(rt: &R, hub: &Hub, tellers: &mut Vec<Teller>) -> Result<(), Fault>
+    requires { AreOf hub.now tellers.old.items }
+{
+    let (mut first, mut second) = last_two(hub, tellers)?;
     let accepted = State::Decided(Outcome::Accepted);
     let expected = Sights {
         submitted: State::Pending,
@@ -54,6 +56,12 @@ fn two_tellers(rt: HostRuntime) -> Result<(), Fault> {
         first: accepted,
         position: Some((30_000, 0, 30_000)),
     };
-    same(&rt, see(&rt, &hub, &mut first, &mut second)?, expected);
+    same(rt, see(rt, hub, &mut first, &mut second)?, expected);
     Ok(())
+}
+
+#[test]
+fn two_tellers(rt: HostRuntime) -> Result<(), Fault> {
+    let (hub, mut tellers) = Hub::open(rt.alloc(), settings(rt.alloc())?, 2)?;
+    both_see(&rt, &hub, &mut tellers)
 }
