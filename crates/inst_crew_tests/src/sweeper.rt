@@ -35,7 +35,7 @@ fn first_seen(crew: &Crew) -> Result<(Ticket, State), Fault> {
     crew.states.first().copied().ok_or(Fault::UnknownTransfer)
 }
 
-/// What the sweeper's teller sees of the transfer after a sweep beside another crew.
+/// What the crew saw of its one transfer, and what the sweeper's teller sees of it after a sweep beside another crew.
 fn swept<R: Threads + Wait + Sync>(
     rt: &R,
     alloc: Global,
@@ -43,21 +43,22 @@ fn swept<R: Threads + Wait + Sync>(
     desk: &Desk,
     crew: Crew,
     sweep: Sweep,
-    ticket: &Ticket,
-) -> Result<State, Fault>
+) -> Result<(usize, State, State), Fault>
     requires some { 0 < length crew.hands.items }
     requires each { length crew.tellers.items ≡ length crew.hands.items }
     requires hands { AreHandsOf desk.now crew.hands.items }
     requires tellers { AreOf hub.now crew.tellers.items }
     requires sweep { MaySweep hub.now sweep }
 {
+    let (ticket, seen) = first_seen(&crew)?;
+    let count = crew.states.len();
     let Crew { hands, tellers, .. } = crew;
     let crew = run_crew(rt, alloc, hub, desk, hands, tellers, &Ungated, Some(sweep))?;
     let mut tellers = crew.tellers;
     let Some(mut teller) = tellers.pop() else {
         return Err(Fault::BadSettings);
     };
-    Ok(teller.peek(ticket))
+    Ok((count, seen, teller.peek(&ticket)))
 }
 
 /// What a crew of one saw of the one transfer that it submitted, and what is seen after a sweep beside another crew.
@@ -75,19 +76,29 @@ fn submitted_and_swept<R: Threads + Wait + Sync>(
     let sweep = sweep(hub, second)?;
     let (desk, hands) = desk(rt, alloc, &[submission()?], 1)?;
     let crew = run_crew(rt, alloc, hub, &desk, hands, tellers, &Ungated, None)?;
-    let (ticket, seen) = first_seen(&crew)?;
-    let count = crew.states.len();
-    let state = swept(rt, alloc, hub, &desk, crew, sweep, &ticket)?;
-    Ok((count, seen, state))
+    swept(rt, alloc, hub, &desk, crew, sweep)
 }
 
-/// The same in a hub with two tellers, one of which funds the originator.
+/// The same by two tellers, one of which funds the originator.
+fn funded_and_swept<R: Threads + Wait + Sync>(
+    rt: &R,
+    alloc: Global,
+    hub: &Hub,
+    mut tellers: Vec<Teller>,
+) -> Result<(usize, State, State), Fault>
+    requires two { length tellers.items ≡ 2 }
+    requires tellers { AreOf hub.now tellers.items }
+{
+    let mut second = last(hub, &mut tellers)?;
+    fund(rt, hub, &mut second)?;
+    submitted_and_swept(rt, alloc, hub, tellers, second)
+}
+
+/// The same in a hub of its own.
 fn see<R: Threads + Wait + Sync>(rt: &R, alloc: Global) -> Result<(usize, State, State), Fault> {
     mention::<Outcome>();
-    let (hub, mut tellers) = Hub::open(alloc, settings(alloc)?, 2)?;
-    let mut second = last(&hub, &mut tellers)?;
-    fund(rt, &hub, &mut second)?;
-    submitted_and_swept(rt, alloc, &hub, tellers, second)
+    let (hub, tellers) = Hub::open(alloc, settings(alloc)?, 2)?;
+    funded_and_swept(rt, alloc, &hub, tellers)
 }
 
 #[test]

@@ -1,9 +1,12 @@
 //! Two threads truly run at once: the one that is in the lock of participant 0 waits until the other is in that of 2.
+ghost use Rattle.std.specs.Prelude.{◌≡◌, length};
+ghost use Rattle.inst_hub.specs.Calls.{AreOf};
+
 use crate::setting::{ask, desk, settings};
 use inst_base::Fault;
-use inst_command::Command;
+use inst_command::{Ask, Command};
 use inst_crew::run_crew;
-use inst_hub::{Gate, Hub};
+use inst_hub::{Gate, Hub, Teller};
 use std::alloc::Global;
 use std::sync::Wait;
 use std::sync::atomic::{AtomicU32, Ordering};
@@ -52,17 +55,31 @@ impl Gate for Waits {
     }
 }
 
-/// How many jobs a crew of two answers, and whether its threads met.
+/// How many of these jobs a crew of two answers, and whether its threads met.
+fn met<R: Threads + Wait + Sync>(
+    rt: &R,
+    alloc: Global,
+    hub: &Hub,
+    tellers: Vec<Teller>,
+    asks: &[Ask],
+) -> Result<(u64, bool), Fault>
+    requires two { length tellers.items ≡ 2 }
+    requires of { AreOf hub.now tellers.items }
+{
+    let (desk, hands) = desk(rt, alloc, asks, 2)?;
+    let gate = Waits::new();
+    let crew = run_crew(rt, alloc, hub, &desk, hands, tellers, &gate, None)?;
+    Ok((crew.answered, gate.met.load(Ordering::SeqCst) == 1))
+}
+
+/// The same of two questions for positions, at a hub of its own.
 fn meet<R: Threads + Wait + Sync>(rt: &R, alloc: Global) -> Result<(u64, bool), Fault> {
     let asks = [
         ask(0, Command::Position, 1_000)?,
         ask(2, Command::Position, 1_000)?,
     ];
     let (hub, tellers) = Hub::open(alloc, settings(alloc)?, 2)?;
-    let (desk, hands) = desk(rt, alloc, &asks, 2)?;
-    let gate = Waits::new();
-    let crew = run_crew(rt, alloc, &hub, &desk, hands, tellers, &gate, None)?;
-    Ok((crew.answered, gate.met.load(Ordering::SeqCst) == 1))
+    met(rt, alloc, &hub, tellers, &asks)
 }
 
 #[test]
