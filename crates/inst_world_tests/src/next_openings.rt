@@ -71,12 +71,17 @@ fn are_told(rt: &impl Abort, answers: &[Answer], told: &[Told]) {
     }
 }
 
-/// Each step is answered as where a transfer is carried over.
-fn carries(rt: &impl Abort, world: &mut World, steps: &[Step; 7]) -> Result<(), Fail> {
-    for (nth, (step, told)) in steps.iter().zip(&CARRIED).enumerate() {
-        assert!(rt; step.fits(world.settings()));
-        let answer = world.step(step)?;
-        same_at(rt, nth, is_told(&answer, told), true);
+/// Whether the step is answered so.
+fn is_answered(rt: &impl Abort, world: &mut World, step: &Step, told: &Told) -> Result<bool, Fail> {
+    assert!(rt; step.fits(world.settings()));
+    let answer = world.step(step)?;
+    Ok(is_told(&answer, told))
+}
+
+/// Each step is answered so.
+fn answers(rt: &impl Abort, world: &mut World, steps: &[Step], told: &[Told]) -> Result<(), Fail> {
+    for (nth, (step, told)) in steps.iter().zip(told).enumerate() {
+        same_at(rt, nth, is_answered(rt, world, step, told)?, true);
     }
     Ok(())
 }
@@ -93,7 +98,7 @@ fn opened_again(alloc: Global) -> Result<World, Fault> {
 fn carried_over_an_opening(rt: HostRuntime) -> Result<(), Fail> {
     let steps = carried_over_an_opening_steps()?;
     let mut world = opened_again(rt.alloc())?;
-    carries(&rt, &mut world, &steps)
+    answers(&rt, &mut world, &steps, &CARRIED)
 }
 
 /// All events but the last, if there is one.

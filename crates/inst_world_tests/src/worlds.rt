@@ -1,5 +1,6 @@
 //! Worlds, step by step and line by line, over three participants with 2 places and 4 fundings each.
 use crate::comparing::{same, same_at};
+use crate::told::{Told, is_told};
 use inst_agenda::{Runner, follow_up};
 use inst_base::{Cents, Fault, Ident, Moment, Reason, mention};
 use inst_board::Place;
@@ -50,11 +51,19 @@ fn money_is(rt: &impl Abort, world: &World, money: [(u64, u64); 3]) -> Result<()
     Ok(())
 }
 
+/// Whether this is a reply, and no refusal.
+fn is_taken(answer: &Answer) -> bool {
+    match answer {
+        Answer::Reply(reply) => !matches!(reply, Reply::Refused(_)),
+        Answer::New(_) => false,
+    }
+}
+
 /// Whether the step is answered so.
 fn steps_to(rt: &impl Abort, world: &mut World, step: &Step, is_new: bool) -> Result<(), Fail> {
     assert!(rt; step.fits(world.settings()));
     let answer = world.step(step)?;
-    assert!(rt; matches!(&answer, Answer::New(new) if *new == is_new));
+    same(rt, is_told(&answer, &Told::New(is_new)), true);
     Ok(())
 }
 
@@ -62,7 +71,7 @@ fn steps_to(rt: &impl Abort, world: &mut World, step: &Step, is_new: bool) -> Re
 fn asks(rt: &impl Abort, world: &mut World, step: &Step) -> Result<(), Fail> {
     assert!(rt; step.fits(world.settings()));
     let answer = world.step(step)?;
-    assert!(rt; matches!(&answer, Answer::Reply(reply) if !matches!(reply, Reply::Refused(_))));
+    same(rt, is_taken(&answer), true);
     Ok(())
 }
 
@@ -145,7 +154,7 @@ fn run_line(
     let ask = reader.read_command(runner.settings(), line.as_bytes())?;
     let at = ask.at;
     let answer = runner.ask(ask)?;
-    assert!(rt; !matches!(&answer, Answer::Reply(Reply::Refused(_))));
+    same(rt, is_taken(&answer), true);
     follow_up(runner, at)?;
     Ok(())
 }
