@@ -1,21 +1,13 @@
-//! Tests of hubs that threads share: what no contract says is that a peek loads, that what follows from a command comes
-//! to the other side, that a call doesn't wait for another participant's lock, and that two threads that decide the same
-//! transfer agree.
+//! Tests of hubs that threads share, of how they close, and of the crews and drills that run them.
 #![tactic(auto)]
 
 #[cfg(test)]
-mod asking;
+mod close;
 #[cfg(test)]
 mod comparing;
 #[cfg(test)]
-mod gate;
+mod crew;
 #[cfg(test)]
-mod race;
+mod drill;
 #[cfg(test)]
-mod reopening;
-#[cfg(test)]
-mod start;
-#[cfg(test)]
-mod sweeping;
-#[cfg(test)]
-mod two_tellers;
+mod hub;

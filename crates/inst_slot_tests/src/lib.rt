@@ -1,17 +1,9 @@
-//! Tests of slots: worked rows on the slots of three participants over one plain board, with 2 places and 4 fundings.
+//! Tests of what one participant has: its books, and its slot.
 #![tactic(auto)]
 
 #[cfg(test)]
-mod answers;
+mod comparing;
 #[cfg(test)]
-mod cases;
+mod ledger;
 #[cfg(test)]
-mod confirmations;
-#[cfg(test)]
-mod expiries;
-#[cfg(test)]
-mod histories;
-#[cfg(test)]
-mod openings;
-#[cfg(test)]
-mod places;
+mod slot;

@@ -1,8 +1,0 @@
-//! Tests of drills: what no contract says is that there is memory for one, how many jobs it has, and that the books of a
-//! chain of openings have lost nothing of what threads did in each of them.
-#![tactic(auto)]
-
-#[cfg(test)]
-mod chain;
-#[cfg(test)]
-mod kept;

@@ -1,5 +1,0 @@
-use Rattle.inst_hub.specs.Calls.{IsOf}
-use Rattle.inst_hub_tests.proofs.race.submit_all.Given as goal
-
-abbrev pub invariant-loop-index : goal.invariant-loop-index
-invariant-loop-index g l = IsOf l.hub l.teller

@@ -1,0 +1,89 @@
+//! Two threads truly run at once: the one that is in the lock of participant 0 waits until the other is in that of 2.
+ghost use Rattle.std.specs.Prelude.{◌≡◌, length};
+ghost use Rattle.inst_hub.specs.Calls.{AreOf};
+
+use crate::crew::setting::{ask, desk, settings};
+use inst_base::Fault;
+use inst_command::{Ask, Command};
+use inst_crew::run_crew;
+use inst_hub::{Gate, Hub, Teller};
+use std::alloc::Global;
+use std::sync::Wait;
+use std::sync::atomic::{AtomicU32, Ordering};
+use std::thread::{Threads, yield_now};
+
+/// How often the gate looks for the other thread before it gives up.
+const TURNS: u32 = 1_000_000;
+
+/// A gate that waits inside the lock of participant 0 until it is passed for participant 2.
+#[derive(Drop)]
+struct Waits {
+    /// 1 once it was passed for participant 2.
+    other: AtomicU32,
+    /// 1 where that came while it waited.
+    met: AtomicU32,
+}
+
+impl Waits {
+    fn new() -> Waits {
+        Waits {
+            other: AtomicU32::new(0),
+            met: AtomicU32::new(0),
+        }
+    }
+
+    /// Waits for the other thread: whether it came.
+    fn wait(&self) -> bool {
+        for _ in 0..TURNS {
+            if self.other.load(Ordering::SeqCst) == 1 {
+                return true;
+            }
+            yield_now();
+        }
+        false
+    }
+}
+
+impl Gate for Waits {
+    fn pass(&self, who: u8) {
+        if who == 2 {
+            self.other.store(1, Ordering::SeqCst);
+        }
+        if who == 0 && self.wait() {
+            self.met.store(1, Ordering::SeqCst);
+        }
+    }
+}
+
+/// How many of these jobs a crew of two answers, and whether its threads met.
+fn met<R: Threads + Wait + Sync>(
+    rt: &R,
+    alloc: Global,
+    hub: &Hub,
+    tellers: Vec<Teller>,
+    asks: &[Ask],
+) -> Result<(u64, bool), Fault>
+    requires two { length tellers.items ≡ 2 }
+    requires of { AreOf hub.now tellers.items }
+{
+    let (desk, hands) = desk(rt, alloc, asks, 2)?;
+    let gate = Waits::new();
+    let crew = run_crew(rt, alloc, hub, &desk, hands, tellers, &gate, None)?;
+    Ok((crew.answered, gate.met.load(Ordering::SeqCst) == 1))
+}
+
+/// The same of two questions for positions, at a hub of its own.
+fn meet<R: Threads + Wait + Sync>(rt: &R, alloc: Global) -> Result<(u64, bool), Fault> {
+    let asks = [
+        ask(0, Command::Position, 1_000)?,
+        ask(2, Command::Position, 1_000)?,
+    ];
+    let (hub, tellers) = Hub::open(alloc, settings(alloc)?, 2)?;
+    met(rt, alloc, &hub, tellers, &asks)
+}
+
+#[test]
+fn crew_of_two_threads(rt: HostRuntime) -> Result<(), Fault> {
+    assert_eq!(rt; meet(&rt, rt.alloc())?, (2, true));
+    Ok(())
+}

@@ -1,0 +1,227 @@
+//! A call that has one participant's lock holds up other calls of that participant, and nobody else.
+ghost use Rattle.inst_hub.specs.Calls.{IsOf, AreOf};
+
+use crate::comparing::same;
+use crate::hub::asking::{fitting, last, last_two, submitted, told};
+use crate::hub::start::Start;
+use inst_base::{Fault, mention};
+use inst_command::{Command, Outcome, State};
+use inst_hub::{Gate, Hub, Teller, Ticket};
+use inst_rows::settings;
+use std::process::Abort;
+use std::sync::Wait;
+use std::sync::atomic::{AtomicU32, Ordering};
+use std::thread::{Threads, join, yield_now};
+
+/// How many turns a gate lets others run after all that can be done meanwhile is done.
+const LINGERS: u32 = 1_000;
+
+/// A gate that waits inside the lock of participant 0 until two others are done, and notes what it saw.
+#[derive(Drop)]
+struct Waits {
+    /// The gate and the three other threads are here.
+    begun: Start,
+    /// Who isn't held up is done.
+    done: Start,
+    /// Another call of participant 0 was answered.
+    queued: Start,
+    /// How often the gate was passed.
+    passes: AtomicU32,
+    /// For whom it was passed last.
+    who: AtomicU32,
+    /// 1 where the two were done inside the lock.
+    through: AtomicU32,
+    /// 1 where the other call of participant 0 was answered inside it.
+    overtaken: AtomicU32,
+}
+
+impl Waits {
+    fn new() -> Waits {
+        Waits {
+            begun: Start::new(),
+            done: Start::new(),
+            queued: Start::new(),
+            passes: AtomicU32::new(0),
+            who: AtomicU32::new(u32::MAX),
+            through: AtomicU32::new(0),
+            overtaken: AtomicU32::new(0),
+        }
+    }
+
+    /// Waits with the three others until all four are here.
+    fn begin(&self) -> bool {
+        self.begun.arrive();
+        self.begun.wait_for(4)
+    }
+
+    fn seen(&self) -> Passed {
+        Passed {
+            passes: self.passes.load(Ordering::SeqCst),
+            who: self.who.load(Ordering::SeqCst),
+            through: self.through.load(Ordering::SeqCst) == 1,
+            overtaken: self.overtaken.load(Ordering::SeqCst) == 1,
+        }
+    }
+}
+
+/// What the gate saw.
+#[derive(Clone, Copy, Debug, PartialEq, Eq)]
+struct Passed {
+    passes: u32,
+    who: u32,
+    through: bool,
+    overtaken: bool,
+}
+
+impl Gate for Waits {
+    fn pass(&self, who: u8) {
+        self.passes.fetch_add(1, Ordering::SeqCst);
+        self.who.store(u32::from(who), Ordering::SeqCst);
+        let through = self.begin() && self.done.wait_for(2);
+        self.through.store(u32::from(through), Ordering::SeqCst);
+        for _ in 0..LINGERS {
+            yield_now();
+        }
+        self.overtaken
+            .store(u32::from(self.queued.has(1)), Ordering::SeqCst);
+    }
+}
+
+/// Asks the position of participant 0, with the gate passed inside its lock.
+fn held<R: Wait>(rt: &R, hub: &Hub, teller: &mut Teller, gate: &Waits) -> Result<(), Fault>
+    requires { IsOf hub.now teller.old }
+{
+    let ask = fitting(hub, 0, Command::Position, 1_000)?;
+    hub.call_with(rt, teller, &ask, gate)?;
+    Ok(())
+}
+
+/// Asks the same position meanwhile.
+fn queued<R: Wait>(rt: &R, hub: &Hub, teller: &mut Teller, gate: &Waits) -> Result<(), Fault>
+    requires { IsOf hub.now teller.old }
+{
+    gate.begin();
+    told(rt, hub, teller, 0, Command::Position, 1_000)?;
+    gate.queued.arrive();
+    Ok(())
+}
+
+/// Asks the position of participant 2 meanwhile.
+fn answered<R: Wait>(rt: &R, hub: &Hub, teller: &mut Teller, gate: &Waits) -> Result<(), Fault>
+    requires { IsOf hub.now teller.old }
+{
+    gate.begin();
+    told(rt, hub, teller, 2, Command::Position, 1_000)?;
+    gate.done.arrive();
+    Ok(())
+}
+
+/// Peeks meanwhile.
+fn peeked(teller: &mut Teller, ticket: &Ticket, gate: &Waits) -> State {
+    gate.begin();
+    let state = teller.peek(ticket);
+    gate.done.arrive();
+    state
+}
+
+/// Participant 2 is asked while another thread peeks.
+fn apart<R: Threads + Wait + Sync>(
+    rt: &R,
+    hub: &Hub,
+    mut asker: Teller,
+    mut peeker: Teller,
+    ticket: &Ticket,
+    gate: &Waits,
+) -> (Result<(), Fault>, State)
+    requires { IsOf hub.now asker }
+{
+    join(
+        rt,
+        || answered(rt, hub, &mut asker, gate),
+        || peeked(&mut peeker, ticket, gate),
+    )
+}
+
+/// What is seen of the transfer while participant 0 is asked by one thread, and participant 2 by another.
+fn meanwhile<R: Threads + Wait + Sync>(
+    rt: &R,
+    hub: &Hub,
+    tellers: (Teller, Teller, Teller),
+    ticket: &Ticket,
+    gate: &Waits,
+) -> Result<State, Fault>
+    requires { IsOf hub.now tellers.0 × IsOf hub.now tellers.1 }
+{
+    let (mut first, second, third) = tellers;
+    let (queued, (answered, state)) = join(
+        rt,
+        || queued(rt, hub, &mut first, gate),
+        move || -> (Result<(), Fault>, State)
+            requires { IsOf hub.now second }
+        { apart(rt, hub, second, third, ticket, gate) },
+    );
+    queued.and(answered)?;
+    Ok(state)
+}
+
+/// What is seen while one teller holds the lock of participant 0, and what its gate saw.
+fn through<R: Threads + Wait + Sync>(
+    rt: &R,
+    hub: &Hub,
+    mut holder: Teller,
+    others: (Teller, Teller, Teller),
+    ticket: &Ticket,
+) -> Result<(State, Passed), Fault>
+    requires { IsOf hub.now holder × IsOf hub.now others.0 × IsOf hub.now others.1 }
+{
+    let gate = Waits::new();
+    let seen = &gate;
+    let (held, state) = join(
+        rt,
+        || held(rt, hub, &mut holder, seen),
+        move || -> Result<State, Fault>
+            requires { IsOf hub.now others.0 × IsOf hub.now others.1 }
+        { meanwhile(rt, hub, others, ticket, seen) },
+    );
+    let state = held.and(state)?;
+    Ok((state, gate.seen()))
+}
+
+/// What is seen by four tellers, of which the last has submitted a transfer.
+fn seen<R: Threads + Wait + Sync>(
+    rt: &R,
+    hub: &Hub,
+    tellers: &mut Vec<Teller>,
+) -> Result<(State, Passed), Fault>
+    requires { AreOf hub.now tellers.old.items }
+{
+    let mut fourth = last(hub, tellers)?;
+    let ticket = submitted(rt, hub, &mut fourth)?;
+    let third = last(hub, tellers)?;
+    let (first, second) = last_two(hub, tellers)?;
+    through(rt, hub, first, (second, third, fourth), &ticket)
+}
+
+fn lets_through<R: Threads + Wait + Sync + Abort>(
+    rt: &R,
+    hub: &Hub,
+    tellers: &mut Vec<Teller>,
+) -> Result<(), Fault>
+    requires { AreOf hub.now tellers.old.items }
+{
+    mention::<Outcome>();
+    let expected = Passed {
+        passes: 1,
+        who: 0,
+        through: true,
+        overtaken: false,
+    };
+    same(rt, seen(rt, hub, tellers)?, (State::Pending, expected));
+    Ok(())
+}
+
+#[test]
+fn gate_lets_others_through(rt: HostRuntime) -> Result<(), Fault> {
+    let (hub, mut tellers) = Hub::open(rt.alloc(), settings(rt.alloc())?, 4)?;
+    lets_through(&rt, &hub, &mut tellers)
+}

@@ -1,0 +1,86 @@
+//! Two runs of one log, of which the first is cut off after each call of its disk: each line is answered once.
+ghost use Rattle.std.specs.Prelude.{◌≡◌, [], IfOk};
+ghost use Rattle.std.proofs.Common.{ap};
+ghost use Rattle.inst_log.specs.Layout.{blocks};
+ghost use Rattle.inst_log.specs.Serving.{Replies, AllBatches};
+
+use crate::log::batches::{one, put, two};
+use inst_log::{Answers, whole_lines};
+use inst_log_restart::run_twice;
+use sqlite_disk::Memory;
+use std::alloc::AllocError;
+use std::process::Abort;
+use std::test::Fail;
+
+/// Answers each line with itself.
+#[derive(Drop)]
+struct Echo;
+
+impl Answers for Echo {
+    ghost says = { λ _ replies. replies ≡ blocks };
+
+    ghost none = { λ _ _ is. ap (λ (f : Replies). f []) is };
+
+    fn answer(&mut self, batch: &[u8], out: &mut Vec<u8>) -> Result<(), AllocError> {
+        out.extend_from_slice(whole_lines(batch))
+    }
+}
+
+/// What both runs told, if so many batches of the first stand.
+const TOLD: &[&[u8]] = &[
+    b"{last}\n",
+    b"{\"a\":1}\n{\"b\":2}\n{last}\n",
+    b"{\"a\":1}\n{\"b\":2}\n{\"c\":3}\n{last}\n",
+];
+
+/// The batches of the first run.
+fn first_batches(rt: &(impl Abort + AllocGlobal)) -> Result<Vec<Vec<u8>>, Fail>
+    ensures { IfOk result (λ batches. AllBatches batches.items) }
+{
+    let first = two(rt, b"{\"a\":1}", b"{\"b\":2}")?;
+    let second = one(rt, b"{\"c\":3}")?;
+    Ok(vec![in rt.alloc(); first, second]?)
+}
+
+/// The batch of the second run.
+fn last_batch(rt: &(impl Abort + AllocGlobal)) -> Result<Vec<Vec<u8>>, Fail>
+    ensures { IfOk result (λ batches. AllBatches batches.items) }
+{
+    let last = one(rt, b"{last}")?;
+    Ok(vec![in rt.alloc(); last]?)
+}
+
+/// What the reader has of both runs, of which the first stops after so many calls.
+fn told(rt: &(impl Abort + AllocGlobal), calls: u64) -> Result<Vec<u8>, Fail> {
+    let mut disk = Memory::new(rt.alloc());
+    put(&mut disk, b"")?;
+    let settings = one(rt, b"{\"s\":1}")?;
+    let batches = first_batches(rt)?;
+    let more = last_batch(rt)?;
+    Ok(
+        run_twice(
+            rt.alloc(),
+            disk,
+            calls,
+            &settings,
+            Echo,
+            Echo,
+            &batches,
+            &more,
+        )?
+        .told,
+    )
+}
+
+#[test]
+fn two_runs_say_each_line_once(rt: HostRuntime) -> Result<(), Fail> {
+    let mut longest = 0;
+    for calls in 0..40 {
+        let told = told(&rt, calls)?;
+        let stand = TOLD.iter().position(|front| *front == told.as_slice());
+        assert!(rt; stand.is_some_and(|stand| stand >= longest));
+        longest = stand.unwrap_or(0);
+    }
+    assert_eq!(rt; longest, 2);
+    Ok(())
+}

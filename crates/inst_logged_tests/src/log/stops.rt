@@ -1,0 +1,164 @@
+//! A machine that stops at each call of its disk in turn. What the last call wrote is torn at each byte.
+ghost use Rattle.std.specs.Prelude.{IsTrue};
+ghost use Rattle.sqlite_disk.specs.Disk.{Only};
+ghost use Rattle.inst_log.specs.Layout.{IsBatch};
+
+use crate::log::batches::{one, put, two};
+use inst_log::{Log, LogError};
+use sqlite_disk::{Disk, Fuse, Memory};
+use std::alloc::{AllocError, Global};
+use std::process::Abort;
+use std::test::Fail;
+
+const SETTINGS: &[u8] = b"{\"s\":1}";
+
+const FIRST: [&[u8]; 2] = [b"{\"d\":5}", b""];
+
+const SECOND: &[u8] = b"{\0}";
+
+const TEXT_OF_SETTINGS: &[u8] = b"{\"s\":1}\n";
+
+/// What both batches may have brought.
+const FRONTS: [&[u8]; 3] = [b"", b"{\"d\":5}\n{\x01\n", b"{\"d\":5}\n{\x01\n{\0}\n"];
+
+/// More calls than a run makes.
+const CALLS: u64 = 30;
+
+/// The calls that put the first bytes on the disk.
+const FIRST_CALLS: u64 = 2;
+
+/// New files, and logs that are cut short, each with the lines that it has behind its settings.
+const STARTS: &[(&[u8], &[u8])] = &[
+    (b"", b""),
+    (b"{", b""),
+    (b"x\"s\":1}\n\0", b""),
+    (b"{\"s\":1}\n{\"a\":2}\n{\"b\"", b"{\"a\":2}\n"),
+    (b"{\"s\":1}\n\0\"a\":2}\n{\"b\":3}\n{\"c\":4}\n\0", b""),
+];
+
+/// Opens a log and adds two batches; `added` says how much of that is acknowledged.
+fn run<D: Disk>(
+    alloc: Global,
+    log: &mut Log<D>,
+    settings: &[u8],
+    first: &[u8],
+    second: &[u8],
+    added: &mut usize,
+) -> Result<(), LogError>
+    requires usable { IsTrue (D.Disk.is_usable log.old.disk) }
+    requires known { Only (D.Disk.seen log.old.disk) (D.Disk.may_leave log.old.disk) }
+    requires settings { IsBatch settings.now }
+    requires first { IsBatch first.now }
+    requires second { IsBatch second.now }
+{
+    log.open(alloc, settings)?;
+    *added = 1;
+    log.append(first)?;
+    *added = 2;
+    log.append(second)?;
+    *added = 3;
+    Ok(())
+}
+
+/// What a run leaves that stops after so many calls, and how much of it is acknowledged.
+#[derive(Drop)]
+struct Stopped {
+    bytes: Vec<u8>,
+    added: usize,
+}
+
+/// How much is acknowledged of the settings and both batches.
+fn added<D: Disk>(rt: &(impl Abort + AllocGlobal), log: &mut Log<D>) -> Result<usize, Fail>
+    requires usable { IsTrue (D.Disk.is_usable log.old.disk) }
+    requires known { Only (D.Disk.seen log.old.disk) (D.Disk.may_leave log.old.disk) }
+{
+    let settings = one(rt, SETTINGS)?;
+    let first = two(rt, FIRST[0], FIRST[1])?;
+    let second = one(rt, SECOND)?;
+    let mut added = 0;
+    let ended = run(rt.alloc(), log, &settings, &first, &second, &mut added).is_ok();
+    assert_eq!(rt; ended, added == 3);
+    Ok(added)
+}
+
+fn stop(rt: &(impl Abort + AllocGlobal), start: &[u8], calls: u64) -> Result<Stopped, Fail> {
+    let mut disk = Fuse::new(Memory::new(rt.alloc()), calls);
+    put(&mut disk, start)?;
+    let mut log = Log { disk, end: 0 };
+    let added = added(rt, &mut log)?;
+    let bytes = log.disk.inner().bytes().to_vec(rt.alloc())?;
+    Ok(Stopped { bytes, added })
+}
+
+/// The file after a call that was cut off behind so many of its bytes.
+fn torn(alloc: Global, before: &[u8], after: &[u8], len: usize) -> Result<Vec<u8>, AllocError> {
+    let mut bytes = Vec::new(alloc);
+    bytes.extend_from_slice(&after[..len.min(after.len())])?;
+    bytes.extend_from_slice(&before[len.min(before.len())..])?;
+    Ok(bytes)
+}
+
+/// The text of a log with these bytes.
+fn text_of(rt: &(impl Abort + AllocGlobal), bytes: &[u8]) -> Result<Vec<u8>, Fail> {
+    let alloc = rt.alloc();
+    let settings = one(rt, SETTINGS)?;
+    let mut disk = Memory::new(alloc);
+    put(&mut disk, bytes)?;
+    let mut log = Log { disk, end: 0 };
+    Ok(log.open(alloc, &settings)?)
+}
+
+/// Says whether the text is that of a log with the settings, the lines that it had at first, and then a front of the
+/// two batches, of which so many are acknowledged.
+fn is_front(text: &[u8], kept: &[u8], acknowledged: usize) -> bool {
+    let batches = match text.strip_prefix(TEXT_OF_SETTINGS) {
+        Some(lines) => lines.strip_prefix(kept),
+        None => None,
+    };
+    match batches {
+        Some(batches) => FRONTS
+            .iter()
+            .skip(acknowledged)
+            .any(|front| *front == batches),
+        None => false,
+    }
+}
+
+/// Tries each byte at which the last call may be cut off.
+fn tears(
+    rt: &(impl Abort + AllocGlobal),
+    kept: &[u8],
+    before: &Stopped,
+    after: &Stopped,
+) -> Result<(), Fail> {
+    for len in 0..=before.bytes.len().max(after.bytes.len()) {
+        let bytes = torn(rt.alloc(), &before.bytes, &after.bytes, len)?;
+        let text = text_of(rt, &bytes)?;
+        assert!(rt; is_front(&text, kept, before.added.saturating_sub(1)));
+    }
+    Ok(())
+}
+
+/// Stops at each call of a run that starts so, until all is acknowledged.
+fn stop_at_each_call(
+    rt: &(impl Abort + AllocGlobal),
+    start: &[u8],
+    kept: &[u8],
+) -> Result<(), Fail> {
+    let mut before = stop(rt, start, FIRST_CALLS)?;
+    for calls in FIRST_CALLS + 1..CALLS {
+        let after = stop(rt, start, calls)?;
+        tears(rt, kept, &before, &after)?;
+        before = after;
+    }
+    assert_eq!(rt; before.added, 3);
+    Ok(())
+}
+
+#[test]
+fn each_stop_leaves_a_front(rt: HostRuntime) -> Result<(), Fail> {
+    for &(start, kept) in STARTS {
+        stop_at_each_call(&rt, start, kept)?;
+    }
+    Ok(())
+}

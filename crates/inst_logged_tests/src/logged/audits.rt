@@ -1,0 +1,167 @@
+//! Books that were changed in the file of a log.
+use crate::comparing::{same, same_at};
+use crate::logged::keeping::{filled, text_of};
+use inst_lines::Mode;
+use inst_log::LogError;
+use inst_logged::{LoggedError, LoggedHub};
+use inst_rows::settings;
+use inst_settings::Settings;
+use sqlite_disk::Memory;
+use std::alloc::Global;
+use std::process::Abort;
+use std::test::Fail;
+
+/// The line of the settings before four lines of books.
+const SETTINGS: &[u8] =
+    br#"{"ahead":1000,"base":0,"books":4,"ceiling":99999999999,"fundings":4,"limit":10000,"log":"run","margin":0,"participants":["AAAADEFF","BBBBFRPP","CCCCITMM"],"places":2,"version":1}"#;
+
+const FUNDED: &[u8] = br#"{"book":"AAAADEFF","cents":500,"event":"funded","ref":"F1"}"#;
+
+const TAKEN: &[u8] =
+    br#"{"book":"AAAADEFF","cents":20,"event":"taken","id":"T1","stamp":1000,"to":"BBBBFRPP"}"#;
+
+const CAME: &[u8] =
+    br#"{"book":"BBBBFRPP","cents":20,"deadline":11000,"event":"forwarded","from":"AAAADEFF","id":"T1"}"#;
+
+const FETCHED: &[u8] = br#"{"book":"BBBBFRPP","count":1,"event":"fetched"}"#;
+
+/// Books in which one thing is wrong.
+const WRONG: &[[&[u8]; 4]] = &[
+    // more is sent than was funded
+    [
+        br#"{"book":"AAAADEFF","cents":19,"event":"funded","ref":"F1"}"#,
+        TAKEN,
+        CAME,
+        FETCHED,
+    ],
+    // a transfer before the money
+    [TAKEN, FUNDED, CAME, FETCHED],
+    // a reference twice
+    [FUNDED, FUNDED, CAME, FETCHED],
+    // what came is another amount
+    [
+        FUNDED,
+        TAKEN,
+        br#"{"book":"BBBBFRPP","cents":21,"deadline":11000,"event":"forwarded","from":"AAAADEFF","id":"T1"}"#,
+        FETCHED,
+    ],
+    // it came with another deadline
+    [
+        FUNDED,
+        TAKEN,
+        br#"{"book":"BBBBFRPP","cents":20,"deadline":11001,"event":"forwarded","from":"AAAADEFF","id":"T1"}"#,
+        FETCHED,
+    ],
+    // it came to another one
+    [
+        FUNDED,
+        TAKEN,
+        br#"{"book":"CCCCITMM","cents":20,"deadline":11000,"event":"forwarded","from":"AAAADEFF","id":"T1"}"#,
+        br#"{"book":"CCCCITMM","count":1,"event":"fetched"}"#,
+    ],
+    // it never came, and is pending
+    [
+        FUNDED,
+        TAKEN,
+        br#"{"book":"CCCCITMM","cents":1,"event":"funded","ref":"F1"}"#,
+        br#"{"book":"CCCCITMM","cents":1,"event":"funded","ref":"F2"}"#,
+    ],
+    // more is handed out than came
+    [
+        FUNDED,
+        TAKEN,
+        CAME,
+        br#"{"book":"BBBBFRPP","count":2,"event":"fetched"}"#,
+    ],
+    // one side has booked it alone
+    [
+        FUNDED,
+        TAKEN,
+        CAME,
+        br#"{"book":"BBBBFRPP","event":"booked","from":"AAAADEFF","id":"T1","outcome":"accepted"}"#,
+    ],
+    // no event at all
+    [
+        FUNDED,
+        TAKEN,
+        CAME,
+        br#"{"book":"BBBBFRPP","event":"forgotten"}"#,
+    ],
+    // a participant that there isn't
+    [
+        FUNDED,
+        TAKEN,
+        CAME,
+        br#"{"book":"DDDDESMM","count":1,"event":"fetched"}"#,
+    ],
+];
+
+/// A log with these lines of books.
+fn log_with(alloc: Global, books: &[&[u8]]) -> Result<Vec<u8>, Fail> {
+    let books = text_of(alloc, books)?;
+    let mut log = text_of(alloc, &[SETTINGS])?;
+    log.extend_from_slice(&books)?;
+    log.push(0)?;
+    Ok(log)
+}
+
+/// How a hub opens on a log with these lines of books.
+fn open(
+    alloc: Global,
+    settings: &Settings,
+    books: &[&[u8]],
+) -> Result<Result<(), LoggedError>, Fail> {
+    let log = log_with(alloc, books)?;
+    let disk = filled(Memory::new(alloc), &log)?;
+    let mut reader: &[u8] = b"";
+    match LoggedHub::of_log(alloc, Mode::Run, settings, disk) {
+        Ok(mut hub) => Ok(hub.run(alloc, None, &mut reader, &mut Vec::new(alloc))),
+        Err(error) => Ok(Err(error)),
+    }
+}
+
+fn is_refused(
+    rt: &(impl Abort + AllocGlobal),
+    settings: &Settings,
+    books: &[&[u8]],
+) -> Result<(), Fail> {
+    let opened = open(rt.alloc(), settings, books)?;
+    same_at(rt, books, matches!(opened, Err(LoggedError::Books)), true);
+    Ok(())
+}
+
+#[test]
+fn books_that_fit_open(rt: HostRuntime) -> Result<(), Fail> {
+    let settings = settings(rt.alloc())?;
+    let opened = open(rt.alloc(), &settings, &[FUNDED, TAKEN, CAME, FETCHED])?;
+    same(&rt, opened.is_ok(), true);
+    Ok(())
+}
+
+#[test]
+fn books_that_do_not_fit_are_refused(rt: HostRuntime) -> Result<(), Fail> {
+    let settings = settings(rt.alloc())?;
+    for books in WRONG {
+        is_refused(&rt, &settings, books)?;
+    }
+    Ok(())
+}
+
+fn is_in_another_form(
+    rt: &(impl Abort + AllocGlobal),
+    settings: &Settings,
+    books: &[&[u8]],
+) -> Result<(), Fail> {
+    let opened = open(rt.alloc(), settings, books)?;
+    let is_other = matches!(opened, Err(LoggedError::Log(LogError::OtherSettings)));
+    same(rt, is_other, true);
+    Ok(())
+}
+
+#[test]
+fn books_in_another_form_are_refused(rt: HostRuntime) -> Result<(), Fail> {
+    let settings = settings(rt.alloc())?;
+    let spaced = br#"{"book":"BBBBFRPP", "count":1,"event":"fetched"}"#;
+    is_in_another_form(&rt, &settings, &[FUNDED, TAKEN, CAME, spaced])?;
+    is_in_another_form(&rt, &settings, &[FUNDED, TAKEN, CAME])
+}

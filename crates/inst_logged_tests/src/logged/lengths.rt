@@ -1,0 +1,129 @@
+//! Lines of each length, read in pieces of each size, and answered again.
+use crate::comparing::same_at;
+use crate::logged::keeping::{Wanted, go_on, plainly, serve};
+use inst_lines::Mode;
+use inst_rows::{Pieces, settings};
+use inst_settings::Settings;
+use sqlite_disk::Memory;
+use std::alloc::Global;
+use std::process::Abort;
+use std::test::Fail;
+
+/// Lines, each with the length to which it is filled up with spaces. The read buffer has room for 65,536 bytes.
+const ROWS: &[(&[u8], usize)] = &[
+    (
+        br#"{"at":0,"cents":1,"cmd":"fund","ref":"F1","who":"AAAADEFF"}"#,
+        4_096,
+    ),
+    (
+        br#"{"at":0,"cents":20,"cmd":"fund","ref":"F2","who":"AAAADEFF"}"#,
+        4_097,
+    ),
+    (b"", 0),
+    (
+        br#"{"at":0,"cents":300,"cmd":"fund","ref":"F3","who":"AAAADEFF"}"#,
+        70_000,
+    ),
+    (b"[]", 4_096),
+    (b"[]", 4_097),
+    (b"\x01{", 70_000),
+    (
+        br#"{"at":0,"cents":4000,"cmd":"fund","ref":"F4","who":"AAAADEFF"}"#,
+        0,
+    ),
+    (br#"{"at":0,"cmd":"position","who":"AAAADEFF"}"#, 100),
+];
+
+/// How many bytes a read gives at most.
+const SIZES: [usize; 3] = [100, 4_097, 1_000_000];
+
+/// The lines, each with a newline but for the last one.
+fn text(alloc: Global) -> Result<Vec<u8>, Fail> {
+    let mut text = Vec::new(alloc);
+    for (line, len) in ROWS {
+        if !text.is_empty() {
+            text.push(b'\n')?;
+        }
+        text.extend_from_slice(line)?;
+        let filled = text.len() + len.saturating_sub(line.len());
+        text.resize(filled, b' ')?;
+    }
+    Ok(text)
+}
+
+/// Compares what is written to the lines with the plain replies, and gives their log.
+fn answer(
+    rt: &(impl Abort + AllocGlobal),
+    mode: Mode,
+    settings: &Settings,
+    wanted: &Wanted,
+    most: usize,
+) -> Result<Memory, Fail> {
+    let mut reader = Pieces {
+        bytes: &wanted.input,
+        most,
+        fails: false,
+    };
+    let mut written = Vec::new(rt.alloc());
+    let ended = serve(
+        rt.alloc(),
+        mode,
+        settings,
+        b"",
+        None,
+        &mut reader,
+        &mut written,
+    )?;
+    ended.outcome?;
+    same_at(rt, most, written.as_slice(), wanted.replies.as_slice());
+    Ok(ended.disk)
+}
+
+/// Compares what is written to a log alone with the plain replies.
+fn answer_again(
+    rt: &(impl Abort + AllocGlobal),
+    mode: Mode,
+    settings: &Settings,
+    wanted: &Wanted,
+    log: &[u8],
+    most: usize,
+) -> Result<(), Fail> {
+    let mut written = Vec::new(rt.alloc());
+    go_on(rt.alloc(), mode, settings, log, Some(0), b"", &mut written)?;
+    same_at(rt, most, written.as_slice(), wanted.replies.as_slice());
+    Ok(())
+}
+
+/// Reads the lines by so many bytes, and then their log.
+fn answer_in_pieces(
+    rt: &(impl Abort + AllocGlobal),
+    mode: Mode,
+    settings: &Settings,
+    wanted: &Wanted,
+    most: usize,
+) -> Result<(), Fail> {
+    let disk = answer(rt, mode, settings, wanted, most)?;
+    answer_again(rt, mode, settings, wanted, disk.bytes(), most)
+}
+
+/// The lines of each length, and what is to be written to them.
+fn wanted_of(alloc: Global, mode: Mode, settings: &Settings) -> Result<Wanted, Fail> {
+    let input = text(alloc)?;
+    let replies = plainly(alloc, mode, settings, &input)?;
+    Ok(Wanted { input, replies })
+}
+
+fn answer_in_each_size(rt: &(impl Abort + AllocGlobal), mode: Mode) -> Result<(), Fail> {
+    let settings = settings(rt.alloc())?;
+    let wanted = wanted_of(rt.alloc(), mode, &settings)?;
+    for most in SIZES {
+        answer_in_pieces(rt, mode, &settings, &wanted, most)?;
+    }
+    Ok(())
+}
+
+#[test]
+fn lines_of_each_length(rt: HostRuntime) -> Result<(), Fail> {
+    answer_in_each_size(&rt, Mode::Run)?;
+    answer_in_each_size(&rt, Mode::Play)
+}

@@ -1,0 +1,268 @@
+//! Logs that begin with the books of others.
+ghost use Rattle.std.specs.Prelude.{IsTrue};
+ghost use Rattle.sqlite_disk.specs.Disk.{Only};
+ghost use Rattle.inst_world.specs.NextOpening.{CanOpenFrom};
+ghost use Rattle.inst_logged.specs.Logged.{IsUnbegun};
+
+use crate::comparing::{same, same_at};
+use crate::logged::keeping::{filled, text_of};
+use inst_journal::Journal;
+use inst_lines::Mode;
+use inst_logged::LoggedHub;
+use inst_rows::settings;
+use inst_settings::Settings;
+use sqlite_disk::{Disk, Memory};
+use std::alloc::Global;
+use std::process::Abort;
+use std::test::Fail;
+
+/// Lines of a first opening, which fill both places of `AAAADEFF`.
+const FIRST: &[&[u8]] = &[
+    br#"{"at":0,"cents":50000,"cmd":"fund","ref":"F1","who":"AAAADEFF"}"#,
+    br#"{"at":1,"cents":700,"cmd":"fund","ref":"F1","who":"CCCCITMM"}"#,
+    br#"{"at":2,"cents":200,"cmd":"defund","ref":"D1","who":"CCCCITMM"}"#,
+    br#"{"at":1000,"cents":20000,"cmd":"submit","id":"T1","stamp":1000,"to":"BBBBFRPP","who":"AAAADEFF"}"#,
+    br#"{"at":1000,"cents":300,"cmd":"submit","id":"T2","stamp":1000,"to":"BBBBFRPP","who":"AAAADEFF"}"#,
+    br#"{"at":1000,"cents":500,"cmd":"submit","id":"T1","stamp":1000,"to":"AAAADEFF","who":"CCCCITMM"}"#,
+    br#"{"at":1500,"cmd":"fetch","max":1,"who":"BBBBFRPP"}"#,
+    br#"{"at":2000,"cmd":"confirm","from":"AAAADEFF","id":"T1","who":"BBBBFRPP"}"#,
+    br#"{"at":2001,"cmd":"reject","from":"CCCCITMM","id":"T1","reason":"AC04","who":"AAAADEFF"}"#,
+];
+
+/// The log that begins with its books.
+const NEXT: &[&[u8]] = &[
+    br#"{"ahead":1000,"base":0,"books":14,"ceiling":99999999999,"fundings":4,"limit":10000,"log":"run","margin":0,"participants":["AAAADEFF","BBBBFRPP","CCCCITMM"],"places":2,"version":1}"#,
+    br#"{"book":"AAAADEFF","cents":50000,"event":"funded","ref":"F1"}"#,
+    br#"{"book":"AAAADEFF","cents":20000,"event":"taken","id":"T1","stamp":1000,"to":"BBBBFRPP"}"#,
+    br#"{"book":"AAAADEFF","cents":300,"event":"taken","id":"T2","stamp":1000,"to":"BBBBFRPP"}"#,
+    br#"{"book":"AAAADEFF","cents":500,"deadline":11000,"event":"forwarded","from":"CCCCITMM","id":"T1"}"#,
+    br#"{"book":"AAAADEFF","event":"booked","from":"AAAADEFF","id":"T1","outcome":"accepted"}"#,
+    br#"{"book":"AAAADEFF","event":"booked","from":"CCCCITMM","id":"T1","outcome":"rejected","reason":"AC04"}"#,
+    br#"{"book":"BBBBFRPP","cents":20000,"deadline":11000,"event":"forwarded","from":"AAAADEFF","id":"T1"}"#,
+    br#"{"book":"BBBBFRPP","cents":300,"deadline":11000,"event":"forwarded","from":"AAAADEFF","id":"T2"}"#,
+    br#"{"book":"BBBBFRPP","count":1,"event":"fetched"}"#,
+    br#"{"book":"BBBBFRPP","event":"booked","from":"AAAADEFF","id":"T1","outcome":"accepted"}"#,
+    br#"{"book":"CCCCITMM","cents":700,"event":"funded","ref":"F1"}"#,
+    br#"{"book":"CCCCITMM","cents":200,"event":"defunded","ref":"D1"}"#,
+    br#"{"book":"CCCCITMM","cents":500,"event":"taken","id":"T1","stamp":1000,"to":"AAAADEFF"}"#,
+    br#"{"book":"CCCCITMM","event":"booked","from":"CCCCITMM","id":"T1","outcome":"rejected","reason":"AC04"}"#,
+];
+
+/// Lines of a next opening: of what was decided, of what is pending, and new ones.
+const SECOND: &[&[u8]] = &[
+    br#"{"at":2100,"cmd":"position","who":"AAAADEFF"}"#,
+    br#"{"at":2100,"cents":20000,"cmd":"submit","id":"T1","stamp":1000,"to":"BBBBFRPP","who":"AAAADEFF"}"#,
+    br#"{"at":2100,"cents":1,"cmd":"submit","id":"T1","stamp":1000,"to":"BBBBFRPP","who":"AAAADEFF"}"#,
+    br#"{"at":2100,"cents":1,"cmd":"submit","id":"T3","stamp":2100,"to":"BBBBFRPP","who":"AAAADEFF"}"#,
+    br#"{"at":2100,"cents":1,"cmd":"submit","id":"T4","stamp":2100,"to":"BBBBFRPP","who":"AAAADEFF"}"#,
+    br#"{"at":2100,"cmd":"fetch","max":10,"who":"BBBBFRPP"}"#,
+    br#"{"at":2200,"cmd":"confirm","from":"AAAADEFF","id":"T2","who":"BBBBFRPP"}"#,
+    br#"{"at":2300,"cmd":"position","who":"BBBBFRPP"}"#,
+];
+
+/// Its replies.
+const REPLIES: &[&[u8]] = &[
+    br#"{"available":29700,"position":30000,"reply":"position","reserved":300}"#,
+    br#"{"deadline":11000,"id":"T1","reply":"taken"}"#,
+    br#"{"fault":"Duplicate","number":9,"reply":"refused"}"#,
+    br#"{"deadline":12100,"id":"T3","reply":"taken"}"#,
+    br#"{"fault":"Full","number":12,"reply":"refused"}"#,
+    br#"{"entries":[{"cents":300,"deadline":11000,"from":"AAAADEFF","id":"T2"},{"cents":1,"deadline":12100,"from":"AAAADEFF","id":"T3"}],"reply":"inbox"}"#,
+    br#"{"from":"AAAADEFF","id":"T2","reply":"state","state":"accepted"}"#,
+    br#"{"available":20300,"position":20300,"reply":"position","reserved":0}"#,
+];
+
+/// A log of these lines.
+fn log_of(alloc: Global, lines: &[&[u8]]) -> Result<Vec<u8>, Fail> {
+    let mut log = text_of(alloc, lines)?;
+    log.push(0)?;
+    Ok(log)
+}
+
+/// Runs this hub, and gives its disk.
+fn run_through<D: Disk + Drop>(
+    alloc: Global,
+    mut hub: LoggedHub<D>,
+    input: &[u8],
+    written: &mut Vec<u8>,
+) -> Result<D, Fail>
+    requires unbegun { IsUnbegun hub.header.items hub.intake }
+    requires usable { IsTrue (D.Disk.is_usable hub.recorder.log.disk) }
+    requires known { IsTrue (D.Disk.is_clean hub.recorder.log.disk)
+        → Only (D.Disk.seen hub.recorder.log.disk) (D.Disk.may_leave hub.recorder.log.disk) }
+{
+    let mut reader = input;
+    let outcome = hub.run(alloc, None, &mut reader, written);
+    let disk = hub.into_disk();
+    outcome?;
+    Ok(disk)
+}
+
+/// Runs the hub of a log that has these bytes, and gives what the log has then.
+fn run_on(
+    alloc: Global,
+    settings: &Settings,
+    log: &[u8],
+    input: &[u8],
+    written: &mut Vec<u8>,
+) -> Result<Vec<u8>, Fail> {
+    let disk = filled(Memory::new(alloc), log)?;
+    let hub = LoggedHub::of_log(alloc, Mode::Run, settings, disk)?;
+    let disk = run_through(alloc, hub, input, written)?;
+    Ok(disk.bytes().to_vec(alloc)?)
+}
+
+/// The log that begins with these books.
+fn begun_from(alloc: Global, settings: &Settings, books: &[Journal]) -> Result<Vec<u8>, Fail>
+    requires { CanOpenFrom settings.now books.now }
+{
+    let disk = filled(Memory::new(alloc), b"")?;
+    let hub = LoggedHub::new_from(alloc, Mode::Run, settings, books, disk)?;
+    let disk = run_through(alloc, hub, b"", &mut Vec::new(alloc))?;
+    Ok(disk.bytes().to_vec(alloc)?)
+}
+
+/// The log that begins with the books that this hub leaves.
+fn next_of<D: Disk + Drop>(alloc: Global, hub: &mut LoggedHub<D>) -> Result<Option<Vec<u8>>, Fail>
+    requires unbegun { IsUnbegun hub.old.header.items hub.old.intake }
+    requires usable { IsTrue (D.Disk.is_usable hub.old.recorder.log.disk) }
+    requires known { IsTrue (D.Disk.is_clean hub.old.recorder.log.disk)
+        → Only (D.Disk.seen hub.old.recorder.log.disk) (D.Disk.may_leave hub.old.recorder.log.disk) }
+{
+    match hub.close(alloc)? {
+        Some(books) => Ok(Some(begun_from(alloc, hub.settings(), &books)?)),
+        None => Ok(None),
+    }
+}
+
+/// The log that begins with the books of this one.
+fn next(alloc: Global, settings: &Settings, log: &[u8]) -> Result<Option<Vec<u8>>, Fail> {
+    let disk = filled(Memory::new(alloc), log)?;
+    let mut hub = LoggedHub::of_log(alloc, Mode::Run, settings, disk)?;
+    next_of(alloc, &mut hub)
+}
+
+/// The log that the lines of the first opening leave.
+fn first(alloc: Global, settings: &Settings) -> Result<Vec<u8>, Fail> {
+    let input = text_of(alloc, FIRST)?;
+    run_on(alloc, settings, b"", &input, &mut Vec::new(alloc))
+}
+
+/// The log that begins with the books of that one.
+fn next_of_first(alloc: Global, settings: &Settings) -> Result<Option<Vec<u8>>, Fail> {
+    let log = first(alloc, settings)?;
+    next(alloc, settings, &log)
+}
+
+#[test]
+fn a_log_begins_with_the_books_of_another(rt: HostRuntime) -> Result<(), Fail> {
+    let settings = settings(rt.alloc())?;
+    let found = next_of_first(rt.alloc(), &settings)?;
+    let expected = log_of(rt.alloc(), NEXT)?;
+    same(&rt, found.as_deref(), Some(expected.as_slice()));
+    Ok(())
+}
+
+/// What is written to the lines of the next opening.
+fn gone_on(alloc: Global, settings: &Settings) -> Result<Vec<u8>, Fail> {
+    let log = log_of(alloc, NEXT)?;
+    let input = text_of(alloc, SECOND)?;
+    let mut written = Vec::new(alloc);
+    run_on(alloc, settings, &log, &input, &mut written)?;
+    Ok(written)
+}
+
+#[test]
+fn the_next_opening_goes_on(rt: HostRuntime) -> Result<(), Fail> {
+    let settings = settings(rt.alloc())?;
+    let written = gone_on(rt.alloc(), &settings)?;
+    let replies = text_of(rt.alloc(), REPLIES)?;
+    same(&rt, written.as_slice(), replies.as_slice());
+    Ok(())
+}
+
+/// Two lines of an opening: a transfer under a key of its own, and its confirmation.
+fn transfer(alloc: Global, number: u32) -> Result<String, Fail> {
+    let text = format!(in alloc;
+        "{{\"at\":{number},\"cents\":10,\"cmd\":\"submit\",\"id\":\"T{number}\",\"stamp\":{number},\"to\":\"BBBBFRPP\",\"who\":\"AAAADEFF\"}}\n{{\"at\":{number},\"cmd\":\"confirm\",\"from\":\"AAAADEFF\",\"id\":\"T{number}\",\"who\":\"BBBBFRPP\"}}\n"
+    )?;
+    Ok(text)
+}
+
+/// What is written to them.
+fn replies(alloc: Global, number: u32) -> Result<String, Fail> {
+    let text = format!(in alloc;
+        "{{\"deadline\":{},\"id\":\"T{number}\",\"reply\":\"taken\"}}\n{{\"from\":\"AAAADEFF\",\"id\":\"T{number}\",\"reply\":\"state\",\"state\":\"accepted\"}}\n",
+        u64::from(number) + 10_000
+    )?;
+    Ok(text)
+}
+
+/// Runs one opening of the chain, and gives its log.
+fn run_once_more(
+    rt: &(impl Abort + AllocGlobal),
+    settings: &Settings,
+    log: &[u8],
+    number: u32,
+) -> Result<Vec<u8>, Fail> {
+    let alloc = rt.alloc();
+    let input = transfer(alloc, number)?;
+    let replies = replies(alloc, number)?;
+    let mut written = Vec::new(alloc);
+    let log = run_on(alloc, settings, log, input.as_bytes(), &mut written)?;
+    same_at(rt, number, written.as_slice(), replies.as_bytes());
+    Ok(log)
+}
+
+/// Runs it, and gives the log that begins with its books.
+fn open_once_more(
+    rt: &(impl Abort + AllocGlobal),
+    settings: &Settings,
+    log: &[u8],
+    number: u32,
+) -> Result<Vec<u8>, Fail> {
+    let log = run_once_more(rt, settings, log, number)?;
+    match next(rt.alloc(), settings, &log)? {
+        Some(log) => Ok(log),
+        None => panic!(rt; "no opening behind {number}"),
+    }
+}
+
+/// Asks for the position of a participant behind a chain of openings.
+fn ends_with(
+    rt: &(impl Abort + AllocGlobal),
+    settings: &Settings,
+    log: &[u8],
+    line: &str,
+    reply: &str,
+) -> Result<(), Fail> {
+    let mut written = Vec::new(rt.alloc());
+    run_on(rt.alloc(), settings, log, line.as_bytes(), &mut written)?;
+    same(rt, written.as_slice(), reply.as_bytes());
+    Ok(())
+}
+
+/// The log behind fifty openings, before the first of which `AAAADEFF` is funded.
+fn fifty(rt: &(impl Abort + AllocGlobal), settings: &Settings) -> Result<Vec<u8>, Fail> {
+    let alloc = rt.alloc();
+    let input =
+        b"{\"at\":0,\"cents\":50000,\"cmd\":\"fund\",\"ref\":\"F1\",\"who\":\"AAAADEFF\"}\n";
+    let mut log = run_on(alloc, settings, b"", input, &mut Vec::new(alloc))?;
+    for number in 0..50 {
+        log = open_once_more(rt, settings, &log, number)?;
+    }
+    Ok(log)
+}
+
+#[test]
+fn fifty_openings_in_a_row(rt: HostRuntime) -> Result<(), Fail> {
+    let settings = settings(rt.alloc())?;
+    let log = fifty(&rt, &settings)?;
+    ends_with(
+        &rt,
+        &settings,
+        &log,
+        "{\"at\":60,\"cmd\":\"position\",\"who\":\"BBBBFRPP\"}\n",
+        "{\"available\":500,\"position\":500,\"reply\":\"position\",\"reserved\":0}\n",
+    )
+}

@@ -1,0 +1,135 @@
+//! Logs that aren't taken: they are left as they are, and nothing is written.
+use crate::comparing::{same, same_at};
+use crate::logged::keeping::{LINES, go_on, serve, text_of};
+use inst_base::Code;
+use inst_lines::Mode;
+use inst_log::LogError;
+use inst_logged::LoggedError;
+use inst_rows::{settings, settings_with};
+use inst_settings::{Numbers, Settings};
+use std::alloc::Global;
+use std::process::Abort;
+use std::test::Fail;
+
+/// Files that are no logs.
+const NO_LOGS: &[&[u8]] = &[b"hello\n", b"{\"ahead\":1000}", b"no log, and no line"];
+
+/// The settings of the worked rows, but for the order of the participants.
+fn reordered(alloc: Global) -> Result<Settings, Fail> {
+    let codes = [
+        Code::new("AAAADEFF")?,
+        Code::new("CCCCITMM")?,
+        Code::new("BBBBFRPP")?,
+    ];
+    let numbers = Numbers {
+        places: 2,
+        fundings: 4,
+        ..Numbers::DEFAULT
+    };
+    Ok(Settings::check(codes.to_vec(alloc)?, numbers)?)
+}
+
+/// Why a run with a file that has these bytes ends. It leaves the file and writes nothing.
+fn refusal(
+    rt: &(impl Abort + AllocGlobal),
+    mode: Mode,
+    settings: &Settings,
+    bytes: &[u8],
+) -> Result<LogError, Fail> {
+    let alloc = rt.alloc();
+    let mut reader: &[u8] = b"{}\n";
+    let mut written = Vec::new(alloc);
+    let ended = serve(
+        alloc,
+        mode,
+        settings,
+        bytes,
+        None,
+        &mut reader,
+        &mut written,
+    )?;
+    same(rt, (ended.disk.bytes(), written.len()), (bytes, 0));
+    match ended.outcome {
+        Err(LoggedError::Log(error)) => Ok(error),
+        _ => panic!(rt; "taken"),
+    }
+}
+
+fn is_of_others(
+    rt: &(impl Abort + AllocGlobal),
+    mode: Mode,
+    settings: &Settings,
+    log: &[u8],
+) -> Result<(), Fail> {
+    let error = refusal(rt, mode, settings, log)?;
+    same(rt, matches!(error, LogError::OtherSettings), true);
+    Ok(())
+}
+
+/// The log of a run with all lines.
+fn log_of(alloc: Global, mode: Mode, settings: &Settings) -> Result<Vec<u8>, Fail> {
+    let input = text_of(alloc, LINES)?;
+    let mut written = Vec::new(alloc);
+    go_on(alloc, mode, settings, b"", None, &input, &mut written)
+}
+
+/// The log is refused with so many places and this margin.
+fn others_with(
+    rt: &(impl Abort + AllocGlobal),
+    mode: Mode,
+    places: u16,
+    margin: u32,
+    log: &[u8],
+) -> Result<(), Fail> {
+    let settings = settings_with(rt.alloc(), places, margin)?;
+    is_of_others(rt, mode, &settings, log)
+}
+
+/// The log is refused with other settings.
+fn other_settings_are_refused(
+    rt: &(impl Abort + AllocGlobal),
+    mode: Mode,
+    log: &[u8],
+) -> Result<(), Fail> {
+    others_with(rt, mode, 3, 0, log)?;
+    others_with(rt, mode, 2, 1, log)?;
+    is_of_others(rt, mode, &reordered(rt.alloc())?, log)
+}
+
+fn others_are_refused(
+    rt: &(impl Abort + AllocGlobal),
+    mode: Mode,
+    other: Mode,
+) -> Result<(), Fail> {
+    let own = settings(rt.alloc())?;
+    let log = log_of(rt.alloc(), mode, &own)?;
+    is_of_others(rt, other, &own, &log)?;
+    other_settings_are_refused(rt, mode, &log)
+}
+
+#[test]
+fn logs_of_others_are_left(rt: HostRuntime) -> Result<(), Fail> {
+    others_are_refused(&rt, Mode::Run, Mode::Play)?;
+    others_are_refused(&rt, Mode::Play, Mode::Run)
+}
+
+fn is_no_log(
+    rt: &(impl Abort + AllocGlobal),
+    mode: Mode,
+    settings: &Settings,
+    bytes: &[u8],
+) -> Result<(), Fail> {
+    let error = refusal(rt, mode, settings, bytes)?;
+    same_at(rt, bytes, matches!(error, LogError::NoLog), true);
+    Ok(())
+}
+
+#[test]
+fn files_that_are_no_logs_are_left(rt: HostRuntime) -> Result<(), Fail> {
+    let settings = settings(rt.alloc())?;
+    for bytes in NO_LOGS {
+        is_no_log(&rt, Mode::Run, &settings, bytes)?;
+        is_no_log(&rt, Mode::Play, &settings, bytes)?;
+    }
+    Ok(())
+}

@@ -1,0 +1,166 @@
+//! Rows that are answered: by the ledger, by the plain functions on its events, and a statement by a walk over them.
+ghost use Rattle.std.specs.Prelude.{◌≡◌, true};
+ghost use Rattle.inst_command.specs.Ask.{command_fits};
+
+use crate::comparing::same_at;
+use crate::ledger::asked::{Asks, command, outcome};
+use crate::ledger::told::{Told, is_refused, is_reply};
+use inst_base::{Fault, Moment};
+use inst_command::{Ask, Outcome};
+use inst_journal::{Event, Handled, handle_command, reply_of};
+use inst_ledger::Ledger;
+use inst_rows::{End, Shown, are_lines};
+use inst_statement::statement;
+use std::alloc::Global;
+use std::process::Abort;
+
+/// What is asked, its reading, what is found of its transfer, and what is told.
+pub(crate) type Row = (Asks, u64, Option<End>, Told);
+
+/// Whether the plain function that answers alone answers so.
+fn is_answered(
+    alloc: Global,
+    ledger: &Ledger,
+    ask: &Ask,
+    found: &Option<Outcome>,
+    told: &Told,
+) -> bool
+    requires { command_fits ledger.now.book.settings ask.now.command ≡ true }
+{
+    let (settings, who) = (ledger.settings(), ledger.who());
+    let journal = ledger.journal();
+    match reply_of(alloc, settings, who, journal, &ask.command, ask.at, *found) {
+        Ok(reply) => is_reply(&reply, told),
+        Err(fault) => is_refused(fault, told),
+    }
+}
+
+/// Whether the plain function that handles a command answers so, and says that this is to be kept.
+fn is_handled(
+    alloc: Global,
+    ledger: &Ledger,
+    ask: &Ask,
+    found: &Option<Outcome>,
+    told: &Told,
+    wanted: &Option<Event>,
+) -> bool
+    requires { command_fits ledger.now.book.settings ask.now.command ≡ true }
+{
+    let (settings, who) = (ledger.settings(), ledger.who());
+    let events = ledger.journal().events();
+    match handle_command(alloc, settings, who, events, &ask.command, ask.at, *found) {
+        Ok(handled) => is_reply(&handled.reply, told) && handled.kept == *wanted,
+        Err(fault) => is_refused(fault, told),
+    }
+}
+
+/// Compares what the plain functions answer, and what is to be kept of it.
+fn plainly(
+    rt: &(impl Abort + AllocGlobal),
+    ledger: &Ledger,
+    ask: &Ask,
+    found: &Option<Outcome>,
+    told: &Told,
+    wanted: &Option<Event>,
+)
+    requires { command_fits ledger.now.book.settings ask.now.command ≡ true }
+{
+    let is_answered = is_answered(rt.alloc(), ledger, ask, found, told);
+    same_at(rt, *ask, is_answered, true);
+    let is_handled = is_handled(rt.alloc(), ledger, ask, found, told, wanted);
+    same_at(rt, *ask, is_handled, true);
+}
+
+/// Compares the lines that a walk over the events gives.
+pub(crate) fn walks(
+    rt: &(impl Abort + AllocGlobal),
+    ledger: &Ledger,
+    skip: u64,
+    count: u32,
+    wanted: &[Shown],
+) -> Result<(), Fault> {
+    let _ = ledger.settings();
+    let lines = statement(rt.alloc(), ledger.journal(), skip, count)?;
+    let lines = lines.as_slice();
+    same_at(rt, lines, are_lines(lines, wanted), true);
+    Ok(())
+}
+
+/// Compares them where a statement is asked for.
+fn by_a_walk(
+    rt: &(impl Abort + AllocGlobal),
+    ledger: &Ledger,
+    asks: &Asks,
+    told: &Told,
+) -> Result<(), Fault> {
+    match (asks, told) {
+        (Asks::Statement(skip, count), Told::Lines(wanted)) => {
+            walks(rt, ledger, *skip, *count, wanted)
+        }
+        _ => Ok(()),
+    }
+}
+
+/// Compares what the ledger and the plain functions answer, and keeps what is to be kept.
+fn by_the_ledger(
+    rt: &(impl Abort + AllocGlobal),
+    ledger: &mut Ledger,
+    ask: &Ask,
+    found: &Option<Outcome>,
+    told: &Told,
+) -> Result<(), Fault>
+    requires { command_fits ledger.old.book.settings ask.now.command ≡ true }
+{
+    match ledger.handle(rt.alloc(), &ask.command, ask.at, *found) {
+        Ok(Handled { reply, kept }) => {
+            same_at(rt, *ask, is_reply(&reply, told), true);
+            plainly(rt, ledger, ask, found, told, &kept);
+            if let Some(event) = kept {
+                ledger.keep(event)?;
+            }
+        }
+        Err(fault) => {
+            same_at(rt, *ask, is_refused(fault, told), true);
+            plainly(rt, ledger, ask, found, told, &None);
+        }
+    }
+    Ok(())
+}
+
+/// What the participant `who` asks at this reading.
+fn ask(who: u8, asks: &Asks, at: u64) -> Result<Ask, Fault> {
+    Ok(Ask {
+        who,
+        command: command(asks)?,
+        at: Moment::new(0, at)?,
+    })
+}
+
+/// What is found of a transfer that ended so, if it did.
+fn found(end: &Option<End>) -> Result<Option<Outcome>, Fault> {
+    match end {
+        None => Ok(None),
+        Some(end) => Ok(Some(outcome(end)?)),
+    }
+}
+
+fn answer(rt: &(impl Abort + AllocGlobal), ledger: &mut Ledger, row: &Row) -> Result<(), Fault> {
+    let (asks, at, end, told) = row;
+    let found = found(end)?;
+    let ask = ask(ledger.who(), asks, *at)?;
+    assert!(rt; ask.fits(ledger.settings()));
+    by_a_walk(rt, ledger, asks, told)?;
+    by_the_ledger(rt, ledger, &ask, &found, told)
+}
+
+/// Answers the rows in order.
+pub(crate) fn answers(
+    rt: &(impl Abort + AllocGlobal),
+    ledger: &mut Ledger,
+    rows: &[Row],
+) -> Result<(), Fault> {
+    for row in rows {
+        answer(rt, ledger, row)?;
+    }
+    Ok(())
+}

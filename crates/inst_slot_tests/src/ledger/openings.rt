@@ -1,0 +1,74 @@
+//! Books that are opened again: they keep the money and the keys, and begin a new statement.
+use crate::ledger::answering::Row;
+use crate::ledger::asked::Asks;
+use crate::ledger::cases::{Does, First, goes};
+use crate::ledger::told::Told;
+use inst_base::Fault;
+use inst_command::LineKind;
+use inst_rows::End;
+
+const GOES_ON: &[Row] = &[
+    (
+        Asks::Fetch(9),
+        1000,
+        None,
+        Told::Inbox(&[(0, "T1", 20_000, 11_000), (2, "T1", 20_000, 11_000)]),
+    ),
+    (
+        Asks::Confirm(0, "T1"),
+        1000,
+        Some(End::Accepted),
+        Told::Decided(0, "T1", End::Accepted),
+    ),
+    (
+        Asks::Position,
+        1000,
+        None,
+        Told::Position(20_000, 0, 20_000),
+    ),
+    (
+        Asks::Statement(0, 10),
+        1000,
+        None,
+        Told::Lines(&[(1, LineKind::Received, Some(0), "T1", 20_000, 20_000)]),
+    ),
+];
+
+const OPENS_AND_GOES_ON: &[Does] = &[Does::OpensAgain, Does::Answers(GOES_ON)];
+
+/// What came before an opening is fetched and confirmed after it.
+#[test]
+fn goes_on_after_an_opening(rt: HostRuntime) -> Result<(), Fault> {
+    goes(&rt, 1, First::Forwarded(20_000, 20_000), OPENS_AND_GOES_ON)
+}
+
+const FUNDED: &[Row] = &[(Asks::Fund("F1", 500), 0, None, Told::Done("F1"))];
+
+/// 500 cents before an opening and 300 after it: one line.
+pub(crate) const FUNDED_AGAIN: &[Row] = &[
+    (Asks::Statement(0, 10), 1000, None, Told::Lines(&[])),
+    (Asks::Fund("F2", 300), 1000, None, Told::Done("F2")),
+    (
+        Asks::Statement(0, 10),
+        1000,
+        None,
+        Told::Lines(&[(1, LineKind::Funded, None, "F2", 300, 800)]),
+    ),
+];
+
+const OPENS_AND_FUNDS: &[Does] = &[
+    Does::Answers(FUNDED),
+    Does::OpensAgain,
+    Does::Answers(FUNDED_AGAIN),
+];
+
+/// After an opening the lines count from 1 again, from the position that was reached.
+#[test]
+fn begins_a_new_statement(rt: HostRuntime) -> Result<(), Fault> {
+    goes(&rt, 0, First::Nothing, OPENS_AND_FUNDS)
+}
+
+#[test]
+fn reserves_and_keeps(rt: HostRuntime) -> Result<(), Fault> {
+    goes(&rt, 2, First::Opened, &[Does::Keeps(1)])
+}

@@ -1,0 +1,242 @@
+//! What is done, one act after another, what is answered, and what is kept.
+use crate::slot::answers::{Told, tells};
+use crate::slot::histories::{Kept, are_copied, copied, keeps};
+use inst_base::{Cents, Fault, Ident, Moment, Reason, mention};
+use inst_board::Place;
+use inst_command::{Answer, Command, Submission};
+use inst_rows::{Act, Slots};
+use std::alloc::Global;
+use std::process::Abort;
+use std::test::Fail;
+
+/// What is done, by short texts and plain numbers: a command, a step at a place of an originator, or a
+/// question to the slot.
+#[derive(Clone, Copy)]
+pub(crate) enum Does {
+    Fund(&'static str, u64),
+    Submit(&'static str, u8, u64, u64),
+    Confirm(u8, &'static str),
+    Reject(u8, &'static str, &'static str),
+    Investigate(&'static str),
+    Fetch(u32),
+    Position,
+    Statement,
+    Deliver(u8, u16),
+    Learn(u8, u16),
+    Adopt(u8, u16),
+    Expire(u16),
+    /// Whether the slot tells a place of its own transfer.
+    TellPlace(&'static str),
+    /// Whether the slot tells this beneficiary of its own transfer.
+    Pays(&'static str, Option<u8>),
+    /// Whether the first pair is followed by the second among what waits.
+    DueAfter(Option<(u64, u16)>, Option<(u64, u16)>),
+    /// Whether the first arrival from this position on with nothing booked is the second, by its position and the index of
+    /// its place, which is one of the first participant's.
+    UnbookedFrom(usize, Option<(usize, u16)>),
+    /// Whether so many places of carried transfers aren't found yet.
+    Misses(usize),
+}
+
+/// Who does what, when, and what is answered.
+pub(crate) type Row = (u8, Does, u64, Told);
+
+/// The first participant has 50,000 cents, and T1 over 20,000 to the second.
+const SUBMITTED: &[Row] = &[
+    (0, Does::Fund("F1", 50_000), 0, Told::Done),
+    (
+        0,
+        Does::Submit("T1", 1, 20_000, 1000),
+        1000,
+        Told::Taken(11_000),
+    ),
+];
+
+/// What is done at a hub with this margin, and the histories of the participants then.
+pub(crate) struct Case {
+    pub(crate) margin: u32,
+    pub(crate) rows: &'static [Row],
+    pub(crate) histories: [&'static [Kept]; 3],
+}
+
+fn submit(id: &str, to: u8, cents: u64, stamp: u64) -> Result<Command, Fault> {
+    Ok(Command::Submit(Submission {
+        id: Ident::new(id)?,
+        to,
+        cents: Cents::new(cents)?,
+        stamp: Moment::new(0, stamp)?,
+    }))
+}
+
+/// The command, or none for a step or a question.
+fn command(does: &Does) -> Result<Option<Command>, Fault> {
+    Ok(Some(match *does {
+        Does::Fund(reference, cents) => Command::Fund {
+            reference: Ident::new(reference)?,
+            cents: Cents::new(cents)?,
+        },
+        Does::Submit(id, to, cents, stamp) => submit(id, to, cents, stamp)?,
+        Does::Confirm(from, id) => Command::Confirm {
+            from,
+            id: Ident::new(id)?,
+        },
+        Does::Reject(from, id, reason) => Command::Reject {
+            from,
+            id: Ident::new(id)?,
+            reason: Reason::new(reason)?,
+        },
+        Does::Investigate(id) => Command::Investigate {
+            id: Ident::new(id)?,
+        },
+        Does::Fetch(max) => Command::Fetch { max },
+        Does::Position => Command::Position,
+        Does::Statement => Command::Statement { skip: 0, count: 10 },
+        _ => return Ok(None),
+    }))
+}
+
+/// The act, or none for a question.
+fn act(does: &Does) -> Result<Option<Act>, Fault> {
+    let act = match *does {
+        Does::Deliver(owner, index) => Act::Deliver(Place { owner, index }),
+        Does::Learn(owner, index) => Act::Learn(Place { owner, index }),
+        Does::Adopt(owner, index) => Act::Adopt(Place { owner, index }),
+        Does::Expire(index) => Act::Expire(index),
+        _ => return Ok(command(does)?.map(Act::Ask)),
+    };
+    Ok(Some(act))
+}
+
+/// The pair of a deadline and an index.
+fn pair(pair: Option<(u64, u16)>) -> Result<Option<(Moment, u16)>, Fault> {
+    match pair {
+        None => Ok(None),
+        Some((deadline, index)) => Ok(Some((Moment::new(0, deadline)?, index))),
+    }
+}
+
+/// The position of an arrival, and its place, which is one of the first participant's.
+fn arrival(arrival: Option<(usize, u16)>) -> Option<(usize, Place)> {
+    let (position, index) = arrival?;
+    Some((position, Place { owner: 0, index }))
+}
+
+/// What the slot answers to a question.
+fn question(slots: &Slots, who: u8, does: &Does) -> Result<bool, Fault> {
+    let Some(slot) = slots.slot(who) else {
+        return Err(Fault::BadField);
+    };
+    if slot.who() != who || slot.settings().participants() != 3 {
+        return Err(Fault::BadSettings);
+    }
+    match *does {
+        Does::TellPlace(id) => Ok(slot.place_of(who, &Ident::new(id)?).is_some()),
+        Does::Pays(id, to) => Ok(slot.beneficiary_of(&Ident::new(id)?) == to),
+        Does::DueAfter(before, next) => Ok(slot.due_after(pair(before)?) == pair(next)?),
+        Does::UnbookedFrom(position, next) => { Ok(slot.unbooked_from(position) == arrival(next)) }
+        Does::Misses(count) => Ok(slot.unfound() == count),
+        _ => Err(Fault::BadField),
+    }
+}
+
+/// What is answered to the act. An allocation may be made to fail: what was answered `Memory` has left the
+/// history as it was, and is done again.
+fn answer(
+    rt: &impl Abort,
+    slots: &mut Slots,
+    who: u8,
+    act: &Act,
+    at: Moment,
+) -> Result<Answer, Fault> {
+    let before = copied(slots.history(who));
+    let answer = slots.act(who, act, at);
+    if !matches!(&answer, Err(Fault::Memory)) {
+        return answer;
+    }
+    assert!(rt; are_copied(slots.history(who), &before));
+    slots.act(who, act, at)
+}
+
+/// Whether the row is answered so.
+fn is_answered(rt: &impl Abort, slots: &mut Slots, row: &Row) -> Result<bool, Fault> {
+    let (who, does, at, told) = row;
+    let answer = match act(does)? {
+        Some(act) => answer(rt, slots, *who, &act, Moment::new(0, *at)?),
+        None => Ok(Answer::New(question(slots, *who, does)?)),
+    };
+    Ok(tells(&answer, told))
+}
+
+fn answers(rt: &impl Abort, slots: &mut Slots, rows: &[Row]) -> Result<(), Fail> {
+    for (nth, row) in rows.iter().enumerate() {
+        assert!(rt; is_answered(rt, slots, row)?, "row {nth}");
+    }
+    Ok(())
+}
+
+/// The hub answers as the case tells, and keeps what it tells.
+fn follows(rt: &impl Abort, slots: &mut Slots, case: &Case) -> Result<(), Fail> {
+    answers(rt, slots, case.rows)?;
+    for (who, history) in case.histories.iter().enumerate() {
+        keeps(rt, slots.history(who as u8), history);
+    }
+    Ok(())
+}
+
+/// A hub that opens for the first time. What answers `Memory` is opened again.
+fn opened(alloc: Global, margin: u32) -> Result<Slots, Fault> {
+    match Slots::open(alloc, margin) {
+        Err(Fault::Memory) => Slots::open(alloc, margin),
+        opened => opened,
+    }
+}
+
+/// A hub that opens from the books of this one, likewise.
+fn opened_again(alloc: Global, books: &Slots, is_first_new: bool) -> Result<Slots, Fault> {
+    match books.open_again(alloc, is_first_new) {
+        Err(Fault::Memory) => books.open_again(alloc, is_first_new),
+        opened => opened,
+    }
+}
+
+/// T1 is submitted, and then the hub follows the case.
+fn submits_and_follows(rt: &impl Abort, slots: &mut Slots, case: &Case) -> Result<(), Fail> {
+    answers(rt, slots, SUBMITTED)?;
+    follows(rt, slots, case)
+}
+
+/// The hub that followed the case after T1 was submitted.
+fn followed(rt: &(impl Abort + AllocGlobal), case: &Case) -> Result<Slots, Fail> {
+    mention::<Kept>();
+    let mut slots = opened(rt.alloc(), case.margin)?;
+    submits_and_follows(rt, &mut slots, case)?;
+    Ok(slots)
+}
+
+/// What the case tells comes so after T1 was submitted.
+pub(crate) fn comes(rt: &(impl Abort + AllocGlobal), case: &Case) -> Result<(), Fail> {
+    followed(rt, case)?;
+    Ok(())
+}
+
+/// What the case tells comes so at a hub that opens again from the books of this one.
+fn follows_again(
+    rt: &(impl Abort + AllocGlobal),
+    books: &Slots,
+    is_first_new: bool,
+    case: &Case,
+) -> Result<(), Fail> {
+    let mut slots = opened_again(rt.alloc(), books, is_first_new)?;
+    follows(rt, &mut slots, case)
+}
+
+/// What the case tells comes so at a hub that opens again from the books of one that followed the case `before`.
+pub(crate) fn comes_again(
+    rt: &(impl Abort + AllocGlobal),
+    before: &Case,
+    is_first_new: bool,
+    case: &Case,
+) -> Result<(), Fail> {
+    let books = followed(rt, before)?;
+    follows_again(rt, &books, is_first_new, case)
+}

@@ -1,0 +1,312 @@
+//! Slots that open again from the books of a hub.
+use crate::slot::answers::Told;
+use crate::slot::cases::{Case, Does, comes_again};
+use crate::slot::histories::Kept;
+use inst_base::Fault;
+use inst_command::LineKind;
+use inst_rows::End;
+use std::test::Fail;
+
+/// T1 is settled, and T2 is pending.
+const ONE_SETTLED: Case = Case {
+    margin: 0,
+    rows: &[
+        (
+            0,
+            Does::Submit("T2", 1, 200, 1500),
+            1500,
+            Told::Taken(11_500),
+        ),
+        (1, Does::Deliver(0, 0), 0, Told::New(true)),
+        (1, Does::Deliver(0, 1), 0, Told::New(true)),
+        (1, Does::Fetch(1), 1600, Told::Inbox(&["T1"])),
+        (
+            1,
+            Does::Confirm(0, "T1"),
+            2000,
+            Told::Decided(End::Accepted),
+        ),
+        (0, Does::Learn(0, 0), 0, Told::New(true)),
+    ],
+    histories: [
+        &[
+            Kept::Funded("F1", 50_000),
+            Kept::Taken("T1", 1, 20_000, 1000),
+            Kept::Taken("T2", 1, 200, 1500),
+            Kept::Booked(0, "T1", End::Accepted),
+        ],
+        &[
+            Kept::Forwarded(0, "T1", 20_000, 11_000),
+            Kept::Forwarded(0, "T2", 200, 11_500),
+            Kept::Fetched(1),
+            Kept::Booked(0, "T1", End::Accepted),
+        ],
+        &[],
+    ],
+};
+
+const CARRIED_AND_ADOPTED: Case = Case {
+    margin: 0,
+    rows: &[
+        (1, Does::Misses(1), 0, Told::New(true)),
+        (1, Does::Adopt(0, 1), 0, Told::New(false)),
+        (1, Does::Adopt(2, 0), 0, Told::New(false)),
+        (2, Does::Adopt(0, 0), 0, Told::New(false)),
+        (0, Does::Adopt(0, 0), 0, Told::New(false)),
+        (1, Does::UnbookedFrom(0, None), 0, Told::New(true)),
+        (1, Does::Adopt(0, 0), 0, Told::New(true)),
+        (1, Does::UnbookedFrom(0, Some((0, 0))), 0, Told::New(true)),
+        (1, Does::Adopt(0, 0), 0, Told::New(false)),
+        (1, Does::Misses(0), 0, Told::New(true)),
+        (1, Does::Deliver(0, 0), 0, Told::New(false)),
+        (
+            0,
+            Does::DueAfter(None, Some((11_500, 0))),
+            0,
+            Told::New(true),
+        ),
+        (0, Does::Position, 3000, Told::Position(30_000, 200, 29_800)),
+        (1, Does::Position, 3000, Told::Position(20_000, 0, 20_000)),
+        (1, Does::Fetch(9), 3000, Told::Inbox(&["T2"])),
+        (
+            1,
+            Does::Confirm(0, "T2"),
+            3000,
+            Told::Decided(End::Accepted),
+        ),
+        (1, Does::Position, 3000, Told::Position(20_200, 0, 20_200)),
+        (0, Does::Position, 3000, Told::Position(30_000, 200, 29_800)),
+        (0, Does::Learn(0, 0), 0, Told::New(true)),
+        (0, Does::Position, 3000, Told::Position(29_800, 0, 29_800)),
+        (
+            0,
+            Does::Statement,
+            3000,
+            Told::Lines(&[(1, LineKind::Paid, 29_800)]),
+        ),
+        (
+            1,
+            Does::Statement,
+            3000,
+            Told::Lines(&[(1, LineKind::Received, 20_200)]),
+        ),
+        (2, Does::Statement, 3000, Told::Lines(&[])),
+    ],
+    histories: [
+        &[
+            Kept::Funded("F1", 50_000),
+            Kept::Taken("T1", 1, 20_000, 1000),
+            Kept::Taken("T2", 1, 200, 1500),
+            Kept::Booked(0, "T1", End::Accepted),
+            Kept::Opened,
+            Kept::Booked(0, "T2", End::Accepted),
+        ],
+        &[
+            Kept::Forwarded(0, "T1", 20_000, 11_000),
+            Kept::Forwarded(0, "T2", 200, 11_500),
+            Kept::Fetched(1),
+            Kept::Booked(0, "T1", End::Accepted),
+            Kept::Opened,
+            Kept::Fetched(1),
+            Kept::Booked(0, "T2", End::Accepted),
+        ],
+        &[Kept::Opened],
+    ],
+};
+
+#[test]
+fn carried_and_adopted(rt: HostRuntime) -> Result<(), Fail> {
+    comes_again(&rt, &ONE_SETTLED, false, &CARRIED_AND_ADOPTED)
+}
+
+/// The settled transfer has given its place back, and a repeat of it takes none.
+const PLACES_GIVEN_BACK: Case = Case {
+    margin: 0,
+    rows: &[
+        (0, Does::TellPlace("T1"), 0, Told::New(false)),
+        (0, Does::Pays("T1", Some(1)), 0, Told::New(true)),
+        (0, Does::TellPlace("T2"), 0, Told::New(true)),
+        (
+            0,
+            Does::Submit("T3", 1, 300, 3000),
+            3000,
+            Told::Taken(13_000),
+        ),
+        (
+            0,
+            Does::Submit("T4", 1, 300, 3000),
+            3000,
+            Told::Refused(Fault::Full),
+        ),
+        (
+            0,
+            Does::Submit("T1", 1, 20_000, 1000),
+            3000,
+            Told::Taken(11_000),
+        ),
+        (
+            0,
+            Does::Investigate("T1"),
+            3000,
+            Told::Decided(End::Accepted),
+        ),
+        (0, Does::Fund("F1", 50_000), 3000, Told::Done),
+        (0, Does::Expire(0), 11_500, Told::New(true)),
+        (0, Does::Expire(1), 11_500, Told::New(false)),
+        (
+            0,
+            Does::Position,
+            11_500,
+            Told::Position(30_000, 300, 29_700),
+        ),
+        (1, Does::Learn(0, 0), 0, Told::New(false)),
+        (1, Does::Adopt(0, 0), 0, Told::New(false)),
+    ],
+    histories: [
+        &[
+            Kept::Funded("F1", 50_000),
+            Kept::Taken("T1", 1, 20_000, 1000),
+            Kept::Taken("T2", 1, 200, 1500),
+            Kept::Booked(0, "T1", End::Accepted),
+            Kept::Opened,
+            Kept::Taken("T3", 1, 300, 3000),
+            Kept::Booked(0, "T2", End::TimedOut),
+        ],
+        &[
+            Kept::Forwarded(0, "T1", 20_000, 11_000),
+            Kept::Forwarded(0, "T2", 200, 11_500),
+            Kept::Fetched(1),
+            Kept::Booked(0, "T1", End::Accepted),
+            Kept::Opened,
+        ],
+        &[Kept::Opened],
+    ],
+};
+
+#[test]
+fn places_given_back(rt: HostRuntime) -> Result<(), Fail> {
+    comes_again(&rt, &ONE_SETTLED, false, &PLACES_GIVEN_BACK)
+}
+
+/// T1 and T2 are pending.
+const BOTH_PENDING: Case = Case {
+    margin: 0,
+    rows: &[
+        (
+            0,
+            Does::Submit("T2", 1, 200, 1500),
+            1500,
+            Told::Taken(11_500),
+        ),
+        (1, Does::Deliver(0, 0), 0, Told::New(true)),
+        (1, Does::Deliver(0, 1), 0, Told::New(true)),
+    ],
+    histories: [
+        &[
+            Kept::Funded("F1", 50_000),
+            Kept::Taken("T1", 1, 20_000, 1000),
+            Kept::Taken("T2", 1, 200, 1500),
+        ],
+        &[
+            Kept::Forwarded(0, "T1", 20_000, 11_000),
+            Kept::Forwarded(0, "T2", 200, 11_500),
+        ],
+        &[],
+    ],
+};
+
+/// Places of transfers with these identifiers, but with other cents and another deadline.
+const OTHER_TERMS: Case = Case {
+    margin: 0,
+    rows: &[
+        (0, Does::Fund("F1", 50_000), 0, Told::Done),
+        (
+            0,
+            Does::Submit("T1", 1, 20_001, 1000),
+            1500,
+            Told::Taken(11_000),
+        ),
+        (
+            0,
+            Does::Submit("T2", 1, 200, 1501),
+            1501,
+            Told::Taken(11_501),
+        ),
+        (1, Does::Misses(2), 0, Told::New(true)),
+        (1, Does::Adopt(0, 0), 0, Told::New(false)),
+        (1, Does::Adopt(0, 1), 0, Told::New(false)),
+        (1, Does::Misses(2), 0, Told::New(true)),
+    ],
+    histories: [
+        &[
+            Kept::Opened,
+            Kept::Funded("F1", 50_000),
+            Kept::Taken("T1", 1, 20_001, 1000),
+            Kept::Taken("T2", 1, 200, 1501),
+        ],
+        &[
+            Kept::Forwarded(0, "T1", 20_000, 11_000),
+            Kept::Forwarded(0, "T2", 200, 11_500),
+            Kept::Opened,
+        ],
+        &[Kept::Opened],
+    ],
+};
+
+#[test]
+fn other_terms(rt: HostRuntime) -> Result<(), Fail> {
+    comes_again(&rt, &BOTH_PENDING, true, &OTHER_TERMS)
+}
+
+/// The places of the same transfers are found in any order.
+const SAME_TERMS: Case = Case {
+    margin: 0,
+    rows: &[
+        (0, Does::Fund("F1", 50_000), 0, Told::Done),
+        (
+            0,
+            Does::Submit("T2", 1, 200, 1500),
+            1501,
+            Told::Taken(11_500),
+        ),
+        (
+            0,
+            Does::Submit("T1", 1, 20_000, 1000),
+            1501,
+            Told::Taken(11_000),
+        ),
+        (1, Does::Adopt(0, 1), 0, Told::New(true)),
+        (1, Does::Misses(1), 0, Told::New(true)),
+        (1, Does::Adopt(0, 1), 0, Told::New(false)),
+        (1, Does::Adopt(0, 0), 0, Told::New(true)),
+        (
+            1,
+            Does::Reject(0, "T2", "AC04"),
+            2000,
+            Told::Decided(End::Rejected("AC04")),
+        ),
+        (0, Does::Learn(0, 0), 0, Told::New(true)),
+        (0, Does::Learn(0, 1), 0, Told::New(false)),
+    ],
+    histories: [
+        &[
+            Kept::Opened,
+            Kept::Funded("F1", 50_000),
+            Kept::Taken("T2", 1, 200, 1500),
+            Kept::Taken("T1", 1, 20_000, 1000),
+            Kept::Booked(0, "T2", End::Rejected("AC04")),
+        ],
+        &[
+            Kept::Forwarded(0, "T1", 20_000, 11_000),
+            Kept::Forwarded(0, "T2", 200, 11_500),
+            Kept::Opened,
+            Kept::Booked(0, "T2", End::Rejected("AC04")),
+        ],
+        &[Kept::Opened],
+    ],
+};
+
+#[test]
+fn same_terms(rt: HostRuntime) -> Result<(), Fail> {
+    comes_again(&rt, &BOTH_PENDING, true, &SAME_TERMS)
+}

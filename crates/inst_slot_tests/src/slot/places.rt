@@ -1,0 +1,159 @@
+//! Where transfers lie, and which are delivered from there.
+use crate::slot::answers::Told;
+use crate::slot::cases::{Case, Does, comes};
+use crate::slot::histories::Kept;
+use inst_base::Fault;
+use inst_rows::End;
+use std::test::Fail;
+
+const WRONG_DELIVERIES: Case = Case {
+    margin: 0,
+    rows: &[
+        (1, Does::Deliver(0, 0), 0, Told::New(true)),
+        (1, Does::Deliver(0, 0), 0, Told::New(false)),
+        (2, Does::Deliver(0, 0), 0, Told::New(false)),
+        (0, Does::Deliver(0, 0), 0, Told::New(false)),
+        (1, Does::Deliver(0, 1), 0, Told::New(false)),
+        (1, Does::Deliver(2, 7), 0, Told::New(false)),
+        (0, Does::Expire(1), 11_000, Told::New(false)),
+        (2, Does::Learn(0, 0), 0, Told::New(false)),
+        (
+            2,
+            Does::Confirm(0, "T1"),
+            1000,
+            Told::Refused(Fault::UnknownTransfer),
+        ),
+    ],
+    histories: [
+        &[
+            Kept::Funded("F1", 50_000),
+            Kept::Taken("T1", 1, 20_000, 1000),
+        ],
+        &[Kept::Forwarded(0, "T1", 20_000, 11_000)],
+        &[],
+    ],
+};
+
+#[test]
+fn wrong_deliveries(rt: HostRuntime) -> Result<(), Fail> {
+    comes(&rt, &WRONG_DELIVERIES)
+}
+
+const PLACES_FULL_AND_FETCHED: Case = Case {
+    margin: 0,
+    rows: &[
+        (
+            0,
+            Does::Submit("T2", 1, 200, 1000),
+            1000,
+            Told::Taken(11_000),
+        ),
+        (1, Does::Deliver(0, 0), 0, Told::New(true)),
+        (1, Does::Deliver(0, 1), 0, Told::New(true)),
+        (
+            1,
+            Does::Confirm(0, "T1"),
+            2000,
+            Told::Decided(End::Accepted),
+        ),
+        (
+            1,
+            Does::Confirm(0, "T2"),
+            2000,
+            Told::Decided(End::Accepted),
+        ),
+        (0, Does::Learn(0, 1), 0, Told::New(true)),
+        (
+            0,
+            Does::Submit("T3", 1, 60_000, 3000),
+            3000,
+            Told::Refused(Fault::Full),
+        ),
+        (1, Does::Fetch(1), 3000, Told::Inbox(&["T1"])),
+        (1, Does::Fetch(1), 3000, Told::Inbox(&["T2"])),
+        (1, Does::Fetch(1), 3000, Told::Inbox(&[])),
+        (
+            0,
+            Does::Position,
+            3000,
+            Told::Position(49_800, 20_000, 29_800),
+        ),
+    ],
+    histories: [
+        &[
+            Kept::Funded("F1", 50_000),
+            Kept::Taken("T1", 1, 20_000, 1000),
+            Kept::Taken("T2", 1, 200, 1000),
+            Kept::Booked(0, "T2", End::Accepted),
+        ],
+        &[
+            Kept::Forwarded(0, "T1", 20_000, 11_000),
+            Kept::Forwarded(0, "T2", 200, 11_000),
+            Kept::Booked(0, "T1", End::Accepted),
+            Kept::Booked(0, "T2", End::Accepted),
+            Kept::Fetched(1),
+            Kept::Fetched(1),
+        ],
+        &[],
+    ],
+};
+
+#[test]
+fn places_full_and_fetched(rt: HostRuntime) -> Result<(), Fail> {
+    comes(&rt, &PLACES_FULL_AND_FETCHED)
+}
+
+const EACH_AT_ITS_PLACE: Case = Case {
+    margin: 0,
+    rows: &[
+        (
+            0,
+            Does::Submit("T2", 1, 200, 1500),
+            1500,
+            Told::Taken(11_500),
+        ),
+        (0, Does::TellPlace("T2"), 1500, Told::New(true)),
+        (0, Does::TellPlace("T3"), 1500, Told::New(false)),
+        (0, Does::Pays("T2", Some(1)), 1500, Told::New(true)),
+        (0, Does::Pays("T3", None), 1500, Told::New(true)),
+        (1, Does::Deliver(0, 1), 0, Told::New(true)),
+        (1, Does::Pays("T2", None), 1500, Told::New(true)),
+        (1, Does::Deliver(0, 0), 0, Told::New(true)),
+        (1, Does::UnbookedFrom(0, Some((0, 1))), 0, Told::New(true)),
+        (1, Does::UnbookedFrom(1, Some((1, 0))), 0, Told::New(true)),
+        (1, Does::UnbookedFrom(2, None), 0, Told::New(true)),
+        (0, Does::Expire(0), 11_000, Told::New(true)),
+        (0, Does::Expire(1), 11_000, Told::New(false)),
+        (0, Does::Investigate("T2"), 11_000, Told::Pending),
+        (
+            1,
+            Does::Confirm(0, "T2"),
+            11_000,
+            Told::Decided(End::Accepted),
+        ),
+        (1, Does::UnbookedFrom(0, Some((1, 0))), 0, Told::New(true)),
+        (1, Does::Learn(0, 0), 0, Told::New(true)),
+        (1, Does::UnbookedFrom(0, None), 0, Told::New(true)),
+        (1, Does::Position, 11_000, Told::Position(200, 0, 200)),
+    ],
+    histories: [
+        &[
+            Kept::Funded("F1", 50_000),
+            Kept::Taken("T1", 1, 20_000, 1000),
+            Kept::Taken("T2", 1, 200, 1500),
+            Kept::Booked(0, "T1", End::TimedOut),
+        ],
+        &[
+            Kept::Forwarded(0, "T2", 200, 11_500),
+            Kept::Forwarded(0, "T1", 20_000, 11_000),
+            Kept::Booked(0, "T2", End::Accepted),
+            Kept::Booked(0, "T1", End::TimedOut),
+        ],
+        &[],
+    ],
+};
+
+#[test]
+fn each_at_its_place(rt: HostRuntime) -> Result<(), Fail> {
+    comes(&rt, &EACH_AT_ITS_PLACE)
+}

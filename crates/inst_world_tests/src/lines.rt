@@ -1,0 +1,9 @@
+//! Tests of runs of lines: malformed lines, lines that are cut off, and what readers and writers do to a run.
+mod checking;
+mod cuts;
+mod failing;
+mod failing_writers;
+mod flushes;
+mod malformed;
+mod newlines;
+mod serving;

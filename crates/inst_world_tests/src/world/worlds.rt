@@ -1,0 +1,263 @@
+//! Worlds, step by step and line by line, over three participants with 2 places and 4 fundings each.
+use crate::comparing::{same, same_at};
+use crate::world::told::{Told, is_told};
+use inst_agenda::{Runner, follow_up};
+use inst_base::{Cents, Fault, Ident, Moment, Reason, mention};
+use inst_board::Place;
+use inst_command::{Answer, Ask, Command, Outcome, Reply, Step, Submission};
+use inst_journal::Event;
+use inst_json::LineReader;
+use inst_rows::{End, confirm, fund, settings, submit};
+use inst_world::World;
+use std::alloc::Global;
+use std::process::Abort;
+use std::test::Fail;
+
+fn forwarded(from: u8, id: &str, cents: u64, deadline: u64) -> Result<Event, Fault> {
+    mention::<Outcome>();
+    Ok(Event::Forwarded {
+        from,
+        id: Ident::new(id)?,
+        cents: Cents::new(cents)?,
+        deadline: Moment::new(0, deadline)?,
+    })
+}
+
+fn booked(from: u8, id: &str, outcome: Outcome) -> Result<Event, Fault> {
+    Ok(Event::Booked {
+        from,
+        id: Ident::new(id)?,
+        outcome,
+    })
+}
+
+/// Compares the history of a participant.
+fn journal_is(rt: &impl Abort, world: &World, who: u8, events: &[Event]) -> Result<(), Fail> {
+    mention::<Outcome>();
+    assert!(rt; world.settings().has_participant(who));
+    same(rt, world.journal(who).events(), events);
+    Ok(())
+}
+
+/// Compares the money of the three participants: position, and what of it is reserved.
+fn money_is(rt: &impl Abort, world: &World, money: [(u64, u64); 3]) -> Result<(), Fail> {
+    for (who, (position, reserved)) in money.iter().enumerate() {
+        let who = who as u8;
+        assert!(rt; world.settings().has_participant(who));
+        let journal = world.journal(who);
+        let wanted = (u128::from(*position), u128::from(*reserved));
+        same_at(rt, who, (journal.position(), journal.reserved()), wanted);
+    }
+    Ok(())
+}
+
+/// Whether this is a reply, and no refusal.
+fn is_taken(answer: &Answer) -> bool {
+    match answer {
+        Answer::Reply(reply) => !matches!(reply, Reply::Refused(_)),
+        Answer::New(_) => false,
+    }
+}
+
+/// Whether the step is answered so.
+fn steps_to(rt: &impl Abort, world: &mut World, step: &Step, is_new: bool) -> Result<(), Fail> {
+    assert!(rt; step.fits(world.settings()));
+    let answer = world.step(step)?;
+    same(rt, is_told(&answer, &Told::New(is_new)), true);
+    Ok(())
+}
+
+/// Whether the step is answered by a reply that is no refusal.
+fn asks(rt: &impl Abort, world: &mut World, step: &Step) -> Result<(), Fail> {
+    assert!(rt; step.fits(world.settings()));
+    let answer = world.step(step)?;
+    same(rt, is_taken(&answer), true);
+    Ok(())
+}
+
+/// The transfer of the first participant to the second lies at its first place, and is pending until 11,000.
+fn lies_at_the_first_place(rt: &impl Abort, world: &mut World, id: &Ident) -> Result<(), Fail> {
+    let place = Place { owner: 0, index: 0 };
+    same(rt, world.beneficiary_at(place), Some(1));
+    same(
+        rt,
+        world.pending_until(place),
+        Some(Moment::new(0, 11_000)?),
+    );
+    assert!(rt; world.settings().has_participant(0));
+    same(rt, world.place_of(0, id), Some(place));
+    Ok(())
+}
+
+/// The second is told of a transfer of the first, once, and confirms it.
+fn is_confirmed(rt: &impl Abort, world: &mut World) -> Result<(), Fail> {
+    let deliver = Step::Deliver {
+        from: 0,
+        index: 0,
+        to: 1,
+    };
+    steps_to(rt, world, &deliver, true)?;
+    steps_to(rt, world, &deliver, false)?;
+    asks(rt, world, &confirm(1, 0, "T1", 2000)?)?;
+    money_is(rt, world, [(500, 200), (200, 0), (0, 0)])
+}
+
+/// The first learns it, once, and nothing is left that may expire.
+fn is_learnt(rt: &impl Abort, world: &mut World) -> Result<(), Fail> {
+    let learn = Step::Learn {
+        who: 0,
+        from: 0,
+        index: 0,
+    };
+    steps_to(rt, world, &learn, true)?;
+    steps_to(rt, world, &learn, false)?;
+    let expire = Step::Expire {
+        who: 0,
+        index: 0,
+        at: Moment::new(0, 20_000)?,
+    };
+    steps_to(rt, world, &expire, false)?;
+    money_is(rt, world, [(300, 0), (200, 0), (0, 0)])
+}
+
+/// The first is funded, and submits a transfer to the second.
+fn is_submitted(rt: &impl Abort, world: &mut World) -> Result<(), Fail> {
+    mention::<(Ask, Command, Submission)>();
+    let funding = fund(0, "F1", 500, 0)?;
+    asks(rt, world, &funding)?;
+    let submission = submit(0, "T1", 1, 200, 1000, 1000)?;
+    asks(rt, world, &submission)?;
+    lies_at_the_first_place(rt, world, &Ident::new("T1")?)
+}
+
+/// A transfer is submitted, confirmed and learnt.
+fn goes_step_by_step(rt: &impl Abort, world: &mut World) -> Result<(), Fail> {
+    same(rt, world.settings().participants(), 3);
+    is_submitted(rt, world)?;
+    is_confirmed(rt, world)?;
+    is_learnt(rt, world)
+}
+
+#[test]
+fn a_world_goes_step_by_step(rt: HostRuntime) -> Result<(), Fail> {
+    let mut world = World::open(rt.alloc(), &settings(rt.alloc())?)?;
+    goes_step_by_step(&rt, &mut world)
+}
+
+/// Runs the line as a run does, and goes over what it names and what is due; it must not be refused.
+fn run_line(
+    rt: &impl Abort,
+    reader: &mut LineReader,
+    runner: &mut Runner,
+    line: &str,
+) -> Result<(), Fail> {
+    let ask = reader.read_command(runner.settings(), line.as_bytes())?;
+    let at = ask.at;
+    let answer = runner.ask(ask)?;
+    same(rt, is_taken(&answer), true);
+    follow_up(runner, at)?;
+    Ok(())
+}
+
+/// Runs the lines one after another.
+fn run_lines(
+    rt: &(impl Abort + AllocGlobal),
+    runner: &mut Runner,
+    lines: &str,
+) -> Result<(), Fail> {
+    let mut reader = LineReader::new(rt.alloc());
+    for line in lines.lines() {
+        run_line(rt, &mut reader, runner, line)?;
+    }
+    Ok(())
+}
+
+/// How a transfer of the first participant ended: its beneficiary, its identifier, its cents, and the end.
+type Ended = (u8, &'static str, u64, End);
+
+fn outcome(end: End) -> Result<Outcome, Fault> {
+    Ok(match end {
+        End::Accepted => Outcome::Accepted,
+        End::Rejected(reason) => Outcome::Rejected(Reason::new(reason)?),
+        End::TimedOut => Outcome::TimedOut,
+    })
+}
+
+/// The beneficiary was told of the transfer, and has booked how it ended.
+fn is_booked(rt: &impl Abort, world: &World, ended: &Ended) -> Result<(), Fail> {
+    let (to, id, cents, end) = *ended;
+    let events = [
+        forwarded(0, id, cents, 11_000)?,
+        booked(0, id, outcome(end)?)?,
+    ];
+    journal_is(rt, world, to, &events)
+}
+
+/// Runs the lines; then the transfers have ended so, and the money is there.
+fn runs_to(
+    rt: &(impl Abort + AllocGlobal),
+    runner: &mut Runner,
+    lines: &str,
+    ends: &[Ended],
+    money: [(u64, u64); 3],
+) -> Result<(), Fail> {
+    run_lines(rt, runner, lines)?;
+    for ended in ends {
+        is_booked(rt, &runner.world, ended)?;
+    }
+    money_is(rt, &runner.world, money)
+}
+
+fn opened(alloc: Global) -> Result<Runner, Fault> {
+    let settings = settings(alloc)?;
+    Ok(Runner::open(alloc, &settings)?)
+}
+
+/// The same at a hub of its own.
+fn opens_and_runs_to(
+    rt: &(impl Abort + AllocGlobal),
+    lines: &str,
+    ends: &[Ended],
+    money: [(u64, u64); 3],
+) -> Result<(), Fail> {
+    let mut runner = opened(rt.alloc())?;
+    runs_to(rt, &mut runner, lines, ends, money)
+}
+
+/// The histories show what the replies of a run don't: that each side books each outcome, the originator
+/// before its transfer may expire. One is rejected, the other times out, and the first participant has its money back.
+#[test]
+fn a_run_tells_both_sides(rt: HostRuntime) -> Result<(), Fail> {
+    opens_and_runs_to(
+        &rt,
+        r#"{"at":0,"cents":50000,"cmd":"fund","ref":"F1","who":"AAAADEFF"}
+{"at":1000,"cents":20000,"cmd":"submit","id":"T1","stamp":1000,"to":"BBBBFRPP","who":"AAAADEFF"}
+{"at":1000,"cents":5000,"cmd":"submit","id":"T2","stamp":1000,"to":"CCCCITMM","who":"AAAADEFF"}
+{"at":2000,"cmd":"reject","from":"AAAADEFF","id":"T1","reason":"AC04","who":"BBBBFRPP"}
+{"at":11000,"cmd":"position","who":"BBBBFRPP"}
+"#,
+        &[
+            (1, "T1", 20_000, End::Rejected("AC04")),
+            (2, "T2", 5000, End::TimedOut),
+        ],
+        [(50_000, 0), (0, 0), (0, 0)],
+    )
+}
+
+#[test]
+fn a_run_moves_money(rt: HostRuntime) -> Result<(), Fail> {
+    opens_and_runs_to(
+        &rt,
+        r#"{"at":0,"cents":50000,"cmd":"fund","ref":"F1","who":"AAAADEFF"}
+{"at":0,"cents":700,"cmd":"fund","ref":"F2","who":"CCCCITMM"}
+{"at":1000,"cents":20000,"cmd":"submit","id":"T1","stamp":1000,"to":"BBBBFRPP","who":"AAAADEFF"}
+{"at":1000,"cents":300,"cmd":"submit","id":"T1","stamp":1000,"to":"AAAADEFF","who":"CCCCITMM"}
+{"at":2000,"cmd":"confirm","from":"AAAADEFF","id":"T1","who":"BBBBFRPP"}
+{"at":2500,"cmd":"investigate","id":"T1","who":"CCCCITMM"}
+{"at":3000,"cents":5000,"cmd":"submit","id":"T2","stamp":3000,"to":"CCCCITMM","who":"BBBBFRPP"}
+{"at":11000,"cmd":"investigate","id":"T1","who":"CCCCITMM"}
+"#,
+        &[],
+        [(30_000, 0), (20_000, 5000), (700, 0)],
+    )
+}
