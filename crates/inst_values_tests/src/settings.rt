@@ -4,6 +4,7 @@ use inst_base::{Code, Fault};
 use inst_settings::{Numbers, Settings};
 use std::alloc::Global;
 use std::process::Abort;
+use std::test::Fail;
 
 const LEAST: Numbers = Numbers {
     places: 1,
@@ -38,31 +39,13 @@ fn told(settings: &Settings) -> Numbers {
     }
 }
 
-const COUNTRIES: [&str; 8] = ["DE", "FR", "IT", "ES", "NL", "BE", "AT", "IE"];
-
-const BANKS: [&str; 8] = [
-    "LERC", "MEIS", "NEUN", "PIRO", "RABE", "SPEC", "TAUB", "UHUX",
-];
-
-/// The code with this number as banks have them, every third with a branch: other banks, the same bank in other
-/// countries and places, and other branches of one bank.
-fn code_of(alloc: Global, index: u32) -> Result<Code, Fault> {
-    let bank = BANKS[(index % 8) as usize];
-    let country = COUNTRIES[(index / 8 % 8) as usize];
-    let place = 10 + index / 64;
-    let text = if index % 3 == 0 {
-        format!(in alloc; "{bank}{country}{place}{}", 100 + u64::from(index))?
-    } else {
-        format!(in alloc; "{bank}{country}{place}")?
-    };
-    Code::new(text.as_str())
-}
-
-/// So many of them.
-fn codes(alloc: Global, count: u32) -> Result<Vec<Code>, Fault> {
+/// So many codes: `AAAAD100`, `AAAAD101` and so on.
+fn codes(alloc: Global, count: u32) -> Result<Vec<Code>, Fail> {
     let mut codes = Vec::new(alloc);
     for index in 0..count {
-        codes.push(code_of(alloc, index)?)?;
+        let number = u64::from(index) + 100;
+        let text = format!(in alloc; "AAAAD{number}")?;
+        codes.push(Code::new(text.as_str())?)?;
     }
     Ok(codes)
 }
@@ -111,7 +94,7 @@ const PAST_BOUNDS: &[Numbers] = &[
 ];
 
 /// Settings of these numbers tell them again.
-fn takes(rt: &(impl Abort + AllocGlobal), numbers: Numbers) -> Result<(), Fault> {
+fn takes(rt: &(impl Abort + AllocGlobal), numbers: Numbers) -> Result<(), Fail> {
     let settings = Settings::check(codes(rt.alloc(), 1)?, numbers)?;
     same(
         rt,
@@ -122,12 +105,12 @@ fn takes(rt: &(impl Abort + AllocGlobal), numbers: Numbers) -> Result<(), Fault>
 }
 
 /// What so many participants with these numbers are refused for.
-fn refusal(alloc: Global, count: u32, numbers: Numbers) -> Result<Option<Fault>, Fault> {
+fn refusal(alloc: Global, count: u32, numbers: Numbers) -> Result<Option<Fault>, Fail> {
     Ok(Settings::check(codes(alloc, count)?, numbers).err())
 }
 
 #[test]
-fn numbers_to_their_bounds(rt: HostRuntime) -> Result<(), Fault> {
+fn numbers_to_their_bounds(rt: HostRuntime) -> Result<(), Fail> {
     takes(&rt, LEAST)?;
     takes(&rt, MOST)?;
     for numbers in PAST_BOUNDS {
@@ -138,10 +121,10 @@ fn numbers_to_their_bounds(rt: HostRuntime) -> Result<(), Fault> {
 }
 
 /// There are 256 participants, the last has the last number, and no other code has one.
-fn ends_at_the_last(rt: &(impl Abort + AllocGlobal), settings: &Settings) -> Result<(), Fault> {
+fn ends_at_the_last(rt: &impl Abort, settings: &Settings) -> Result<(), Fail> {
     same(rt, settings.participants(), 256);
-    has_code(rt, settings, 255, &code_of(rt.alloc(), 255)?);
-    same(rt, settings.index_of(&code_of(rt.alloc(), 256)?), None);
+    has_code(rt, settings, 255, &Code::new("AAAAD355")?);
+    same(rt, settings.index_of(&Code::new("AAAAD356")?), None);
     Ok(())
 }
 
@@ -154,7 +137,7 @@ const COUNTS: &[(u32, Option<Fault>)] = &[
 ];
 
 #[test]
-fn participants_to_their_bounds(rt: HostRuntime) -> Result<(), Fault> {
+fn participants_to_their_bounds(rt: HostRuntime) -> Result<(), Fail> {
     for &(count, fault) in COUNTS {
         same_at(&rt, count, refusal(rt.alloc(), count, MOST)?, fault);
     }
@@ -169,26 +152,26 @@ fn has_code(rt: &impl Abort, settings: &Settings, index: u8, code: &Code) {
 }
 
 /// There are three codes, numbered as they were given, and no other.
-fn numbers_codes(rt: &impl Abort, settings: &Settings, codes: &[Code; 3]) -> Result<(), Fault> {
-    let other = settings.index_of(&Code::new("DDDDESMM")?);
+fn numbers_codes(rt: &impl Abort, settings: &Settings, codes: &[Code; 3]) -> Result<(), Fail> {
     same(rt, told(settings), LEAST);
-    same(rt, (settings.participants(), other), (3, None));
+    same(rt, settings.participants(), 3);
     has_code(rt, settings, 0, &codes[0]);
     has_code(rt, settings, 1, &codes[1]);
     has_code(rt, settings, 2, &codes[2]);
     same(rt, settings.code(3), None);
+    same(rt, settings.index_of(&Code::new("DDDDESMM")?), None);
     Ok(())
 }
 
 /// The settings number the codes so, and a copy of them does.
-fn copies_codes(rt: &impl Abort, settings: &Settings, codes: &[Code; 3]) -> Result<(), Fault> {
+fn copies_codes(rt: &impl Abort, settings: &Settings, codes: &[Code; 3]) -> Result<(), Fail> {
     numbers_codes(rt, settings, codes)?;
     let copy = settings.copy()?;
     numbers_codes(rt, &copy, codes)
 }
 
 /// Three codes of which two are the same are refused.
-fn refuses_a_code_twice(rt: &(impl Abort + AllocGlobal), codes: &[Code; 3]) -> Result<(), Fault> {
+fn refuses_a_code_twice(rt: &(impl Abort + AllocGlobal), codes: &[Code; 3]) -> Result<(), Fail> {
     let [first, second, _] = *codes;
     for twice in [
         [first, first, second],
@@ -202,7 +185,7 @@ fn refuses_a_code_twice(rt: &(impl Abort + AllocGlobal), codes: &[Code; 3]) -> R
 }
 
 #[test]
-fn codes_are_numbered_as_given(rt: HostRuntime) -> Result<(), Fault> {
+fn codes_are_numbered_as_given(rt: HostRuntime) -> Result<(), Fail> {
     let codes = [
         Code::new("CCCCITMM")?,
         Code::new("AAAADEFF")?,
@@ -211,6 +194,34 @@ fn codes_are_numbered_as_given(rt: HostRuntime) -> Result<(), Fault> {
     refuses_a_code_twice(&rt, &codes)?;
     let settings = Settings::check(codes.to_vec(rt.alloc())?, LEAST)?;
     copies_codes(&rt, &settings, &codes)
+}
+
+const COUNTRIES: [&str; 8] = ["DE", "FR", "IT", "ES", "NL", "BE", "AT", "IE"];
+
+const BANKS: [&str; 8] = [
+    "LERC", "MEIS", "NEUN", "PIRO", "RABE", "SPEC", "TAUB", "UHUX",
+];
+
+/// The code with this number as banks have them, every third with a branch: other banks, the same bank in other
+/// countries and places, and other branches of one bank.
+fn bank_code(alloc: Global, index: u32) -> Result<Code, Fail> {
+    let bank = BANKS[(index % 8) as usize];
+    let country = COUNTRIES[(index / 8 % 8) as usize];
+    let place = 10 + index / 64;
+    let mut text = format!(in alloc; "{bank}{country}{place}")?;
+    if index % 3 == 0 {
+        text.push_str(format!(in alloc; "{}", 100 + u64::from(index))?.as_str())?;
+    }
+    Ok(Code::new(text.as_str())?)
+}
+
+/// So many of them.
+fn bank_codes(alloc: Global, count: u32) -> Result<Vec<Code>, Fail> {
+    let mut codes = Vec::new(alloc);
+    for index in 0..count {
+        codes.push(bank_code(alloc, index)?)?;
+    }
+    Ok(codes)
 }
 
 /// The first 64 codes have their numbers, and the others none.
@@ -222,9 +233,9 @@ fn numbers_the_first(rt: &impl Abort, settings: &Settings, codes: &[Code]) {
 }
 
 #[test]
-fn every_code_of_a_bank_has_its_number(rt: HostRuntime) -> Result<(), Fault> {
-    let all = codes(rt.alloc(), 128)?;
-    let settings = Settings::check(codes(rt.alloc(), 64)?, MOST)?;
-    numbers_the_first(&rt, &settings, &all);
+fn every_code_of_a_bank_has_its_number(rt: HostRuntime) -> Result<(), Fail> {
+    let codes = bank_codes(rt.alloc(), 128)?;
+    let settings = Settings::check(bank_codes(rt.alloc(), 64)?, MOST)?;
+    numbers_the_first(&rt, &settings, &codes);
     Ok(())
 }
