@@ -1,6 +1,6 @@
-//! Loads and stresses of a hub of many threads, races of slots over shared boards, and worked rows in want of memory, as
-//! the words of the command line ask for (`--help` prints them). How it ended it tells on standard error, and ends with
-//! status 0; with 1 where something isn't as it must be, and then it tells what; with 2 where the words are others.
+//! Loads and stresses of a hub of many threads, races of slots over shared boards, and worked rows in want of memory,
+//! as the words of the command line ask for (`--help` prints them). How it ended it tells on standard error, and ends
+//! with status 0; with 1 where something isn't as it must be, and with 2 where the words are others.
 #![tactic(auto)]
 
 mod hoard;

@@ -1,6 +1,6 @@
-//! A stress of a small hub: threads race for the outcomes of a few transfers between 4 participants, and after each round
-//! all that they were told is compared with the books. In a round of want each thread makes some calls in want of memory,
-//! while the others race, and goes on where one is refused.
+//! A stress of a small hub: threads race for the outcomes of a few transfers between 4 participants, and after each
+//! round all that they were told is compared with the books. In a round of want each thread makes some calls in want of
+//! memory, while the others race, and goes on where one is refused.
 ghost use Rattle.inst_hub.specs.Calls.{AreOf, IsOf};
 ghost use Rattle.inst_loads.specs.Jobs.{AreJobsOf};
 

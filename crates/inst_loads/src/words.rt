@@ -7,18 +7,18 @@ pub(crate) const HELP: &str = "\
 Loads and stresses of a hub that threads share, races over shared boards, and worked rows in want of memory.
 
 Usage:
-  inst_loads uniform THREADS ROUNDS [TRANSFERS]  threads submit and confirm transfers between any two of 64 participants
-  inst_loads split THREADS ROUNDS [TRANSFERS]    .. each thread between participants of its own
-  inst_loads hot THREADS ROUNDS [TRANSFERS]      .. all threads between the same two
-  inst_loads stress THREADS ROUNDS [scarce]      threads race for outcomes, in want of memory too where the word is there
+  inst_loads uniform THREADS ROUNDS [TRANSFERS]  threads submit and confirm transfers, any two of 64 participants'
+  inst_loads split THREADS ROUNDS [TRANSFERS]    .. each thread those of participants of its own
+  inst_loads hot THREADS ROUNDS [TRANSFERS]      .. all threads those of the same two participants
+  inst_loads stress THREADS ROUNDS [scarce]      threads race for outcomes; with the last word in want of memory
   inst_loads race ROUNDS                         slots of two threads race for the outcomes of 200 transfers
   inst_loads race rows                           worked rows of three slots, in one thread
   inst_loads scarce                              worked rows in want of memory
   inst_loads --help                              these words
 
-There are 1 to 15 THREADS, and TRANSFERS are those that each of them makes in a round: as many as find places, where no
-number says so. How it ended is told on standard error. The exit status is 0, or 1 where something isn't as it must be,
-or 2 where the words are others.
+There are 1 to 15 THREADS, and TRANSFERS are those that each of them makes in a round, by default as many as find
+places. How it ended is told on standard error. The exit status is 0, or 1 where something isn't as it must be, or 2
+where the words are others.
 ";
 
 /// What is run.
