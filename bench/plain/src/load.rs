@@ -1,4 +1,4 @@
-//! The load of `inst_rush` at a shared hub: `uniform`, `split` or `hot`, threads, rounds.
+//! The load of `inst_loads` at a shared hub: `uniform`, `split` or `hot`, threads, rounds.
 use crate::shared::{SharedHub, Size, Submission};
 use crate::text::Ident;
 use std::thread;

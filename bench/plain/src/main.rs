@@ -1,5 +1,5 @@
 //! A hub as one would write it without proofs, to measure against: in one thread with the replies of `inst_main run`, and
-//! with a first word `load` the load of `inst_rush` at one that threads share.
+//! with a first word `load` the load of `inst_loads` at one that threads share.
 mod books;
 mod fault;
 mod fields;

@@ -1,0 +1,11 @@
+use Rattle.std.proofs.Common.{◌≡◌, ◌++◌}
+use Rattle.std.specs.Vec.Iter.{into_iter_items}
+use Rattle.inst_loads.specs.Jobs.{AreJobsOf}
+use Rattle.inst_loads.proofs.hub.job.jobs.Given as goal
+
+abbrev pub invariant-loop-teller : goal.invariant-loop-teller
+invariant-loop-teller l =
+    (goal.iterator-loop-teller).can_next l.teller-iterator ×
+    (goal.iterator-loop-teller).is_finite l.teller-iterator ×
+    (l.yielded ++ into_iter_items l.teller-iterator ≡ l.fn.tellers.items) ×
+    AreJobsOf l.hub l.jobs.items

@@ -1,0 +1,6 @@
+//! A hub of many threads, as loads and stresses have it: how it opens, what the threads start with, what it is asked,
+//! and what may be wrong with it.
+pub(crate) mod asking;
+pub(crate) mod flaw;
+pub(crate) mod job;
+pub(crate) mod opening;

@@ -1,0 +1,159 @@
+//! What is asked of the hub.
+ghost use Rattle.inst_hub.specs.Calls.{IsOf};
+
+use inst_base::{Cents, Fault, Ident, Moment};
+use inst_command::{Ask, Command, Outcome, Reply, State, Submission};
+use inst_hub::{Hub, Teller, Ticket};
+use std::alloc::Global;
+use std::sync::Wait;
+
+/// What each transfer is over, in cents.
+const CENTS: u64 = 100;
+
+/// The time stamp of all transfers, and the reading at which they are submitted.
+const STAMP: u64 = 1_000;
+
+/// What an ask is answered, a refusal too; `BadField` where it doesn't fit the hub.
+pub(crate) fn call<R: Wait>(
+    rt: &R,
+    hub: &Hub,
+    teller: &mut Teller,
+    ask: &Ask,
+) -> Result<(Reply, Option<Ticket>), Fault>
+    requires { IsOf hub.now teller.old }
+    ensures { IsOf hub.now teller.new }
+{
+    if !ask.fits(hub.settings()) {
+        return Err(Fault::BadField);
+    }
+    Ok(hub.call(rt, teller, ask)?)
+}
+
+/// What a command is answered. A refusal is an error.
+pub(crate) fn ask<R: Wait>(
+    rt: &R,
+    hub: &Hub,
+    teller: &mut Teller,
+    who: u8,
+    command: Command,
+    at: u64,
+) -> Result<Reply, Fault>
+    requires { IsOf hub.now teller.old }
+    ensures { IsOf hub.now teller.new }
+{
+    let ask = Ask {
+        who,
+        command,
+        at: Moment::new(0, at)?,
+    };
+    match call(rt, hub, teller, &ask)? {
+        (Reply::Refused(fault), _) => Err(fault),
+        (reply, _) => Ok(reply),
+    }
+}
+
+fn fund<R: Wait>(rt: &R, hub: &Hub, teller: &mut Teller, who: u8, cents: u64) -> Result<(), Fault>
+    requires { IsOf hub.now teller.old }
+    ensures { IsOf hub.now teller.new }
+{
+    let command = Command::Fund {
+        reference: Ident::new("F1")?,
+        cents: Cents::new(cents)?,
+    };
+    ask(rt, hub, teller, who, command, 0)?;
+    Ok(())
+}
+
+/// Funds the first so many participants, at most 256, with so many cents each. A refusal is an error.
+pub(crate) fn fund_all<R: Wait>(
+    rt: &R,
+    hub: &Hub,
+    teller: &mut Teller,
+    participants: u16,
+    cents: u64,
+) -> Result<(), Fault>
+    requires { IsOf hub.now teller.old }
+    ensures { IsOf hub.now teller.new }
+{
+    for who in 0..participants.min(256) {
+        fund(rt, hub, teller, who as u8, cents)?;
+    }
+    Ok(())
+}
+
+/// What a participant has, in cents.
+#[derive(Clone, Copy)]
+pub(crate) struct Money {
+    pub(crate) position: u64,
+    pub(crate) reserved: u64,
+    pub(crate) available: u64,
+}
+
+/// What a reply tells of the position.
+pub(crate) fn money_of(reply: &Reply) -> Option<Money> {
+    match reply {
+        Reply::Position {
+            position,
+            reserved,
+            available,
+        } => Some(Money {
+            position: *position,
+            reserved: *reserved,
+            available: *available,
+        }),
+        _ => None,
+    }
+}
+
+/// What a participant has now.
+pub(crate) fn ask_money<R: Wait>(
+    rt: &R,
+    hub: &Hub,
+    teller: &mut Teller,
+    who: u8,
+) -> Result<Money, Fault>
+    requires { IsOf hub.now teller.old }
+    ensures { IsOf hub.now teller.new }
+{
+    let reply = ask(rt, hub, teller, who, Command::Position, STAMP)?;
+    money_of(&reply).ok_or(Fault::BadField)
+}
+
+/// The submission of the transfer with this number in its thread.
+fn submission(alloc: Global, to: u8, thread: u8, number: u32) -> Result<Submission, Fault> {
+    let text = format!(in alloc; "T{thread}-{number}")?;
+    Ok(Submission {
+        id: Ident::new(text.as_str())?,
+        to,
+        cents: Cents::new(CENTS)?,
+        stamp: Moment::new(0, STAMP)?,
+    })
+}
+
+/// Whether the reply tells that the transfer is accepted.
+pub(crate) fn is_accepted(reply: &Reply) -> bool {
+    match reply {
+        Reply::State { state, .. } => *state == State::Decided(Outcome::Accepted),
+        _ => false,
+    }
+}
+
+/// Submits a transfer and confirms it: whether it was accepted. A refusal of either is an error.
+pub(crate) fn settle<R: Wait>(
+    rt: &R,
+    alloc: Global,
+    hub: &Hub,
+    teller: &mut Teller,
+    pair: (u8, u8),
+    name: (u8, u32),
+) -> Result<bool, Fault>
+    requires { IsOf hub.now teller.old }
+    ensures { IsOf hub.now teller.new }
+{
+    let (from, to) = pair;
+    let submission = submission(alloc, to, name.0, name.1)?;
+    let id = submission.id;
+    ask(rt, hub, teller, from, Command::Submit(submission), STAMP)?;
+    let command = Command::Confirm { from, id };
+    Ok(is_accepted(&ask(rt, hub, teller, to, command, STAMP + 1)?))
+}

@@ -1,0 +1,41 @@
+//! What the threads of a round start with.
+ghost use Rattle.std.specs.Prelude.{IfOk};
+ghost use Rattle.inst_hub.specs.Calls.{IsOf, AreOf};
+ghost use Rattle.inst_loads.specs.Jobs.{AreJobsOf};
+
+use inst_base::Fault;
+use inst_hub::{Hub, Teller};
+use std::alloc::Global;
+
+/// A thread's teller and number.
+#[derive(Drop)]
+pub(crate) struct Job {
+    pub(crate) teller: Teller,
+    pub(crate) thread: u8,
+}
+
+/// The last teller of these.
+pub(crate) fn last(hub: &Hub, tellers: &mut Vec<Teller>) -> Result<Teller, Fault>
+    requires { AreOf hub.now tellers.old.items }
+    ensures last { IfOk result (λ teller. IsOf hub.now teller) }
+    ensures rest { AreOf hub.now tellers.new.items }
+{
+    match tellers.pop() {
+        Some(teller) => Ok(teller),
+        None => Err(Fault::BadSettings),
+    }
+}
+
+/// The jobs of the threads.
+pub(crate) fn jobs(alloc: Global, hub: &Hub, tellers: Vec<Teller>) -> Result<Vec<Job>, Fault>
+    requires { AreOf hub.now tellers.items }
+    ensures { IfOk result (λ jobs. AreJobsOf hub.now jobs.items) }
+{
+    let mut jobs = Vec::new(alloc);
+    let mut thread = 0u8;
+    for teller in tellers {
+        jobs.push(Job { teller, thread })?;
+        thread = thread.saturating_add(1);
+    }
+    Ok(jobs)
+}

@@ -1,0 +1,129 @@
+//! Rounds of a load, each at a hub of its own.
+ghost use Rattle.inst_hub.specs.Calls.{AreOf, IsOf};
+ghost use Rattle.inst_loads.specs.Jobs.{AreJobsOf};
+
+use crate::hub::asking::{ask_money, fund_all, settle};
+use crate::hub::flaw::{Failure, Flaw, check_sum};
+use crate::hub::job::{Job, jobs, last};
+use crate::hub::opening::{Size, open};
+use crate::load::{FUNDS, Load, PARTICIPANTS, PLACES};
+use inst_base::Fault;
+use inst_hub::{Hub, Teller};
+use std::alloc::Global;
+use std::sync::Wait;
+use std::thread::{self, Threads};
+
+const SIZE: Size = Size {
+    participants: PARTICIPANTS,
+    places: PLACES,
+    margin: 0,
+};
+
+/// Submits and confirms the thread's share: how many transfers were accepted.
+fn share<R: Wait>(rt: &R, alloc: Global, hub: &Hub, load: Load, job: Job) -> Result<u32, Failure>
+    requires { IsOf hub.now job.teller }
+{
+    let Job { mut teller, thread } = job;
+    let mut settled = 0u32;
+    for number in 0..load.share {
+        let pair = load.pair(thread, number);
+        let is_settled = settle(rt, alloc, hub, &mut teller, pair, (thread, number)).map_err(
+            |fault| Flaw::Refused(fault).of(thread),
+        )?;
+        settled = settled.saturating_add(u32::from(is_settled));
+    }
+    Ok(settled)
+}
+
+/// What all positions sum to, in cents.
+fn sum<R: Wait>(rt: &R, hub: &Hub, teller: &mut Teller) -> Result<u64, Fault>
+    requires { IsOf hub.now teller.old }
+{
+    let mut sum = 0u64;
+    for who in 0..PARTICIPANTS {
+        sum = sum.saturating_add(ask_money(rt, hub, teller, who as u8)?.position);
+    }
+    Ok(sum)
+}
+
+/// Runs the jobs, each in a thread of its own: how many transfers were accepted.
+fn run<R: Threads + Wait + Sync>(
+    rt: &R,
+    alloc: Global,
+    hub: &Hub,
+    load: Load,
+    jobs: Vec<Job>,
+) -> Result<u32, Failure>
+    requires { AreJobsOf hub.now jobs.items }
+{
+    let counts = thread::map_vec(
+        rt,
+        jobs,
+        &|job: Job| -> Result<u32, Failure>
+            requires { IsOf hub.now job.teller }
+        { share(rt, alloc, hub, load, job) },
+    )?;
+    let mut settled = 0u32;
+    for count in counts {
+        settled = settled.saturating_add(count?);
+    }
+    Ok(settled)
+}
+
+/// Whether all transfers were accepted, and the positions still sum to the funding.
+fn check_round<R: Wait>(
+    rt: &R,
+    hub: &Hub,
+    teller: &mut Teller,
+    load: Load,
+    settled: u32,
+) -> Result<(), Flaw>
+    requires { IsOf hub.now teller.old }
+{
+    let transfers = load.transfers();
+    if settled != transfers {
+        return Err(Flaw::NotAllSettled { settled, transfers });
+    }
+    let positions = sum(rt, hub, teller)?;
+    check_sum(positions, FUNDS * u64::from(PARTICIPANTS))
+}
+
+/// The load of a round, by threads with these tellers: how many transfers were accepted.
+fn settle_all<R: Threads + Wait + Sync>(
+    rt: &R,
+    alloc: Global,
+    hub: &Hub,
+    teller: &mut Teller,
+    tellers: Vec<Teller>,
+    load: Load,
+) -> Result<u32, Failure>
+    requires { IsOf hub.now teller.old × AreOf hub.now tellers.items }
+{
+    let jobs = jobs(alloc, hub, tellers)?;
+    fund_all(rt, hub, teller, PARTICIPANTS, FUNDS)?;
+    let settled = run(rt, alloc, hub, load, jobs)?;
+    check_round(rt, hub, teller, load, settled)?;
+    Ok(settled)
+}
+
+/// A round: how many transfers were accepted, which are all, where the positions still sum to the funding.
+fn round<R: Threads + Wait + Sync>(rt: &R, alloc: Global, load: Load) -> Result<u32, Failure> {
+    let (hub, mut tellers) = open(alloc, SIZE, load.threads)?;
+    let mut teller = last(&hub, &mut tellers)?;
+    settle_all(rt, alloc, &hub, &mut teller, tellers, load)
+}
+
+/// So many rounds: how many transfers were accepted, or the first failure.
+pub(crate) fn rounds<R: Threads + Wait + Sync>(
+    rt: &R,
+    alloc: Global,
+    load: Load,
+    count: u32,
+) -> Result<u64, Failure> {
+    let mut settled = 0u64;
+    for number in 0..count {
+        let accepted = round(rt, alloc, load).map_err(|failure| failure.in_round(number))?;
+        settled = settled.saturating_add(u64::from(accepted));
+    }
+    Ok(settled)
+}

@@ -1,0 +1,126 @@
+//! Loads and stresses of a hub of many threads, races of slots over shared boards, and worked rows in want of memory,
+//! as the words of the command line ask for (`--help` prints them). How it ended it tells on standard error, and ends
+//! with status 0; with 1 where something isn't as it must be, and with 2 where the words are others.
+#![tactic(auto)]
+
+mod hoard;
+mod hub;
+mod load;
+mod race;
+mod scarce;
+mod stress;
+mod words;
+
+use hub::flaw::Failure;
+use load::rounds::rounds;
+use race::rounds::{Ended, races};
+use race::rows::failed;
+use scarce::flaw::Flaw;
+use scarce::run_apart;
+use scarce::tries::Tries;
+use std::alloc::Global;
+use std::env;
+use std::io::Write;
+use std::process::ExitCode;
+use stress::play_apart;
+use stress::tally::Tally;
+use words::{HELP, Task};
+
+fn main(rt: HostRuntime) -> ExitCode {
+    let alloc = rt.alloc();
+    match task(&rt, alloc) {
+        None => ExitCode::from(2),
+        Some(Task::Help) => help(&rt),
+        Some(Task::Load(load, count)) => tell_load(&rt, &rounds(&rt, alloc, load, count)),
+        Some(Task::Stress(stress)) => tell_stress(&rt, &play_apart(&rt, alloc, stress)),
+        Some(Task::Races(count)) => tell_races(&rt, races(&rt, alloc, count)),
+        Some(Task::RaceRows) => tell_rows(&rt, failed(alloc)),
+        Some(Task::Scarce) => tell_scarce(&rt, &run_apart(&rt, alloc)),
+    }
+}
+
+/// What the words of the command line ask for, if they are such.
+fn task(rt: &HostRuntime, alloc: Global) -> Option<Task> {
+    let words: Vec<String> = env::args(rt).ok()?.collect::<Vec<_>>(alloc).ok()?;
+    Task::of(&words)
+}
+
+/// Prints the words.
+fn help(rt: &HostRuntime) -> ExitCode {
+    match rt.stdout().write_all(HELP.as_bytes()) {
+        Ok(()) => ExitCode::from(0),
+        Err(_) => ExitCode::from(1),
+    }
+}
+
+/// Tells how many transfers a load settled, or what failed.
+fn tell_load(rt: &HostRuntime, ended: &Result<u64, Failure>) -> ExitCode {
+    match ended {
+        Ok(settled) => {
+            let _ = writeln!(rt.stderr(), "settled {settled}");
+            ExitCode::from(0)
+        }
+        Err(failure) => tell_failure(rt, failure),
+    }
+}
+
+/// Tells how the transfers of a stress ended, or what failed.
+fn tell_stress(rt: &HostRuntime, ended: &Result<Tally, Failure>) -> ExitCode {
+    match ended {
+        Ok(tally) => {
+            let _ = writeln!(rt.stderr(), "{tally}");
+            ExitCode::from(0)
+        }
+        Err(failure) => tell_failure(rt, failure),
+    }
+}
+
+fn tell_failure(rt: &HostRuntime, failure: &Failure) -> ExitCode {
+    let _ = writeln!(rt.stderr(), "{failure}");
+    ExitCode::from(1)
+}
+
+/// Tells how the transfers of all races ended, where none failed.
+fn tell_races(rt: &HostRuntime, ended: Option<Ended>) -> ExitCode {
+    match ended {
+        Some(ended) => {
+            let _ = writeln!(
+                rt.stderr(),
+                "accepted {}, timed out {}",
+                ended.accepted,
+                ended.timed_out
+            );
+            ExitCode::from(0)
+        }
+        None => ExitCode::from(1),
+    }
+}
+
+/// Tells which worked row failed, if one did.
+fn tell_rows(rt: &HostRuntime, failed: Option<&str>) -> ExitCode {
+    match failed {
+        None => ExitCode::from(0),
+        Some(name) => {
+            let _ = writeln!(rt.stderr(), "{name} failed");
+            ExitCode::from(1)
+        }
+    }
+}
+
+/// Tells how many calls were answered and how often one was refused memory, and what failed, if anything did.
+fn tell_scarce(rt: &HostRuntime, ended: &(Result<(), Flaw>, Tries)) -> ExitCode {
+    let (ended, tries) = ended;
+    let _ = writeln!(
+        rt.stderr(),
+        "answered {}, refused {} times",
+        tries.answered,
+        tries.refused
+    );
+    match ended {
+        Ok(()) => ExitCode::from(0),
+        Err(flaw) => {
+            let _ = writeln!(rt.stderr(), "{flaw}");
+            ExitCode::from(1)
+        }
+    }
+}

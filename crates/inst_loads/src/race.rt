@@ -1,0 +1,166 @@
+//! Two participants race for the outcomes of the same transfers, each in a thread of its own.
+mod acts;
+mod answers;
+mod opening;
+mod participant;
+pub(crate) mod rounds;
+pub(crate) mod rows;
+
+use crate::race::opening::open;
+use crate::race::participant::Participant;
+use inst_base::{Cents, Fault, Ident, Moment};
+use inst_board::Place;
+use inst_command::{Command, Outcome, Submission};
+use std::alloc::Global;
+use std::thread::{Threads, join_mut};
+
+/// How many transfers are raced for.
+const TRANSFERS: u16 = 200;
+
+/// The cents of each.
+const CENTS: u64 = 100;
+
+/// What the originator is funded with, in cents.
+const FUNDS: u64 = 20_000;
+
+/// The time stamp of all transfers, and the reading at which they are submitted.
+const STAMP: u64 = 1_000;
+
+/// The deadline of all transfers, in milliseconds.
+const DEADLINE: u64 = 11_000;
+
+/// How a race ended.
+#[derive(Clone, Copy)]
+pub(crate) struct Finish {
+    /// Of how many transfers the originator's expiry booked an outcome.
+    expired: u16,
+    /// How many the beneficiary's confirmation was answered for.
+    confirmed: u16,
+    /// Of how many both books say that they were accepted.
+    pub(crate) accepted: u16,
+    /// Of how many both books say that they timed out.
+    pub(crate) timed_out: u16,
+    /// What the positions of both sum to, in cents.
+    sum: u128,
+}
+
+impl Finish {
+    /// Whether it is a finish that a race may have: each side was answered for all transfers, both books
+    /// have the same outcome of each, and no cent came or went.
+    pub(crate) fn is_whole(&self) -> bool {
+        self.expired == TRANSFERS
+            && self.confirmed == TRANSFERS
+            && self.accepted.checked_add(self.timed_out) == Some(TRANSFERS)
+            && self.sum == u128::from(FUNDS)
+    }
+}
+
+/// The identifier of the transfer with this index.
+fn name(alloc: Global, index: u16) -> Result<Ident, Fault> {
+    let text = format!(in alloc; "T{index}")?;
+    Ident::new(text.as_str())
+}
+
+/// Funds the originator, which submits all transfers; each is delivered.
+fn submit_all(
+    alloc: Global,
+    first: &mut Participant,
+    second: &mut Participant,
+) -> Result<(), Fault> {
+    let at = Moment::new(0, STAMP)?;
+    let fund = Command::Fund {
+        reference: Ident::new("F1")?,
+        cents: Cents::new(FUNDS)?,
+    };
+    first.ask(fund, at)?;
+    for index in 0..TRANSFERS {
+        let submission = Submission {
+            id: name(alloc, index)?,
+            to: 1,
+            cents: Cents::new(CENTS)?,
+            stamp: at,
+        };
+        first.ask(Command::Submit(submission), at)?;
+        second.deliver(Place { owner: 0, index })?;
+    }
+    Ok(())
+}
+
+/// The beneficiary confirms all, and answers how many these are.
+fn confirm_all(alloc: Global, second: &mut Participant, at: Moment) -> Result<u16, Fault> {
+    for index in 0..TRANSFERS {
+        let id = name(alloc, index)?;
+        second.ask(Command::Confirm { from: 0, id }, at)?;
+    }
+    Ok(TRANSFERS)
+}
+
+/// The originator lets all expire. Of how many that booked an outcome.
+fn expire_all(first: &mut Participant, at: Moment) -> Result<u16, Fault> {
+    let mut expired = 0;
+    for index in 0..TRANSFERS {
+        if first.expire(index, at)? {
+            expired += 1;
+        }
+    }
+    Ok(expired)
+}
+
+/// Of how many transfers both books have this outcome.
+fn ended_so(
+    alloc: Global,
+    first: &Participant,
+    second: &Participant,
+    outcome: &Outcome,
+) -> Result<u16, Fault> {
+    let mut count = 0;
+    for index in 0..TRANSFERS {
+        let id = name(alloc, index)?;
+        let booked = first.journal().booked(0, &id);
+        if booked.as_ref() == Some(outcome) && booked == second.journal().booked(0, &id) {
+            count += 1;
+        }
+    }
+    Ok(count)
+}
+
+/// What the positions of both sum to, in cents.
+fn sum(first: &Participant, second: &Participant) -> u128 {
+    let first = first.journal().position();
+    first.saturating_add(second.journal().position())
+}
+
+/// The race of these two for transfers that are pending.
+fn run<R: Threads + Sync>(
+    rt: &R,
+    alloc: Global,
+    first: &mut Participant,
+    second: &mut Participant,
+    margin: u32,
+) -> Result<Finish, Fault> {
+    let deadline = Moment::new(0, DEADLINE)?;
+    let last = Moment::new(0, DEADLINE.saturating_sub(u64::from(margin) + 1))?;
+    let (expired, confirmed) = join_mut(
+        rt,
+        &mut || expire_all(first, deadline),
+        &mut || confirm_all(alloc, second, last),
+    );
+    Ok(Finish {
+        expired: expired?,
+        confirmed: confirmed?,
+        accepted: ended_so(alloc, first, second, &Outcome::Accepted)?,
+        timed_out: ended_so(alloc, first, second, &Outcome::TimedOut)?,
+        sum: sum(first, second),
+    })
+}
+
+/// The beneficiary confirms all transfers at the last moment in time, while the originator lets them expire
+/// at the deadline. An acceptance must come before the deadline by more than `margin` milliseconds.
+pub(crate) fn race<R: Threads + Sync>(rt: &R, alloc: Global, margin: u32) -> Result<Finish, Fault> {
+    let mut hub = open(alloc, 256, margin)?;
+    let [first, second, ..] = hub.as_mut_slice() else {
+        return Err(Fault::BadSettings);
+    };
+    submit_all(alloc, first, second)?;
+    run(rt, alloc, first, second, margin)
+}

@@ -1,0 +1,104 @@
+//! Who does what, one after another in one thread, and what each is answered.
+use crate::race::acts::{Does, answer};
+use crate::race::answers::{Told, tells};
+use crate::race::opening::open;
+use crate::race::participant::Participant;
+use inst_base::{Fault, Moment};
+use std::alloc::Global;
+
+/// Who does what, when, and what is answered.
+type Row = (u8, Does, u64, Told);
+
+/// The first participant has 50,000 cents, and T1 over 20,000 to the second, to which it comes. The third
+/// has no part in it.
+const SUBMITTED: &[Row] = &[
+    (0, Does::Fund("F1", 50_000), 0, Told::Done("F1")),
+    (
+        0,
+        Does::Submit("T1", 1, 20_000, 1_000),
+        1_000,
+        Told::Taken("T1", 11_000),
+    ),
+    (2, Does::Deliver(0, 0), 1_000, Told::New(false)),
+    (2, Does::Position, 1_000, Told::Position(0, 0, 0)),
+    (1, Does::Deliver(0, 0), 1_000, Told::New(true)),
+];
+
+const CONFIRMED_IN_TIME: &[Row] = &[
+    (1, Does::Confirm(0, "T1"), 10_999, Told::Accepted(0, "T1")),
+    (0, Does::Learn(0, 0), 10_999, Told::New(true)),
+    (0, Does::Position, 10_999, Told::Position(30_000, 0, 30_000)),
+    (1, Does::Position, 10_999, Told::Position(20_000, 0, 20_000)),
+    (2, Does::Position, 10_999, Told::Position(0, 0, 0)),
+];
+
+const CONFIRMED_LATE: &[Row] = &[
+    (1, Does::Confirm(0, "T1"), 11_000, Told::TimedOut(0, "T1")),
+    (0, Does::Learn(0, 0), 11_000, Told::New(true)),
+    (0, Does::Position, 11_000, Told::Position(50_000, 0, 50_000)),
+    (1, Does::Position, 11_000, Told::Position(0, 0, 0)),
+    (2, Does::Position, 11_000, Told::Position(0, 0, 0)),
+];
+
+const CONFIRM_BEFORE_EXPIRE: &[Row] = &[
+    (1, Does::Confirm(0, "T1"), 10_999, Told::Accepted(0, "T1")),
+    (0, Does::Expire(0), 11_000, Told::New(true)),
+    (0, Does::Learn(0, 0), 11_000, Told::New(false)),
+    (0, Does::Position, 11_000, Told::Position(30_000, 0, 30_000)),
+    (1, Does::Position, 11_000, Told::Position(20_000, 0, 20_000)),
+    (2, Does::Position, 11_000, Told::Position(0, 0, 0)),
+];
+
+const EXPIRE_BEFORE_CONFIRM: &[Row] = &[
+    (0, Does::Expire(0), 11_000, Told::New(true)),
+    (1, Does::Confirm(0, "T1"), 10_999, Told::TimedOut(0, "T1")),
+    (0, Does::Position, 11_000, Told::Position(50_000, 0, 50_000)),
+    (1, Does::Position, 11_000, Told::Position(0, 0, 0)),
+    (2, Does::Position, 11_000, Told::Position(0, 0, 0)),
+];
+
+/// Each worked row by its name.
+const WORKED: [(&str, &[Row]); 4] = [
+    ("confirmed_in_time", CONFIRMED_IN_TIME),
+    ("confirmed_late", CONFIRMED_LATE),
+    ("confirm_before_expire", CONFIRM_BEFORE_EXPIRE),
+    ("expire_before_confirm", EXPIRE_BEFORE_CONFIRM),
+];
+
+/// Whether the row is answered so.
+fn is_answered(hub: &mut [Participant], row: &Row) -> Result<bool, Fault> {
+    let (who, does, at, told) = row;
+    match hub.get_mut(usize::from(*who)) {
+        Some(participant) => {
+            let answer = answer(participant, does, Moment::new(0, *at)?)?;
+            Ok(tells(&answer, told))
+        }
+        None => Err(Fault::BadField),
+    }
+}
+
+/// Whether the rows are answered so, one after another; at the first one that isn't, the others are left out.
+fn are_answered(hub: &mut [Participant], rows: &[Row]) -> Result<bool, Fault> {
+    for row in rows {
+        if !is_answered(hub, row)? {
+            return Ok(false);
+        }
+    }
+    Ok(true)
+}
+
+/// Whether these rows come so after T1 was submitted.
+fn comes(alloc: Global, rows: &[Row]) -> Result<bool, Fault> {
+    let mut hub = open(alloc, 2, 0)?;
+    Ok(are_answered(&mut hub, SUBMITTED)? && are_answered(&mut hub, rows)?)
+}
+
+/// The name of the first worked row that doesn't come as it must, if there is one.
+pub(crate) fn failed(alloc: Global) -> Option<&'static str> {
+    for (name, rows) in WORKED {
+        if comes(alloc, rows) != Ok(true) {
+            return Some(name);
+        }
+    }
+    None
+}

@@ -1,0 +1,175 @@
+//! A stress of a small hub: threads race for the outcomes of a few transfers between 4 participants, and after each
+//! round all that they were told is compared with the books. In a round of want each thread makes some calls in want of
+//! memory, while the others race, and goes on where one is refused.
+ghost use Rattle.inst_hub.specs.Calls.{AreOf, IsOf};
+ghost use Rattle.inst_loads.specs.Jobs.{AreJobsOf};
+
+mod accounts;
+mod acting;
+mod chooser;
+mod generator;
+mod inbox;
+mod meeting;
+mod pace;
+mod running;
+mod settling;
+mod sights;
+mod stress_round;
+pub(crate) mod tally;
+mod transfer;
+
+use crate::hub::asking::fund_all;
+use crate::hub::flaw::{Failure, Flaw};
+use crate::hub::job::{Job, jobs, last};
+use crate::hub::opening::{Size, open};
+use crate::load::threads_of;
+use crate::stress::accounts::check_accounts;
+use crate::stress::inbox::check_inbox;
+use crate::stress::meeting::{agree, meet_all, peek_all};
+use crate::stress::running::run;
+use crate::stress::settling::{bring_all, fetch_all, settle, sweep_all};
+use crate::stress::sights::{PLACES, Sights};
+use crate::stress::stress_round::StressRound;
+use crate::stress::tally::Tally;
+use crate::stress::transfer::{FUNDS, PARTICIPANTS};
+use inst_hub::{Hub, Teller};
+use std::alloc::Global;
+use std::sync::Wait;
+use std::thread::{Threads, join};
+
+/// What was submitted came to its beneficiary, and each transfer comes to its end.
+fn settle_all<R: Wait>(
+    rt: &R,
+    alloc: Global,
+    hub: &Hub,
+    teller: &mut Teller,
+    round: StressRound,
+    sights: &mut Sights,
+) -> Result<(), Flaw>
+    requires { IsOf hub.now teller.old }
+    ensures { IsOf hub.now teller.new }
+{
+    bring_all(rt, hub, teller, round)?;
+    fetch_all(rt, hub, teller, sights)?;
+    check_inbox(alloc, sights)?;
+    settle(rt, hub, teller, sights)?;
+    sweep_all(rt, hub, teller, round)
+}
+
+/// All tellers see the same, before all transfers come to their end and after that.
+fn end<R: Wait>(
+    rt: &R,
+    alloc: Global,
+    hub: &Hub,
+    teller: &mut Teller,
+    round: StressRound,
+    jobs: Vec<Job>,
+    sights: &mut Sights,
+) -> Result<(), Failure>
+    requires { IsOf hub.now teller.old × AreJobsOf hub.now jobs.items }
+    ensures { IsOf hub.now teller.new }
+{
+    // The teller first learns what each of the others knows, and only then can it tell each of them all of it.
+    let jobs = meet_all(alloc, hub, teller, jobs)?;
+    let jobs = meet_all(alloc, hub, teller, jobs)?;
+    peek_all(teller, sights)?;
+    let jobs = agree(alloc, hub, jobs, sights)?;
+    settle_all(rt, alloc, hub, teller, round, sights)?;
+    agree(alloc, hub, jobs, sights)?;
+    Ok(())
+}
+
+/// How the transfers ended, where all that was told agrees with the books.
+fn check<R: Wait>(rt: &R, hub: &Hub, teller: &mut Teller, sights: &Sights) -> Result<Tally, Failure>
+    requires { IsOf hub.now teller.old }
+{
+    let tally = Tally::of(sights)?;
+    check_accounts(rt, hub, teller, sights)?;
+    Ok(tally)
+}
+
+/// The stress of a round, by threads with these tellers: how the transfers ended.
+fn race<R: Threads + Wait + Sync>(
+    rt: &R,
+    alloc: Global,
+    hub: &Hub,
+    teller: &mut Teller,
+    tellers: Vec<Teller>,
+    round: StressRound,
+) -> Result<Tally, Failure>
+    requires { IsOf hub.now teller.old × AreOf hub.now tellers.items }
+{
+    let jobs = jobs(alloc, hub, tellers)?;
+    fund_all(rt, hub, teller, PARTICIPANTS, FUNDS)?;
+    let (jobs, mut sights) = run(rt, alloc, hub, round, jobs)?;
+    end(rt, alloc, hub, teller, round, jobs, &mut sights)?;
+    check(rt, hub, teller, &sights)
+}
+
+/// A round at a hub that opens anew.
+fn round<R: Threads + Wait + Sync>(
+    rt: &R,
+    alloc: Global,
+    round: StressRound,
+) -> Result<Tally, Failure> {
+    let size = Size {
+        participants: PARTICIPANTS,
+        places: PLACES,
+        margin: round.margin,
+    };
+    let (hub, mut tellers) = open(alloc, size, round.threads)?;
+    let mut teller = last(&hub, &mut tellers)?;
+    race(rt, alloc, &hub, &mut teller, tellers, round)
+}
+
+/// What a stress is.
+#[derive(Clone, Copy)]
+pub(crate) struct Stress {
+    /// 1 to 15.
+    threads: u8,
+    rounds: u32,
+    /// Whether its rounds are such of want.
+    is_scarce: bool,
+}
+
+impl Stress {
+    /// The stress that these words choose.
+    pub(crate) fn of(words: &[String]) -> Option<Stress> {
+        let (threads, rounds) = threads_of(words)?;
+        let is_scarce = match words.get(4).map(|word| word.as_str()) {
+            None => false,
+            Some("scarce") => true,
+            Some(_) => return None,
+        };
+        Some(Stress {
+            threads,
+            rounds,
+            is_scarce,
+        })
+    }
+}
+
+/// The rounds one by one: how the transfers ended, or the first failure.
+fn play<R: Threads + Wait + Sync>(rt: &R, alloc: Global, stress: Stress) -> Result<Tally, Failure> {
+    let mut tally = Tally::new();
+    for number in 0..stress.rounds {
+        let ended = round(
+            rt,
+            alloc,
+            StressRound::of(stress.threads, stress.is_scarce, number),
+        )
+        .map_err(|failure| failure.in_round(number))?;
+        tally = tally.plus(ended);
+    }
+    Ok(tally)
+}
+
+/// Plays the rounds apart from the first thread, since its stack can't grow where threads have taken all memory.
+pub(crate) fn play_apart<R: Threads + Wait + Sync>(
+    rt: &R,
+    alloc: Global,
+    stress: Stress,
+) -> Result<Tally, Failure> {
+    let (ended, ()) = join(rt, || play(rt, alloc, stress), || ());
+    ended
+}

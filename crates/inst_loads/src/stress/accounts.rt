@@ -1,0 +1,161 @@
+//! Whether the participants have what the outcomes of the transfers make of their funding.
+ghost use Rattle.inst_hub.specs.Calls.{IsOf};
+
+use crate::hub::asking::{ask, ask_money};
+use crate::hub::flaw::{Flaw, check_sum};
+use crate::stress::sights::{Sight, Sights};
+use crate::stress::transfer::{FUNDS, PARTICIPANTS};
+use inst_command::{Command, Line, LineKind, Outcome, Reply, State};
+use inst_hub::{Hub, Teller};
+use std::sync::Wait;
+
+/// How many replies have all lines of a participant: one for its funding, and for each transfer of the hub at most one.
+const PAGES: u16 = 3;
+
+/// How many lines a reply has at most.
+const PAGE: u32 = 100;
+
+/// What a participant received and paid, in cents.
+#[derive(Clone, Copy)]
+struct Turnover {
+    received: u64,
+    paid: u64,
+}
+
+impl Turnover {
+    /// With this transfer, if it was accepted. `NoTicket` where no teller was told what it is over.
+    fn with(self, who: u8, sight: &Sight) -> Result<Turnover, Flaw> {
+        if sight.state != State::Decided(Outcome::Accepted) {
+            return Ok(self);
+        }
+        let (to, cents) = sight.contents.ok_or(Flaw::NoTicket)?;
+        let mut turnover = self;
+        if to == who {
+            turnover.received = turnover.received.saturating_add(cents);
+        }
+        if sight.ticket.place().owner == who {
+            turnover.paid = turnover.paid.saturating_add(cents);
+        }
+        Ok(turnover)
+    }
+}
+
+/// The position that the outcomes make of the funding of the participant.
+fn expected(who: u8, sights: &Sights) -> Result<u64, Flaw> {
+    let mut turnover = Turnover {
+        received: 0,
+        paid: 0,
+    };
+    for slot in sights.places() {
+        if let Some(sight) = slot {
+            turnover = turnover.with(who, sight)?;
+        }
+    }
+    let credit = FUNDS.saturating_add(turnover.received);
+    Ok(credit.saturating_sub(turnover.paid))
+}
+
+/// The balance after the lines of a statement that were read.
+#[derive(Clone, Copy)]
+struct RunningBalance {
+    /// How many lines these were.
+    lines: u32,
+    position: u64,
+}
+
+impl RunningBalance {
+    /// After one line more, which has the next number and the position that it leads to.
+    fn after_line(self, line: &Line) -> Result<RunningBalance, Flaw> {
+        let cents = line.cents.get();
+        let position = match line.kind {
+            LineKind::Funded | LineKind::Received => self.position.checked_add(cents),
+            LineKind::Defunded | LineKind::Paid => self.position.checked_sub(cents),
+        };
+        let lines = self.lines.saturating_add(1);
+        if position != Some(line.position) || line.number != lines {
+            return Err(Flaw::OtherStatement);
+        }
+        Ok(RunningBalance {
+            lines,
+            position: line.position,
+        })
+    }
+
+    fn after_lines(self, lines: &[Line]) -> Result<RunningBalance, Flaw> {
+        let mut balance = self;
+        for line in lines {
+            balance = balance.after_line(line)?;
+        }
+        Ok(balance)
+    }
+
+    fn after_reply(self, reply: &Reply) -> Result<RunningBalance, Flaw> {
+        match reply {
+            Reply::Statement { lines } => self.after_lines(lines.as_slice()),
+            _ => Err(Flaw::OtherStatement),
+        }
+    }
+}
+
+/// The position to which the statement of the participant leads.
+fn statement<R: Wait>(rt: &R, hub: &Hub, teller: &mut Teller, who: u8) -> Result<u64, Flaw>
+    requires { IsOf hub.now teller.old }
+    ensures { IsOf hub.now teller.new }
+{
+    let mut balance = RunningBalance {
+        lines: 0,
+        position: 0,
+    };
+    for _page in 0..PAGES {
+        let command = Command::Statement {
+            skip: u64::from(balance.lines),
+            count: PAGE,
+        };
+        let reply = ask(rt, hub, teller, who, command, 0)?;
+        balance = balance.after_reply(&reply)?;
+    }
+    Ok(balance.position)
+}
+
+/// The position of a participant, where nothing is reserved, and it is what the outcomes and the statement say.
+fn check_account<R: Wait>(
+    rt: &R,
+    hub: &Hub,
+    teller: &mut Teller,
+    sights: &Sights,
+    who: u8,
+) -> Result<u64, Flaw>
+    requires { IsOf hub.now teller.old }
+    ensures { IsOf hub.now teller.new }
+{
+    let money = ask_money(rt, hub, teller, who)?;
+    if money.reserved != 0 {
+        return Err(Flaw::StillReserved);
+    }
+    if money.available != money.position {
+        return Err(Flaw::Unbalanced);
+    }
+    if expected(who, sights)? != money.position {
+        return Err(Flaw::OtherPosition);
+    }
+    if statement(rt, hub, teller, who)? != money.position {
+        return Err(Flaw::OtherStatement);
+    }
+    Ok(money.position)
+}
+
+/// Each account is right, and the positions sum to the funding.
+pub(crate) fn check_accounts<R: Wait>(
+    rt: &R,
+    hub: &Hub,
+    teller: &mut Teller,
+    sights: &Sights,
+) -> Result<(), Flaw>
+    requires { IsOf hub.now teller.old }
+{
+    let mut positions = 0u64;
+    for who in 0..PARTICIPANTS {
+        positions = positions.saturating_add(check_account(rt, hub, teller, sights, who as u8)?);
+    }
+    check_sum(positions, FUNDS * u64::from(PARTICIPANTS))
+}

@@ -1,0 +1,127 @@
+//! What a teller does in a stress, and what it is told.
+ghost use Rattle.inst_hub.specs.declared.hub.Hub.{Hub};
+ghost use Rattle.inst_hub.specs.Calls.{IsOf};
+
+use crate::hub::asking::{call, money_of};
+use crate::hub::flaw::Flaw;
+use crate::stress::chooser::Choice;
+use crate::stress::sights::{Sight, Sights};
+use inst_base::{Fault, Moment, mention};
+use inst_board::Place;
+use inst_command::{Ask, Outcome, Reply};
+use inst_hub::{Hub, Teller, Ticket};
+use std::sync::Wait;
+
+/// Does so, and notes what it was told.
+pub(crate) fn act_so<R: Wait>(
+    rt: &R,
+    hub: &Hub,
+    teller: &mut Teller,
+    sights: &mut Sights,
+    choice: &Choice,
+) -> Result<(), Flaw>
+    requires { IsOf hub.now teller.old }
+    ensures { IsOf hub.now teller.new }
+{
+    match choice {
+        Choice::Ask(ask) => ask_so(rt, hub, teller, sights, ask),
+        Choice::Peek(place) => peek_at(teller, sights, *place),
+        Choice::Sweep { who, at } => {
+            sights.calls = sights.calls.saturating_add(1);
+            sweep(rt, hub, teller, *who, *at)?;
+            Ok(())
+        }
+    }
+}
+
+/// How many were new in a sweep.
+pub(crate) fn sweep<R: Wait>(
+    rt: &R,
+    hub: &Hub,
+    teller: &mut Teller,
+    who: u8,
+    at: Moment,
+) -> Result<u32, Flaw>
+    requires { IsOf hub.now teller.old }
+    ensures { IsOf hub.now teller.new }
+{
+    if u16::from(who) >= hub.settings().participants() {
+        return Err(Flaw::Refused(Fault::BadField));
+    }
+    Ok(hub.sweep(rt, teller, who, at)?)
+}
+
+/// Asks, and peeks where there is a ticket.
+pub(crate) fn ask_so<R: Wait>(
+    rt: &R,
+    hub: &Hub,
+    teller: &mut Teller,
+    sights: &mut Sights,
+    ask: &Ask,
+) -> Result<(), Flaw>
+    requires { IsOf hub.now teller.old }
+    ensures { IsOf hub.now teller.new }
+{
+    let (reply, ticket) = call(rt, hub, teller, ask)?;
+    sights.calls = sights.calls.saturating_add(1);
+    is_balanced(&reply)?;
+    match ticket {
+        Some(ticket) => told(teller, sights, ask, &reply, ticket),
+        None => told_other(sights, &reply),
+    }
+}
+
+/// Whether the position that a reply tells, if any, is what is reserved and what is available.
+fn is_balanced(reply: &Reply) -> Result<(), Flaw> {
+    match money_of(reply) {
+        Some(money) if money.reserved.checked_add(money.available) != Some(money.position) => {
+            Err(Flaw::Unbalanced)
+        }
+        _ => Ok(()),
+    }
+}
+
+/// Notes what a reply with no ticket tells.
+fn told_other(sights: &mut Sights, reply: &Reply) -> Result<(), Flaw> {
+    match reply {
+        Reply::Taken { .. } | Reply::State { .. } => Err(Flaw::NoTicket),
+        Reply::Inbox { entries } => sights.fetch(entries.as_slice()),
+        _ => Ok(()),
+    }
+}
+
+/// Notes the state that a reply tells, if it tells one.
+fn note_reply(sights: &mut Sights, sight: &Sight, reply: &Reply) -> Result<(), Flaw> {
+    match reply {
+        Reply::State { .. } => sights.note(*sight, Flaw::ReplyWentBack),
+        _ => Ok(()),
+    }
+}
+
+/// Notes what the reply tells of the ticket's transfer, and what a peek then shows.
+fn told(
+    teller: &mut Teller,
+    sights: &mut Sights,
+    ask: &Ask,
+    reply: &Reply,
+    ticket: Ticket,
+) -> Result<(), Flaw>
+    ensures { (hub : Hub) → IsOf hub teller.old → IsOf hub teller.new }
+{
+    mention::<Outcome>();
+    let sight = Sight::of(&ask.command, reply, ticket).ok_or(Flaw::OtherTransfer)?;
+    note_reply(sights, &sight, reply)?;
+    let state = teller.peek(&ticket);
+    sights.note(Sight { state, ..sight }, Flaw::PeekWentBack)
+}
+
+/// Peeks at this place, where it was told of.
+pub(crate) fn peek_at(teller: &mut Teller, sights: &mut Sights, place: Place) -> Result<(), Flaw>
+    ensures { (hub : Hub) → IsOf hub teller.old → IsOf hub teller.new }
+{
+    let Some(sight) = sights.at(place) else {
+        return Ok(());
+    };
+    let state = teller.peek(&sight.ticket);
+    sights.note(Sight { state, ..sight }, Flaw::PeekWentBack)
+}

@@ -1,0 +1,241 @@
+//! What a thread of a stress does, step by step.
+use crate::hub::opening::AHEAD;
+use crate::stress::generator::Generator;
+use crate::stress::sights::PLACES;
+use crate::stress::stress_round::StressRound;
+use crate::stress::transfer::{NAMES, PARTICIPANTS, Transfer};
+use inst_base::{Cents, Fault, Moment, Reason};
+use inst_board::Place;
+use inst_command::{Ask, Command, Submission};
+use std::alloc::Global;
+
+/// How many steps a thread takes in a round.
+pub(crate) const STEPS: u32 = 2_048;
+
+/// After how many steps all threads wait for one another and go on to the next number, so that they meet at the same
+/// transfers.
+const PACE: u32 = 32;
+
+/// How many numbers are at hand at a time.
+const WINDOW: u32 = 4;
+
+/// Of how many steps one is in want of memory, in a round of such.
+const WANT: u32 = 4;
+
+/// By how many bytes the memory that is left for such a step may differ.
+const QUANTUM: u32 = 16;
+
+/// How many such differences there are.
+const QUANTA: u32 = 64;
+
+/// By how many numbers questions lie behind submissions.
+const BEHIND: u32 = 2;
+
+/// What a thread does in one step.
+#[derive(Clone, Copy)]
+pub(crate) enum Choice {
+    /// It asks, and peeks where it gets a ticket.
+    Ask(Ask),
+    /// It peeks at this place, where it has a ticket for it.
+    Peek(Place),
+    /// It sweeps the participant at this reading.
+    Sweep { who: u8, at: Moment },
+}
+
+/// Chooses what a thread does. The same round and thread always give the same choices.
+#[derive(Drop)]
+pub(crate) struct Chooser {
+    generator: Generator,
+    pub(crate) round: StressRound,
+    thread: u8,
+    step: u32,
+}
+
+impl Chooser {
+    pub(crate) fn new(round: StressRound, thread: u8) -> Chooser {
+        Chooser {
+            generator: Generator::new(round.number, thread),
+            round,
+            thread,
+            step: 0,
+        }
+    }
+
+    /// What the thread does next.
+    pub(crate) fn choose(&mut self, alloc: Global) -> Result<Choice, Fault> {
+        self.step = self.step.saturating_add(1);
+        match self.step % PACE {
+            0 => submit(&self.contested(alloc)?),
+            1 => self.decide_contested(&self.contested(alloc)?),
+            _ => self.any(alloc),
+        }
+    }
+
+    /// How often the threads have arrived, where they now wait for one another, first before the first step.
+    pub(crate) fn arrivals(&self) -> Option<u32> {
+        if self.step % PACE != 0 {
+            return None;
+        }
+        let times = (self.step / PACE).saturating_add(1);
+        Some(times.saturating_mul(u32::from(self.round.threads)))
+    }
+
+    /// How many bytes of memory are left for the step that was chosen, where it is to be in want of memory.
+    pub(crate) fn bytes_left(&mut self) -> Option<usize> {
+        if !self.round.is_scarce || self.generator.below(WANT) != 0 {
+            return None;
+        }
+        Some((self.generator.below(QUANTA) * QUANTUM) as usize)
+    }
+
+    /// The contested transfer: all threads submit it before they wait for one another, and then decide it at the same
+    /// time.
+    fn contested(&self, alloc: Global) -> Result<Transfer, Fault> {
+        let number = self.step / PACE;
+        let participants = u32::from(PARTICIPANTS);
+        Transfer::of(
+            alloc,
+            (number % participants) as u8,
+            NAMES.saturating_add(number / participants),
+        )
+    }
+
+    /// The one half of the threads confirm or reject the contested transfer in time, the others let it expire.
+    fn decide_contested(&self, transfer: &Transfer) -> Result<Choice, Fault> {
+        let Transfer { from, to, id, .. } = *transfer;
+        let deadline = transfer.deadline();
+        let in_time = deadline.saturating_sub(u64::from(self.round.margin) + 1);
+        match (self.step / PACE).saturating_add(u32::from(self.thread)) % 4 {
+            0 => command_at(to, Command::Confirm { from, id }, in_time),
+            2 => {
+                let reason = self.reason()?;
+                command_at(to, Command::Reject { from, id, reason }, in_time)
+            }
+            _ => command_at(from, Command::Investigate { id }, deadline),
+        }
+    }
+
+    /// Any choice, by chance.
+    fn any(&mut self, alloc: Global) -> Result<Choice, Fault> {
+        let from = self.participant();
+        let number = self.number();
+        if self.generator.below(8) == 0 {
+            return Ok(Choice::Peek(Place {
+                owner: from,
+                index: (number % u32::from(PLACES)) as u16,
+            }));
+        }
+        if self.generator.below(3) == 0 {
+            let transfer = Transfer::of(alloc, from, self.submitted(number))?;
+            return self.submission(&transfer);
+        }
+        let transfer = Transfer::of(alloc, from, number.saturating_sub(BEHIND))?;
+        self.question(&transfer)
+    }
+
+    fn participant(&mut self) -> u8 {
+        self.generator.below(u32::from(PARTICIPANTS)) as u8
+    }
+
+    /// One of the numbers at hand, and at times any.
+    fn number(&mut self) -> u32 {
+        if self.generator.below(8) == 0 {
+            return self.generator.below(NAMES);
+        }
+        (self.step / PACE + self.generator.below(WINDOW)) % NAMES
+    }
+
+    /// The number that the thread submits for this one: even ones are all threads', each odd one is one thread's.
+    fn submitted(&self, number: u32) -> u32 {
+        let threads = u32::from(self.round.threads.max(1));
+        if number % 2 == 1 && number / 2 % threads != u32::from(self.thread) {
+            return number - 1;
+        }
+        number
+    }
+
+    /// A submission, mostly in time; now and then with other contents, which is no repeat.
+    fn submission(&mut self, transfer: &Transfer) -> Result<Choice, Fault> {
+        let is_other = self.generator.below(32) == 0;
+        let to = if is_other {
+            self.participant()
+        } else {
+            transfer.to
+        };
+        let at = match self.generator.below(16) {
+            0 => transfer.stamp.saturating_sub(u64::from(AHEAD) + 1),
+            1 => transfer.deadline(),
+            2 => transfer.deadline().saturating_sub(1),
+            early => transfer.stamp.saturating_add(u64::from(early)),
+        };
+        submit_so(transfer, to, at)
+    }
+
+    /// What the parties ask of a transfer, or of themselves.
+    fn question(&mut self, transfer: &Transfer) -> Result<Choice, Fault> {
+        let Transfer { from, to, id, .. } = *transfer;
+        let at = self.reading(transfer.deadline());
+        match self.generator.below(17) {
+            0..=5 => command_at(to, Command::Confirm { from, id }, at),
+            6..=8 => {
+                let reason = self.reason()?;
+                command_at(to, Command::Reject { from, id, reason }, at)
+            }
+            9..=12 => command_at(from, Command::Investigate { id }, at),
+            13 => command_at(to, Command::Fetch { max: 3 }, at),
+            14 => command_at(self.participant(), Command::Confirm { from, id }, at),
+            15 if self.round.sweeps => Ok(Choice::Sweep {
+                who: self.participant(),
+                at: Moment::new(0, at)?,
+            }),
+            _ => command_at(from, Command::Position, at),
+        }
+    }
+
+    /// A reading for the decision of a transfer: well before its deadline, about the margin, about the deadline.
+    fn reading(&mut self, deadline: u64) -> u64 {
+        let margin = u64::from(self.round.margin);
+        match self.generator.below(16) {
+            0..=6 => deadline.saturating_sub(5_000),
+            7 | 8 => deadline.saturating_sub(margin).saturating_sub(1),
+            9 | 10 => deadline.saturating_sub(margin),
+            11 => deadline.saturating_sub(margin / 2),
+            12 | 13 => deadline.saturating_sub(1),
+            14 => deadline,
+            _ => deadline.saturating_add(1),
+        }
+    }
+
+    /// One that tells the thread.
+    fn reason(&self) -> Result<Reason, Fault> {
+        Reason::new(match self.thread % 4 {
+            0 => "AC01",
+            1 => "AC04",
+            2 => "AM09",
+            _ => "MS03",
+        })
+    }
+}
+
+/// A submission of the transfer, in time.
+fn submit(transfer: &Transfer) -> Result<Choice, Fault> {
+    submit_so(transfer, transfer.to, transfer.stamp)
+}
+
+fn submit_so(transfer: &Transfer, to: u8, at: u64) -> Result<Choice, Fault> {
+    let submission = Submission {
+        id: transfer.id,
+        to,
+        cents: Cents::new(transfer.cents)?,
+        stamp: Moment::new(0, transfer.stamp)?,
+    };
+    command_at(transfer.from, Command::Submit(submission), at)
+}
+
+fn command_at(who: u8, command: Command, at: u64) -> Result<Choice, Fault> {
+    Ok(Choice::Ask(Ask {
+        who,
+        command,
+        at: Moment::new(0, at)?,
+    }))
+}

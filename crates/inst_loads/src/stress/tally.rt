@@ -1,0 +1,80 @@
+use crate::hub::flaw::Flaw;
+use crate::stress::sights::Sights;
+use inst_command::{Outcome, State};
+use std::fmt::{self, Display, Formatter};
+
+/// How many calls were made until all transfers had ended, how these ended, and how many steps were refused memory.
+#[derive(Clone, Copy)]
+pub(crate) struct Tally {
+    pub(crate) calls: u64,
+    pub(crate) accepted: u64,
+    pub(crate) rejected: u64,
+    pub(crate) timed_out: u64,
+    pub(crate) refused: u64,
+}
+
+impl Tally {
+    pub(crate) fn new() -> Tally {
+        Tally {
+            calls: 0,
+            accepted: 0,
+            rejected: 0,
+            timed_out: 0,
+            refused: 0,
+        }
+    }
+
+    /// How all transfers that were told of ended. `StillPending` where one didn't.
+    pub(crate) fn of(sights: &Sights) -> Result<Tally, Flaw> {
+        let mut tally = Tally {
+            calls: sights.calls,
+            refused: sights.refused,
+            ..Tally::new()
+        };
+        for slot in sights.places() {
+            if let Some(sight) = slot {
+                tally = tally.with(sight.state)?;
+            }
+        }
+        Ok(tally)
+    }
+
+    /// With one transfer more, which ended so.
+    fn with(self, state: State) -> Result<Tally, Flaw> {
+        let mut tally = self;
+        let ended = match state {
+            State::Decided(Outcome::Accepted) => &mut tally.accepted,
+            State::Decided(Outcome::Rejected(_)) => &mut tally.rejected,
+            State::Decided(Outcome::TimedOut) => &mut tally.timed_out,
+            State::Unused | State::Pending => return Err(Flaw::StillPending),
+        };
+        *ended = ended.saturating_add(1);
+        Ok(tally)
+    }
+
+    pub(crate) fn plus(self, other: Tally) -> Tally {
+        Tally {
+            calls: self.calls.saturating_add(other.calls),
+            accepted: self.accepted.saturating_add(other.accepted),
+            rejected: self.rejected.saturating_add(other.rejected),
+            timed_out: self.timed_out.saturating_add(other.timed_out),
+            refused: self.refused.saturating_add(other.refused),
+        }
+    }
+}
+
+impl Display for Tally {
+    fn fmt<W: fmt::Write>(&self, f: &mut Formatter<W>) -> fmt::Result {
+        let Tally {
+            calls,
+            accepted,
+            rejected,
+            timed_out,
+            refused,
+        } = *self;
+        write!(
+            f,
+            "calls {calls}, accepted {accepted}, rejected {rejected}, timed out {timed_out}, refused memory {refused}"
+        )
+    }
+}

@@ -1,0 +1,62 @@
+//! What the words of the command line ask for.
+use crate::load::Load;
+use crate::stress::Stress;
+
+/// What `--help` prints.
+pub(crate) const HELP: &str = "\
+Loads and stresses of a hub that threads share, races over shared boards, and worked rows in want of memory.
+
+Usage:
+  inst_loads uniform THREADS ROUNDS [TRANSFERS]  threads submit and confirm transfers, any two of 64 participants'
+  inst_loads split THREADS ROUNDS [TRANSFERS]    .. each thread those of participants of its own
+  inst_loads hot THREADS ROUNDS [TRANSFERS]      .. all threads those of the same two participants
+  inst_loads stress THREADS ROUNDS [scarce]      threads race for outcomes; with the last word in want of memory
+  inst_loads race ROUNDS                         slots of two threads race for the outcomes of 200 transfers
+  inst_loads race rows                           worked rows of three slots, in one thread
+  inst_loads scarce                              worked rows in want of memory
+  inst_loads --help                              these words
+
+There are 1 to 15 THREADS, and TRANSFERS are those that each of them makes in a round, by default as many as find
+places. How it ended is told on standard error. The exit status is 0, or 1 where something isn't as it must be, or 2
+where the words are others.
+";
+
+/// What is run.
+#[derive(Clone, Copy)]
+pub(crate) enum Task {
+    /// Nothing: the words are printed.
+    Help,
+    /// A load, so many rounds.
+    Load(Load, u32),
+    Stress(Stress),
+    /// So many races.
+    Races(u32),
+    /// The worked rows over shared boards.
+    RaceRows,
+    /// The worked rows in want of memory.
+    Scarce,
+}
+
+impl Task {
+    /// What these words ask for, the first of which is the program's name.
+    pub(crate) fn of(words: &[String]) -> Option<Task> {
+        Some(match words.get(1)?.as_str() {
+            "--help" => Task::Help,
+            "stress" => Task::Stress(Stress::of(words)?),
+            "race" => race_of(words.get(2)?)?,
+            "scarce" if words.len() == 2 => Task::Scarce,
+            _ => {
+                let (load, count) = Load::of(words)?;
+                Task::Load(load, count)
+            }
+        })
+    }
+}
+
+/// What the word behind `race` asks for.
+fn race_of(word: &str) -> Option<Task> {
+    if word == "rows" {
+        return Some(Task::RaceRows);
+    }
+    Some(Task::Races(word.parse().ok()?))
+}

@@ -1,5 +1,0 @@
-use Rattle.inst_hub.specs.Calls.{IsOf}
-use Rattle.inst_rush.proofs.accounts.check_accounts.Given as goal
-
-abbrev pub invariant-loop-who : goal.invariant-loop-who
-invariant-loop-who g l = IsOf l.hub l.teller

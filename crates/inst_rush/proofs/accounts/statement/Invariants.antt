@@ -1,5 +1,0 @@
-use Rattle.inst_hub.specs.Calls.{IsOf}
-use Rattle.inst_rush.proofs.accounts.statement.Given as goal
-
-abbrev pub invariant-loop-page : goal.invariant-loop-page
-invariant-loop-page g l = IsOf l.hub l.teller

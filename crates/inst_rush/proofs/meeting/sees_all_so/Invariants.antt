@@ -1,6 +1,0 @@
-use Rattle.inst_hub.specs.declared.hub.Hub.{Hub}
-use Rattle.inst_hub.specs.Calls.{IsOf}
-use Rattle.inst_rush.proofs.meeting.sees_all_so.Given as goal
-
-abbrev pub invariant-loop-slot : goal.invariant-loop-slot
-invariant-loop-slot l = (hub : Hub) → IsOf hub l.fn.teller → IsOf hub l.teller

@@ -1,5 +1,0 @@
-use Rattle.inst_hub.specs.Calls.{IsOf}
-use Rattle.inst_scarce.proofs.hub_row.sweep_in_want.Given as goal
-
-abbrev pub invariant-loop-quanta : goal.invariant-loop-quanta
-invariant-loop-quanta g l = IsOf l.hub l.teller
