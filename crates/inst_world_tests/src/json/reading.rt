@@ -1,6 +1,6 @@
 //! Each command and each step as it is read.
 use crate::comparing::same_at;
-use crate::hub::{MOST, read, read_script};
+use crate::json::hub::{MOST, read, read_script};
 use inst_base::{Cents, Fault, Ident, Moment, Reason};
 use inst_command::{Ask, Command, Step, Submission};
 use std::process::Abort;

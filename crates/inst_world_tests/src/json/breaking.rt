@@ -1,6 +1,6 @@
 //! Which lines one pass knows to be no JSON, and which it leaves to be read in another way.
 use crate::comparing::same_at;
-use crate::hub::{MOST, refusal};
+use crate::json::hub::{MOST, refusal};
 use inst_base::Fault;
 use inst_scan::{Fields, Form, scan_into};
 use std::process::Abort;

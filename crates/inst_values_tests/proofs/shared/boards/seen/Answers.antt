@@ -1,6 +1,6 @@
 use Rattle.inst_board.specs.declared.about.About.TheVariants.{Opened}
 use Rattle.inst_board.specs.Standing.{about}
-use Rattle.inst_shared_tests.proofs.boards.seen.Goals as goal
+use Rattle.inst_values_tests.proofs.shared.boards.seen.Goals as goal
 
 pub submit-requires-clause-can : goal.submit-requires-clause-can
 submit-requires-clause-can c =

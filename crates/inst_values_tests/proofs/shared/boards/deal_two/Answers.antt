@@ -4,8 +4,8 @@ use Rattle.inst_board.specs.declared.about.About.TheVariants.{Opened}
 use Rattle.inst_board.specs.Standing.{IsPlace, about}
 use Rattle.inst_cell.specs.Held.{settings_of, has_role}
 use Rattle.inst_cell.proofs.Opening.{whole_role}
-use Rattle.inst_shared_tests.proofs.Trying.{place_is, second_is, one_last}
-use Rattle.inst_shared_tests.proofs.boards.deal_two.Goals as goal
+use Rattle.inst_values_tests.proofs.Trying.{place_is, second_is, one_last}
+use Rattle.inst_values_tests.proofs.shared.boards.deal_two.Goals as goal
 
 pub submit-requires-clause-can : goal.submit-requires-clause-can
 submit-requires-clause-can c =

@@ -2,8 +2,8 @@ use Rattle.std.proofs.Common.{refl, sym, subst, ℕ}
 use Rattle.inst_board.specs.declared.about.About.TheVariants.{Opened, HasTerms, Due}
 use Rattle.inst_board.specs.Standing.{Standing, Shows}
 use Rattle.inst_cell.specs.Held.{has_role, roles_same}
-use Rattle.inst_shared_tests.proofs.Trying.{pending_look, party_to}
-use Rattle.inst_shared_tests.proofs.boards.answer.Goals as goal
+use Rattle.inst_values_tests.proofs.Trying.{pending_look, party_to}
+use Rattle.inst_values_tests.proofs.shared.boards.answer.Goals as goal
 
 pub decide-requires : goal.decide-requires
 decide-requires c =

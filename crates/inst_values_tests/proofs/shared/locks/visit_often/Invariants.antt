@@ -1,7 +1,7 @@
 use Rattle.std.proofs.Common.{◌≡◌}
 use Rattle.inst_row.specs.Seated.{IsOn, IsFree, view_of}
 use Rattle.inst_row.specs.Row.{row_id, key_of}
-use Rattle.inst_shared_tests.proofs.locks.visit_often.Given as goal
+use Rattle.inst_values_tests.proofs.shared.locks.visit_often.Given as goal
 
 abbrev pub invariant-loop : goal.invariant-loop
 invariant-loop g l =

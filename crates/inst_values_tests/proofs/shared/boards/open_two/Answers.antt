@@ -1,8 +1,8 @@
 use Rattle.std.proofs.Common.{◌≡◌, ◌<◌, ℕ, true, sym, subst, refl, ◌∙◌}
 use Rattle.inst_settings.specs.Settings.{HubSettings, is_participant}
 use Rattle.inst_board.specs.Standing.{IsPlace}
-use Rattle.inst_shared_tests.proofs.Trying.{one_last, one_first, one_only, place_is, second_is}
-use Rattle.inst_shared_tests.proofs.boards.open_two.Goals as goal
+use Rattle.inst_values_tests.proofs.Trying.{one_last, one_first, one_only, place_is, second_is}
+use Rattle.inst_values_tests.proofs.shared.boards.open_two.Goals as goal
 
 pub returns-clause-place : goal.returns-clause-place
 returns-clause-place c =

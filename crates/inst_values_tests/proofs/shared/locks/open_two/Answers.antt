@@ -1,7 +1,7 @@
 use Rattle.std.proofs.Common.{◌≡◌, ◌<◌, ℕ, zero, suc, List, [], ◌∷◌, length, ap, arith, Option, Some, rules}
 use Rattle.std.specs.Prelude.{slice_get}
-use Rattle.inst_shared_tests.specs.declared.locks.Book.{Book}
-use Rattle.inst_shared_tests.proofs.locks.open_two.Goals as goal
+use Rattle.inst_values_tests.specs.declared.shared.locks.Book.{Book}
+use Rattle.inst_values_tests.proofs.shared.locks.open_two.Goals as goal
 
 each_of_two : (xs : List (Option Book)) (a b : Book) → xs ≡ Some a ∷ Some b ∷ [] → a.lock ≡ 0 → b.lock ≡ 1 → (p : ℕ) → p < length xs
     → (x : Book) × (slice_get xs p ≡ Some (Some x)) × (x.lock ≡ p)

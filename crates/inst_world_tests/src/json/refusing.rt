@@ -1,6 +1,6 @@
 //! What lines are refused for, in the order of the refusals.
 use crate::comparing::{same, same_at};
-use crate::hub::{hub, read_script, refusal};
+use crate::json::hub::{hub, read_script, refusal};
 use inst_base::{Fault, mention};
 use inst_command::{Ask, Command};
 use inst_json::{LineReader, Name, Refusal};

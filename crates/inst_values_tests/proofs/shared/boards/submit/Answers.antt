@@ -1,6 +1,6 @@
 use Rattle.inst_board.specs.declared.about.About.TheVariants.{Opened}
 use Rattle.inst_board.specs.Standing.{about}
-use Rattle.inst_shared_tests.proofs.boards.submit.Goals as goal
+use Rattle.inst_values_tests.proofs.shared.boards.submit.Goals as goal
 
 pub open-requires-clause-unused : goal.open-requires-clause-unused
 open-requires-clause-unused c = λ h. c.requires.can.unused ((c.write_terms.ensures.knowledge (about c.args.place Opened)).0 h)

@@ -1,8 +1,8 @@
 use Rattle.std.proofs.Common.{refl, subst}
 use Rattle.inst_board.specs.declared.about.About.TheVariants.{HasTerms}
 use Rattle.inst_board.specs.Standing.{Standing, Shows}
-use Rattle.inst_shared_tests.proofs.Trying.{pending_look, ended_terms}
-use Rattle.inst_shared_tests.proofs.boards.glanced.Goals as goal
+use Rattle.inst_values_tests.proofs.Trying.{pending_look, ended_terms}
+use Rattle.inst_values_tests.proofs.shared.boards.glanced.Goals as goal
 
 pub glance-requires : goal.glance-requires
 glance-requires c =

@@ -6,7 +6,7 @@ ghost use Rattle.inst_command.specs.LineText.{line_fits};
 ghost use Rattle.inst_json.specs.Replies.{answer_can_be_written, is_used};
 
 use crate::comparing::same;
-use crate::hub::{MOST, hub};
+use crate::json::hub::{MOST, hub};
 use inst_base::{Cents, Fault, Ident, Moment, Reason};
 use inst_command::{Answer, Entries, Entry, Line, LineKind, Lines, Outcome, Reply, State};
 use inst_json::{write_answer, write_reply};

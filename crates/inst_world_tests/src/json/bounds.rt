@@ -1,6 +1,6 @@
 //! Values of fields on both sides of their bounds.
 use crate::comparing::same_at;
-use crate::hub::{self, MOST};
+use crate::json::hub::{self, MOST};
 use inst_base::Fault;
 use std::alloc::Global;
 use std::process::Abort;
