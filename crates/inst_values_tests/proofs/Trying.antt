@@ -1,6 +1,5 @@
 -- The boards of two participants, for the tests.
-use Rattle.std.proofs.Common.{◌≡◌, ℕ, suc, ◌<◌, Bool, true, ◌&&◌, nat_lt, List, [], ◌∷◌, ◌++◌, length, ap, ◌∙◌, arith, Some, length-append, inr}
-use Rattle.std.specs.Prelude.{slice_get}
+use Rattle.std.proofs.Common.{◌≡◌, ℕ, ◌<◌, Bool, true, ◌&&◌, nat_lt, ap, ◌∙◌, arith, inr}
 use Rattle.std.proofs.lemmas.Bool.Decides.{nat_tests}
 use Rattle.inst_settings.specs.Settings.{HubSettings, participants, is_participant}
 use Rattle.inst_command.specs.declared.outcome.Outcome.{Outcome}
@@ -13,21 +12,6 @@ use Rattle.inst_board.specs.declared.look.Look.TheVariants.{Pending, Decided}
 use Rattle.inst_board.specs.declared.about.About.TheVariants.{HasTerms}
 use Rattle.inst_board.specs.Standing.{Standing, unused, pending, decided, IsPlace, Shows, look_of}
 use Rattle.inst_board.specs.Learning.{IsParty}
-
-pub one_last : {A : Type 0} (xs ys : List A) (a : A) → xs ≡ ys ++ a ∷ [] → length xs ≡ 2 → slice_get xs 1 ≡ Some a
-one_last {A} xs [] a e n = absurd (let m : length xs ≡ 1 = ap (λ (l : List A). length l) e in omega arith)
-one_last {A} xs (y ∷ []) a e n = ap (λ (l : List A). slice_get l 1) e
-one_last {A} xs (y ∷ z ∷ ys) a e n = absurd (let m : length xs ≡ suc (suc (length (ys ++ a ∷ []))) = ap (λ (l : List A). length l) e in let k = length-append ys (a ∷ []) in omega arith)
-
-pub one_first : {A : Type 0} (xs ys zs : List A) (a b : A) → xs ≡ ys ++ a ∷ [] → ys ≡ zs ++ b ∷ [] → length xs ≡ 2 → slice_get xs 0 ≡ Some b
-one_first {A} xs ys [] a b e f n = ap (λ (l : List A). slice_get l 0) (e ∙ ap (λ (l : List A). l ++ a ∷ []) f)
-one_first {A} xs ys (z ∷ zs) a b e f n = absurd
-    (let m : length xs ≡ length (ys ++ a ∷ []) = ap (λ (l : List A). length l) e in let k = length-append ys (a ∷ []) in
-    let o : length ys ≡ suc (length (zs ++ b ∷ [])) = ap (λ (l : List A). length l) f in let q = length-append zs (b ∷ []) in omega arith)
-
-pub one_only : {A : Type 0} (xs ys : List A) (a : A) → xs ≡ ys ++ a ∷ [] → length xs ≡ 1 → slice_get xs 0 ≡ Some a
-one_only {A} xs [] a e n = ap (λ (l : List A). slice_get l 0) e
-one_only {A} xs (y ∷ ys) a e n = absurd (let m : length xs ≡ suc (length (ys ++ a ∷ [])) = ap (λ (l : List A). length l) e in let k = length-append ys (a ∷ []) in omega arith)
 
 pub place_is : (s : HubSettings) (k : Place) → k.owner ≡ 0 → participants s ≡ 2 → k.index < s.places → IsPlace s k
 place_is s k o p i =
