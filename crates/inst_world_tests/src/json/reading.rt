@@ -8,13 +8,8 @@ use std::process::Abort;
 /// Who asks what, and when.
 type Asked = (u8, Command, u64);
 
-fn ask(&(who, command, at): &Asked) -> Result<Ask, Fault> {
-    let at = Moment::new(0, at)?;
-    Ok(Ask { who, command, at })
-}
-
 /// Lines of commands.
-const COMMANDS: [&str; 11] = [
+const COMMANDS: &[&str; 11] = &[
     r#"{"at":0,"cents":50000,"cmd":"fund","ref":"F1","who":"AAAADEFF"}"#,
     r#"{"at":3000,"cents":5000,"cmd":"defund","ref":"D1","who":"AAAADEFF"}"#,
     r#"{"at":1000,"cents":50000,"cmd":"submit","id":"T1","stamp":1000,"to":"BBBBFRPP","who":"AAAADEFF"}"#,
@@ -70,11 +65,20 @@ fn asks() -> Result<[Asked; 11], Fault> {
     ])
 }
 
+/// The nth of them.
+fn ask(asks: &[Asked], nth: usize) -> Result<Ask, Fault> {
+    let Some(&(who, command, at)) = asks.get(nth) else {
+        return Err(Fault::BadField);
+    };
+    let at = Moment::new(0, at)?;
+    Ok(Ask { who, command, at })
+}
+
 /// Each line is read as its ask.
-fn reads(rt: &(impl Abort + AllocGlobal), asks: &[Asked]) -> Result<(), Fault> {
-    for (line, asked) in COMMANDS.iter().zip(asks) {
+fn reads(rt: &(impl Abort + AllocGlobal), asks: &[Asked; 11]) -> Result<(), Fault> {
+    for (nth, line) in COMMANDS.iter().enumerate() {
         let read = read(rt.alloc(), MOST, 0, line.as_bytes());
-        same_at(rt, *line, read, Ok(ask(asked)?));
+        same_at(rt, *line, read, Ok(ask(asks, nth)?));
     }
     Ok(())
 }
@@ -85,7 +89,7 @@ fn reads_each_command(rt: HostRuntime) -> Result<(), Fault> {
 }
 
 /// Lines of scripts.
-const STEPS: [&str; 4] = [
+const STEPS: &[&str; 4] = &[
     r#"{"from":"AAAADEFF","place":0,"step":"deliver","who":"BBBBFRPP"}"#,
     r#"{"from":"AAAADEFF","place":1023,"step":"learn","who":"AAAADEFF","at":-1}"#,
     r#"{"at":11000,"place":0,"step":"expire","who":"AAAADEFF"}"#,
@@ -119,16 +123,21 @@ fn steps() -> Result<[Step; 4], Fault> {
     ])
 }
 
+/// The nth of them.
+fn step(steps: &[Step], nth: usize) -> Result<Step, Fault> {
+    steps.get(nth).copied().ok_or(Fault::BadField)
+}
+
 /// Each line of a script is read as its step.
-fn reads_steps(rt: &(impl Abort + AllocGlobal), steps: &[Step]) {
-    for (line, step) in STEPS.iter().zip(steps) {
+fn reads_steps(rt: &(impl Abort + AllocGlobal), steps: &[Step; 4]) -> Result<(), Fault> {
+    for (nth, line) in STEPS.iter().enumerate() {
         let read = read_script(rt.alloc(), line.as_bytes());
-        same_at(rt, *line, read, Ok(*step));
+        same_at(rt, *line, read, Ok(step(steps, nth)?));
     }
+    Ok(())
 }
 
 #[test]
 fn reads_each_step(rt: HostRuntime) -> Result<(), Fault> {
-    reads_steps(&rt, &steps()?);
-    Ok(())
+    reads_steps(&rt, &steps()?)
 }

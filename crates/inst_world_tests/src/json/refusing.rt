@@ -171,12 +171,18 @@ const BLAMED: &[Blame] = &[
     ),
 ];
 
-/// Each line is refused by its field, and a step that tells no place by that.
+/// The line is refused by its field.
+fn blames_field(rt: &impl Abort, reader: &mut LineReader, hub: &Settings, blame: &Blame) {
+    let (line, fault, field, name) = *blame;
+    let read = reader.read_blamed_command(hub, line.as_bytes());
+    let found = (read, field.map_or("", Name::as_str));
+    same_at(rt, line, found, (Err(Refusal { fault, field }), name));
+}
+
+/// Each line is, and a step that tells no place by that.
 fn blames(rt: &impl Abort, reader: &mut LineReader, hub: &Settings) {
-    for &(line, fault, field, name) in BLAMED {
-        let read = reader.read_blamed_command(hub, line.as_bytes());
-        let found = (read, field.map_or("", Name::as_str));
-        same_at(rt, line, found, (Err(Refusal { fault, field }), name));
+    for blame in BLAMED {
+        blames_field(rt, reader, hub, blame);
     }
     let placeless = br#"{"from":"AAAADEFF","step":"learn","who":"AAAADEFF"}"#;
     let field = Some(Name::Place);

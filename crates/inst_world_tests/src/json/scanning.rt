@@ -137,34 +137,23 @@ fn push_members(line: &mut String, members: &[&str]) -> Result<(), Fault> {
 }
 
 /// Adds all that comes behind the first brace.
-fn push_object(
-    line: &mut String,
-    front: &[&str],
-    middle: &[&str],
-    back: &[&str],
-) -> Result<(), Fault> {
+fn push_object(line: &mut String, front: &[&str], back: &[&str]) -> Result<(), Fault> {
     push_members(line, front)?;
-    push_members(line, middle)?;
     push_members(line, back)?;
     Ok(line.push_str("}")?)
 }
 
 /// Whether one pass reads an object of these members.
-fn is_scanned(
-    alloc: Global,
-    front: &[&str],
-    middle: &[&str],
-    back: &[&str],
-) -> Result<bool, Fault> {
+fn is_scanned(alloc: Global, front: &[&str], back: &[&str]) -> Result<bool, Fault> {
     let mut line = String::from_str(alloc, "{")?;
-    push_object(&mut line, front, middle, back)?;
+    push_object(&mut line, front, back)?;
     Ok(scan(line.as_bytes()).is_some())
 }
 
 /// The members in each order, each of them once in front.
 fn scans_each_order(rt: &(impl Abort + AllocGlobal), members: &[&str]) -> Result<(), Fault> {
     for first in 0..members.len() {
-        let scanned = is_scanned(rt.alloc(), &members[first..], &members[..first], &[])?;
+        let scanned = is_scanned(rt.alloc(), &members[first..], &members[..first])?;
         same_at(rt, first, scanned, true);
     }
     Ok(())
@@ -186,9 +175,9 @@ fn is_scanned_with(
     is_behind: bool,
 ) -> Result<bool, Fault> {
     if is_behind {
-        is_scanned(alloc, members, &[], &[more])
+        is_scanned(alloc, members, &[more])
     } else {
-        is_scanned(alloc, &[more], members, &[])
+        is_scanned(alloc, &[more], members)
     }
 }
 
