@@ -1,5 +1,6 @@
 -- The boards of two participants, for the tests.
-use Rattle.std.proofs.Common.{◌≡◌, ℕ, ◌<◌, Bool, true, ◌&&◌, nat_lt, ap, ◌∙◌, arith, inr}
+use Rattle.std.proofs.Common.{◌≡◌, ℕ, suc, ◌<◌, Bool, true, ◌&&◌, nat_lt, List, [], ◌∷◌, ◌++◌, length, ap, ◌∙◌, arith, Some, length-append, inr}
+use Rattle.std.specs.Prelude.{slice_get}
 use Rattle.std.proofs.lemmas.Bool.Decides.{nat_tests}
 use Rattle.inst_settings.specs.Settings.{HubSettings, participants, is_participant}
 use Rattle.inst_command.specs.declared.outcome.Outcome.{Outcome}
@@ -12,6 +13,10 @@ use Rattle.inst_board.specs.declared.look.Look.TheVariants.{Pending, Decided}
 use Rattle.inst_board.specs.declared.about.About.TheVariants.{HasTerms}
 use Rattle.inst_board.specs.Standing.{Standing, unused, pending, decided, IsPlace, Shows, look_of}
 use Rattle.inst_board.specs.Learning.{IsParty}
+
+pub one_only : {A : Type 0} (xs ys : List A) (a : A) → xs ≡ ys ++ a ∷ [] → length xs ≡ 1 → slice_get xs 0 ≡ Some a
+one_only {A} xs [] a e n = ap (λ (l : List A). slice_get l 0) e
+one_only {A} xs (y ∷ ys) a e n = absurd (let m : length xs ≡ suc (length (ys ++ a ∷ [])) = ap (λ (l : List A). length l) e in let k = length-append ys (a ∷ []) in omega arith)
 
 pub place_is : (s : HubSettings) (k : Place) → k.owner ≡ 0 → participants s ≡ 2 → k.index < s.places → IsPlace s k
 place_is s k o p i =

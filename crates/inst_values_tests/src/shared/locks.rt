@@ -5,8 +5,10 @@ ghost use mathlib.Core.List.{IsPrefix};
 ghost use Rattle.inst_row.specs.Seated.{IsOn, IsFree, Has, HasAll, view_of};
 ghost use Rattle.inst_row.specs.Row.{row_id, key_of, size};
 
+use crate::comparing::same;
 use inst_row::{Lawful, LockRow, RowSeat};
 use std::alloc::{AllocError, Global};
+use std::process::Abort;
 use std::sync::Wait;
 use std::test::Fail;
 use std::thread::{Threads, join, sleep};
@@ -204,25 +206,37 @@ fn visit_thrice<R: Wait>(rt: &R, row: &Row, seat: &mut Caller) -> [Option<usize>
     ]
 }
 
+/// Each guest found who came to that book before it, and stands there behind them.
+fn stand_where_they_came(rt: &impl Abort, found: [Option<usize>; 3], first: &Book, second: &Book) {
+    same(
+        rt,
+        (found, first.guests.as_slice(), second.guests.as_slice()),
+        (
+            [Some(0), Some(1), Some(0)],
+            [7].as_slice(),
+            [5, 6].as_slice(),
+        ),
+    );
+}
+
 #[test]
 fn a_lock_has_what_was_left_behind_it(rt: HostRuntime) -> Result<(), Fail> {
     let (row, mut seat) = open_two(rt.alloc())?;
     let found = visit_thrice(&rt, &row, &mut seat);
     let (first, second) = books(row, seat);
-    assert_eq!(rt;
-        (found, first.guests.as_slice(), second.guests.as_slice()),
-        (
-            [Some(0), Some(1), Some(0)],
-            [7].as_slice(),
-            [5, 6].as_slice()
-        )
-    );
+    stand_where_they_came(&rt, found, &first, &second);
     Ok(())
 }
 
 /// How often the guest stands in the book.
 fn visits(book: &Book, guest: u64) -> u64 {
     book.guests.iter().filter(|x| **x == guest).count() as u64
+}
+
+/// Both guests could always write, nobody stands in the first book, and each guest in the second one as often as it came.
+fn have_all_visits(rt: &impl Abort, written: (bool, bool), first: &Book, second: &Book) {
+    let found = (first.guests.len(), visits(second, 1), visits(second, 2));
+    same(rt, (written, found), ((true, true), (0, VISITS, VISITS)));
 }
 
 #[test]
@@ -232,8 +246,7 @@ fn two_threads_lose_nothing(rt: HostRuntime) -> Result<(), Fail> {
     let ((mut one, written), (two, also)) = visit_together(&rt, &row, one, two);
     row.join(&mut one, two);
     let (first, second) = books(row, one);
-    assert_eq!(rt; (written, also, first.guests.len()), (true, true, 0));
-    assert_eq!(rt; [visits(&second, 1), visits(&second, 2)], [VISITS; 2]);
+    have_all_visits(&rt, (written, also), &first, &second);
     Ok(())
 }
 
