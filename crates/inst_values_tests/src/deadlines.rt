@@ -1,5 +1,5 @@
 //! What waits for its deadline, in order.
-use crate::comparing::same;
+use crate::comparing::same_at;
 use inst_base::{Fault, Moment};
 use inst_due::Due;
 use std::process::Abort;
@@ -8,37 +8,58 @@ fn moment(ms: u64) -> Result<Moment, Fault> {
     Moment::new(0, ms)
 }
 
-/// Puts the pairs in.
-fn add_all(due: &mut Due, pairs: &[(Moment, u16)]) -> Result<(), Fault> {
-    for (deadline, index) in pairs {
-        due.add(*deadline, *index)?;
+/// A deadline in milliseconds, and a place.
+type Pair = (u64, u16);
+
+fn pair_of(pair: Option<Pair>) -> Result<Option<(Moment, u16)>, Fault> {
+    match pair {
+        Some((ms, index)) => Ok(Some((moment(ms)?, index))),
+        None => Ok(None),
     }
+}
+
+/// Puts the pairs in.
+fn add_all(due: &mut Due, pairs: &[Pair]) -> Result<(), Fault> {
+    for &(ms, index) in pairs {
+        due.add(moment(ms)?, index)?;
+    }
+    Ok(())
+}
+
+/// This pair is the first one that is due then.
+fn is_first_due(rt: &impl Abort, due: &Due, at: u64, pair: Option<Pair>) -> Result<(), Fault> {
+    same_at(rt, at, due.first_due(moment(at)?), pair_of(pair)?);
+    Ok(())
+}
+
+/// This pair comes after that one.
+fn is_next(
+    rt: &impl Abort,
+    due: &Due,
+    last: Option<Pair>,
+    pair: Option<Pair>,
+) -> Result<(), Fault> {
+    same_at(rt, last, due.next_after(pair_of(last)?), pair_of(pair)?);
     Ok(())
 }
 
 /// The pairs come one after the other, and then none.
-fn come_in_order(rt: &impl Abort, due: &Due, pairs: &[(Moment, u16)]) {
+fn come_in_order(rt: &impl Abort, due: &Due, pairs: &[Pair]) -> Result<(), Fault> {
     let mut last = None;
     for pair in pairs {
-        same(rt, due.next_after(last), Some(*pair));
+        is_next(rt, due, last, Some(*pair))?;
         last = Some(*pair);
     }
-    same(rt, due.next_after(last), None);
+    is_next(rt, due, last, None)
 }
 
 /// Two pairs of the earlier deadline, by place, and then one of the later.
 fn come_by_deadline(rt: &impl Abort, due: &mut Due) -> Result<(), Fault> {
-    let early = moment(11_000)?;
-    let late = moment(12_000)?;
-    add_all(due, &[(late, 0), (early, 2), (early, 1), (early, 1)])?;
-    let found = (
-        due.first_due(moment(10_999)?),
-        due.first_due(early),
-        due.next_after(Some((early, 0))),
-    );
-    same(rt, found, (None, Some((early, 1)), Some((early, 1))));
-    come_in_order(rt, due, &[(early, 1), (early, 2), (late, 0)]);
-    Ok(())
+    add_all(due, &[(12_000, 0), (11_000, 2), (11_000, 1), (11_000, 1)])?;
+    is_first_due(rt, due, 10_999, None)?;
+    is_first_due(rt, due, 11_000, Some((11_000, 1)))?;
+    is_next(rt, due, Some((11_000, 0)), Some((11_000, 1)))?;
+    come_in_order(rt, due, &[(11_000, 1), (11_000, 2), (12_000, 0)])
 }
 
 #[test]
@@ -47,20 +68,25 @@ fn pairs_come_by_deadline_and_then_by_place(rt: HostRuntime) -> Result<(), Fault
     come_by_deadline(&rt, &mut due)
 }
 
+/// The pair is there to be taken out, or it isn't.
+fn takes_out(
+    rt: &impl Abort,
+    due: &mut Due,
+    (ms, index): Pair,
+    is_there: bool,
+) -> Result<(), Fault> {
+    same_at(rt, (ms, index), due.take_out(moment(ms)?, index), is_there);
+    Ok(())
+}
+
 /// A pair is taken out once, and then the next one is due.
 fn takes_out_once(rt: &impl Abort, due: &mut Due) -> Result<(), Fault> {
-    let early = moment(11_000)?;
-    let late = moment(12_000)?;
-    add_all(due, &[(early, 0), (late, 1)])?;
-    let taken = [
-        due.take_out(early, 1),
-        due.take_out(early, 0),
-        due.take_out(early, 0),
-    ];
-    same(rt, taken, [false, true, false]);
-    let found = (due.first_due(early), due.first_due(late));
-    same(rt, found, (None, Some((late, 1))));
-    Ok(())
+    add_all(due, &[(11_000, 0), (12_000, 1)])?;
+    takes_out(rt, due, (11_000, 1), false)?;
+    takes_out(rt, due, (11_000, 0), true)?;
+    takes_out(rt, due, (11_000, 0), false)?;
+    is_first_due(rt, due, 11_000, None)?;
+    is_first_due(rt, due, 12_000, Some((12_000, 1)))
 }
 
 #[test]

@@ -1,5 +1,5 @@
 //! Faults and the words that name them.
-use crate::comparing::same_at;
+use crate::comparing::{same, same_at};
 use inst_base::Fault;
 use inst_command::{Reply, refusals_told};
 use inst_faults::{AnyFault, LogFault, fault_of};
@@ -26,10 +26,18 @@ fn faults_are_found_by_number_and_by_name(rt: HostRuntime) {
     }
 }
 
+/// What a refusal for this fault is told by: the fault of a reply, or none where there is no reply.
+fn told(fault: Fault) -> Option<Option<Fault>> {
+    match &refusals_told(Err(fault)) {
+        Ok(Reply::Refused(fault)) => Some(Some(*fault)),
+        Ok(_) => Some(None),
+        Err(_) => None,
+    }
+}
+
 /// A refusal is told by a reply, and want of memory by none.
 #[test]
 fn refusals_are_told(rt: HostRuntime) {
-    let told = refusals_told(Err(Fault::Full));
-    assert!(rt; matches!(&told, Ok(Reply::Refused(Fault::Full))));
-    assert!(rt; refusals_told(Err(Fault::Memory)).is_err());
+    same(&rt, told(Fault::Full), Some(Some(Fault::Full)));
+    same(&rt, told(Fault::Memory), None);
 }

@@ -1,4 +1,5 @@
-//! Tests of the values below the books: amounts, settings, statement lines, words, boards, deadlines and bytes.
+//! Tests of what stands below the books: amounts, settings, statement lines, words, boards, deadlines and bytes, and of
+//! what threads share there.
 #![tactic(auto)]
 
 #[cfg(test)]
@@ -13,6 +14,8 @@ mod deadlines;
 mod faults;
 #[cfg(test)]
 mod settings;
+#[cfg(test)]
+mod shared;
 #[cfg(test)]
 mod statement_lines;
 #[cfg(test)]

@@ -2,7 +2,7 @@
 use crate::comparing::{same, same_at};
 use inst_base::{Code, Fault};
 use inst_settings::{Numbers, Settings};
-use std::alloc::Global;
+use std::alloc::{AllocError, Global};
 use std::process::Abort;
 use std::test::Fail;
 
@@ -39,13 +39,18 @@ fn told(settings: &Settings) -> Numbers {
     }
 }
 
-/// So many codes: `AAAAD100`, `AAAAD101` and so on.
+/// The code of this number: `AAAAD100`, `AAAAD101` and so on.
+fn code(alloc: Global, index: u32) -> Result<Code, Fail> {
+    let number = u64::from(index) + 100;
+    let text = format!(in alloc; "AAAAD{number}")?;
+    Ok(Code::new(text.as_str())?)
+}
+
+/// So many of them.
 fn codes(alloc: Global, count: u32) -> Result<Vec<Code>, Fail> {
     let mut codes = Vec::new(alloc);
     for index in 0..count {
-        let number = u64::from(index) + 100;
-        let text = format!(in alloc; "AAAAD{number}")?;
-        codes.push(Code::new(text.as_str())?)?;
+        codes.push(code(alloc, index)?)?;
     }
     Ok(codes)
 }
@@ -136,11 +141,17 @@ const COUNTS: &[(u32, Option<Fault>)] = &[
     (257, Some(Fault::BadSettings)),
 ];
 
+/// Each number of participants is refused so.
+fn refuses_counts(rt: &(impl Abort + AllocGlobal)) -> Result<(), Fail> {
+    for &(count, fault) in COUNTS {
+        same_at(rt, count, refusal(rt.alloc(), count, MOST)?, fault);
+    }
+    Ok(())
+}
+
 #[test]
 fn participants_to_their_bounds(rt: HostRuntime) -> Result<(), Fail> {
-    for &(count, fault) in COUNTS {
-        same_at(&rt, count, refusal(rt.alloc(), count, MOST)?, fault);
-    }
+    refuses_counts(&rt)?;
     let settings = Settings::check(codes(rt.alloc(), 256)?, MOST)?;
     ends_at_the_last(&rt, &settings)
 }
@@ -153,13 +164,17 @@ fn has_code(rt: &impl Abort, settings: &Settings, index: u8, code: &Code) {
 
 /// There are three codes, numbered as they were given, and no other.
 fn numbers_codes(rt: &impl Abort, settings: &Settings, codes: &[Code; 3]) -> Result<(), Fail> {
-    same(rt, told(settings), LEAST);
-    same(rt, settings.participants(), 3);
+    let other = Code::new("DDDDESMM")?;
+    let found = (
+        told(settings),
+        settings.participants(),
+        settings.index_of(&other),
+    );
+    same(rt, found, (LEAST, 3, None));
+    same(rt, settings.code(3), None);
     has_code(rt, settings, 0, &codes[0]);
     has_code(rt, settings, 1, &codes[1]);
     has_code(rt, settings, 2, &codes[2]);
-    same(rt, settings.code(3), None);
-    same(rt, settings.index_of(&Code::new("DDDDESMM")?), None);
     Ok(())
 }
 
@@ -184,6 +199,12 @@ fn refuses_a_code_twice(rt: &(impl Abort + AllocGlobal), codes: &[Code; 3]) -> R
     Ok(())
 }
 
+/// Settings of these codes number them.
+fn takes_codes(rt: &(impl Abort + AllocGlobal), codes: &[Code; 3]) -> Result<(), Fail> {
+    let settings = Settings::check(codes.to_vec(rt.alloc())?, LEAST)?;
+    copies_codes(rt, &settings, codes)
+}
+
 #[test]
 fn codes_are_numbered_as_given(rt: HostRuntime) -> Result<(), Fail> {
     let codes = [
@@ -192,8 +213,7 @@ fn codes_are_numbered_as_given(rt: HostRuntime) -> Result<(), Fail> {
         Code::new("AAAADEFF123")?,
     ];
     refuses_a_code_twice(&rt, &codes)?;
-    let settings = Settings::check(codes.to_vec(rt.alloc())?, LEAST)?;
-    copies_codes(&rt, &settings, &codes)
+    takes_codes(&rt, &codes)
 }
 
 const COUNTRIES: [&str; 8] = ["DE", "FR", "IT", "ES", "NL", "BE", "AT", "IE"];
@@ -202,16 +222,22 @@ const BANKS: [&str; 8] = [
     "LERC", "MEIS", "NEUN", "PIRO", "RABE", "SPEC", "TAUB", "UHUX",
 ];
 
-/// The code with this number as banks have them, every third with a branch: other banks, the same bank in other
-/// countries and places, and other branches of one bank.
-fn bank_code(alloc: Global, index: u32) -> Result<Code, Fail> {
+/// The text of the code with this number as banks have them, every third with a branch: other banks, the same bank in
+/// other countries and places, and other branches of one bank.
+fn bank_text(alloc: Global, index: u32) -> Result<String, AllocError> {
     let bank = BANKS[(index % 8) as usize];
     let country = COUNTRIES[(index / 8 % 8) as usize];
     let place = 10 + index / 64;
-    let mut text = format!(in alloc; "{bank}{country}{place}")?;
     if index % 3 == 0 {
-        text.push_str(format!(in alloc; "{}", 100 + u64::from(index))?.as_str())?;
+        let branch = 100 + u64::from(index);
+        format!(in alloc; "{bank}{country}{place}{branch}")
+    } else {
+        format!(in alloc; "{bank}{country}{place}")
     }
+}
+
+fn bank_code(alloc: Global, index: u32) -> Result<Code, Fail> {
+    let text = bank_text(alloc, index)?;
     Ok(Code::new(text.as_str())?)
 }
 

@@ -6,4 +6,4 @@ mod failing_writers;
 mod flushes;
 mod malformed;
 mod newlines;
-mod serving;
+pub(crate) mod serving;

@@ -1,10 +1,12 @@
 //! What is told of lines by themselves, and a hub that has answered lines.
 use crate::comparing::same;
 use inst_agenda::Runner;
-use inst_base::Moment;
+use inst_base::{Fault, Moment};
 use inst_command::{Answer, Ask, Command, Reply, Step};
 use inst_lines::{Counts, Mode, Served, check_lines, serve_lines};
 use inst_rows::{A, settings};
+use inst_settings::Settings;
+use std::alloc::Global;
 use std::process::Abort;
 use std::test::Fail;
 
@@ -60,17 +62,16 @@ fn has_answered(rt: &impl Abort, served: &mut Served) -> Result<(), Fail> {
     Ok(())
 }
 
+/// A hub that has answered the lines.
+fn served(alloc: Global, settings: &Settings) -> Result<Served, Fault> {
+    let mut reader = LINES.as_bytes();
+    let mut replies = Vec::new(alloc);
+    serve_lines(alloc, Mode::Run, settings, &mut reader, &mut replies)
+}
+
 #[test]
 fn leaves_the_hub_that_answered(rt: HostRuntime) -> Result<(), Fail> {
-    let alloc = rt.alloc();
-    let settings = settings(alloc)?;
-    let mut replies = Vec::new(alloc);
-    let mut served = serve_lines(
-        alloc,
-        Mode::Run,
-        &settings,
-        &mut LINES.as_bytes(),
-        &mut replies,
-    )?;
+    let settings = settings(rt.alloc())?;
+    let mut served = served(rt.alloc(), &settings)?;
     has_answered(&rt, &mut served)
 }

@@ -1,29 +1,12 @@
 //! Worked rows: lines in, lines out, over three participants with 2 places and 4 fundings each.
 use crate::comparing::same;
-use inst_lines::{Mode, play_lines, run_lines};
+use crate::lines::serving::written;
+use inst_lines::Mode;
 use inst_rows::settings;
-use inst_settings::Settings;
-use std::alloc::Global;
 use std::process::Abort;
 use std::test::Fail;
 
-/// Writes what a run or a play answers to these lines.
-fn write(
-    alloc: Global,
-    mode: Mode,
-    settings: &Settings,
-    input: &str,
-    written: &mut Vec<u8>,
-) -> Result<(), Fail> {
-    let mut reader = input.as_bytes();
-    match mode {
-        Mode::Run => run_lines(alloc, settings, &mut reader, written)?,
-        Mode::Play => play_lines(alloc, settings, &mut reader, written)?,
-    };
-    Ok(())
-}
-
-/// Compares it.
+/// Compares what a run or a play answers to these lines.
 pub(crate) fn row(
     rt: &(impl Abort + AllocGlobal),
     mode: Mode,
@@ -31,8 +14,7 @@ pub(crate) fn row(
     expected: &str,
 ) -> Result<(), Fail> {
     let settings = settings(rt.alloc())?;
-    let mut written = Vec::new(rt.alloc());
-    write(rt.alloc(), mode, &settings, input, &mut written)?;
+    let written = written(rt.alloc(), mode, &settings, input.as_bytes())?;
     same(rt, written.as_slice(), expected.as_bytes());
     Ok(())
 }

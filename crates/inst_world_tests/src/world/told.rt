@@ -1,5 +1,5 @@
 //! What is told, by short texts and plain numbers.
-use inst_base::Fault;
+use inst_base::{Fault, Ident, Moment};
 use inst_command::{Answer, Outcome, Reply, State};
 use inst_rows::{Came, Shown, are_entries, are_lines};
 
@@ -16,26 +16,46 @@ pub(crate) enum Told {
     Refused(Fault),
 }
 
-fn is_reply(reply: &Reply, told: &Told) -> bool {
-    match (reply, told) {
-        (Reply::Taken { id, deadline }, Told::Taken(name, end)) => {
-            id.text() == *name && deadline.past_base() == *end
-        }
-        (Reply::State { from, state, .. }, Told::Decided(originator, outcome)) => {
-            from == originator && *state == State::Decided(*outcome)
-        }
-        (
-            Reply::Position {
-                position,
-                reserved,
-                available,
-            },
-            Told::Position(all, held, free),
-        ) => position == all && reserved == held && available == free,
-        (Reply::Inbox { entries }, Told::Inbox(wanted)) => are_entries(entries.as_slice(), wanted),
-        (Reply::Statement { lines }, Told::Lines(wanted)) => are_lines(lines.as_slice(), wanted),
-        (Reply::Refused(fault), Told::Refused(wanted)) => fault == wanted,
+fn is_taken(id: &Ident, deadline: &Moment, told: &Told) -> bool {
+    match told {
+        Told::Taken(name, end) => id.text() == *name && deadline.past_base() == *end,
         _ => false,
+    }
+}
+
+fn is_decided(from: u8, state: &State, told: &Told) -> bool {
+    match told {
+        Told::Decided(originator, outcome) => {
+            from == *originator && *state == State::Decided(*outcome)
+        }
+        _ => false,
+    }
+}
+
+fn is_position(found: [u64; 3], told: &Told) -> bool {
+    match told {
+        Told::Position(all, held, free) => found == [*all, *held, *free],
+        _ => false,
+    }
+}
+
+fn is_reply(reply: &Reply, told: &Told) -> bool {
+    match reply {
+        Reply::Taken { id, deadline } => is_taken(id, deadline, told),
+        Reply::State { from, state, .. } => is_decided(*from, state, told),
+        Reply::Position {
+            position,
+            reserved,
+            available,
+        } => is_position([*position, *reserved, *available], told),
+        Reply::Inbox { entries } => {
+            matches!(told, Told::Inbox(wanted) if are_entries(entries.as_slice(), wanted))
+        }
+        Reply::Statement { lines } => {
+            matches!(told, Told::Lines(wanted) if are_lines(lines.as_slice(), wanted))
+        }
+        Reply::Refused(fault) => matches!(told, Told::Refused(wanted) if fault == wanted),
+        Reply::Done { .. } => false,
     }
 }
 

@@ -8,28 +8,10 @@ use inst_command::{Answer, Ask, Command, Outcome, Reply, Step, Submission};
 use inst_journal::Event;
 use inst_json::LineReader;
 use inst_rows::{End, confirm, fund, settings, submit};
+use inst_settings::Settings;
 use inst_world::World;
-use std::alloc::Global;
 use std::process::Abort;
 use std::test::Fail;
-
-fn forwarded(from: u8, id: &str, cents: u64, deadline: u64) -> Result<Event, Fault> {
-    mention::<Outcome>();
-    Ok(Event::Forwarded {
-        from,
-        id: Ident::new(id)?,
-        cents: Cents::new(cents)?,
-        deadline: Moment::new(0, deadline)?,
-    })
-}
-
-fn booked(from: u8, id: &str, outcome: Outcome) -> Result<Event, Fault> {
-    Ok(Event::Booked {
-        from,
-        id: Ident::new(id)?,
-        outcome,
-    })
-}
 
 /// Compares the history of a participant.
 fn journal_is(rt: &impl Abort, world: &World, who: u8, events: &[Event]) -> Result<(), Fail> {
@@ -78,12 +60,9 @@ fn asks(rt: &impl Abort, world: &mut World, step: &Step) -> Result<(), Fail> {
 /// The transfer of the first participant to the second lies at its first place, and is pending until 11,000.
 fn lies_at_the_first_place(rt: &impl Abort, world: &mut World, id: &Ident) -> Result<(), Fail> {
     let place = Place { owner: 0, index: 0 };
-    same(rt, world.beneficiary_at(place), Some(1));
-    same(
-        rt,
-        world.pending_until(place),
-        Some(Moment::new(0, 11_000)?),
-    );
+    let deadline = Moment::new(0, 11_000)?;
+    let found = (world.beneficiary_at(place), world.pending_until(place));
+    same(rt, found, (Some(1), Some(deadline)));
     assert!(rt; world.settings().has_participant(0));
     same(rt, world.place_of(0, id), Some(place));
     Ok(())
@@ -186,11 +165,19 @@ fn outcome(end: End) -> Result<Outcome, Fault> {
 /// The beneficiary was told of the transfer, and has booked how it ended.
 fn is_booked(rt: &impl Abort, world: &World, ended: &Ended) -> Result<(), Fail> {
     let (to, id, cents, end) = *ended;
-    let events = [
-        forwarded(0, id, cents, 11_000)?,
-        booked(0, id, outcome(end)?)?,
-    ];
-    journal_is(rt, world, to, &events)
+    let id = Ident::new(id)?;
+    let forwarded = Event::Forwarded {
+        from: 0,
+        id,
+        cents: Cents::new(cents)?,
+        deadline: Moment::new(0, 11_000)?,
+    };
+    let booked = Event::Booked {
+        from: 0,
+        id,
+        outcome: outcome(end)?,
+    };
+    journal_is(rt, world, to, &[forwarded, booked])
 }
 
 /// Runs the lines; then the transfers have ended so, and the money is there.
@@ -208,19 +195,15 @@ fn runs_to(
     money_is(rt, &runner.world, money)
 }
 
-fn opened(alloc: Global) -> Result<Runner, Fault> {
-    let settings = settings(alloc)?;
-    Ok(Runner::open(alloc, &settings)?)
-}
-
 /// The same at a hub of its own.
 fn opens_and_runs_to(
     rt: &(impl Abort + AllocGlobal),
+    settings: &Settings,
     lines: &str,
     ends: &[Ended],
     money: [(u64, u64); 3],
 ) -> Result<(), Fail> {
-    let mut runner = opened(rt.alloc())?;
+    let mut runner = Runner::open(rt.alloc(), settings)?;
     runs_to(rt, &mut runner, lines, ends, money)
 }
 
@@ -230,6 +213,7 @@ fn opens_and_runs_to(
 fn a_run_tells_both_sides(rt: HostRuntime) -> Result<(), Fail> {
     opens_and_runs_to(
         &rt,
+        &settings(rt.alloc())?,
         r#"{"at":0,"cents":50000,"cmd":"fund","ref":"F1","who":"AAAADEFF"}
 {"at":1000,"cents":20000,"cmd":"submit","id":"T1","stamp":1000,"to":"BBBBFRPP","who":"AAAADEFF"}
 {"at":1000,"cents":5000,"cmd":"submit","id":"T2","stamp":1000,"to":"CCCCITMM","who":"AAAADEFF"}
@@ -248,6 +232,7 @@ fn a_run_tells_both_sides(rt: HostRuntime) -> Result<(), Fail> {
 fn a_run_moves_money(rt: HostRuntime) -> Result<(), Fail> {
     opens_and_runs_to(
         &rt,
+        &settings(rt.alloc())?,
         r#"{"at":0,"cents":50000,"cmd":"fund","ref":"F1","who":"AAAADEFF"}
 {"at":0,"cents":700,"cmd":"fund","ref":"F2","who":"CCCCITMM"}
 {"at":1000,"cents":20000,"cmd":"submit","id":"T1","stamp":1000,"to":"BBBBFRPP","who":"AAAADEFF"}
