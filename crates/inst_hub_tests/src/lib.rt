@@ -2,6 +2,8 @@
 #![tactic(auto)]
 
 #[cfg(test)]
+mod asking;
+#[cfg(test)]
 mod close;
 #[cfg(test)]
 mod comparing;
@@ -11,3 +13,5 @@ mod crew;
 mod drill;
 #[cfg(test)]
 mod hub;
+#[cfg(test)]
+mod tellers;

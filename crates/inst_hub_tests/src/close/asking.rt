@@ -1,29 +1,14 @@
 //! What the tellers of a hub ask it before it closes.
-ghost use Rattle.std.specs.Prelude.{◌≡◌, true, IfOk};
+ghost use Rattle.std.specs.Prelude.{◌≡◌, true};
 ghost use Rattle.inst_command.specs.Ask.{ask_fits};
 ghost use Rattle.inst_hub.specs.Calls.{AreOf};
 ghost use Rattle.inst_hub.specs.Opening.{HaveAllParts};
 
-use inst_base::{Cents, Fault, Ident, Moment};
-use inst_command::{Ask, Command, Reply, State, Submission};
+use crate::asking::{self, fitting, position_of, state_of};
+use inst_base::Fault;
+use inst_command::{Ask, Command, Reply, State};
 use inst_hub::{Hub, Teller, Ticket};
 use std::sync::Wait;
-
-/// The ask of a command at this reading; `BadField` where it doesn't fit the hub.
-fn fitting(hub: &Hub, who: u8, command: Command, at: u64) -> Result<Ask, Fault>
-    ensures { IfOk result (λ ask. ask_fits hub.now.settings ask ≡ true) }
-{
-    let ask = Ask {
-        who,
-        command,
-        at: Moment::new(0, at)?,
-    };
-    if ask.fits(hub.settings()) {
-        Ok(ask)
-    } else {
-        Err(Fault::BadField)
-    }
-}
 
 /// What a command is answered where the teller with this index asks it; `BadField` where it doesn't fit the hub.
 fn ask<R: Wait>(
@@ -76,10 +61,7 @@ fn fund<R: Wait>(
     ensures of { AreOf hub.now tellers.new.items }
     ensures parts { HaveAllParts tellers.new.items }
 {
-    let command = Command::Fund {
-        reference: Ident::new(reference)?,
-        cents: Cents::new(cents)?,
-    };
+    let command = asking::fund(reference, cents)?;
     told(rt, hub, tellers, 0, &fitting(hub, 0, command, 0)?)?;
     Ok(())
 }
@@ -97,22 +79,9 @@ fn submit<R: Wait>(
     ensures of { AreOf hub.now tellers.new.items }
     ensures parts { HaveAllParts tellers.new.items }
 {
-    let command = Command::Submit(Submission {
-        id: Ident::new(id)?,
-        to: 1,
-        cents: Cents::new(cents)?,
-        stamp: Moment::new(0, 1_000)?,
-    });
+    let command = asking::submit(id, cents)?;
     let (_, ticket) = ask(rt, hub, tellers, 0, &fitting(hub, 0, command, 1_000)?)?;
     ticket.ok_or(Fault::UnknownTransfer)
-}
-
-/// The state that the reply tells, if any.
-fn state_of(reply: &Reply) -> Option<State> {
-    match reply {
-        Reply::State { state, .. } => Some(*state),
-        _ => None,
-    }
 }
 
 /// The state that participant 1 is told, if any, where it confirms a transfer of participant 0 through the teller with
@@ -129,10 +98,7 @@ pub(crate) fn confirm<R: Wait>(
     ensures of { AreOf hub.now tellers.new.items }
     ensures parts { HaveAllParts tellers.new.items }
 {
-    let command = Command::Confirm {
-        from: 0,
-        id: Ident::new(id)?,
-    };
+    let command = asking::confirm(id)?;
     told(rt, hub, tellers, index, &fitting(hub, 1, command, 2_000)?)
 }
 
@@ -152,18 +118,6 @@ pub(crate) fn one_confirmed<R: Wait>(
     let second = submit(rt, hub, tellers, "T2", 5_000)?;
     confirm(rt, hub, tellers, 1, "T1")?;
     Ok((first, second))
-}
-
-/// The position, what of it is reserved and what is available, if the reply tells them.
-fn money_of(reply: &Reply) -> Option<(u64, u64, u64)> {
-    match reply {
-        Reply::Position {
-            position,
-            reserved,
-            available,
-        } => Some((*position, *reserved, *available)),
-        _ => None,
-    }
 }
 
 /// What participant `who` is told of its money through the first teller: its position, what of it is reserved and what is
@@ -186,7 +140,7 @@ pub(crate) fn position<R: Wait>(
         0,
         &fitting(hub, who, Command::Position, 1_002)?,
     )?;
-    Ok(money_of(&reply))
+    Ok(position_of(&reply))
 }
 
 /// Participant 0 gets 1,000 cents and pays 300 of them to participant 1, through the first teller.
@@ -219,9 +173,7 @@ pub(crate) fn investigated<R: Wait>(
     ensures of { AreOf hub.now tellers.new.items }
     ensures parts { HaveAllParts tellers.new.items }
 {
-    let command = Command::Investigate {
-        id: Ident::new(id)?,
-    };
+    let command = asking::investigate(id)?;
     let (reply, ticket) = ask(rt, hub, tellers, 0, &fitting(hub, 0, command, 2_000)?)?;
     Ok((state_of(&reply), ticket.is_some()))
 }

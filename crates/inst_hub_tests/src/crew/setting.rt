@@ -1,10 +1,11 @@
 //! A hub of three participants, and a desk with jobs for it.
-ghost use Rattle.std.specs.Prelude.{◌≡◌, ◌+◌, IfOk, length};
+ghost use Rattle.std.specs.Prelude.{◌≡◌, IfOk, length};
 ghost use Rattle.inst_desk.specs.Desk.{IsHandOf, AreHandsOf};
-ghost use Rattle.inst_hub.specs.Calls.{IsOf, AreOf};
+ghost use Rattle.inst_hub.specs.Calls.{IsOf};
 
-use inst_base::{Cents, Code, Fault, Ident, Moment};
-use inst_command::{Ask, Command, Submission};
+use crate::asking::{self, fitting};
+use inst_base::{Code, Fault, Moment};
+use inst_command::{Ask, Command};
 use inst_desk::{Desk, Hand, Job};
 use inst_hub::{Hub, Teller};
 use inst_settings::{Numbers, Settings};
@@ -38,27 +39,14 @@ pub(crate) fn fund<R: Wait>(rt: &R, hub: &Hub, teller: &mut Teller) -> Result<()
     requires { IsOf hub.now teller.old }
     ensures { IsOf hub.now teller.new }
 {
-    let command = Command::Fund {
-        reference: Ident::new("F1")?,
-        cents: Cents::new(50_000)?,
-    };
-    let ask = ask(0, command, 0)?;
-    if !ask.fits(hub.settings()) {
-        return Err(Fault::BadField);
-    }
+    let ask = fitting(hub, 0, asking::fund("F1", 50_000)?, 0)?;
     hub.call(rt, teller, &ask)?;
     Ok(())
 }
 
 /// Participant 0 submits a transfer of 20000 cents to participant 1, with the time stamp 1000.
 pub(crate) fn submission() -> Result<Ask, Fault> {
-    let command = Command::Submit(Submission {
-        id: Ident::new("T1")?,
-        to: 1,
-        cents: Cents::new(20_000)?,
-        stamp: Moment::new(0, 1_000)?,
-    });
-    ask(0, command, 1_000)
+    ask(0, asking::submit("T1", 20_000)?, 1_000)
 }
 
 /// Puts a job for each ask, where there is room.
@@ -95,17 +83,4 @@ pub(crate) fn desk<R: Wait>(
     put_all(rt, &desk, &mut hand, asks);
     all.push(hand)?;
     Ok((desk, all))
-}
-
-/// The last teller of these.
-pub(crate) fn last(hub: &Hub, tellers: &mut Vec<Teller>) -> Result<Teller, Fault>
-    requires { AreOf hub.now tellers.old.items }
-    ensures last { IfOk result (λ teller. IsOf hub.now teller) }
-    ensures rest { AreOf hub.now tellers.new.items }
-    ensures one_less { IfOk result (λ teller. length tellers.new.items + 1 ≡ length tellers.old.items) }
-{
-    match tellers.pop() {
-        Some(teller) => Ok(teller),
-        None => Err(Fault::BadSettings),
-    }
 }

@@ -4,7 +4,8 @@ ghost use Rattle.inst_desk.specs.Desk.{AreHandsOf};
 ghost use Rattle.inst_hub.specs.Calls.{IsOf, AreOf};
 ghost use Rattle.inst_crew.specs.Crew.{MaySweep};
 
-use crate::crew::setting::{desk, fund, last, settings, submission};
+use crate::crew::setting::{desk, fund, settings, submission};
+use crate::tellers::last;
 use inst_base::{Fault, Moment, mention};
 use inst_command::{Outcome, State};
 use inst_crew::{Crew, Sweep, run_crew};

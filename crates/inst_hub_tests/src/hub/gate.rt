@@ -1,9 +1,11 @@
 //! A call that has one participant's lock holds up other calls of that participant, and nobody else.
 ghost use Rattle.inst_hub.specs.Calls.{IsOf, AreOf};
 
+use crate::asking::fitting;
 use crate::comparing::same;
-use crate::hub::asking::{fitting, last, last_two, submitted, told};
+use crate::hub::asking::{submitted, told};
 use crate::hub::start::Start;
+use crate::tellers::{last, last_two};
 use inst_base::{Fault, mention};
 use inst_command::{Command, Outcome, State};
 use inst_hub::{Gate, Hub, Teller, Ticket};

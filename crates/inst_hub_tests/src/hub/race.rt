@@ -1,9 +1,11 @@
 //! One thread confirms transfers at the last moment in time while another investigates them at the deadline.
 ghost use Rattle.inst_hub.specs.Calls.{IsOf, AreOf};
 
+use crate::asking::{fund, submit};
 use crate::comparing::same;
-use crate::hub::asking::{fund, last, last_two, money, submit, told};
+use crate::hub::asking::{money, told};
 use crate::hub::start::Start;
+use crate::tellers::{last, last_two};
 use inst_base::{Fault, Ident};
 use inst_command::{Command, Outcome, State};
 use inst_hub::{Hub, Teller};
@@ -30,7 +32,7 @@ fn submit_all<R: Wait>(rt: &R, alloc: Global, hub: &Hub, teller: &mut Teller) ->
     requires { IsOf hub.now teller.old }
     ensures { IsOf hub.now teller.new }
 {
-    told(rt, hub, teller, 0, fund(FUNDS)?, 0)?;
+    told(rt, hub, teller, 0, fund("F1", FUNDS)?, 0)?;
     for index in 0..TRANSFERS {
         let id = name(alloc, index)?;
         told(rt, hub, teller, 0, submit(id.text(), 200)?, 1_000)?;

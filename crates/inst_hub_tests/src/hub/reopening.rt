@@ -3,8 +3,9 @@ ghost use Rattle.std.specs.Prelude.{◌≡◌, IfOk};
 ghost use Rattle.inst_model.specs.Rows as rows;
 ghost use Rattle.inst_hub.specs.Calls.{IsOf};
 
+use crate::asking::{confirm, investigate, state_of};
 use crate::comparing::same;
-use crate::hub::asking::{ask, confirm, investigate, money, state_of, told, with_teller};
+use crate::hub::asking::{ask, money, told, with_teller};
 use inst_base::Fault;
 use inst_command::{Outcome, State, Step};
 use inst_hub::{Hub, Teller};

@@ -1,11 +1,11 @@
 //! What sweeps count, and in which order they bring transfers.
 ghost use Rattle.inst_hub.specs.Calls.{IsOf, AreOf};
 
+use crate::asking::{fitting, fund, investigate, submit};
 use crate::comparing::same;
-use crate::hub::asking::{
-    ask, fitting, fund, investigate, last, last_two, opened, submit, submitted, told,
-};
+use crate::hub::asking::{ask, opened, submitted, told};
 use crate::hub::start::Start;
+use crate::tellers::{last, last_two};
 use inst_base::{Cents, Fault, Ident, Moment};
 use inst_command::{Command, Outcome, Reply, State, Submission};
 use inst_hub::{Gate, Hub, Teller};
@@ -155,8 +155,8 @@ fn funded<R: Wait>(rt: &R, hub: &Hub, teller: &mut Teller) -> Result<(), Fault>
     requires { IsOf hub.now teller.old }
     ensures { IsOf hub.now teller.new }
 {
-    told(rt, hub, teller, 0, fund(50_000)?, 0)?;
-    told(rt, hub, teller, 2, fund(50_000)?, 0)?;
+    told(rt, hub, teller, 0, fund("F1", 50_000)?, 0)?;
+    told(rt, hub, teller, 2, fund("F1", 50_000)?, 0)?;
     Ok(())
 }
 
@@ -243,7 +243,7 @@ fn submit_three<R: Wait>(rt: &R, hub: &Hub, teller: &mut Teller) -> Result<(), F
     requires { IsOf hub.now teller.old }
     ensures { IsOf hub.now teller.new }
 {
-    told(rt, hub, teller, 0, fund(50_000)?, 0)?;
+    told(rt, hub, teller, 0, fund("F1", 50_000)?, 0)?;
     submit_stamped(rt, hub, teller, "T1", 1_500)?;
     submit_stamped(rt, hub, teller, "T2", 1_000)?;
     submit_stamped(rt, hub, teller, "T3", 1_000)

@@ -1,8 +1,10 @@
 //! One teller submits a transfer, and another confirms it.
 ghost use Rattle.inst_hub.specs.Calls.{IsOf, AreOf};
 
+use crate::asking::confirm;
 use crate::comparing::same;
-use crate::hub::asking::{confirm, last_two, money, submitted, told};
+use crate::hub::asking::{money, submitted, told};
+use crate::tellers::last_two;
 use inst_base::Fault;
 use inst_command::{Outcome, State};
 use inst_hub::{Hub, Teller};

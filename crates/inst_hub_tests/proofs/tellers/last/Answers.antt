@@ -3,7 +3,7 @@ use Rattle.std.specs.Prelude.{slice_get}
 use Rattle.inst_base.proofs.Lists.{last_at}
 use Rattle.inst_hub.specs.declared.teller.Teller.{Teller}
 use Rattle.inst_crew.proofs.LastHand.{at_front}
-use Rattle.inst_hub_tests.proofs.crew.setting.last.Goals as goal
+use Rattle.inst_hub_tests.proofs.tellers.last.Goals as goal
 
 pub returns-in-Some-clause-last : goal.returns-in-Some-clause-last
 returns-in-Some-clause-last c = c.requires (length c.pop.new.self.items) c.in-Some.teller

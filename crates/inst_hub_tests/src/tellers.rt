@@ -1,0 +1,30 @@
+//! The last of the tellers with which a hub opens.
+ghost use Rattle.std.specs.Prelude.{◌≡◌, ◌+◌, IfOk, length};
+ghost use Rattle.inst_hub.specs.Calls.{IsOf, AreOf};
+
+use inst_base::Fault;
+use inst_hub::{Hub, Teller};
+
+/// The last teller of these.
+pub(crate) fn last(hub: &Hub, tellers: &mut Vec<Teller>) -> Result<Teller, Fault>
+    requires { AreOf hub.now tellers.old.items }
+    ensures last { IfOk result (λ teller. IsOf hub.now teller) }
+    ensures rest { AreOf hub.now tellers.new.items }
+    ensures one_less { IfOk result (λ teller. length tellers.new.items + 1 ≡ length tellers.old.items) }
+{
+    match tellers.pop() {
+        Some(teller) => Ok(teller),
+        None => Err(Fault::BadSettings),
+    }
+}
+
+/// The last two tellers of these.
+pub(crate) fn last_two(hub: &Hub, tellers: &mut Vec<Teller>) -> Result<(Teller, Teller), Fault>
+    requires { AreOf hub.now tellers.old.items }
+    ensures last { IfOk result (λ two. IsOf hub.now two.0 × IsOf hub.now two.1) }
+    ensures rest { AreOf hub.now tellers.new.items }
+{
+    let second = last(hub, tellers)?;
+    let first = last(hub, tellers)?;
+    Ok((first, second))
+}
