@@ -1,4 +1,5 @@
 //! Ten openings, each from the books of the one before, in which threads submit, confirm and sweep.
+use crate::comparing::same;
 use crate::drill::kept::{Kept, funded, kept_of};
 use inst_base::Fault;
 use inst_close::Books;
@@ -7,8 +8,8 @@ use inst_hub::Ungated;
 use inst_rows::{A, B, settings_with};
 use std::alloc::Global;
 use std::io;
+use std::process::Abort;
 use std::sync::Wait;
-use std::test::Fail;
 use std::thread::Threads;
 
 /// How many transfers there are in an opening.
@@ -102,14 +103,27 @@ fn drilled<R: Threads + Wait + Sync>(
     )
 }
 
+/// What was written is `expected`, and the books have what was paid.
+fn lose_nothing(
+    rt: &impl Abort,
+    alloc: Global,
+    books: &Books,
+    written: &[u8],
+) -> Result<(), Fault> {
+    same(rt, written, expected(alloc)?.as_slice());
+    let paid = paid(alloc, books)?.unwrap_or(u64::MAX);
+    same(
+        rt,
+        (are_of(books, paid), books.net(), books.sum()),
+        (true, 20_000, 20_000),
+    );
+    Ok(())
+}
+
 #[test]
-fn ten_openings_by_threads_lose_nothing(rt: HostRuntime) -> Result<(), Fail> {
+fn ten_openings_by_threads_lose_nothing(rt: HostRuntime) -> Result<(), Fault> {
     let alloc = rt.alloc();
     let mut written = Vec::new(alloc);
     let books = drilled(&rt, alloc, &mut written)?;
-    assert_eq!(rt; written.as_slice(), expected(alloc)?.as_slice());
-    let paid = paid(alloc, &books)?.unwrap_or(u64::MAX);
-    assert!(rt; are_of(&books, paid));
-    assert_eq!(rt; (books.net(), books.sum()), (20_000, 20_000));
-    Ok(())
+    lose_nothing(&rt, alloc, &books, written.as_slice())
 }
