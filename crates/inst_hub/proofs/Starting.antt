@@ -125,6 +125,13 @@ nothing_left (x ∷ l) e = absurd (omega arith)
 pub one_table : (s : HubSettings) (id : TableId) (p q : ℕ) (a b : SharedBoard) → IsOpened s id p a → IsOpened s id q b → AtOneTable a b
 one_table s id p q a b first second = (second.table ∙ sym first.table, second.settings ∙ sym first.settings)
 
+-- the tellers' eyes know of no place as it opens
+pub blank_opened : (s : HubSettings) (n : ℕ) (boards : List SharedBoard) (sights : List Sight) (first w : SharedBoard) → AreOpened s n boards sights → slice_get boards 0 ≡ Some first → w ≡ first → AreBlank w sights
+blank_opened s n boards sights first w are at e i t is =
+    let a = are.sight i t is in
+    let o = are.board 0 first at in
+    subst (λ (b : SharedBoard). IsBlank b t) (sym e) (record { one = (a.table ∙ sym o.table, a.settings ∙ sym o.settings); nothing = a.nothing })
+
 pub opened_behind : (s : HubSettings) (n : ℕ) (boards : List SharedBoard) (sights : List Sight) (all : List (Option Participant)) (first w : SharedBoard) → AreOpened s n boards sights → AreParticipants boards all
     → slice_get boards 0 ≡ Some first → w ≡ first → AreBehind w (participants s) (λ p. []) all
 opened_behind s n boards sights all first w opened are at is = record { enough = are.enough ∙ opened.participants; each = each }

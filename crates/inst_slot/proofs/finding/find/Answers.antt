@@ -1,6 +1,7 @@
-use Rattle.std.proofs.Common.{◌≡◌, ℕ, true, inl, ⊎_elim, refl, sym, ap, ◌∙◌, Option, Some, None, is_none, Result, Ok, Err, OnErr}
+use Rattle.std.proofs.Common.{◌≡◌, ℕ, true, inl, ⊎_elim, refl, sym, ap, subst, ◌∙◌, Option, Some, None, is_none, Result, Ok, Err, OnErr}
 use Rattle.std.specs.declared.alloc.AllocError.{AllocError}
 use Rattle.std.proofs.lemmas.Bool.{true≢false}
+use Rattle.inst_settings.specs.Settings.{HubSettings}
 use Rattle.inst_command.specs.declared.outcome.Outcome.{Outcome}
 use Rattle.inst_board.specs.declared.place.Place.{Place}
 use Rattle.inst_board.specs.declared.wish.Wish.{Wish}
@@ -8,7 +9,7 @@ use Rattle.inst_board.specs.declared.look.Look.{Look}
 use Rattle.inst_board.specs.declared.about.Fact.{Fact}
 use Rattle.inst_board.specs.Standing.{Standing, unused, pending, decided, look_of, about}
 use Rattle.inst_board.specs.Wish.{wanted}
-use Rattle.inst_board.specs.Learning.{Looks, Answers}
+use Rattle.inst_board.specs.Learning.{Looks, Answers, Decides}
 use Rattle.inst_slot.specs.Asking.{stays_pending, Finds, OnlyLooks}
 use Rattle.inst_slot.proofs.finding.find.Goals as goal
 
@@ -62,3 +63,16 @@ returns-in_err-reserve-clause-err g c =
     let l = c.glance-glance.ensures.look in
     on_err c.from_residual.result (OnlyLooks margin b.knows b.has_role b.stood c.args.board.now c.args.place c.args.wish c.args.at c.glance-glance.new.self)
     (record { look = l.0; looks = l.1; books = ap (λ m. stays_pending m c.args.wish c.args.at l.0) (sym c.requires.margin) ∙ sym (c.stays_pending.ensures l.0 l.2) ∙ c.if-stays_pending.false })
+
+pub returns-clause-found : goal.returns-clause-found
+returns-clause-found g c =
+    let b = g.B.Board in
+    let l = c.glance-glance.ensures.look in
+    let same = ap (λ (s : HubSettings). s.margin) (g.met.B.Board.stays_settings c.args.board.now c.glance-glance.new.self c.glance-glance.ensures.stays) in
+    record {
+      look = l.0;
+      between = c.glance-glance.new.self;
+      same_holder = c.glance-glance.ensures.stays;
+      looks = l.1;
+      decides = subst (λ (m : ℕ). Decides m b.knows b.stood c.glance-glance.new.self c.args.place c.args.wish c.args.at c.decide.result c.decide.new.self) same c.decide.ensures.decides;
+    }

@@ -4,6 +4,8 @@ use Rattle.inst_settings.specs.Settings.{participants}
 use Rattle.inst_cell.specs.Opening.{MayOpen}
 use Rattle.inst_row.specs.declared.view.Front.{Front}
 use Rattle.inst_row.specs.Row.{row_id, key_of}
+use Rattle.inst_row.specs.Seated.{IsOn}
+use Rattle.inst_hub.specs.declared.outset.Outset.{Outset}
 use Rattle.inst_world.specs.NextOpening.{books_of}
 use Rattle.inst_journal.proofs.Carrying.{carried_opened}
 use Rattle.inst_hub.specs.Founding.{outset_of}
@@ -19,6 +21,12 @@ open-requires c = record {
   values = first_since (record { words = c.of-words.result; all = c.of.result }) c.in_ok-whole.whole (participants c.args.settings) (histories_from c.args.journals.now) c.in_ok-all.all.items c.in_ok-all.ensures.ok c.of-words.ensures (ap (λ v. v.items) c.of.ensures);
 }
 
+pub admit-requires-clause-on : goal.admit-requires-clause-on
+admit-requires-clause-on c = subst (λ (k : Outset). IsOn (row_id c.in_ok-row.row) k c.in_ok-row.seat) (sym c.in_ok-row.ensures.row.1) c.in_ok-row.ensures.seat.0
+
+pub admit-requires-clause-all : goal.admit-requires-clause-all
+admit-requires-clause-all c = c.in_ok-row.ensures.seat.1
+
 pub admit-requires-clause-sights : goal.admit-requires-clause-sights
 admit-requires-clause-sights c =
     let words : (key_of c.in_ok-row.row).words.value ≡ c.in_ok-whole.whole = ap (λ k. k.words.value) c.in_ok-row.ensures.row.1 ∙ c.of-words.ensures in
@@ -29,6 +37,12 @@ admit-requires-clause-sights c =
 
 pub invariant_of-result-clause-sized : goal.invariant_of-result-clause-sized
 invariant_of-result-clause-sized c = c.in_ok-row.ensures.row.0 ∙ (sym (unboxed_length c.in_ok-all.all.items) ∙ c.in_ok-all.ensures.ok.enough)
+
+pub returns-clause-enough : goal.returns-clause-enough
+returns-clause-enough c = c.in_ok-tellers.ensures.enough ∙ c.in_ok-whole.ensures.sights.enough
+
+pub returns-clause-parts : goal.returns-clause-parts
+returns-clause-parts c = c.in_ok-tellers.ensures.parts
 
 pub returns-clause-of : goal.returns-clause-of
 returns-clause-of c = new_are_of _ _ c.in_ok-tellers.tellers.items c.in_ok-tellers.ensures.new
