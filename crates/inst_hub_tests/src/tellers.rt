@@ -28,3 +28,13 @@ pub(crate) fn last_two(hub: &Hub, tellers: &mut Vec<Teller>) -> Result<(Teller, 
     let first = last(hub, tellers)?;
     Ok((first, second))
 }
+
+/// The hub with the last of its tellers.
+pub(crate) fn with_teller(opened: (Hub, Vec<Teller>)) -> Result<(Hub, Teller), Fault>
+    requires { AreOf opened.0 opened.1.items }
+    ensures { IfOk result (λ r. IsOf r.0 r.1) }
+{
+    let (hub, mut tellers) = opened;
+    let teller = last(&hub, &mut tellers)?;
+    Ok((hub, teller))
+}
