@@ -4,10 +4,10 @@ ghost use Rattle.inst_hub.specs.Calls.{AreOf};
 ghost use Rattle.inst_hub.specs.Opening.{HaveAllParts};
 ghost use Rattle.inst_close.specs.Closing.{IsOpenedSo};
 
-use crate::asking::{Deed, Line, Told, play, play_by};
+use crate::asking::{Deed, Line, Told, play_by};
 use crate::close::closing::{closed, opened, opened_again};
 use crate::comparing::same;
-use crate::tellers::with_teller;
+use crate::tellers::played;
 use inst_base::Fault;
 use inst_close::Books;
 use inst_command::{Outcome, State};
@@ -125,8 +125,7 @@ fn loses_nothing<R: Wait + Abort>(rt: &R, alloc: Global, books: &Books) -> Resul
     same(rt, counted(books.journal(0)), originator);
     same(rt, counted(books.journal(1)), beneficiary);
     same(rt, [books.net(), books.sum()], [10_000, 10_000]);
-    let (hub, mut teller) = with_teller(opened_again(alloc, books)?)?;
-    play(rt, &hub, &mut teller, &FIRST_AND_LAST).map(|_| ())
+    played(rt, opened_again(alloc, books)?, &FIRST_AND_LAST)
 }
 
 #[test]

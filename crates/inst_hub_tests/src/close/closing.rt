@@ -5,9 +5,9 @@ ghost use Rattle.inst_hub.specs.Calls.{AreOf};
 ghost use Rattle.inst_hub.specs.Opening.{HaveAllParts};
 ghost use Rattle.inst_close.specs.Closing.{IsOpenedSo};
 
-use crate::asking::{Deed, Line, Told, play, play_by};
+use crate::asking::{Deed, Line, Told, play_by};
 use crate::comparing::same;
-use crate::tellers::with_teller;
+use crate::tellers::played;
 use inst_base::{Code, Fault};
 use inst_close::{Books, close};
 use inst_command::{Outcome, State};
@@ -164,15 +164,10 @@ const MONEY: [Line<'static>; 2] = [
     Line(3, Deed::Position, 1_002, Told::Money(0, 0, 0)),
 ];
 
-fn joins<R: Wait + Abort>(rt: &R, alloc: Global, books: &Books) -> Result<(), Fault> {
-    let (hub, mut teller) = with_teller(joined(alloc, books, "DDDDESMM")?)?;
-    play(rt, &hub, &mut teller, &MONEY).map(|_| ())
-}
-
 #[test]
 fn one_joins_between_openings(rt: HostRuntime) -> Result<(), Fault> {
     let (books, _) = first_books(&rt, rt.alloc())?;
-    joins(&rt, rt.alloc(), &books)
+    played(&rt, joined(rt.alloc(), &books, "DDDDESMM")?, &MONEY)
 }
 
 /// Neither a code of the opening nor seventeen tellers are taken.

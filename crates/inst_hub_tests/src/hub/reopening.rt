@@ -2,8 +2,8 @@
 ghost use Rattle.std.specs.Prelude.{◌≡◌, IfOk};
 ghost use Rattle.inst_model.specs.Rows as rows;
 
-use crate::asking::{Deed, Line, Told, play};
-use crate::tellers::with_teller;
+use crate::asking::{Deed, Line, Told};
+use crate::tellers::played;
 use inst_base::Fault;
 use inst_command::{Outcome, State, Step};
 use inst_hub::Hub;
@@ -49,8 +49,7 @@ fn plays<R: Wait + Abort>(rt: &R, alloc: Global, lines: &[Line<'_>]) -> Result<(
     let steps = one_settled()?;
     let settings = settings(alloc)?;
     let books = books(alloc, &settings, &steps)?;
-    let (hub, mut teller) = with_teller(Hub::open_from(alloc, settings, &books, 1)?)?;
-    play(rt, &hub, &mut teller, lines).map(|_| ())
+    played(rt, Hub::open_from(alloc, settings, &books, 1)?, lines)
 }
 
 /// The originator's money, the confirmation of what was pending, and the money afterwards.

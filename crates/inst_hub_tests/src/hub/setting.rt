@@ -1,25 +1,11 @@
-//! Hubs of one teller, and a transfer that is submitted.
+//! A transfer that is submitted.
 ghost use Rattle.inst_hub.specs.Calls.{IsOf};
 
 use crate::asking::{Deed, Line, Told, play};
-use crate::tellers::with_teller;
 use inst_base::Fault;
 use inst_hub::{Hub, Teller, Ticket};
-use inst_settings::Settings;
-use std::alloc::Global;
 use std::process::Abort;
 use std::sync::Wait;
-
-/// A hub of one teller, which plays the lines.
-pub(crate) fn played<R: Wait + Abort>(
-    rt: &R,
-    alloc: Global,
-    settings: Settings,
-    lines: &[Line<'_>],
-) -> Result<(), Fault> {
-    let (hub, mut teller) = with_teller(Hub::open(alloc, settings, 1)?)?;
-    play(rt, &hub, &mut teller, lines).map(|_| ())
-}
 
 const SUBMITTED: [Line<'static>; 2] = [
     Line(0, Deed::Fund("F1", 50_000), 0, Told::Done),

@@ -3,9 +3,9 @@ ghost use Rattle.inst_hub.specs.Calls.{IsOf, AreOf};
 
 use crate::asking::{Deed, Line, Told, answer, play};
 use crate::comparing::same;
-use crate::hub::setting::{played, submitted};
+use crate::hub::setting::submitted;
 use crate::hub::start::Start;
-use crate::tellers::{last, last_two, with_teller};
+use crate::tellers::{last, last_two, played, with_teller};
 use inst_base::Fault;
 use inst_command::{Outcome, State};
 use inst_hub::{Gate, Hub, Teller, Ungated};
@@ -40,7 +40,7 @@ const INVESTIGATED: [Line<'static>; 6] = [
 #[test]
 fn what_an_investigation_finds_is_learnt(rt: HostRuntime) -> Result<(), Fault> {
     let alloc = rt.alloc();
-    played(&rt, alloc, settings(alloc)?, &INVESTIGATED)
+    played(&rt, Hub::open(alloc, settings(alloc)?, 1)?, &INVESTIGATED)
 }
 
 /// A gate that waits inside the locks of two originators until a sweep has brought what both submitted.
@@ -188,5 +188,5 @@ const DUE: [Line<'static>; 7] = [
 #[test]
 fn sweep_goes_by_deadline(rt: HostRuntime) -> Result<(), Fault> {
     let alloc = rt.alloc();
-    played(&rt, alloc, settings_with(alloc, 3, 0)?, &DUE)
+    played(&rt, Hub::open(alloc, settings_with(alloc, 3, 0)?, 1)?, &DUE)
 }
