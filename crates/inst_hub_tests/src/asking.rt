@@ -1,75 +1,191 @@
-//! What a hub is asked, and what its replies tell.
-ghost use Rattle.std.specs.Prelude.{◌≡◌, true, IfOk};
-ghost use Rattle.inst_command.specs.Ask.{ask_fits};
+//! What a teller asks a hub, what it is told, and scripts of both.
+ghost use Rattle.std.specs.Prelude.{◌≡◌, [], ◌∷◌};
+ghost use Rattle.inst_hub.specs.Calls.{IsOf, AreOf};
+ghost use Rattle.inst_hub.specs.Opening.{HaveAllParts, parts_of};
 
+use crate::comparing::same;
 use inst_base::{Cents, Fault, Ident, Moment};
 use inst_command::{Ask, Command, Reply, State, Submission};
-use inst_hub::Hub;
+use inst_hub::{Gate, Hub, Teller, Ticket, Ungated};
+use std::process::Abort;
+use std::sync::Wait;
 
-pub(crate) fn fund(reference: &str, cents: u64) -> Result<Command, Fault> {
-    Ok(Command::Fund {
-        reference: Ident::new(reference)?,
-        cents: Cents::new(cents)?,
-    })
+/// What a participant does.
+#[derive(Clone, Copy)]
+pub(crate) enum Deed<'a> {
+    /// It is funded under this reference with so many cents.
+    Fund(&'a str, u64),
+    /// It submits a transfer of so many cents to participant 1, with this time stamp.
+    Submit(&'a str, u64, u64),
+    /// It confirms a transfer of participant 0.
+    Confirm(&'a str),
+    Investigate(&'a str),
+    Fetch,
+    Position,
+    /// What it does by itself, with no command.
+    Sweep,
 }
 
-/// A transfer to participant 1 with the time stamp 1000.
-pub(crate) fn submit(id: &str, cents: u64) -> Result<Command, Fault> {
-    Ok(Command::Submit(Submission {
-        id: Ident::new(id)?,
-        to: 1,
-        cents: Cents::new(cents)?,
-        stamp: Moment::new(0, 1_000)?,
-    }))
+/// What it is told.
+#[derive(Clone, Copy, Debug, PartialEq)]
+pub(crate) enum Told {
+    /// What it asked for is done or taken.
+    Done,
+    /// How a transfer stands, and whether with a ticket.
+    State(State, bool),
+    /// Its position, what of it is reserved and what is available, in cents.
+    Money(u64, u64, u64),
+    /// The originators of the two transfers that came.
+    Came(u8, u8),
+    /// How many were new in a sweep.
+    New(u32),
+    Other,
 }
 
-/// An investigation of a transfer.
-pub(crate) fn investigate(id: &str) -> Result<Command, Fault> {
-    Ok(Command::Investigate {
-        id: Ident::new(id)?,
-    })
+/// A line of a script: the participant, what it does and at which reading, and what it is to be told.
+#[derive(Clone, Copy)]
+pub(crate) struct Line<'a>(
+    pub(crate) u8,
+    pub(crate) Deed<'a>,
+    pub(crate) u64,
+    pub(crate) Told,
+);
+
+/// The ask of a deed; `BadField` for a sweep, which is none.
+pub(crate) fn asked(who: u8, deed: Deed<'_>, at: u64) -> Result<Ask, Fault> {
+    let command = match deed {
+        Deed::Fund(reference, cents) => Command::Fund {
+            reference: Ident::new(reference)?,
+            cents: Cents::new(cents)?,
+        },
+        Deed::Submit(id, cents, stamp) => Command::Submit(Submission {
+            id: Ident::new(id)?,
+            to: 1,
+            cents: Cents::new(cents)?,
+            stamp: Moment::new(0, stamp)?,
+        }),
+        Deed::Confirm(id) => Command::Confirm {
+            from: 0,
+            id: Ident::new(id)?,
+        },
+        Deed::Investigate(id) => Command::Investigate {
+            id: Ident::new(id)?,
+        },
+        Deed::Fetch => Command::Fetch { max: 10 },
+        Deed::Position => Command::Position,
+        Deed::Sweep => return Err(Fault::BadField),
+    };
+    let at = Moment::new(0, at)?;
+    Ok(Ask { who, command, at })
 }
 
-/// A confirmation of a transfer of participant 0.
-pub(crate) fn confirm(id: &str) -> Result<Command, Fault> {
-    Ok(Command::Confirm {
-        from: 0,
-        id: Ident::new(id)?,
-    })
-}
-
-/// The state that the reply tells, if any.
-pub(crate) fn state_of(reply: &Reply) -> Option<State> {
+/// What the reply tells, with a ticket or without one.
+fn told_of(reply: &Reply, ticket: bool) -> Told {
     match reply {
-        Reply::State { state, .. } => Some(*state),
-        _ => None,
-    }
-}
-
-/// The position, reserved and available cents that the reply tells, if any.
-pub(crate) fn position_of(reply: &Reply) -> Option<(u64, u64, u64)> {
-    match reply {
+        Reply::Done { .. } | Reply::Taken { .. } => Told::Done,
+        Reply::State { state, .. } => Told::State(*state, ticket),
         Reply::Position {
             position,
             reserved,
             available,
-        } => Some((*position, *reserved, *available)),
-        _ => None,
+        } => Told::Money(*position, *reserved, *available),
+        Reply::Inbox { entries } => match entries.as_slice() {
+            [first, second] => Told::Came(first.from, second.from),
+            _ => Told::Other,
+        },
+        _ => Told::Other,
     }
 }
 
-/// The ask of a command at this reading; `BadField` where it doesn't fit the hub.
-pub(crate) fn fitting(hub: &Hub, who: u8, command: Command, at: u64) -> Result<Ask, Fault>
-    ensures { IfOk result (λ ask. ask_fits hub.now.settings ask ≡ true) }
+/// What the participant is told, with a ticket if there is one, where the gate is passed inside its lock; `BadField`
+/// where the deed doesn't fit the hub. No sweep passes a gate.
+pub(crate) fn answer<R: Wait, G: Gate>(
+    rt: &R,
+    hub: &Hub,
+    teller: &mut Teller,
+    who: u8,
+    deed: Deed<'_>,
+    at: u64,
+    gate: &G,
+) -> Result<(Told, Option<Ticket>), Fault>
+    requires { IsOf hub.now teller.old }
+    ensures of { IsOf hub.now teller.new }
+    ensures parts { parts_of (teller.new ∷ []) ≡ parts_of (teller.old ∷ []) }
 {
-    let ask = Ask {
-        who,
-        command,
-        at: Moment::new(0, at)?,
-    };
-    if ask.fits(hub.settings()) {
-        Ok(ask)
-    } else {
-        Err(Fault::BadField)
+    let ask = asked(who, deed, at)?;
+    if !ask.fits(hub.settings()) {
+        return Err(Fault::BadField);
     }
+    match hub.call_with(rt, teller, &ask, gate) {
+        Ok((reply, ticket)) => {
+            let told = told_of(&reply, ticket.is_some());
+            Ok((told, ticket))
+        }
+        Err(_) => Err(Fault::Memory),
+    }
+}
+
+/// How many were new in a sweep.
+pub(crate) fn swept<R: Wait>(
+    rt: &R,
+    hub: &Hub,
+    teller: &mut Teller,
+    who: u8,
+    at: u64,
+) -> Result<u32, Fault>
+    requires { IsOf hub.now teller.old }
+    ensures of { IsOf hub.now teller.new }
+    ensures parts { parts_of (teller.new ∷ []) ≡ parts_of (teller.old ∷ []) }
+{
+    if !hub.settings().has_participant(who) {
+        return Err(Fault::BadField);
+    }
+    let at = Moment::new(0, at)?;
+    match hub.sweep(rt, teller, who, at) {
+        Ok(new) => Ok(new),
+        Err(_) => Err(Fault::Memory),
+    }
+}
+
+/// Plays the lines in turn, and compares what is told: the ticket of the last, if any.
+pub(crate) fn play<R: Wait + Abort>(
+    rt: &R,
+    hub: &Hub,
+    teller: &mut Teller,
+    lines: &[Line<'_>],
+) -> Result<Option<Ticket>, Fault>
+    requires { IsOf hub.now teller.old }
+    ensures of { IsOf hub.now teller.new }
+    ensures parts { parts_of (teller.new ∷ []) ≡ parts_of (teller.old ∷ []) }
+{
+    let mut last = None;
+    for Line(who, deed, at, wanted) in lines {
+        let (found, ticket) = if let Deed::Sweep = deed {
+            (Told::New(swept(rt, hub, teller, *who, *at)?), None)
+        } else {
+            answer(rt, hub, teller, *who, *deed, *at, &Ungated)?
+        };
+        same(rt, found, *wanted);
+        last = ticket;
+    }
+    Ok(last)
+}
+
+/// The same where the teller with this index plays them; `BadField` where there is none.
+pub(crate) fn play_by<R: Wait + Abort>(
+    rt: &R,
+    hub: &Hub,
+    tellers: &mut Vec<Teller>,
+    index: usize,
+    lines: &[Line<'_>],
+) -> Result<Option<Ticket>, Fault>
+    requires of { AreOf hub.now tellers.old.items }
+    requires parts { HaveAllParts tellers.old.items }
+    ensures of { AreOf hub.now tellers.new.items }
+    ensures parts { HaveAllParts tellers.new.items }
+{
+    if index >= tellers.len() {
+        return Err(Fault::BadField);
+    }
+    play(rt, hub, &mut tellers[index], lines)
 }

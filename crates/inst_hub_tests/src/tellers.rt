@@ -1,9 +1,12 @@
-//! The last of the tellers with which a hub opens.
+//! The last of the tellers with which a hub opens, and what it plays.
 ghost use Rattle.std.specs.Prelude.{◌≡◌, ◌+◌, IfOk, length};
 ghost use Rattle.inst_hub.specs.Calls.{IsOf, AreOf};
 
+use crate::asking::{Line, play};
 use inst_base::Fault;
 use inst_hub::{Hub, Teller};
+use std::process::Abort;
+use std::sync::Wait;
 
 /// The last teller of these.
 pub(crate) fn last(hub: &Hub, tellers: &mut Vec<Teller>) -> Result<Teller, Fault>
@@ -27,4 +30,27 @@ pub(crate) fn last_two(hub: &Hub, tellers: &mut Vec<Teller>) -> Result<(Teller, 
     let second = last(hub, tellers)?;
     let first = last(hub, tellers)?;
     Ok((first, second))
+}
+
+/// The hub with the last of its tellers.
+pub(crate) fn with_teller(opened: (Hub, Vec<Teller>)) -> Result<(Hub, Teller), Fault>
+    requires { AreOf opened.0 opened.1.items }
+    ensures { IfOk result (λ r. IsOf r.0 r.1) }
+{
+    let (hub, mut tellers) = opened;
+    let teller = last(&hub, &mut tellers)?;
+    Ok((hub, teller))
+}
+
+/// Plays the lines at a hub, by the last of its tellers.
+pub(crate) fn played<R: Wait + Abort>(
+    rt: &R,
+    opened: (Hub, Vec<Teller>),
+    lines: &[Line<'_>],
+) -> Result<(), Fault>
+    requires { AreOf opened.0 opened.1.items }
+{
+    let (hub, mut teller) = with_teller(opened)?;
+    play(rt, &hub, &mut teller, lines)?;
+    Ok(())
 }

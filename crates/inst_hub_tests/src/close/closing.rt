@@ -5,9 +5,9 @@ ghost use Rattle.inst_hub.specs.Calls.{AreOf};
 ghost use Rattle.inst_hub.specs.Opening.{HaveAllParts};
 ghost use Rattle.inst_close.specs.Closing.{IsOpenedSo};
 
-use crate::close::asking::{confirm, one_confirmed, position};
-use crate::close::reading::{Sums, sums_of, told};
+use crate::asking::{Deed, Line, Told, play_by};
 use crate::comparing::same;
+use crate::tellers::played;
 use inst_base::{Code, Fault};
 use inst_close::{Books, close};
 use inst_command::{Outcome, State};
@@ -47,72 +47,101 @@ pub(crate) fn closed(alloc: Global, hub: Hub, tellers: Vec<Teller>) -> Result<Bo
     }
 }
 
-/// The books with what was told before them, or the first fault.
-fn with_books<T: Drop>(
-    told: Result<T, Fault>,
-    books: Result<Books, Fault>,
-) -> Result<(Books, T), Fault> {
-    match (told, books) {
-        (Ok(told), Ok(books)) => Ok((books, told)),
-        (Err(fault), _) => Err(fault),
-        (_, Err(fault)) => Err(fault),
-    }
+const ACCEPTED: State = State::Decided(Outcome::Accepted);
+
+/// Participant 0 submits a first transfer, and a second.
+const FIRST: [Line<'static>; 2] = [
+    Line(0, Deed::Fund("F1", 50_000), 0, Told::Done),
+    Line(0, Deed::Submit("T1", 20_000, 1_000), 1_000, Told::Done),
+];
+
+const SECOND: [Line<'static>; 1] = [Line(0, Deed::Submit("T2", 5_000, 1_000), 1_000, Told::Done)];
+
+/// The first is confirmed.
+const CONFIRMED: [Line<'static>; 1] = [Line(
+    1,
+    Deed::Confirm("T1"),
+    2_000,
+    Told::State(ACCEPTED, true),
+)];
+
+/// Participant 0 submits two transfers, and the first is confirmed through the second teller: the tickets of both.
+fn one_confirmed<R: Wait + Abort>(
+    rt: &R,
+    hub: &Hub,
+    tellers: &mut Vec<Teller>,
+) -> Result<(Ticket, Ticket), Fault>
+    requires of { AreOf hub.now tellers.old.items }
+    requires parts { HaveAllParts tellers.old.items }
+    ensures of { AreOf hub.now tellers.new.items }
+    ensures parts { HaveAllParts tellers.new.items }
+{
+    let first = play_by(rt, hub, tellers, 0, &FIRST)?;
+    let second = play_by(rt, hub, tellers, 0, &SECOND)?;
+    play_by(rt, hub, tellers, 1, &CONFIRMED)?;
+    first.zip(second).ok_or(Fault::UnknownTransfer)
 }
 
 /// The books of a hub in which one transfer was confirmed and one stayed pending, with the tickets of both.
-fn first_books<R: Wait>(rt: &R, alloc: Global) -> Result<(Books, (Ticket, Ticket)), Fault> {
+fn first_books<R: Wait + Abort>(rt: &R, alloc: Global) -> Result<(Books, (Ticket, Ticket)), Fault> {
     let (hub, mut tellers) = opened(alloc)?;
     let tickets = one_confirmed(rt, &hub, &mut tellers);
-    with_books(tickets, closed(alloc, hub, tellers))
+    let books = closed(alloc, hub, tellers)?;
+    match tickets {
+        Ok(tickets) => Ok((books, tickets)),
+        Err(fault) => Err(fault),
+    }
 }
 
-fn tells(rt: &impl Abort, books: &Books, tickets: &(Ticket, Ticket)) -> Result<(), Fault> {
-    let accepted = State::Decided(Outcome::Accepted);
-    let expected = Sums {
-        first: 30_000,
-        second: 20_000,
-        third: 0,
-        sum: 50_000,
-        net: 50_000,
-    };
-    let found = (told(books, tickets), sums_of(books)?);
-    same(rt, found, ((accepted, State::Pending), expected));
-    Ok(())
+/// The positions of three participants by number, what all sum to and the net funding, in cents.
+fn sums_of(books: &Books) -> Option<[u128; 5]> {
+    if books.settings().participants() < 3 {
+        return None;
+    }
+    Some([
+        books.journal(0).position(),
+        books.journal(1).position(),
+        books.journal(2).position(),
+        books.sum(),
+        books.net(),
+    ])
 }
 
 #[test]
 fn closes_and_tells(rt: HostRuntime) -> Result<(), Fault> {
-    let (books, tickets) = first_books(&rt, rt.alloc())?;
-    tells(&rt, &books, &tickets)
-}
-
-/// The books of the next opening, and the state that the confirmation of the pending transfer tells in it.
-fn next_books<R: Wait>(
-    rt: &R,
-    alloc: Global,
-    books: &Books,
-) -> Result<(Books, Option<State>), Fault> {
-    let (hub, mut tellers) = opened_again(alloc, books)?;
-    let state = confirm(rt, &hub, &mut tellers, 0, "T2");
-    with_books(state, closed(alloc, hub, tellers))
-}
-
-fn has_moved(rt: &impl Abort, books: &Books, state: Option<State>) -> Result<(), Fault> {
-    let accepted = Some(State::Decided(Outcome::Accepted));
-    let expected = Sums {
-        first: 25_000,
-        second: 25_000,
-        third: 0,
-        sum: 50_000,
-        net: 50_000,
-    };
-    same(rt, (state, sums_of(books)?), (accepted, expected));
+    let (books, (first, second)) = first_books(&rt, rt.alloc())?;
+    same(
+        &rt,
+        [books.told(&first), books.told(&second)],
+        [ACCEPTED, State::Pending],
+    );
+    same(
+        &rt,
+        sums_of(&books),
+        Some([30_000, 20_000, 0, 50_000, 50_000]),
+    );
     Ok(())
 }
 
+/// What was pending is confirmed.
+const CONFIRMED_LATER: [Line<'static>; 1] = [Line(
+    1,
+    Deed::Confirm("T2"),
+    2_000,
+    Told::State(ACCEPTED, true),
+)];
+
+/// Compares what its confirmation in the next opening tells, and the books of that opening.
 fn moves_on<R: Wait + Abort>(rt: &R, alloc: Global, books: &Books) -> Result<(), Fault> {
-    let (next, state) = next_books(rt, alloc, books)?;
-    has_moved(rt, &next, state)
+    let (hub, mut tellers) = opened_again(alloc, books)?;
+    let confirmed = play_by(rt, &hub, &mut tellers, 0, &CONFIRMED_LATER);
+    let next = confirmed.and(closed(alloc, hub, tellers))?;
+    same(
+        rt,
+        sums_of(&next),
+        Some([25_000, 25_000, 0, 50_000, 50_000]),
+    );
+    Ok(())
 }
 
 #[test]
@@ -121,51 +150,32 @@ fn opens_again_from_its_books(rt: HostRuntime) -> Result<(), Fault> {
     moves_on(&rt, rt.alloc(), &books)
 }
 
-/// The hub of the next opening, which `DDDDESMM` joins, with one teller.
-fn joined(alloc: Global, books: &Books) -> Result<(Hub, Vec<Teller>), Fault>
-    ensures of { IfOk result (λ r. AreOf r.0 r.1.items) }
-    ensures parts { IfOk result (λ r. HaveAllParts r.1.items) }
+/// The hub of the next opening, which one with this code joins, with one teller.
+fn joined(alloc: Global, books: &Books, code: &str) -> Result<(Hub, Vec<Teller>), Fault>
+    ensures { IfOk result (λ r. AreOf r.0 r.1.items) }
 {
-    let codes = vec![in alloc; Code::new("DDDDESMM")?]?;
+    let codes = vec![in alloc; Code::new(code)?]?;
     books.open_wider(alloc, codes, 1)
 }
 
-/// Compares the money of the first participant and of the one that joined: position, reserved and available.
-fn have_money<R: Wait + Abort>(rt: &R, hub: &Hub, tellers: &mut Vec<Teller>) -> Result<(), Fault>
-    requires of { AreOf hub.now tellers.old.items }
-    requires parts { HaveAllParts tellers.old.items }
-{
-    let first = position(rt, hub, tellers, 0)?;
-    let found = (first, position(rt, hub, tellers, 3)?);
-    let expected = (Some((30_000, 5_000, 25_000)), Some((0, 0, 0)));
-    same(rt, found, expected);
-    Ok(())
-}
-
-fn joins<R: Wait + Abort>(rt: &R, alloc: Global, books: &Books) -> Result<(), Fault> {
-    let (hub, mut tellers) = joined(alloc, books)?;
-    have_money(rt, &hub, &mut tellers)
-}
+/// The money of the first participant and of the one that joined.
+const MONEY: [Line<'static>; 2] = [
+    Line(0, Deed::Position, 1_002, Told::Money(30_000, 5_000, 25_000)),
+    Line(3, Deed::Position, 1_002, Told::Money(0, 0, 0)),
+];
 
 #[test]
 fn one_joins_between_openings(rt: HostRuntime) -> Result<(), Fault> {
     let (books, _) = first_books(&rt, rt.alloc())?;
-    joins(&rt, rt.alloc(), &books)
+    played(&rt, joined(rt.alloc(), &books, "DDDDESMM")?, &MONEY)
 }
 
-/// The fault where `AAAADEFF` joins once more.
-fn joined_twice(alloc: Global, books: &Books) -> Result<(), Fault> {
-    let codes = vec![in alloc; Code::new("AAAADEFF")?]?;
-    books.open_wider(alloc, codes, 1)?;
-    Ok(())
-}
-
-/// Neither that code nor seventeen tellers are taken.
+/// Neither a code of the opening nor seventeen tellers are taken.
 fn refuses(rt: &impl Abort, alloc: Global, books: &Books) {
-    let joined = joined_twice(alloc, books);
+    let joined = joined(alloc, books, "AAAADEFF").err();
     let opened = books.open_next(alloc, 17).err();
-    let refused = Fault::BadSettings;
-    same(rt, (joined, opened), (Err(refused), Some(refused)));
+    let refused = Some(Fault::BadSettings);
+    same(rt, [joined, opened], [refused, refused]);
 }
 
 #[test]

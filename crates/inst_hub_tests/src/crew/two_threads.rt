@@ -2,12 +2,16 @@
 ghost use Rattle.std.specs.Prelude.{◌≡◌, length};
 ghost use Rattle.inst_hub.specs.Calls.{AreOf};
 
-use crate::crew::setting::{ask, desk, settings};
+use crate::asking::{Deed, asked};
+use crate::comparing::same;
+use crate::crew::setting::desk;
 use inst_base::Fault;
-use inst_command::{Ask, Command};
+use inst_command::Ask;
 use inst_crew::run_crew;
 use inst_hub::{Gate, Hub, Teller};
+use inst_rows::settings;
 use std::alloc::Global;
+use std::process::Abort;
 use std::sync::Wait;
 use std::sync::atomic::{AtomicU32, Ordering};
 use std::thread::{Threads, yield_now};
@@ -55,35 +59,29 @@ impl Gate for Waits {
     }
 }
 
-/// How many of these jobs a crew of two answers, and whether its threads met.
-fn met<R: Threads + Wait + Sync>(
+/// Compares how many of these jobs a crew of two answers, and whether its threads met.
+fn met<R: Threads + Wait + Sync + Abort>(
     rt: &R,
     alloc: Global,
     hub: &Hub,
     tellers: Vec<Teller>,
     asks: &[Ask],
-) -> Result<(u64, bool), Fault>
+) -> Result<(), Fault>
     requires two { length tellers.items ≡ 2 }
     requires of { AreOf hub.now tellers.items }
 {
     let (desk, hands) = desk(rt, alloc, asks, 2)?;
     let gate = Waits::new();
     let crew = run_crew(rt, alloc, hub, &desk, hands, tellers, &gate, None)?;
-    Ok((crew.answered, gate.met.load(Ordering::SeqCst) == 1))
+    same(rt, (crew.answered, gate.met.load(Ordering::SeqCst)), (2, 1));
+    Ok(())
 }
 
-/// The same of two questions for positions, at a hub of its own.
-fn meet<R: Threads + Wait + Sync>(rt: &R, alloc: Global) -> Result<(u64, bool), Fault> {
-    let asks = [
-        ask(0, Command::Position, 1_000)?,
-        ask(2, Command::Position, 1_000)?,
-    ];
-    let (hub, tellers) = Hub::open(alloc, settings(alloc)?, 2)?;
-    met(rt, alloc, &hub, tellers, &asks)
-}
-
+// Two questions for positions, at a hub of its own.
 #[test]
 fn crew_of_two_threads(rt: HostRuntime) -> Result<(), Fault> {
-    assert_eq!(rt; meet(&rt, rt.alloc())?, (2, true));
-    Ok(())
+    let first = asked(0, Deed::Position, 1_000)?;
+    let second = asked(2, Deed::Position, 1_000)?;
+    let (hub, tellers) = Hub::open(rt.alloc(), settings(rt.alloc())?, 2)?;
+    met(&rt, rt.alloc(), &hub, tellers, &[first, second])
 }

@@ -1,14 +1,14 @@
 //! A call that has one participant's lock holds up other calls of that participant, and nobody else.
 ghost use Rattle.inst_hub.specs.Calls.{IsOf, AreOf};
 
-use crate::asking::fitting;
+use crate::asking::{Deed, answer};
 use crate::comparing::same;
-use crate::hub::asking::{submitted, told};
+use crate::hub::setting::submitted;
 use crate::hub::start::Start;
-use crate::tellers::{last, last_two};
+use crate::tellers::last_two;
 use inst_base::{Fault, mention};
-use inst_command::{Command, Outcome, State};
-use inst_hub::{Gate, Hub, Teller, Ticket};
+use inst_command::{Outcome, State};
+use inst_hub::{Gate, Hub, Teller, Ticket, Ungated};
 use inst_rows::settings;
 use std::process::Abort;
 use std::sync::Wait;
@@ -67,7 +67,7 @@ impl Waits {
 }
 
 /// What the gate saw.
-#[derive(Clone, Copy, Debug, PartialEq, Eq)]
+#[derive(Clone, Copy, Debug, PartialEq)]
 struct Passed {
     passes: u32,
     who: u32,
@@ -93,28 +93,24 @@ impl Gate for Waits {
 fn held<R: Wait>(rt: &R, hub: &Hub, teller: &mut Teller, gate: &Waits) -> Result<(), Fault>
     requires { IsOf hub.now teller.old }
 {
-    let ask = fitting(hub, 0, Command::Position, 1_000)?;
-    hub.call_with(rt, teller, &ask, gate)?;
+    answer(rt, hub, teller, 0, Deed::Position, 1_000, gate)?;
     Ok(())
 }
 
-/// Asks the same position meanwhile.
-fn queued<R: Wait>(rt: &R, hub: &Hub, teller: &mut Teller, gate: &Waits) -> Result<(), Fault>
+/// Asks the position of a participant meanwhile, and says then that it was answered.
+fn answered<R: Wait>(
+    rt: &R,
+    hub: &Hub,
+    teller: &mut Teller,
+    who: u8,
+    gate: &Waits,
+    done: &Start,
+) -> Result<(), Fault>
     requires { IsOf hub.now teller.old }
 {
     gate.begin();
-    told(rt, hub, teller, 0, Command::Position, 1_000)?;
-    gate.queued.arrive();
-    Ok(())
-}
-
-/// Asks the position of participant 2 meanwhile.
-fn answered<R: Wait>(rt: &R, hub: &Hub, teller: &mut Teller, gate: &Waits) -> Result<(), Fault>
-    requires { IsOf hub.now teller.old }
-{
-    gate.begin();
-    told(rt, hub, teller, 2, Command::Position, 1_000)?;
-    gate.done.arrive();
+    answer(rt, hub, teller, who, Deed::Position, 1_000, &Ungated)?;
+    done.arrive();
     Ok(())
 }
 
@@ -130,80 +126,44 @@ fn peeked(teller: &mut Teller, ticket: &Ticket, gate: &Waits) -> State {
 fn apart<R: Threads + Wait + Sync>(
     rt: &R,
     hub: &Hub,
-    mut asker: Teller,
-    mut peeker: Teller,
+    asker: &mut Teller,
+    peeker: &mut Teller,
     ticket: &Ticket,
     gate: &Waits,
-) -> (Result<(), Fault>, State)
-    requires { IsOf hub.now asker }
+) -> Result<State, Fault>
+    requires { IsOf hub.now asker.old }
 {
-    join(
+    let (answered, state) = join(
         rt,
-        || answered(rt, hub, &mut asker, gate),
-        || peeked(&mut peeker, ticket, gate),
-    )
+        || answered(rt, hub, asker, 2, gate, &gate.done),
+        || peeked(peeker, ticket, gate),
+    );
+    answered.map(|_| state)
 }
 
 /// What is seen of the transfer while participant 0 is asked by one thread, and participant 2 by another.
 fn meanwhile<R: Threads + Wait + Sync>(
     rt: &R,
     hub: &Hub,
-    tellers: (Teller, Teller, Teller),
+    first: &mut Teller,
+    second: &mut Teller,
+    third: &mut Teller,
     ticket: &Ticket,
     gate: &Waits,
 ) -> Result<State, Fault>
-    requires { IsOf hub.now tellers.0 × IsOf hub.now tellers.1 }
+    requires { IsOf hub.now first.old × IsOf hub.now second.old }
 {
-    let (mut first, second, third) = tellers;
-    let (queued, (answered, state)) = join(
+    let (queued, state) = join(
         rt,
-        || queued(rt, hub, &mut first, gate),
-        move || -> (Result<(), Fault>, State)
-            requires { IsOf hub.now second }
+        || answered(rt, hub, first, 0, gate, &gate.queued),
+        || -> Result<State, Fault>
+            requires { IsOf hub.now second.now }
         { apart(rt, hub, second, third, ticket, gate) },
     );
-    queued.and(answered)?;
-    Ok(state)
+    queued.and(state)
 }
 
-/// What is seen while one teller holds the lock of participant 0, and what its gate saw.
-fn through<R: Threads + Wait + Sync>(
-    rt: &R,
-    hub: &Hub,
-    mut holder: Teller,
-    others: (Teller, Teller, Teller),
-    ticket: &Ticket,
-) -> Result<(State, Passed), Fault>
-    requires { IsOf hub.now holder × IsOf hub.now others.0 × IsOf hub.now others.1 }
-{
-    let gate = Waits::new();
-    let seen = &gate;
-    let (held, state) = join(
-        rt,
-        || held(rt, hub, &mut holder, seen),
-        move || -> Result<State, Fault>
-            requires { IsOf hub.now others.0 × IsOf hub.now others.1 }
-        { meanwhile(rt, hub, others, ticket, seen) },
-    );
-    let state = held.and(state)?;
-    Ok((state, gate.seen()))
-}
-
-/// What is seen by four tellers, of which the last has submitted a transfer.
-fn seen<R: Threads + Wait + Sync>(
-    rt: &R,
-    hub: &Hub,
-    tellers: &mut Vec<Teller>,
-) -> Result<(State, Passed), Fault>
-    requires { AreOf hub.now tellers.old.items }
-{
-    let mut fourth = last(hub, tellers)?;
-    let ticket = submitted(rt, hub, &mut fourth)?;
-    let third = last(hub, tellers)?;
-    let (first, second) = last_two(hub, tellers)?;
-    through(rt, hub, first, (second, third, fourth), &ticket)
-}
-
+/// Compares what is seen of a transfer while one of four tellers holds the lock of participant 0, and what its gate saw.
 fn lets_through<R: Threads + Wait + Sync + Abort>(
     rt: &R,
     hub: &Hub,
@@ -212,13 +172,38 @@ fn lets_through<R: Threads + Wait + Sync + Abort>(
     requires { AreOf hub.now tellers.old.items }
 {
     mention::<Outcome>();
+    let (mut third, mut fourth) = last_two(hub, tellers)?;
+    let ticket = submitted(rt, hub, &mut fourth)?;
+    let (mut first, mut second) = last_two(hub, tellers)?;
+    let gate = Waits::new();
+    let (held, state) = join(
+        rt,
+        || held(rt, hub, &mut first, &gate),
+        || -> Result<State, Fault>
+            requires { IsOf hub.now second × IsOf hub.now third }
+        {
+            meanwhile(
+                rt,
+                hub,
+                &mut second,
+                &mut third,
+                &mut fourth,
+                &ticket,
+                &gate,
+            )
+        },
+    );
     let expected = Passed {
         passes: 1,
         who: 0,
         through: true,
         overtaken: false,
     };
-    same(rt, seen(rt, hub, tellers)?, (State::Pending, expected));
+    same(
+        rt,
+        (held.and(state), gate.seen()),
+        (Ok(State::Pending), expected),
+    );
     Ok(())
 }
 

@@ -1,14 +1,13 @@
 //! One thread confirms transfers at the last moment in time while another investigates them at the deadline.
 ghost use Rattle.inst_hub.specs.Calls.{IsOf, AreOf};
 
-use crate::asking::{fund, submit};
+use crate::asking::{Deed, Line, Told, answer, play};
 use crate::comparing::same;
-use crate::hub::asking::{money, told};
 use crate::hub::start::Start;
 use crate::tellers::{last, last_two};
 use inst_base::{Fault, Ident};
-use inst_command::{Command, Outcome, State};
-use inst_hub::{Hub, Teller};
+use inst_command::{Outcome, State};
+use inst_hub::{Hub, Teller, Ungated};
 use inst_rows::settings_with;
 use std::alloc::Global;
 use std::process::Abort;
@@ -32,50 +31,24 @@ fn submit_all<R: Wait>(rt: &R, alloc: Global, hub: &Hub, teller: &mut Teller) ->
     requires { IsOf hub.now teller.old }
     ensures { IsOf hub.now teller.new }
 {
-    told(rt, hub, teller, 0, fund("F1", FUNDS)?, 0)?;
+    answer(rt, hub, teller, 0, Deed::Fund("F1", FUNDS), 0, &Ungated)?;
     for index in 0..TRANSFERS {
         let id = name(alloc, index)?;
-        told(rt, hub, teller, 0, submit(id.text(), 200)?, 1_000)?;
+        let deed = Deed::Submit(id.text(), 200, 1_000);
+        answer(rt, hub, teller, 0, deed, 1_000, &Ungated)?;
     }
     Ok(())
 }
 
 /// How many of its commands were answered accepted, and how many timed out.
-#[derive(Clone, Copy, Debug, PartialEq, Eq)]
+#[derive(Clone, Copy, Debug, PartialEq)]
 struct Count {
     accepted: u16,
     timed_out: u16,
 }
 
-impl Count {
-    /// With one more transfer, of which the reply tells this.
-    fn with(self, state: Option<State>) -> Result<Count, Fault> {
-        let mut count = self;
-        match state {
-            Some(State::Decided(Outcome::Accepted)) => {
-                count.accepted = count.accepted.saturating_add(1);
-            }
-            Some(State::Decided(Outcome::TimedOut)) => {
-                count.timed_out = count.timed_out.saturating_add(1);
-            }
-            _ => return Err(Fault::UnknownTransfer),
-        }
-        Ok(count)
-    }
-}
-
-/// What the participant asks of the transfer with this index: the originator how it stands, the beneficiary to
-/// confirm it.
-fn question(alloc: Global, who: u8, index: u16) -> Result<Command, Fault> {
-    let id = name(alloc, index)?;
-    Ok(match who {
-        0 => Command::Investigate { id },
-        _ => Command::Confirm { from: 0, id },
-    })
-}
-
-/// What becomes of each transfer, where the participant `who` asks so of each at this reading, once both sides have
-/// started.
+/// What becomes of each transfer, once both sides have started: the originator asks at this reading how it stands, and
+/// the beneficiary confirms it.
 fn decide_all<R: Wait>(
     rt: &R,
     alloc: Global,
@@ -96,94 +69,63 @@ fn decide_all<R: Wait>(
         timed_out: 0,
     };
     for index in 0..TRANSFERS {
-        let command = question(alloc, who, index)?;
-        count = count.with(told(rt, hub, teller, who, command, at)?)?;
+        let id = name(alloc, index)?;
+        let deed = match who {
+            0 => Deed::Investigate(id.text()),
+            _ => Deed::Confirm(id.text()),
+        };
+        let (found, _) = answer(rt, hub, teller, who, deed, at, &Ungated)?;
+        let Told::State(State::Decided(outcome), _) = found else {
+            return Err(Fault::UnknownTransfer);
+        };
+        match outcome {
+            Outcome::Accepted => count.accepted = count.accepted.saturating_add(1),
+            Outcome::TimedOut => count.timed_out = count.timed_out.saturating_add(1),
+            Outcome::Rejected(_) => return Err(Fault::UnknownTransfer),
+        }
     }
     Ok(count)
 }
 
-/// What both sides were answered, or the first fault.
-fn both(
-    investigated: Result<Count, Fault>,
-    confirmed: Result<Count, Fault>,
-) -> Result<(Count, Count), Fault> {
-    Ok((investigated?, confirmed?))
-}
-
-/// What both sides were answered in two threads.
-fn race<R: Threads + Wait + Sync>(
+/// Compares what both sides are answered in two threads: how many transfers are accepted and how many time out.
+fn race<R: Threads + Wait + Sync + Abort>(
     rt: &R,
     alloc: Global,
     hub: &Hub,
-    tellers: (Teller, Teller),
-) -> Result<(Count, Count), Fault>
-    requires { IsOf hub.now tellers.0 × IsOf hub.now tellers.1 }
+    first: &mut Teller,
+    second: &mut Teller,
+) -> Result<Count, Fault>
+    requires { IsOf hub.now first.old × IsOf hub.now second.old }
 {
-    let (mut first, mut second) = tellers;
     let start = Start::new();
     let (investigated, confirmed) = join(
         rt,
-        || decide_all(rt, alloc, hub, &mut first, 0, 11_000, &start),
-        || decide_all(rt, alloc, hub, &mut second, 1, 10_999, &start),
+        || decide_all(rt, alloc, hub, first, 0, 11_000, &start),
+        || decide_all(rt, alloc, hub, second, 1, 10_999, &start),
     );
-    both(investigated, confirmed)
+    same(rt, investigated, confirmed);
+    confirmed
 }
 
-/// What both sides were answered, and what the originator and the beneficiary then have.
-#[derive(Clone, Copy, Debug, PartialEq, Eq)]
-struct Ended {
-    investigated: Count,
-    confirmed: Count,
-    left: Option<(u64, u64, u64)>,
-    paid: Option<(u64, u64, u64)>,
-}
-
-/// What comes of a race in which transfers ended so.
-fn expected(count: Count) -> Ended {
-    let paid = u64::from(count.accepted) * 200;
-    let left = FUNDS.saturating_sub(paid);
-    Ended {
-        investigated: count,
-        confirmed: count,
-        left: Some((left, 0, left)),
-        paid: Some((paid, 0, paid)),
-    }
-}
-
-/// What the originator and the beneficiary have, where both sides were answered so.
-fn after_race<R: Wait>(
+/// Compares what the originator and the beneficiary then have, where so many transfers were accepted.
+fn have_money<R: Wait + Abort>(
     rt: &R,
     hub: &Hub,
     teller: &mut Teller,
-    counts: (Count, Count),
-) -> Result<Ended, Fault>
+    accepted: u16,
+) -> Result<(), Fault>
     requires { IsOf hub.now teller.old }
 {
-    let (investigated, confirmed) = counts;
-    Ok(Ended {
-        investigated,
-        confirmed,
-        left: money(rt, hub, teller, 0, 11_000)?,
-        paid: money(rt, hub, teller, 1, 11_000)?,
-    })
+    let paid = u64::from(accepted) * 200;
+    let left = FUNDS.saturating_sub(paid);
+    let lines = [
+        Line(0, Deed::Position, 11_000, Told::Money(left, 0, left)),
+        Line(1, Deed::Position, 11_000, Told::Money(paid, 0, paid)),
+    ];
+    play(rt, hub, teller, &lines).map(|_| ())
 }
 
-/// All transfers are submitted, and raced for by the first two of three tellers.
-fn raced<R: Threads + Wait + Sync>(
-    rt: &R,
-    alloc: Global,
-    hub: &Hub,
-    tellers: &mut Vec<Teller>,
-) -> Result<Ended, Fault>
-    requires { AreOf hub.now tellers.old.items }
-{
-    let mut third = last(hub, tellers)?;
-    submit_all(rt, alloc, hub, &mut third)?;
-    let counts = race(rt, alloc, hub, last_two(hub, tellers)?)?;
-    after_race(rt, hub, &mut third, counts)
-}
-
-/// Compares what it comes to.
+/// All transfers are submitted, and raced for by the first two of three tellers: compares what it comes to.
 fn agree<R: Threads + Wait + Sync + Abort>(
     rt: &R,
     alloc: Global,
@@ -192,18 +134,19 @@ fn agree<R: Threads + Wait + Sync + Abort>(
 ) -> Result<(), Fault>
     requires { AreOf hub.now tellers.old.items }
 {
-    let ended = raced(rt, alloc, hub, tellers)?;
-    let count = ended.confirmed;
-    same(rt, ended, expected(count));
+    let mut third = last(hub, tellers)?;
+    submit_all(rt, alloc, hub, &mut third)?;
+    let (mut first, mut second) = last_two(hub, tellers)?;
+    let count = race(rt, alloc, hub, &mut first, &mut second)?;
     let all = u32::from(count.accepted) + u32::from(count.timed_out);
     same(rt, all, u32::from(TRANSFERS));
-    Ok(())
+    have_money(rt, hub, &mut third, count.accepted)
 }
 
 // Both sides are told the same of each transfer, so they count the same, and the money is where it was decided to be.
 #[test]
 fn two_threads_agree(rt: HostRuntime) -> Result<(), Fault> {
-    let settings = settings_with(rt.alloc(), TRANSFERS, 0)?;
-    let (hub, mut tellers) = Hub::open(rt.alloc(), settings, 3)?;
-    agree(&rt, rt.alloc(), &hub, &mut tellers)
+    let alloc = rt.alloc();
+    let (hub, mut tellers) = Hub::open(alloc, settings_with(alloc, TRANSFERS, 0)?, 3)?;
+    agree(&rt, alloc, &hub, &mut tellers)
 }

@@ -1,14 +1,12 @@
 //! A hub that opens again from the journals of a hub in one thread, which was closed with a transfer pending.
 ghost use Rattle.std.specs.Prelude.{◌≡◌, IfOk};
 ghost use Rattle.inst_model.specs.Rows as rows;
-ghost use Rattle.inst_hub.specs.Calls.{IsOf};
 
-use crate::asking::{confirm, investigate, state_of};
-use crate::comparing::same;
-use crate::hub::asking::{ask, money, told, with_teller};
+use crate::asking::{Deed, Line, Told};
+use crate::tellers::played;
 use inst_base::Fault;
 use inst_command::{Outcome, State, Step};
-use inst_hub::{Hub, Teller};
+use inst_hub::Hub;
 use inst_rows::{A, B, books, settings};
 use std::alloc::Global;
 use std::process::Abort;
@@ -44,56 +42,38 @@ fn one_settled() -> Result<[Step; 7], Fault>
     ])
 }
 
-/// Compares the originator's position, reserved and available cents, the state that the confirmation tells, and that
-/// position afterwards.
-fn goes_on<R: Wait + Abort>(rt: &R, hub: &Hub, teller: &mut Teller) -> Result<(), Fault>
-    requires { IsOf hub.now teller.old }
-{
-    let before = money(rt, hub, teller, 0, 2_000)?;
-    let state = told(rt, hub, teller, 1, confirm("T2")?, 2_000)?;
-    let after = money(rt, hub, teller, 0, 2_000)?;
-    let expected = (
-        Some((49_900, 100, 49_800)),
-        Some(State::Decided(Outcome::Accepted)),
-        Some((49_800, 0, 49_800)),
-    );
-    same(rt, (before, state, after), expected);
-    Ok(())
-}
+const ACCEPTED: State = State::Decided(Outcome::Accepted);
 
-/// The hub that opens from the books of the other one, with its teller.
-fn opened_again(alloc: Global) -> Result<(Hub, Teller), Fault>
-    ensures { IfOk result (λ r. IsOf r.0 r.1) }
-{
+/// Plays the lines in the hub that opens from the books of the other one.
+fn plays<R: Wait + Abort>(rt: &R, alloc: Global, lines: &[Line<'_>]) -> Result<(), Fault> {
     let steps = one_settled()?;
     let settings = settings(alloc)?;
     let books = books(alloc, &settings, &steps)?;
-    with_teller(Hub::open_from(alloc, settings, &books, 1)?)
+    played(rt, Hub::open_from(alloc, settings, &books, 1)?, lines)
 }
+
+/// The originator's money, the confirmation of what was pending, and the money afterwards.
+const GOES_ON: [Line<'static>; 3] = [
+    Line(0, Deed::Position, 2_000, Told::Money(49_900, 100, 49_800)),
+    Line(1, Deed::Confirm("T2"), 2_000, Told::State(ACCEPTED, true)),
+    Line(0, Deed::Position, 2_000, Told::Money(49_800, 0, 49_800)),
+];
 
 #[test]
 fn what_was_pending_goes_on(rt: HostRuntime) -> Result<(), Fault> {
-    let (hub, mut teller) = opened_again(rt.alloc())?;
-    goes_on(&rt, &hub, &mut teller)
+    plays(&rt, rt.alloc(), &GOES_ON)
 }
 
-/// Compares the state that an investigation of the settled transfer tells, and whether there is a ticket.
-fn has_no_ticket<R: Wait + Abort>(rt: &R, hub: &Hub, teller: &mut Teller) -> Result<(), Fault>
-    requires { IsOf hub.now teller.old }
-{
-    let (reply, ticket) = ask(rt, hub, teller, 0, investigate("T1")?, 3_000)?;
-    let accepted = State::Decided(Outcome::Accepted);
-    same(
-        rt,
-        (state_of(&reply), ticket.is_some()),
-        (Some(accepted), false),
-    );
-    Ok(())
-}
+/// An investigation of the settled transfer, which tells no ticket.
+const SETTLED: [Line<'static>; 1] = [Line(
+    0,
+    Deed::Investigate("T1"),
+    3_000,
+    Told::State(ACCEPTED, false),
+)];
 
 // It has no place any more.
 #[test]
 fn what_was_settled_has_no_ticket(rt: HostRuntime) -> Result<(), Fault> {
-    let (hub, mut teller) = opened_again(rt.alloc())?;
-    has_no_ticket(&rt, &hub, &mut teller)
+    plays(&rt, rt.alloc(), &SETTLED)
 }

@@ -1,9 +1,10 @@
 //! One teller submits a transfer, and another confirms it.
+ghost use Rattle.std.specs.Prelude.{IfOk};
 ghost use Rattle.inst_hub.specs.Calls.{IsOf, AreOf};
 
-use crate::asking::confirm;
+use crate::asking::{Deed, Line, Told, play};
 use crate::comparing::same;
-use crate::hub::asking::{money, submitted, told};
+use crate::hub::setting::submitted;
 use crate::tellers::last_two;
 use inst_base::Fault;
 use inst_command::{Outcome, State};
@@ -12,53 +13,45 @@ use inst_rows::settings;
 use std::process::Abort;
 use std::sync::Wait;
 
-/// What the tellers are told and see, in order.
-#[derive(Clone, Copy, Debug, PartialEq)]
-struct Sights {
-    submitted: State,
-    confirmed: Option<State>,
-    second: State,
-    first_before_meeting: State,
-    first: State,
-    position: Option<(u64, u64, u64)>,
-}
+/// What participant 1 is told by the confirmation.
+const CONFIRMED: [Line<'static>; 1] = [Line(
+    1,
+    Deed::Confirm("T1"),
+    2_000,
+    Told::State(State::Decided(Outcome::Accepted), true),
+)];
 
-fn see<R: Wait>(rt: &R, hub: &Hub, first: &mut Teller, second: &mut Teller) -> Result<Sights, Fault>
+const PAID: [Line<'static>; 1] = [Line(0, Deed::Position, 2_000, Told::Money(30_000, 0, 30_000))];
+
+/// What both see: the first when it has submitted, the second when it has confirmed, and the first before and after it
+/// meets the second.
+fn see<R: Wait + Abort>(
+    rt: &R,
+    hub: &Hub,
+    first: &mut Teller,
+    second: &mut Teller,
+) -> Result<[State; 4], Fault>
     requires { IsOf hub.now first.old × IsOf hub.now second.old }
+    ensures { IfOk result (λ r. IsOf hub.now second.new) }
 {
     let ticket = submitted(rt, hub, first)?;
     let submitted = first.peek(&ticket);
-    let confirmed = told(rt, hub, second, 1, confirm("T1")?, 2_000)?;
+    play(rt, hub, second, &CONFIRMED)?;
     let seen_second = second.peek(&ticket);
-    let first_before_meeting = first.peek(&ticket);
+    let before_meeting = first.peek(&ticket);
     hub.meet(first, second);
-    let seen_first = first.peek(&ticket);
-    let position = money(rt, hub, second, 0, 2_000)?;
-    Ok(Sights {
-        submitted,
-        confirmed,
-        second: seen_second,
-        first_before_meeting,
-        first: seen_first,
-        position,
-    })
+    Ok([submitted, seen_second, before_meeting, first.peek(&ticket)])
 }
 
-/// Compares what both see.
+/// Compares what both see, and what participant 0 is told of its money then.
 fn both_see<R: Wait + Abort>(rt: &R, hub: &Hub, tellers: &mut Vec<Teller>) -> Result<(), Fault>
     requires { AreOf hub.now tellers.old.items }
 {
     let (mut first, mut second) = last_two(hub, tellers)?;
     let accepted = State::Decided(Outcome::Accepted);
-    let expected = Sights {
-        submitted: State::Pending,
-        confirmed: Some(accepted),
-        second: accepted,
-        first_before_meeting: accepted,
-        first: accepted,
-        position: Some((30_000, 0, 30_000)),
-    };
+    let expected = [State::Pending, accepted, accepted, accepted];
     same(rt, see(rt, hub, &mut first, &mut second)?, expected);
+    play(rt, hub, &mut second, &PAID)?;
     Ok(())
 }
 

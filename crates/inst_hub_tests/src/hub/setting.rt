@@ -1,0 +1,26 @@
+//! A transfer that is submitted.
+ghost use Rattle.inst_hub.specs.Calls.{IsOf};
+
+use crate::asking::{Deed, Line, Told, play};
+use inst_base::Fault;
+use inst_hub::{Hub, Teller, Ticket};
+use std::process::Abort;
+use std::sync::Wait;
+
+const SUBMITTED: [Line<'static>; 2] = [
+    Line(0, Deed::Fund("F1", 50_000), 0, Told::Done),
+    Line(0, Deed::Submit("T1", 20_000, 1_000), 1_000, Told::Done),
+];
+
+/// The teller funds participant 0, and submits a transfer of it.
+pub(crate) fn submitted<R: Wait + Abort>(
+    rt: &R,
+    hub: &Hub,
+    teller: &mut Teller,
+) -> Result<Ticket, Fault>
+    requires { IsOf hub.now teller.old }
+    ensures { IsOf hub.now teller.new }
+{
+    let ticket = play(rt, hub, teller, &SUBMITTED)?;
+    ticket.ok_or(Fault::UnknownTransfer)
+}
