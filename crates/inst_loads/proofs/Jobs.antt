@@ -1,13 +1,14 @@
 -- The jobs of a load, made one by one, gone over one by one, and done.
-use Rattle.std.proofs.Common.{◌≡◌, ◌<◌, arith, get_or, zero, suc, ℕ, List, [], ◌∷◌, ◌++◌, length, append_assoc, Some, ap, ◌∙◌, sym, subst, ⊎_elim, refl}
+use Rattle.std.proofs.Common.{◌≡◌, ◌<◌, arith, get_or, zero, suc, ℕ, List, [], ◌∷◌, ◌++◌, length, append_assoc, Some, ap, ◌∙◌, sym, subst, ⊎_elim, inl, inr, set, refl}
 use Rattle.std.specs.Prelude.{slice_get, Result, Ok}
-use Rattle.inst_base.proofs.Lists.{snoc_cases}
+use Rattle.std.proofs.lemmas.Option.{slice_get-get_or}
+use Rattle.inst_base.proofs.Lists.{snoc_cases, set_cases}
 use Rattle.inst_hub.specs.declared.hub.Hub.{Hub}
 use Rattle.inst_hub.specs.declared.teller.Teller.{Teller}
 use Rattle.inst_hub.specs.Calls.{IsOf, AreOf}
 use Rattle.inst_loads.specs.declared.hub.job.Job.{Job}
 use Rattle.inst_loads.specs.declared.stress.running.Done.{Done}
-use Rattle.inst_loads.specs.declared.hub.flaw.Failure.{Failure}
+use Rattle.inst_loads.specs.declared.flaw.Failure.{Failure}
 use Rattle.inst_loads.specs.Jobs.{AreJobsOf}
 use Rattle.inst_loads.specs.Done.{AreDoneOf}
 
@@ -42,3 +43,13 @@ pub job_at : (jobs : List Job) (i : ℕ) (x : Job) → i < length jobs → get_o
 job_at [] i x below is = absurd (omega arith)
 job_at (job ∷ jobs) zero x below is = ap (λ (j : Job). Some j) is
 job_at (job ∷ jobs) (suc i) x below is = job_at jobs i x (omega arith) is
+
+pub set_job : (h : Hub) (jobs : List Job) (k : ℕ) (job : Job) → AreJobsOf h jobs → k < length jobs → IsOf h job.teller → AreJobsOf h (set jobs k job)
+set_job h jobs k job are below one i other at = elim (set_cases jobs k i job other below at) [
+  | inl here ↦ subst (λ (j : Job). IsOf h j.teller) (sym here.1) one
+  | inr old ↦ are i other old.1
+]
+
+pub one_sees : (jobs : List Job) (k : ℕ) (d : Job) (t : Teller) → k < length jobs → ((h : Hub) → IsOf h (get_or jobs k d).teller → IsOf h t) → (h : Hub) → AreJobsOf h jobs → AreJobsOf h (set jobs k record { teller = t; thread = (get_or jobs k d).thread })
+one_sees jobs k d t below sees h are =
+    set_job h jobs k record { teller = t; thread = (get_or jobs k d).thread } are below (sees h (are k (get_or jobs k d) (slice_get-get_or jobs k d below)))

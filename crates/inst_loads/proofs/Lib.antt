@@ -1,2 +1,3 @@
 pub mod Jobs
 mod Starting
+mod Tellers

@@ -1,6 +1,4 @@
-//! A hub of many threads, as loads and stresses have it: how it opens, what the threads start with, what it is asked,
-//! and what may be wrong with it.
+//! A hub of many threads, as loads and stresses have it: how it opens, what the threads start with, what it is asked.
 pub(crate) mod asking;
-pub(crate) mod flaw;
 pub(crate) mod job;
 pub(crate) mod opening;

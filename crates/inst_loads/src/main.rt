@@ -3,21 +3,22 @@
 //! with status 0; with 1 where something isn't as it must be, and with 2 where the words are others.
 #![tactic(auto)]
 
+mod flaw;
 mod hoard;
 mod hub;
 mod load;
 mod race;
 mod scarce;
 mod stress;
+mod told;
 mod words;
 
-use hub::flaw::Failure;
+use flaw::{Failure, Flaw};
 use load::rounds::rounds;
 use race::rounds::{Ended, races};
 use race::rows::failed;
-use scarce::flaw::Flaw;
 use scarce::run_apart;
-use scarce::tries::Tries;
+use scarce::want::Tries;
 use std::alloc::Global;
 use std::env;
 use std::io::Write;
@@ -108,17 +109,17 @@ fn tell_rows(rt: &HostRuntime, failed: Option<&str>) -> ExitCode {
 }
 
 /// Tells how many calls were answered and how often one was refused memory, and what failed, if anything did.
-fn tell_scarce(rt: &HostRuntime, ended: &(Result<(), Flaw>, Tries)) -> ExitCode {
-    let (ended, tries) = ended;
+fn tell_scarce(rt: &HostRuntime, ended: &(Option<Flaw>, Tries)) -> ExitCode {
+    let (flaw, tries) = ended;
     let _ = writeln!(
         rt.stderr(),
         "answered {}, refused {} times",
         tries.answered,
         tries.refused
     );
-    match ended {
-        Ok(()) => ExitCode::from(0),
-        Err(flaw) => {
+    match flaw {
+        None => ExitCode::from(0),
+        Some(flaw) => {
             let _ = writeln!(rt.stderr(), "{flaw}");
             ExitCode::from(1)
         }

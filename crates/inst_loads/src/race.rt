@@ -1,6 +1,5 @@
 //! Two participants race for the outcomes of the same transfers, each in a thread of its own.
 mod acts;
-mod answers;
 mod opening;
 mod participant;
 pub(crate) mod rounds;
@@ -72,7 +71,7 @@ fn submit_all(
         reference: Ident::new("F1")?,
         cents: Cents::new(FUNDS)?,
     };
-    first.ask(fund, at)?;
+    first.does(fund, at)?;
     for index in 0..TRANSFERS {
         let submission = Submission {
             id: name(alloc, index)?,
@@ -80,7 +79,7 @@ fn submit_all(
             cents: Cents::new(CENTS)?,
             stamp: at,
         };
-        first.ask(Command::Submit(submission), at)?;
+        first.does(Command::Submit(submission), at)?;
         second.deliver(Place { owner: 0, index })?;
     }
     Ok(())
@@ -90,7 +89,7 @@ fn submit_all(
 fn confirm_all(alloc: Global, second: &mut Participant, at: Moment) -> Result<u16, Fault> {
     for index in 0..TRANSFERS {
         let id = name(alloc, index)?;
-        second.ask(Command::Confirm { from: 0, id }, at)?;
+        second.does(Command::Confirm { from: 0, id }, at)?;
     }
     Ok(TRANSFERS)
 }
@@ -106,22 +105,22 @@ fn expire_all(first: &mut Participant, at: Moment) -> Result<u16, Fault> {
     Ok(expired)
 }
 
-/// Of how many transfers both books have this outcome.
-fn ended_so(
-    alloc: Global,
-    first: &Participant,
-    second: &Participant,
-    outcome: &Outcome,
-) -> Result<u16, Fault> {
-    let mut count = 0;
+/// Of how many transfers both books have the same outcome: accepted ones, and such that timed out.
+fn outcomes(alloc: Global, first: &Participant, second: &Participant) -> Result<(u16, u16), Fault> {
+    let mut accepted = 0u16;
+    let mut timed_out = 0u16;
     for index in 0..TRANSFERS {
         let id = name(alloc, index)?;
         let booked = first.journal().booked(0, &id);
-        if booked.as_ref() == Some(outcome) && booked == second.journal().booked(0, &id) {
-            count += 1;
+        if booked == second.journal().booked(0, &id) {
+            match booked {
+                Some(Outcome::Accepted) => accepted = accepted.saturating_add(1),
+                Some(Outcome::TimedOut) => timed_out = timed_out.saturating_add(1),
+                _ => {}
+            }
         }
     }
-    Ok(count)
+    Ok((accepted, timed_out))
 }
 
 /// What the positions of both sum to, in cents.
@@ -145,11 +144,12 @@ fn run<R: Threads + Sync>(
         &mut || expire_all(first, deadline),
         &mut || confirm_all(alloc, second, last),
     );
+    let (accepted, timed_out) = outcomes(alloc, first, second)?;
     Ok(Finish {
         expired: expired?,
         confirmed: confirmed?,
-        accepted: ended_so(alloc, first, second, &Outcome::Accepted)?,
-        timed_out: ended_so(alloc, first, second, &Outcome::TimedOut)?,
+        accepted,
+        timed_out,
         sum: sum(first, second),
     })
 }

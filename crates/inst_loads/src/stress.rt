@@ -18,8 +18,8 @@ mod stress_round;
 pub(crate) mod tally;
 mod transfer;
 
+use crate::flaw::{Failure, Flaw};
 use crate::hub::asking::fund_all;
-use crate::hub::flaw::{Failure, Flaw};
 use crate::hub::job::{Job, jobs, last};
 use crate::hub::opening::{Size, open};
 use crate::load::threads_of;
@@ -40,7 +40,6 @@ use std::thread::{Threads, join};
 /// What was submitted came to its beneficiary, and each transfer comes to its end.
 fn settle_all<R: Wait>(
     rt: &R,
-    alloc: Global,
     hub: &Hub,
     teller: &mut Teller,
     round: StressRound,
@@ -51,7 +50,7 @@ fn settle_all<R: Wait>(
 {
     bring_all(rt, hub, teller, round)?;
     fetch_all(rt, hub, teller, sights)?;
-    check_inbox(alloc, sights)?;
+    check_inbox(sights)?;
     settle(rt, hub, teller, sights)?;
     sweep_all(rt, hub, teller, round)
 }
@@ -59,24 +58,22 @@ fn settle_all<R: Wait>(
 /// All tellers see the same, before all transfers come to their end and after that.
 fn end<R: Wait>(
     rt: &R,
-    alloc: Global,
     hub: &Hub,
     teller: &mut Teller,
     round: StressRound,
-    jobs: Vec<Job>,
+    jobs: &mut [Job],
     sights: &mut Sights,
 ) -> Result<(), Failure>
-    requires { IsOf hub.now teller.old × AreJobsOf hub.now jobs.items }
+    requires { IsOf hub.now teller.old × AreJobsOf hub.now jobs.old }
     ensures { IsOf hub.now teller.new }
 {
     // The teller first learns what each of the others knows, and only then can it tell each of them all of it.
-    let jobs = meet_all(alloc, hub, teller, jobs)?;
-    let jobs = meet_all(alloc, hub, teller, jobs)?;
+    meet_all(hub, teller, jobs);
+    meet_all(hub, teller, jobs);
     peek_all(teller, sights)?;
-    let jobs = agree(alloc, hub, jobs, sights)?;
-    settle_all(rt, alloc, hub, teller, round, sights)?;
-    agree(alloc, hub, jobs, sights)?;
-    Ok(())
+    agree(jobs, sights)?;
+    settle_all(rt, hub, teller, round, sights)?;
+    agree(jobs, sights)
 }
 
 /// How the transfers ended, where all that was told agrees with the books.
@@ -101,8 +98,8 @@ fn race<R: Threads + Wait + Sync>(
 {
     let jobs = jobs(alloc, hub, tellers)?;
     fund_all(rt, hub, teller, PARTICIPANTS, FUNDS)?;
-    let (jobs, mut sights) = run(rt, alloc, hub, round, jobs)?;
-    end(rt, alloc, hub, teller, round, jobs, &mut sights)?;
+    let (mut jobs, mut sights) = run(rt, alloc, hub, round, jobs)?;
+    end(rt, hub, teller, round, &mut jobs, &mut sights)?;
     check(rt, hub, teller, &sights)
 }
 
@@ -136,9 +133,9 @@ impl Stress {
     /// The stress that these words choose.
     pub(crate) fn of(words: &[String]) -> Option<Stress> {
         let (threads, rounds) = threads_of(words)?;
-        let is_scarce = match words.get(4).map(|word| word.as_str()) {
+        let is_scarce = match words.get(4) {
             None => false,
-            Some("scarce") => true,
+            Some(word) if word.as_str() == "scarce" => true,
             Some(_) => return None,
         };
         Some(Stress {
@@ -153,13 +150,11 @@ impl Stress {
 fn play<R: Threads + Wait + Sync>(rt: &R, alloc: Global, stress: Stress) -> Result<Tally, Failure> {
     let mut tally = Tally::new();
     for number in 0..stress.rounds {
-        let ended = round(
-            rt,
-            alloc,
-            StressRound::of(stress.threads, stress.is_scarce, number),
-        )
-        .map_err(|failure| failure.in_round(number))?;
-        tally = tally.plus(ended);
+        let kind = StressRound::of(stress.threads, stress.is_scarce, number);
+        match round(rt, alloc, kind) {
+            Ok(ended) => tally = tally.plus(ended),
+            Err(failure) => return Err(failure.in_round(number)),
+        }
     }
     Ok(tally)
 }

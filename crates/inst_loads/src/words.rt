@@ -40,16 +40,16 @@ pub(crate) enum Task {
 impl Task {
     /// What these words ask for, the first of which is the program's name.
     pub(crate) fn of(words: &[String]) -> Option<Task> {
-        Some(match words.get(1)?.as_str() {
-            "--help" => Task::Help,
-            "stress" => Task::Stress(Stress::of(words)?),
-            "race" => race_of(words.get(2)?)?,
-            "scarce" if words.len() == 2 => Task::Scarce,
+        match words.get(1)?.as_str() {
+            "--help" => Some(Task::Help),
+            "stress" => Some(Task::Stress(Stress::of(words)?)),
+            "race" => race_of(words.get(2)?),
+            "scarce" if words.len() == 2 => Some(Task::Scarce),
             _ => {
                 let (load, count) = Load::of(words)?;
-                Task::Load(load, count)
+                Some(Task::Load(load, count))
             }
-        })
+        }
     }
 }
 

@@ -60,8 +60,10 @@ fn fund<R: Wait>(rt: &R, hub: &Hub, teller: &mut Teller, who: u8, cents: u64) ->
         reference: Ident::new("F1")?,
         cents: Cents::new(cents)?,
     };
-    ask(rt, hub, teller, who, command, 0)?;
-    Ok(())
+    match ask(rt, hub, teller, who, command, 0) {
+        Ok(_) => Ok(()),
+        Err(fault) => Err(fault),
+    }
 }
 
 /// Funds the first so many participants, at most 256, with so many cents each. A refusal is an error.

@@ -2,8 +2,8 @@
 ghost use Rattle.inst_hub.specs.Calls.{AreOf, IsOf};
 ghost use Rattle.inst_loads.specs.Jobs.{AreJobsOf};
 
+use crate::flaw::{Failure, Flaw, check_sum};
 use crate::hub::asking::{ask_money, fund_all, settle};
-use crate::hub::flaw::{Failure, Flaw, check_sum};
 use crate::hub::job::{Job, jobs, last};
 use crate::hub::opening::{Size, open};
 use crate::load::{FUNDS, Load, PARTICIPANTS, PLACES};
@@ -27,10 +27,10 @@ fn share<R: Wait>(rt: &R, alloc: Global, hub: &Hub, load: Load, job: Job) -> Res
     let mut settled = 0u32;
     for number in 0..load.share {
         let pair = load.pair(thread, number);
-        let is_settled = settle(rt, alloc, hub, &mut teller, pair, (thread, number)).map_err(
-            |fault| Flaw::Refused(fault).of(thread),
-        )?;
-        settled = settled.saturating_add(u32::from(is_settled));
+        match settle(rt, alloc, hub, &mut teller, pair, (thread, number)) {
+            Ok(is_settled) => settled = settled.saturating_add(u32::from(is_settled)),
+            Err(fault) => return Err(Flaw::Refused(fault).of(thread)),
+        }
     }
     Ok(settled)
 }
@@ -122,8 +122,10 @@ pub(crate) fn rounds<R: Threads + Wait + Sync>(
 ) -> Result<u64, Failure> {
     let mut settled = 0u64;
     for number in 0..count {
-        let accepted = round(rt, alloc, load).map_err(|failure| failure.in_round(number))?;
-        settled = settled.saturating_add(u64::from(accepted));
+        match round(rt, alloc, load) {
+            Ok(accepted) => settled = settled.saturating_add(u64::from(accepted)),
+            Err(failure) => return Err(failure.in_round(number)),
+        }
     }
     Ok(settled)
 }

@@ -1,8 +1,7 @@
 //! What a participant does, by short texts and plain numbers.
-use crate::race::participant::Participant;
-use inst_base::{Cents, Fault, Ident, Moment};
-use inst_board::Place;
-use inst_command::{Answer, Command, Submission};
+use inst_base::{Fault, Moment};
+use inst_command::{Command, Step};
+use inst_rows::{ask, confirm, fund, submit};
 
 /// A command, or a step at a place of an originator.
 #[derive(Clone, Copy)]
@@ -16,42 +15,22 @@ pub(crate) enum Does {
     Expire(u16),
 }
 
-/// The command, or none for a step.
-fn command(does: &Does) -> Result<Option<Command>, Fault> {
-    Ok(Some(match *does {
-        Does::Fund(reference, cents) => Command::Fund {
-            reference: Ident::new(reference)?,
-            cents: Cents::new(cents)?,
-        },
-        Does::Submit(id, to, cents, stamp) => Command::Submit(Submission {
-            id: Ident::new(id)?,
-            to,
-            cents: Cents::new(cents)?,
-            stamp: Moment::new(0, stamp)?,
-        }),
-        Does::Confirm(from, id) => Command::Confirm {
+/// The step of the participant that does so at this reading, in milliseconds.
+pub(crate) fn step_of(who: u8, does: &Does, at: u64) -> Result<Step, Fault> {
+    match *does {
+        Does::Fund(reference, cents) => fund(who, reference, cents, at),
+        Does::Submit(id, to, cents, stamp) => submit(who, id, to, cents, stamp, at),
+        Does::Confirm(from, id) => confirm(who, from, id, at),
+        Does::Position => ask(who, Command::Position, at),
+        Does::Deliver(from, index) => Ok(Step::Deliver {
             from,
-            id: Ident::new(id)?,
+            index,
+            to: who,
+        }),
+        Does::Learn(from, index) => Ok(Step::Learn { who, from, index }),
+        Does::Expire(index) => match Moment::new(0, at) {
+            Ok(at) => Ok(Step::Expire { who, index, at }),
+            Err(fault) => Err(fault),
         },
-        Does::Position => Command::Position,
-        Does::Deliver(..) | Does::Learn(..) | Does::Expire(..) => return Ok(None),
-    }))
-}
-
-/// What is answered to what the participant does at this reading.
-pub(crate) fn answer(
-    participant: &mut Participant,
-    does: &Does,
-    at: Moment,
-) -> Result<Answer, Fault> {
-    if let Some(command) = command(does)? {
-        return Ok(Answer::Reply(participant.ask(command, at)?));
     }
-    let is_new = match *does {
-        Does::Deliver(owner, index) => participant.deliver(Place { owner, index })?,
-        Does::Learn(owner, index) => participant.learn(Place { owner, index })?,
-        Does::Expire(index) => participant.expire(index, at)?,
-        _ => return Err(Fault::BadField),
-    };
-    Ok(Answer::New(is_new))
 }

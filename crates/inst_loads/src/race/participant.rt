@@ -5,7 +5,7 @@ ghost use Rattle.inst_cell.specs.Opening.{IsOpened};
 use inst_base::{Fault, Moment, mention};
 use inst_board::Place;
 use inst_cell::SharedBoard;
-use inst_command::{Ask, Command, Outcome, Reply};
+use inst_command::{Answer, Ask, Command, Outcome, Reply, Step};
 use inst_journal::Journal;
 use inst_settings::Settings;
 use inst_slot::Slot;
@@ -35,6 +35,13 @@ impl Model for Participant {
         × AllAreAdopted p.slot
         × (p.slot.who ≡ p.who)
         × (p.slot.settings ≡ p.settings) };
+}
+
+fn answered(is_new: Result<bool, Fault>) -> Result<Answer, Fault> {
+    match is_new {
+        Ok(is_new) => Ok(Answer::New(is_new)),
+        Err(fault) => Err(fault),
+    }
 }
 
 impl Participant {
@@ -69,6 +76,14 @@ impl Participant {
         self.slot.apply(&mut self.board, &ask)
     }
 
+    /// The same, whatever the reply.
+    pub(crate) fn does(&mut self, command: Command, at: Moment) -> Result<(), Fault> {
+        match self.ask(command, at) {
+            Ok(_) => Ok(()),
+            Err(fault) => Err(fault),
+        }
+    }
+
     pub(crate) fn deliver(&mut self, place: Place) -> Result<bool, Fault> {
         Ok(self.slot.deliver(&mut self.board, place)?)
     }
@@ -79,6 +94,22 @@ impl Participant {
 
     pub(crate) fn expire(&mut self, index: u16, at: Moment) -> Result<bool, Fault> {
         Ok(self.slot.expire(&mut self.board, index, at)?)
+    }
+
+    /// What is answered to the step, which is this participant's.
+    pub(crate) fn take(&mut self, step: &Step) -> Result<Answer, Fault> {
+        match *step {
+            Step::Ask(ask) => match self.ask(ask.command, ask.at) {
+                Ok(reply) => Ok(Answer::Reply(reply)),
+                Err(fault) => Err(fault),
+            },
+            Step::Deliver { from, index, .. } => answered(self.deliver(Place {
+                owner: from,
+                index,
+            })),
+            Step::Learn { from, index, .. } => answered(self.learn(Place { owner: from, index })),
+            Step::Expire { index, at, .. } => answered(self.expire(index, at)),
+        }
     }
 
     pub(crate) fn journal(&self) -> &Journal {

@@ -1,9 +1,10 @@
 //! Who does what, one after another in one thread, and what each is answered.
-use crate::race::acts::{Does, answer};
-use crate::race::answers::{Told, tells};
+use crate::race::acts::{Does, step_of};
 use crate::race::opening::open;
 use crate::race::participant::Participant;
-use inst_base::{Fault, Moment};
+use crate::told::{Told, tells};
+use inst_base::{Fault, mention};
+use inst_command::{Ask, Command, Outcome, Submission};
 use std::alloc::Global;
 
 /// Who does what, when, and what is answered.
@@ -67,12 +68,11 @@ const WORKED: [(&str, &[Row]); 4] = [
 
 /// Whether the row is answered so.
 fn is_answered(hub: &mut [Participant], row: &Row) -> Result<bool, Fault> {
+    mention::<(Ask, Command, Submission, Outcome)>();
     let (who, does, at, told) = row;
+    let step = step_of(*who, does, *at)?;
     match hub.get_mut(usize::from(*who)) {
-        Some(participant) => {
-            let answer = answer(participant, does, Moment::new(0, *at)?)?;
-            Ok(tells(&answer, told))
-        }
+        Some(participant) => Ok(tells(&participant.take(&step)?, *told)),
         None => Err(Fault::BadField),
     }
 }

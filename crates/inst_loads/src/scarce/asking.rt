@@ -1,97 +1,46 @@
 //! What a hub of many threads is asked.
-ghost use Rattle.std.specs.Prelude.{◌≡◌, true, IfOk};
-ghost use Rattle.inst_command.specs.Ask.{ask_fits};
-ghost use Rattle.inst_hub.specs.Calls.{AreOf, IsOf};
-ghost use Rattle.inst_hub.specs.Opening.{HaveAllParts};
+ghost use Rattle.inst_hub.specs.Calls.{IsOf, KnowsMore};
 
-use crate::hoard::Hoard;
-use crate::scarce::flaw::Flaw;
+use crate::flaw::Flaw;
+use crate::told::{Told, is_reply};
 use inst_base::Fault;
-use inst_command::{Ask, Reply, Step};
+use inst_command::Step;
 use inst_hub::{Hub, Teller, Ticket};
 use std::sync::Wait;
 
-/// The ask of the step, where it is one that fits the hub.
-pub(crate) fn fitting(hub: &Hub, step: Step) -> Result<Ask, Flaw>
-    ensures { IfOk result (λ ask. ask_fits hub.now.settings ask ≡ true) }
-{
-    match step {
-        Step::Ask(ask) if ask.fits(hub.settings()) => Ok(ask),
-        _ => Err(Flaw::Refused(Fault::BadField)),
+/// Whether there is a ticket where the reply tells of a transfer, and only there.
+fn is_ticketed(ticket: &Option<Ticket>, wanted: Told) -> bool {
+    match wanted {
+        Told::Taken(..) | Told::Accepted(..) | Told::TimedOut(..) => ticket.is_some(),
+        Told::Done(_) | Told::Position(..) | Told::New(_) => ticket.is_none(),
     }
 }
 
-/// Whether the reply says that the submission is taken, with its deadline.
-fn is_taken(reply: &Reply) -> bool {
-    match reply {
-        Reply::Taken { id, deadline } => id.text() == "T1" && deadline.millis(0) == 11_000,
-        _ => false,
-    }
-}
-
-/// The ticket of the submission, where the reply says that it is taken.
-pub(crate) fn ticket_of(reply: &Reply, ticket: Option<Ticket>) -> Result<Ticket, Flaw> {
-    match ticket {
-        Some(ticket) if is_taken(reply) => Ok(ticket),
-        _ => Err(Flaw::OtherAnswer),
-    }
-}
-
-/// What the ask is answered by the teller with this index.
-pub(crate) fn ask_by<R: Wait>(
+/// The ticket that comes with the reply, if one does. `OtherAnswer` where the reply isn't the one that is wanted.
+pub(crate) fn ask_so<R: Wait>(
     rt: &R,
     hub: &Hub,
-    tellers: &mut Vec<Teller>,
-    index: usize,
-    ask: &Ask,
-) -> Result<(Reply, Option<Ticket>), Fault>
-    requires of { AreOf hub.now tellers.old.items }
-    requires parts { HaveAllParts tellers.old.items }
-    requires fits { ask_fits hub.now.settings ask.now ≡ true }
-    ensures of { AreOf hub.now tellers.new.items }
-    ensures parts { HaveAllParts tellers.new.items }
-{
-    if index >= tellers.len() {
-        return Err(Fault::BadField);
-    }
-    Ok(hub.call(rt, &mut tellers[index], ask)?)
-}
-
-/// The same, and its ticket, where the reply says that the submission is taken.
-pub(crate) fn submit_by<R: Wait>(
-    rt: &R,
-    hub: &Hub,
-    tellers: &mut Vec<Teller>,
-    index: usize,
-    ask: &Ask,
-) -> Result<Ticket, Flaw>
-    requires of { AreOf hub.now tellers.old.items }
-    requires parts { HaveAllParts tellers.old.items }
-    requires fits { ask_fits hub.now.settings ask.now ≡ true }
-    ensures of { AreOf hub.now tellers.new.items }
-    ensures parts { HaveAllParts tellers.new.items }
-{
-    let (reply, ticket) = ask_by(rt, hub, tellers, index, ask)?;
-    ticket_of(&reply, ticket)
-}
-
-/// What the ask is answered with so many bytes of memory left, if they are enough. All memory is there again afterwards.
-pub(crate) fn ask_in_want<R: Wait>(
-    rt: &R,
-    hub: &Hub,
-    hoard: &mut Hoard,
     teller: &mut Teller,
-    ask: &Ask,
-    bytes: usize,
-) -> Result<Option<(Reply, Option<Ticket>)>, Flaw>
-    requires of { IsOf hub.now teller.old }
-    requires fits { ask_fits hub.now.settings ask.now ≡ true }
-    ensures { IsOf hub.now teller.new }
+    step: &Step,
+    wanted: Told,
+) -> Result<Option<Ticket>, Flaw>
+    requires { IsOf hub.now teller.old }
+    ensures of { IsOf hub.now teller.new }
+    ensures knows { KnowsMore teller.old teller.new }
 {
-    if !hoard.leave(bytes) {
-        return Err(Flaw::NoHoard);
+    let Step::Ask(ask) = step else {
+        return Err(Flaw::Refused(Fault::BadField));
+    };
+    if !ask.fits(hub.settings()) {
+        return Err(Flaw::Refused(Fault::BadField));
     }
-    let answer = hub.call(rt, teller, ask);
-    hoard.give_back();
-    Ok(answer.ok())
+    match hub.call(rt, teller, ask) {
+        Ok((reply, ticket)) => {
+            if !is_reply(&reply, wanted) || !is_ticketed(&ticket, wanted) {
+                return Err(Flaw::OtherAnswer);
+            }
+            Ok(ticket)
+        }
+        Err(_) => Err(Flaw::Refused(Fault::Memory)),
+    }
 }

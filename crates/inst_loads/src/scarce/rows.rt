@@ -1,5 +1,5 @@
 //! The rows, as lines: a step, its answer, and whether it takes memory.
-use crate::scarce::tries::Need;
+use crate::scarce::want::Need;
 
 /// A step with its answer.
 #[derive(Clone, Copy)]

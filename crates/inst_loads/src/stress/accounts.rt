@@ -1,8 +1,8 @@
 //! Whether the participants have what the outcomes of the transfers make of their funding.
 ghost use Rattle.inst_hub.specs.Calls.{IsOf};
 
+use crate::flaw::{Flaw, check_sum};
 use crate::hub::asking::{ask, ask_money};
-use crate::hub::flaw::{Flaw, check_sum};
 use crate::stress::sights::{Sight, Sights};
 use crate::stress::transfer::{FUNDS, PARTICIPANTS};
 use inst_command::{Command, Line, LineKind, Outcome, Reply, State};
@@ -81,19 +81,15 @@ impl RunningBalance {
         })
     }
 
-    fn after_lines(self, lines: &[Line]) -> Result<RunningBalance, Flaw> {
+    fn after_reply(self, reply: &Reply) -> Result<RunningBalance, Flaw> {
+        let Reply::Statement { lines } = reply else {
+            return Err(Flaw::OtherStatement);
+        };
         let mut balance = self;
-        for line in lines {
+        for line in lines.as_slice() {
             balance = balance.after_line(line)?;
         }
         Ok(balance)
-    }
-
-    fn after_reply(self, reply: &Reply) -> Result<RunningBalance, Flaw> {
-        match reply {
-            Reply::Statement { lines } => self.after_lines(lines.as_slice()),
-            _ => Err(Flaw::OtherStatement),
-        }
     }
 }
 

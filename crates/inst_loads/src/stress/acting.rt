@@ -2,8 +2,8 @@
 ghost use Rattle.inst_hub.specs.declared.hub.Hub.{Hub};
 ghost use Rattle.inst_hub.specs.Calls.{IsOf};
 
+use crate::flaw::Flaw;
 use crate::hub::asking::{call, money_of};
-use crate::hub::flaw::Flaw;
 use crate::stress::chooser::Choice;
 use crate::stress::sights::{Sight, Sights};
 use inst_base::{Fault, Moment, mention};
@@ -28,8 +28,10 @@ pub(crate) fn act_so<R: Wait>(
         Choice::Peek(place) => peek_at(teller, sights, *place),
         Choice::Sweep { who, at } => {
             sights.calls = sights.calls.saturating_add(1);
-            sweep(rt, hub, teller, *who, *at)?;
-            Ok(())
+            match sweep(rt, hub, teller, *who, *at) {
+                Ok(_) => Ok(()),
+                Err(flaw) => Err(flaw),
+            }
         }
     }
 }

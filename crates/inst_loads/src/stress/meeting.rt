@@ -1,41 +1,22 @@
 //! What the tellers tell each other and see once their threads are joined.
-ghost use Rattle.std.specs.Prelude.{IfOk};
 ghost use Rattle.inst_hub.specs.declared.hub.Hub.{Hub};
 ghost use Rattle.inst_hub.specs.Calls.{IsOf};
 ghost use Rattle.inst_loads.specs.Jobs.{AreJobsOf};
 
-use crate::hub::flaw::{Failure, Flaw};
+use crate::flaw::{Failure, Flaw};
 use crate::hub::job::Job;
 use crate::stress::acting::peek_at;
 use crate::stress::sights::{ALL_PLACES, Sight, Sights, place_of};
-use inst_base::Fault;
 use inst_hub::{Hub, Teller};
-use std::alloc::Global;
 
 /// The teller meets that of each job.
-pub(crate) fn meet_all(
-    alloc: Global,
-    hub: &Hub,
-    teller: &mut Teller,
-    jobs: Vec<Job>,
-) -> Result<Vec<Job>, Fault>
-    requires { IsOf hub.now teller.old × AreJobsOf hub.now jobs.items }
-    ensures teller { IsOf hub.now teller.new }
-    ensures jobs { IfOk result (λ jobs. AreJobsOf hub.now jobs.items) }
+pub(crate) fn meet_all(hub: &Hub, teller: &mut Teller, jobs: &mut [Job])
+    requires { IsOf hub.now teller.old × AreJobsOf hub.now jobs.old }
+    ensures { IsOf hub.now teller.new × AreJobsOf hub.now jobs.new }
 {
-    let mut met = Vec::new(alloc);
-    for job in jobs {
-        let Job {
-            teller: mut other,
-            thread,
-        } = job;
-        hub.meet(teller, &mut other);
-        met.push(Job {
-            teller: other,
-            thread,
-        })?;
+    for job in jobs.iter_mut() {
+        hub.meet(teller, &mut job.teller);
     }
-    Ok(met)
 }
 
 /// The teller peeks at all that was told of.
@@ -71,22 +52,13 @@ fn sees_all_so(teller: &mut Teller, sights: &Sights) -> bool
 }
 
 /// The tellers of all jobs see just what was noted.
-pub(crate) fn agree(
-    alloc: Global,
-    hub: &Hub,
-    jobs: Vec<Job>,
-    sights: &Sights,
-) -> Result<Vec<Job>, Failure>
-    requires { AreJobsOf hub.now jobs.items }
-    ensures { IfOk result (λ jobs. AreJobsOf hub.now jobs.items) }
+pub(crate) fn agree(jobs: &mut [Job], sights: &Sights) -> Result<(), Failure>
+    ensures { (hub : Hub) → AreJobsOf hub jobs.old → AreJobsOf hub jobs.new }
 {
-    let mut agreed = Vec::new(alloc);
-    for job in jobs {
-        let Job { mut teller, thread } = job;
-        if !sees_all_so(&mut teller, sights) {
-            return Err(Flaw::TellersDiffer.of(thread));
+    for job in jobs.iter_mut() {
+        if !sees_all_so(&mut job.teller, sights) {
+            return Err(Flaw::TellersDiffer.of(job.thread));
         }
-        agreed.push(Job { teller, thread })?;
     }
-    Ok(agreed)
+    Ok(())
 }

@@ -4,8 +4,8 @@ ghost use Rattle.inst_hub.specs.Calls.{IsOf};
 ghost use Rattle.inst_loads.specs.Jobs.{AreJobsOf};
 ghost use Rattle.inst_loads.specs.Done.{AreDoneOf};
 
+use crate::flaw::{Failure, Flaw};
 use crate::hoard::Hoard;
-use crate::hub::flaw::{Failure, Flaw};
 use crate::hub::job::Job;
 use crate::stress::acting::act_so;
 use crate::stress::chooser::{Chooser, STEPS};
@@ -134,8 +134,7 @@ fn gather(
     let mut jobs = Vec::new(alloc);
     let mut all = Sights::new(alloc)?;
     for result in results {
-        let Done { job, sights, hoard } = result?;
-        drop(hoard);
+        let Done { job, sights, .. } = result?;
         all.add(&sights)?;
         jobs.push(job)?;
     }

@@ -1,7 +1,7 @@
 //! What is asked once all threads are joined, so that nothing is unread and no transfer is pending.
 ghost use Rattle.inst_hub.specs.Calls.{IsOf};
 
-use crate::hub::flaw::Flaw;
+use crate::flaw::Flaw;
 use crate::stress::acting::{ask_so, sweep};
 use crate::stress::sights::{ALL_PLACES, Sights, place_of};
 use crate::stress::stress_round::StressRound;

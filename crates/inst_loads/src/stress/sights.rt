@@ -2,7 +2,7 @@
 ghost use Rattle.std.specs.Prelude.{◌<◌};
 ghost use Rattle.inst_loads.specs.declared.stress.sights.TheConstants.{ALL_PLACES};
 
-use crate::hub::flaw::Flaw;
+use crate::flaw::Flaw;
 use crate::stress::transfer::PARTICIPANTS;
 use inst_base::{Fault, Ident, mention};
 use inst_board::Place;

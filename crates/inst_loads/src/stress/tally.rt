@@ -1,4 +1,4 @@
-use crate::hub::flaw::Flaw;
+use crate::flaw::Flaw;
 use crate::stress::sights::Sights;
 use inst_command::{Outcome, State};
 use std::fmt::{self, Display, Formatter};

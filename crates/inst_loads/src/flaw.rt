@@ -1,11 +1,12 @@
+//! What is wrong with a hub, in a round of a load or of a stress, or in a row in want of memory.
 use inst_base::Fault;
 use std::alloc::{AllocError, AllocFailed};
 use std::fmt::{self, Display, Formatter};
 
-/// What is wrong in a round of a load or of a stress.
+/// What is wrong in a round or in a row.
 #[derive(Clone, Copy)]
 pub(crate) enum Flaw {
-    /// What a round needs was refused, as memory, or a command that must be granted.
+    /// What a round or a row needs was refused, as memory, or a command that must be granted.
     Refused(Fault),
     /// Not all transfers of a load were accepted.
     NotAllSettled { settled: u32, transfers: u32 },
@@ -39,9 +40,21 @@ pub(crate) enum Flaw {
     OtherSum { positions: u64, funding: u64 },
     /// The lines of a statement don't lead to the position, one by one.
     OtherStatement,
+    /// The memory that is to be refused couldn't be taken whole.
+    NoHoard,
+    /// A call was refused memory until the end.
+    NeverServed,
+    /// An answer isn't the row's.
+    OtherAnswer,
+    /// A call that was refused memory changed what it should have left.
+    Changed,
+    /// A call that takes no memory was refused some.
+    Needless,
+    /// A call that takes memory was never refused any.
+    NeverRefused,
 }
 
-/// For whoever reads the log of a load or of a stress.
+/// For whoever reads how the program ended.
 impl Display for Flaw {
     fn fmt<W: fmt::Write>(&self, f: &mut Formatter<W>) -> fmt::Result {
         f.write_str(match self {
@@ -72,6 +85,12 @@ impl Display for Flaw {
             Flaw::StillReserved => "StillReserved: cents are reserved at the end",
             Flaw::OtherPosition => "OtherPosition: a position isn't that of the outcomes",
             Flaw::OtherStatement => "OtherStatement: the lines don't lead to the position",
+            Flaw::NoHoard => "NoHoard: memory can't be taken whole",
+            Flaw::NeverServed => "NeverServed: a call was refused memory until the end",
+            Flaw::OtherAnswer => "OtherAnswer: an answer isn't the row's",
+            Flaw::Changed => "Changed: a call that was refused memory changed something",
+            Flaw::Needless => "Needless: a call that takes no memory was refused some",
+            Flaw::NeverRefused => "NeverRefused: a call that takes memory was never refused any",
         })
     }
 }

@@ -1,0 +1,65 @@
+//! What is answered, by short texts and plain numbers.
+use inst_base::Ident;
+use inst_command::{Answer, Outcome, Reply, State};
+
+/// All that the answer says.
+#[derive(Clone, Copy)]
+pub(crate) enum Told {
+    Done(&'static str),
+    /// With the deadline in milliseconds.
+    Taken(&'static str, u64),
+    Accepted(u8, &'static str),
+    TimedOut(u8, &'static str),
+    /// Position, reserved and available cents.
+    Position(u64, u64, u64),
+    New(bool),
+}
+
+fn is_state(told: Told, from: u8, id: &Ident, state: State) -> bool {
+    match told {
+        Told::Accepted(owner, wanted) => {
+            from == owner && id.text() == wanted && state == State::Decided(Outcome::Accepted)
+        }
+        Told::TimedOut(owner, wanted) => {
+            from == owner && id.text() == wanted && state == State::Decided(Outcome::TimedOut)
+        }
+        _ => false,
+    }
+}
+
+/// Whether the reply is what is told.
+pub(crate) fn is_reply(reply: &Reply, told: Told) -> bool {
+    match reply {
+        Reply::Done { reference } => match told {
+            Told::Done(wanted) => reference.text() == wanted,
+            _ => false,
+        },
+        Reply::Taken { id, deadline } => match told {
+            Told::Taken(wanted, end) => id.text() == wanted && deadline.past_base() == end,
+            _ => false,
+        },
+        Reply::State { from, id, state } => is_state(told, *from, id, *state),
+        Reply::Position {
+            position,
+            reserved,
+            available,
+        } => match told {
+            Told::Position(all, held, free) => {
+                *position == all && *reserved == held && *available == free
+            }
+            _ => false,
+        },
+        _ => false,
+    }
+}
+
+/// Whether the answer is what is told.
+pub(crate) fn tells(answer: &Answer, told: Told) -> bool {
+    match answer {
+        Answer::Reply(reply) => is_reply(reply, told),
+        Answer::New(is_new) => match told {
+            Told::New(wanted) => *is_new == wanted,
+            _ => false,
+        },
+    }
+}
