@@ -5,10 +5,12 @@ ghost use Rattle.inst_hub.specs.Opening.{HaveAllParts, parts_of};
 
 use crate::comparing::same;
 use inst_base::{Cents, Fault, Ident, Moment};
-use inst_command::{Ask, Command, Reply, State, Submission};
+use inst_command::{Ask, Command, Outcome, Reply, State, Submission};
 use inst_hub::{Gate, Hub, Teller, Ticket, Ungated};
 use std::process::Abort;
 use std::sync::Wait;
+
+pub(crate) const ACCEPTED: State = State::Decided(Outcome::Accepted);
 
 /// What a participant does.
 #[derive(Clone, Copy)]
@@ -29,8 +31,10 @@ pub(crate) enum Deed<'a> {
 /// What it is told.
 #[derive(Clone, Copy, Debug, PartialEq)]
 pub(crate) enum Told {
-    /// What it asked for is done or taken.
+    /// What it asked for is done.
     Done,
+    /// Its submission is taken, and whether with a ticket.
+    Taken(bool),
     /// How a transfer stands, and whether with a ticket.
     State(State, bool),
     /// Its position, what of it is reserved and what is available, in cents.
@@ -82,7 +86,8 @@ pub(crate) fn asked(who: u8, deed: Deed<'_>, at: u64) -> Result<Ask, Fault> {
 /// What the reply tells, with a ticket or without one.
 fn told_of(reply: &Reply, ticket: bool) -> Told {
     match reply {
-        Reply::Done { .. } | Reply::Taken { .. } => Told::Done,
+        Reply::Done { .. } => Told::Done,
+        Reply::Taken { .. } => Told::Taken(ticket),
         Reply::State { state, .. } => Told::State(*state, ticket),
         Reply::Position {
             position,
@@ -126,13 +131,7 @@ pub(crate) fn answer<R: Wait, G: Gate>(
 }
 
 /// How many were new in a sweep.
-pub(crate) fn swept<R: Wait>(
-    rt: &R,
-    hub: &Hub,
-    teller: &mut Teller,
-    who: u8,
-    at: u64,
-) -> Result<u32, Fault>
+fn swept<R: Wait>(rt: &R, hub: &Hub, teller: &mut Teller, who: u8, at: u64) -> Result<u32, Fault>
     requires { IsOf hub.now teller.old }
     ensures of { IsOf hub.now teller.new }
     ensures parts { parts_of (teller.new ∷ []) ≡ parts_of (teller.old ∷ []) }

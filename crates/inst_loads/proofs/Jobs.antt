@@ -26,9 +26,6 @@ next_at {X} before rest after all x e is =
 pub next_is_of : (h : Hub) (before rest after all : List Teller) (t : Teller) → AreOf h all → before ++ rest ≡ all → rest ≡ t ∷ after → IsOf h t
 next_is_of h before rest after all t are e is = are (length before) t (next_at before rest after all t e is)
 
-pub next_job_is_of : (h : Hub) (before rest after all : List Job) (job : Job) → AreJobsOf h all → before ++ rest ≡ all → rest ≡ job ∷ after → IsOf h job.teller
-next_job_is_of h before rest after all job are e is = are (length before) job (next_at before rest after all job e is)
-
 pub next_done_is_of : (h : Hub) (before rest after all : List (Result Done Failure)) (result : Result Done Failure) (done : Done) → AreDoneOf h all → before ++ rest ≡ all → rest ≡ result ∷ after → result ≡ Ok done → IsOf h done.job.teller
 next_done_is_of h before rest after all result done are e is ok =
     are (length before) done (next_at before rest after all result e is ∙ ap (λ (r : Result Done Failure). Some r) ok)
@@ -44,7 +41,7 @@ job_at [] i x below is = absurd (omega arith)
 job_at (job ∷ jobs) zero x below is = ap (λ (j : Job). Some j) is
 job_at (job ∷ jobs) (suc i) x below is = job_at jobs i x (omega arith) is
 
-pub set_job : (h : Hub) (jobs : List Job) (k : ℕ) (job : Job) → AreJobsOf h jobs → k < length jobs → IsOf h job.teller → AreJobsOf h (set jobs k job)
+set_job : (h : Hub) (jobs : List Job) (k : ℕ) (job : Job) → AreJobsOf h jobs → k < length jobs → IsOf h job.teller → AreJobsOf h (set jobs k job)
 set_job h jobs k job are below one i other at = elim (set_cases jobs k i job other below at) [
   | inl here ↦ subst (λ (j : Job). IsOf h j.teller) (sym here.1) one
   | inr old ↦ are i other old.1

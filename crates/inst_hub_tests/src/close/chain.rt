@@ -4,20 +4,18 @@ ghost use Rattle.inst_hub.specs.Calls.{AreOf};
 ghost use Rattle.inst_hub.specs.Opening.{HaveAllParts};
 ghost use Rattle.inst_close.specs.Closing.{IsOpenedSo};
 
-use crate::asking::{Deed, Line, Told, play_by};
+use crate::asking::{ACCEPTED, Deed, Line, Told, play_by};
 use crate::close::closing::{closed, opened, opened_again};
 use crate::comparing::same;
 use crate::tellers::played;
 use inst_base::Fault;
 use inst_close::Books;
-use inst_command::{Outcome, State};
+use inst_command::Outcome;
 use inst_hub::{Hub, Teller};
 use inst_journal::{Event, Journal};
 use std::alloc::Global;
 use std::process::Abort;
 use std::sync::Wait;
-
-const ACCEPTED: State = State::Decided(Outcome::Accepted);
 
 /// What is paid in the openings, one after the other.
 const IDS: [&str; 10] = ["T1", "T2", "T3", "T4", "T5", "T6", "T7", "T8", "T9", "T10"];
@@ -35,7 +33,7 @@ fn paid<R: Wait + Abort>(
 {
     let lines = [
         Line(0, Deed::Fund(id, 1_000), 0, Told::Done),
-        Line(0, Deed::Submit(id, 300, 1_000), 1_000, Told::Done),
+        Line(0, Deed::Submit(id, 300, 1_000), 1_000, Told::Taken(true)),
         Line(1, Deed::Confirm(id), 2_000, Told::State(ACCEPTED, true)),
     ];
     let (hub, mut tellers) = opened;

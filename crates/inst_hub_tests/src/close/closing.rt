@@ -5,12 +5,12 @@ ghost use Rattle.inst_hub.specs.Calls.{AreOf};
 ghost use Rattle.inst_hub.specs.Opening.{HaveAllParts};
 ghost use Rattle.inst_close.specs.Closing.{IsOpenedSo};
 
-use crate::asking::{Deed, Line, Told, play_by};
+use crate::asking::{ACCEPTED, Deed, Line, Told, play_by};
 use crate::comparing::same;
 use crate::tellers::played;
 use inst_base::{Code, Fault};
 use inst_close::{Books, close};
-use inst_command::{Outcome, State};
+use inst_command::State;
 use inst_hub::{Hub, Teller, Ticket};
 use inst_rows::settings;
 use std::alloc::Global;
@@ -47,15 +47,24 @@ pub(crate) fn closed(alloc: Global, hub: Hub, tellers: Vec<Teller>) -> Result<Bo
     }
 }
 
-const ACCEPTED: State = State::Decided(Outcome::Accepted);
-
-/// Participant 0 submits a first transfer, and a second.
+/// Participant 0 is funded, and submits a first transfer.
 const FIRST: [Line<'static>; 2] = [
     Line(0, Deed::Fund("F1", 50_000), 0, Told::Done),
-    Line(0, Deed::Submit("T1", 20_000, 1_000), 1_000, Told::Done),
+    Line(
+        0,
+        Deed::Submit("T1", 20_000, 1_000),
+        1_000,
+        Told::Taken(true),
+    ),
 ];
 
-const SECOND: [Line<'static>; 1] = [Line(0, Deed::Submit("T2", 5_000, 1_000), 1_000, Told::Done)];
+/// It submits a second.
+const SECOND: [Line<'static>; 1] = [Line(
+    0,
+    Deed::Submit("T2", 5_000, 1_000),
+    1_000,
+    Told::Taken(true),
+)];
 
 /// The first is confirmed.
 const CONFIRMED: [Line<'static>; 1] = [Line(

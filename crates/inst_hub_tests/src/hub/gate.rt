@@ -75,6 +75,14 @@ struct Passed {
     overtaken: bool,
 }
 
+/// What it is to see: it was passed once, and the others were answered meanwhile, but for the one that waits for its lock.
+const PASSED: Passed = Passed {
+    passes: 1,
+    who: 0,
+    through: true,
+    overtaken: false,
+};
+
 impl Gate for Waits {
     fn pass(&self, who: u8) {
         self.passes.fetch_add(1, Ordering::SeqCst);
@@ -193,16 +201,10 @@ fn lets_through<R: Threads + Wait + Sync + Abort>(
             )
         },
     );
-    let expected = Passed {
-        passes: 1,
-        who: 0,
-        through: true,
-        overtaken: false,
-    };
     same(
         rt,
         (held.and(state), gate.seen()),
-        (Ok(State::Pending), expected),
+        (Ok(State::Pending), PASSED),
     );
     Ok(())
 }

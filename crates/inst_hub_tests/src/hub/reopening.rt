@@ -2,10 +2,10 @@
 ghost use Rattle.std.specs.Prelude.{◌≡◌, IfOk};
 ghost use Rattle.inst_model.specs.Rows as rows;
 
-use crate::asking::{Deed, Line, Told};
+use crate::asking::{ACCEPTED, Deed, Line, Told};
 use crate::tellers::played;
 use inst_base::Fault;
-use inst_command::{Outcome, State, Step};
+use inst_command::Step;
 use inst_hub::Hub;
 use inst_rows::{A, B, books, settings};
 use std::alloc::Global;
@@ -41,8 +41,6 @@ fn one_settled() -> Result<[Step; 7], Fault>
         learn,
     ])
 }
-
-const ACCEPTED: State = State::Decided(Outcome::Accepted);
 
 /// Plays the lines in the hub that opens from the books of the other one.
 fn plays<R: Wait + Abort>(rt: &R, alloc: Global, lines: &[Line<'_>]) -> Result<(), Fault> {

@@ -9,7 +9,12 @@ use std::sync::Wait;
 
 const SUBMITTED: [Line<'static>; 2] = [
     Line(0, Deed::Fund("F1", 50_000), 0, Told::Done),
-    Line(0, Deed::Submit("T1", 20_000, 1_000), 1_000, Told::Done),
+    Line(
+        0,
+        Deed::Submit("T1", 20_000, 1_000),
+        1_000,
+        Told::Taken(true),
+    ),
 ];
 
 /// The teller funds participant 0, and submits a transfer of it.

@@ -8,7 +8,7 @@ use crate::hub::start::Start;
 use crate::tellers::{last, last_two, played, with_teller};
 use inst_base::Fault;
 use inst_command::{Outcome, State};
-use inst_hub::{Gate, Hub, Teller, Ungated};
+use inst_hub::{Gate, Hub, Teller};
 use inst_rows::{settings, settings_with};
 use std::process::Abort;
 use std::sync::Wait;
@@ -19,7 +19,12 @@ const TIMED_OUT: State = State::Decided(Outcome::TimedOut);
 /// Investigations before the deadline and at it, and then sweeps of both sides.
 const INVESTIGATED: [Line<'static>; 6] = [
     Line(0, Deed::Fund("F1", 50_000), 0, Told::Done),
-    Line(0, Deed::Submit("T1", 20_000, 1_000), 1_000, Told::Done),
+    Line(
+        0,
+        Deed::Submit("T1", 20_000, 1_000),
+        1_000,
+        Told::Taken(true),
+    ),
     Line(
         0,
         Deed::Investigate("T1"),
@@ -59,9 +64,10 @@ impl Gate for Holds {
     }
 }
 
-/// What participant 1 is told by two sweeps and a fetch, once both transfers are held.
+/// What a sweep of participant 1 counts once both transfers are held.
 const BROUGHT: [Line<'static>; 1] = [Line(1, Deed::Sweep, 1_000, Told::New(2))];
 
+/// What another counts afterwards, and what is fetched.
 const FETCHED: [Line<'static>; 2] = [
     Line(1, Deed::Sweep, 1_000, Told::New(0)),
     Line(1, Deed::Fetch, 1_000, Told::Came(0, 2)),
@@ -177,9 +183,9 @@ fn sweeps_time_out_and_learn(rt: HostRuntime) -> Result<(), Fault> {
 /// of participant 1.
 const DUE: [Line<'static>; 7] = [
     Line(0, Deed::Fund("F1", 50_000), 0, Told::Done),
-    Line(0, Deed::Submit("T1", 100, 1_500), 1_000, Told::Done),
-    Line(0, Deed::Submit("T2", 100, 1_000), 1_000, Told::Done),
-    Line(0, Deed::Submit("T3", 100, 1_000), 1_000, Told::Done),
+    Line(0, Deed::Submit("T1", 100, 1_500), 1_000, Told::Taken(true)),
+    Line(0, Deed::Submit("T2", 100, 1_000), 1_000, Told::Taken(true)),
+    Line(0, Deed::Submit("T3", 100, 1_000), 1_000, Told::Taken(true)),
     Line(0, Deed::Sweep, 11_499, Told::New(2)),
     Line(0, Deed::Sweep, 11_500, Told::New(1)),
     Line(1, Deed::Sweep, 11_500, Told::New(3)),

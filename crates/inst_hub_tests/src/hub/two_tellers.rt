@@ -2,12 +2,12 @@
 ghost use Rattle.std.specs.Prelude.{IfOk};
 ghost use Rattle.inst_hub.specs.Calls.{IsOf, AreOf};
 
-use crate::asking::{Deed, Line, Told, play};
+use crate::asking::{ACCEPTED, Deed, Line, Told, play};
 use crate::comparing::same;
 use crate::hub::setting::submitted;
 use crate::tellers::last_two;
 use inst_base::Fault;
-use inst_command::{Outcome, State};
+use inst_command::State;
 use inst_hub::{Hub, Teller};
 use inst_rows::settings;
 use std::process::Abort;
@@ -18,9 +18,10 @@ const CONFIRMED: [Line<'static>; 1] = [Line(
     1,
     Deed::Confirm("T1"),
     2_000,
-    Told::State(State::Decided(Outcome::Accepted), true),
+    Told::State(ACCEPTED, true),
 )];
 
+/// What participant 0 is told of its money then.
 const PAID: [Line<'static>; 1] = [Line(0, Deed::Position, 2_000, Told::Money(30_000, 0, 30_000))];
 
 /// What both see: the first when it has submitted, the second when it has confirmed, and the first before and after it
@@ -48,8 +49,7 @@ fn both_see<R: Wait + Abort>(rt: &R, hub: &Hub, tellers: &mut Vec<Teller>) -> Re
     requires { AreOf hub.now tellers.old.items }
 {
     let (mut first, mut second) = last_two(hub, tellers)?;
-    let accepted = State::Decided(Outcome::Accepted);
-    let expected = [State::Pending, accepted, accepted, accepted];
+    let expected = [State::Pending, ACCEPTED, ACCEPTED, ACCEPTED];
     same(rt, see(rt, hub, &mut first, &mut second)?, expected);
     play(rt, hub, &mut second, &PAID)?;
     Ok(())

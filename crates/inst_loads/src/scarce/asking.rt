@@ -17,7 +17,7 @@ fn is_ticketed(ticket: &Option<Ticket>, wanted: Told) -> bool {
 }
 
 /// The ticket that comes with the reply, if one does. `OtherAnswer` where the reply isn't the one that is wanted.
-pub(crate) fn ask_so<R: Wait>(
+pub(crate) fn ask_and_compare<R: Wait>(
     rt: &R,
     hub: &Hub,
     teller: &mut Teller,

@@ -5,7 +5,7 @@ ghost use Rattle.inst_close.specs.Closing.{IsOpenedSo};
 ghost use Rattle.inst_loads.specs.Tellers.{AreAllOf};
 
 use crate::flaw::Flaw;
-use crate::scarce::asking::ask_so;
+use crate::scarce::asking::ask_and_compare;
 use crate::scarce::want::{MOST_TRIES, Need, QUANTUM, Want};
 use crate::told::Told;
 use inst_base::{Fault, Ident, mention};
@@ -66,7 +66,7 @@ fn ask_by<R: Wait>(
     if index >= tellers.len() {
         return Err(Flaw::Refused(Fault::BadField));
     }
-    ask_so(rt, hub, &mut tellers[index], step, wanted)
+    ask_and_compare(rt, hub, &mut tellers[index], step, wanted)
 }
 
 /// Participant 0 submits the transfer, with as little memory as serves: none is left for what follows.
@@ -112,9 +112,10 @@ fn asked<R: Wait>(
     match row {
         Row::Dropped => submit_dropping(rt, hub, want, tellers, &submission),
         Row::Confirmed => {
-            ask_by(rt, hub, tellers, 0, &submission, Told::Taken("T1", 11_000))?;
+            let ticket = ask_by(rt, hub, tellers, 0, &submission, Told::Taken("T1", 11_000))?;
             let confirmation = confirm(B, A, "T1", 2_000)?;
-            ask_by(rt, hub, tellers, 1, &confirmation, Told::Accepted(A, "T1"))
+            ask_by(rt, hub, tellers, 1, &confirmation, Told::Accepted(A, "T1"))?;
+            Ok(ticket)
         }
     }
 }

@@ -4,7 +4,7 @@ ghost use Rattle.inst_hub.specs.Calls.{IsOf, AreOf};
 
 use crate::flaw::Flaw;
 use crate::hub::job::last;
-use crate::scarce::asking::ask_so;
+use crate::scarce::asking::ask_and_compare;
 use crate::scarce::want::{MOST_TRIES, Need, QUANTUM, Want, check_answer};
 use crate::told::Told;
 use inst_base::{Fault, Moment};
@@ -73,7 +73,7 @@ fn ask_in_want<R: Wait>(
     if !want.hoard.leave(bytes) {
         return Err(Flaw::NoHoard);
     }
-    let answer = ask_so(rt, hub, teller, step, wanted);
+    let answer = ask_and_compare(rt, hub, teller, step, wanted);
     want.hoard.give_back();
     answer
 }
@@ -139,14 +139,19 @@ fn call_in_want<R: Wait>(
 {
     for quanta in 0..MOST_TRIES {
         if !both_have(rt, hub, want, teller, call.before)? {
-            return Err(Flaw::Changed);
+            return Err(if quanta == 0 {
+                Flaw::OtherAnswer
+            } else {
+                Flaw::Changed
+            });
         }
         let bytes = quanta * QUANTUM;
         match ask_in_want(rt, hub, want, teller, &call.step, call.wanted, bytes) {
             Err(Flaw::Refused(Fault::Memory)) => {}
-            ended => {
+            Err(flaw) => return Err(flaw),
+            Ok(ticket) => {
                 want.tries.count(call.need, quanta);
-                return ended;
+                return Ok(ticket);
             }
         }
     }

@@ -15,26 +15,45 @@ fn count_of(entries: &[Entry], sight: &Sight) -> usize {
     count
 }
 
+/// Whether a teller was told of the transfer that was handed out so.
+fn is_known(sights: &Sights, entry: &Entry) -> bool {
+    for slot in sights.places() {
+        if let Some(sight) = slot {
+            if sight.ticket.place().owner == entry.from && sight.id == entry.id {
+                return true;
+            }
+        }
+    }
+    false
+}
+
+/// Whether a teller was told of all that was handed out.
+fn are_known(sights: &Sights) -> bool {
+    for entry in sights.entries() {
+        if !is_known(sights, entry) {
+            return false;
+        }
+    }
+    true
+}
+
 /// All that was handed out was submitted, and nothing is missing: `StrangeEntry` where a transfer was handed out twice,
 /// or one that nobody was told of. A transfer comes to its beneficiary after its submission, but where it timed out
 /// before.
 pub(crate) fn check_inbox(sights: &Sights) -> Result<(), Flaw> {
-    let entries = sights.entries();
-    let mut known = 0usize;
+    if !are_known(sights) {
+        return Err(Flaw::StrangeEntry);
+    }
     for slot in sights.places() {
         if let Some(sight) = slot {
-            match count_of(entries, sight) {
+            match count_of(sights.entries(), sight) {
                 0 if sight.state != State::Decided(Outcome::TimedOut) => {
                     return Err(Flaw::NotHandedOut);
                 }
-                0 => {}
-                1 => known = known.saturating_add(1),
+                0 | 1 => {}
                 _ => return Err(Flaw::StrangeEntry),
             }
         }
-    }
-    if known != entries.len() {
-        return Err(Flaw::StrangeEntry);
     }
     Ok(())
 }

@@ -13,6 +13,6 @@ loop-result-preserved c =
         i.2.0 ++ c.in_ok-hand.field-0 ∷ [],
         ends_more _ _ _ _ _ _ i.2.1 is c.in_ok-hand.was,
         gathered_more _ _ _ _ i.2.2 c.saturating_add.ensures
-          (c.in_ok-extend_from_slice.ensures.items ∙ ap (λ (l : List (Place × State)). c.loop-result.crew.states.items ++ l) c.as_slice.ensures.value) c.in_ok-push.ensures.items c.in_ok-push-2.ensures.items,
+            (c.in_ok-extend_from_slice.ensures.items ∙ ap (λ (l : List (Place × State)). c.loop-result.crew.states.items ++ l) c.as_slice.ensures.value) c.in_ok-push.ensures.items c.in_ok-push-2.ensures.items,
       ),
     )
