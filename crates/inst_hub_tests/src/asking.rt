@@ -55,6 +55,17 @@ pub(crate) struct Line<'a>(
     pub(crate) Told,
 );
 
+/// Participant 0 is funded, and submits a transfer to participant 1.
+pub(crate) const SUBMITTED: [Line<'static>; 2] = [
+    Line(0, Deed::Fund("F1", 50_000), 0, Told::Done),
+    Line(
+        0,
+        Deed::Submit("T1", 20_000, 1_000),
+        1_000,
+        Told::Taken(true),
+    ),
+];
+
 /// The ask of a deed; `BadField` for a sweep, which is none.
 pub(crate) fn asked(who: u8, deed: Deed<'_>, at: u64) -> Result<Ask, Fault> {
     let command = match deed {

@@ -5,7 +5,7 @@ ghost use Rattle.inst_hub.specs.Calls.{AreOf};
 ghost use Rattle.inst_hub.specs.Opening.{HaveAllParts};
 ghost use Rattle.inst_close.specs.Closing.{IsOpenedSo};
 
-use crate::asking::{ACCEPTED, Deed, Line, Told, play_by};
+use crate::asking::{ACCEPTED, Deed, Line, SUBMITTED, Told, play_by};
 use crate::comparing::same;
 use crate::tellers::played;
 use inst_base::{Code, Fault};
@@ -47,18 +47,7 @@ pub(crate) fn closed(alloc: Global, hub: Hub, tellers: Vec<Teller>) -> Result<Bo
     }
 }
 
-/// Participant 0 is funded, and submits a first transfer.
-const FIRST: [Line<'static>; 2] = [
-    Line(0, Deed::Fund("F1", 50_000), 0, Told::Done),
-    Line(
-        0,
-        Deed::Submit("T1", 20_000, 1_000),
-        1_000,
-        Told::Taken(true),
-    ),
-];
-
-/// It submits a second.
+/// Participant 0 submits a second transfer.
 const SECOND: [Line<'static>; 1] = [Line(
     0,
     Deed::Submit("T2", 5_000, 1_000),
@@ -85,7 +74,7 @@ fn one_confirmed<R: Wait + Abort>(
     ensures of { AreOf hub.now tellers.new.items }
     ensures parts { HaveAllParts tellers.new.items }
 {
-    let first = play_by(rt, hub, tellers, 0, &FIRST)?;
+    let first = play_by(rt, hub, tellers, 0, &SUBMITTED)?;
     let second = play_by(rt, hub, tellers, 0, &SECOND)?;
     play_by(rt, hub, tellers, 1, &CONFIRMED)?;
     first.zip(second).ok_or(Fault::UnknownTransfer)

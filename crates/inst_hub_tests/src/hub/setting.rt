@@ -1,21 +1,11 @@
 //! A transfer that is submitted.
 ghost use Rattle.inst_hub.specs.Calls.{IsOf};
 
-use crate::asking::{Deed, Line, Told, play};
+use crate::asking::{SUBMITTED, play};
 use inst_base::Fault;
 use inst_hub::{Hub, Teller, Ticket};
 use std::process::Abort;
 use std::sync::Wait;
-
-const SUBMITTED: [Line<'static>; 2] = [
-    Line(0, Deed::Fund("F1", 50_000), 0, Told::Done),
-    Line(
-        0,
-        Deed::Submit("T1", 20_000, 1_000),
-        1_000,
-        Told::Taken(true),
-    ),
-];
 
 /// The teller funds participant 0, and submits a transfer of it.
 pub(crate) fn submitted<R: Wait + Abort>(

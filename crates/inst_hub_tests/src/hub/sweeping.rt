@@ -17,14 +17,7 @@ use std::thread::{Threads, join};
 const TIMED_OUT: State = State::Decided(Outcome::TimedOut);
 
 /// Investigations before the deadline and at it, and then sweeps of both sides.
-const INVESTIGATED: [Line<'static>; 6] = [
-    Line(0, Deed::Fund("F1", 50_000), 0, Told::Done),
-    Line(
-        0,
-        Deed::Submit("T1", 20_000, 1_000),
-        1_000,
-        Told::Taken(true),
-    ),
+const INVESTIGATED: [Line<'static>; 4] = [
     Line(
         0,
         Deed::Investigate("T1"),
@@ -41,11 +34,20 @@ const INVESTIGATED: [Line<'static>; 6] = [
     Line(1, Deed::Sweep, 11_000, Told::New(0)),
 ];
 
+/// Compares what they tell and count of a transfer that is submitted.
+fn investigates<R: Wait + Abort>(rt: &R, hub: &Hub, teller: &mut Teller) -> Result<(), Fault>
+    requires { IsOf hub.now teller.old }
+{
+    submitted(rt, hub, teller)?;
+    play(rt, hub, teller, &INVESTIGATED).map(|_| ())
+}
+
 // The call has told the beneficiary, so that a sweep finds nothing.
 #[test]
 fn what_an_investigation_finds_is_learnt(rt: HostRuntime) -> Result<(), Fault> {
     let alloc = rt.alloc();
-    played(&rt, Hub::open(alloc, settings(alloc)?, 1)?, &INVESTIGATED)
+    let (hub, mut teller) = with_teller(Hub::open(alloc, settings(alloc)?, 1)?)?;
+    investigates(&rt, &hub, &mut teller)
 }
 
 /// A gate that waits inside the locks of two originators until a sweep has brought what both submitted.
