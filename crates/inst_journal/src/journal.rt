@@ -1,4 +1,4 @@
-ghost use Rattle.std.specs.Prelude.{◌≡◌, ◌<◌, [], ◌∷◌, ◌++◌, OnOk, OnErr, IfOk, IsOk};
+ghost use Rattle.std.specs.Prelude.{◌≡◌, ◌<◌, ◌≤◌, [], ◌∷◌, ◌++◌, OnOk, OnErr, IfOk, IsOk};
 
 use crate::Event;
 use inst_base::mention;
@@ -38,6 +38,16 @@ impl Journal {
         Journal {
             events: Vec::new(alloc),
         }
+    }
+
+    /// An empty journal with room for so many events.
+    pub fn with_room(alloc: Global, count: usize) -> Result<Self, AllocError>
+        ensures events { IfOk result (λ journal. journal.events ≡ []) }
+        ensures room { IfOk result (λ journal. count ≤ journal.room) }
+    {
+        Ok(Journal {
+            events: Vec::with_capacity(alloc, count)?,
+        })
     }
 
     /// A journal with the same events. It copies each event.

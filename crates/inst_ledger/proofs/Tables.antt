@@ -1,5 +1,5 @@
 -- What one more event does to a table, and what a table tells of the history.
-use Rattle.std.proofs.Common.{◌≡◌, ℕ, Bool, true, false, ◌||◌, cond, List, [], ◌∷◌, ◌++◌, Option, Some, None, is_some, refl, sym, ap, ◌∙◌}
+use Rattle.std.proofs.Common.{◌≡◌, ℕ, Bool, true, false, cond, List, [], ◌∷◌, ◌++◌, Option, Some, None, is_some, refl, sym, ap, ◌∙◌}
 use Rattle.std.specs.Cmp.Lexicographic.{same_text as text_same}
 use Rattle.inst_settings.specs.Settings.{same_text}
 use Rattle.inst_journal.specs.declared.event.Event.{Event}

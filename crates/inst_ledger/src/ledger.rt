@@ -1,4 +1,4 @@
-ghost use Rattle.std.specs.Prelude.{◌≡◌, ◌<◌, [], ◌∷◌, ◌++◌, IfOk, OnOk};
+ghost use Rattle.std.specs.Prelude.{◌≡◌, ◌<◌, ◌+◌, ◌*◌, [], ◌∷◌, ◌++◌, IfOk, OnOk};
 ghost use Rattle.inst_settings.specs.Lawful.{IsSettings};
 ghost use Rattle.inst_journal.specs.Opened.{HasOpeningsLeft};
 ghost use Rattle.inst_journal.specs.Sound.{IsSound};
@@ -60,17 +60,33 @@ fn boxed(alloc: Global, settings: &Settings) -> Result<Box<Settings>, AllocError
     Ok(Box::new(alloc, settings.copy()?)?)
 }
 
+/// How many transfers an opening has of a participant that submits as many as it may, and to which as many come.
+fn expected_transfers(settings: &Settings) -> usize
+    ensures { result ≡ 2 * settings.now.places }
+{
+    2 * usize::from(settings.places())
+}
+
+/// How many events it keeps then, where it is funded as often as it may be too: each transfer, and its outcome.
+fn expected_events(settings: &Settings) -> usize
+    ensures { result ≡ 4 * settings.now.places + settings.now.fundings }
+{
+    4 * usize::from(settings.places()) + usize::from(settings.fundings())
+}
+
 impl Ledger {
-    /// The books of the participant `who`, with no history. They have a copy of the settings.
+    /// The books of the participant `who`, with no history. They have a copy of the settings, and room for the events
+    /// that an opening may keep; more of them take more memory.
     pub fn open(alloc: Global, settings: &Settings, who: u8) -> Result<Ledger, AllocError>
         ensures ok { IfOk result (λ l. l.book ≡ record { settings = settings.now; who = who; events = [] }) }
     {
+        let journal = Journal::with_room(alloc, expected_events(settings))?;
         Ok(Ledger {
             settings: boxed(alloc, settings)?,
             who,
-            journal: Journal::new(alloc),
+            journal,
             totals: Totals::new(),
-            table: Transfers::new(alloc, who),
+            table: Transfers::new(alloc, who, expected_transfers(settings)),
             references: References::new(alloc),
             fundings: 0,
             inbox: Vec::new(alloc),

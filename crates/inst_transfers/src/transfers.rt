@@ -27,6 +27,8 @@ pub struct Transfers {
     waiting: usize,
     /// Where the table holds the transfer that was entered or booked last.
     last: usize,
+    /// For how many there is room to be with the first.
+    expected: usize,
 }
 
 impl Model for Transfers {
@@ -51,8 +53,8 @@ impl Model for Transfers {
 }
 
 impl Transfers {
-    /// No transfers.
-    pub fn new(alloc: Global, who: u8) -> Transfers
+    /// No transfers, of which so many are expected. It takes no memory.
+    pub fn new(alloc: Global, who: u8, expected: usize) -> Transfers
         ensures who { result.who ≡ who }
         ensures state { state_in result ≡ nothing }
     {
@@ -65,6 +67,7 @@ impl Transfers {
             debits: 0,
             waiting: 0,
             last: 0,
+            expected,
         }
     }
 
@@ -133,13 +136,19 @@ impl Transfers {
         self.table.len()
     }
 
-    /// Makes room for one more transfer, or answers that memory was refused. Nothing else changes.
+    /// Makes room for one more transfer, and with the first one for all that are expected, or answers that memory was
+    /// refused. Nothing else changes. What there is room for is touched as it is used.
     pub fn reserve(&mut self) -> Result<(), AllocError>
         ensures same { self.new ≡ record self.old { room = self.new.room } }
         ensures room { OnOk result (0 < self.new.room) }
     {
-        self.table.reserve(1)?;
-        self.own.try_reserve(1)
+        let more = if self.table.is_empty() {
+            self.expected.max(1)
+        } else {
+            1
+        };
+        self.table.reserve(more)?;
+        self.own.try_reserve(more)
     }
 
     /// Enters a submission of the participant's own at its next place. It can't fail.

@@ -45,7 +45,7 @@ pub fn statement_of(alloc: Global, world: &World, who: u8) -> Result<Vec<Line>, 
 /// A transfer that was taken, found in the table.
 pub fn transfers(alloc: Global, stamp: Moment) -> Result<Option<Found>, Fault> {
     let id = Ident::new("T1")?;
-    let mut table = Transfers::new(alloc, 0); // of participant 0
+    let mut table = Transfers::new(alloc, 0, 1_024); // of participant 0, for which 1,024 are expected
     table.reserve()?; // room for one more
     table.take(id, 1, Cents::new(20_000)?, stamp);
     Ok(table.find(0, &id)) // its side, amount and outcome, with its position

@@ -31,6 +31,12 @@ fn reserves_and_pushes(rt: HostRuntime) -> Result<(), Fault> {
     pushes_one(&rt, &mut journal)
 }
 
+#[test]
+fn begins_empty_with_room(rt: HostRuntime) -> Result<(), Fault> {
+    let mut journal = Journal::with_room(rt.alloc(), 3)?;
+    pushes_one(&rt, &mut journal)
+}
+
 /// The event that takes a transfer over 100 cents to participant 1.
 fn taken(id: Ident) -> Result<Event, Fault> {
     Ok(Event::Taken {

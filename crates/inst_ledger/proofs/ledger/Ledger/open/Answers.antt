@@ -9,8 +9,11 @@ use Rattle.inst_ledger.proofs.ledger.Ledger.open.Goals as goal
 pub invariant_of-result : goal.invariant_of-result
 invariant_of-result c =
     record {
-      beside = begun c.in_ok-boxed.field-0.value c.args.who c.new.result.events c.new-2.result c.new-3.result _ c.new-5.result.items
+      beside = begun c.in_ok-boxed.field-0.value c.args.who c.in_ok-journal.journal.events c.new.result c.new-2.result _
+          c.new-4.result.items
           (subst (λ (s : HubSettings). IsSettings s) (sym c.in_ok-boxed.ensures.ok) c.in_ok-boxed.ensures.lawful)
-          c.new.ensures c.new-2.ensures c.new-3.ensures.who c.new-3.ensures.state c.new-4.ensures c.new-5.ensures.items;
-      lines = stated_at c.new.ensures (nothing_stated c.new-6.result c.new-6.ensures.lines c.new-6.ensures.begun);
+          c.in_ok-journal.ensures.events c.new.ensures c.new-2.ensures.who c.new-2.ensures.state c.new-3.ensures
+          c.new-4.ensures.items;
+      lines = stated_at c.in_ok-journal.ensures.events
+          (nothing_stated c.new-5.result c.new-5.ensures.lines c.new-5.ensures.begun);
     }
