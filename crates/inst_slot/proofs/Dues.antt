@@ -1,10 +1,9 @@
 -- What waits of a participant's own live transfers, as its history grows.
-use Rattle.std.proofs.Common.{◌≡◌, ◌≢◌, ℕ, zero, suc, ◌+◌, ◌<◌, arith, Bool, true, false, not, ◌&&◌, ◌||◌, ◌==◌, cond, take, List, [], ◌∷◌, ◌++◌, length, ⊎_elim, refl, sym, ap, ◌∙◌, Option, Some, None, is_none}
+use Rattle.std.proofs.Common.{◌≡◌, ℕ, zero, suc, arith, Bool, true, false, not, ◌&&◌, ◌||◌, ◌==◌, cond, List, [], ◌∷◌, ◌++◌, length, ⊎_elim, refl, sym, ap, ◌∙◌, Option, Some, None, is_none}
 use Rattle.std.specs.Prelude.{slice_get, map, nat_eq}
 use Rattle.std.specs.List.{filter}
-use Rattle.std.proofs.lemmas.Bool.{false≢true, and_parts, cases_Bool, eqb-true, eq-eqb}
+use Rattle.std.proofs.lemmas.Bool.{false≢true, cases_Bool, eqb-true, eq-eqb}
 use Rattle.std.proofs.lemmas.Bool.Decides.{nat_tests}
-use Rattle.std.proofs.lemmas.Option.{slice_get_within}
 use Rattle.std.specs.Cmp.Lexicographic.{same_text as text_same}
 use Rattle.inst_base.specs.TimeLimit.{deadline_of}
 use Rattle.inst_settings.specs.Settings.{HubSettings, same_text}
@@ -18,7 +17,7 @@ use Rattle.inst_journal.specs.Opened.{takes_live}
 use Rattle.inst_journal.proofs.Pushing.{first_some_push}
 use Rattle.inst_slot.specs.Telling.{taken_by}
 use Rattle.inst_slot.specs.Waiting.{takes_waiting, deadline_in}
-use Rattle.inst_slot.specs.inner.Waiting.{AreTimed, books_own}
+use Rattle.inst_slot.specs.inner.Waiting.{books_own}
 use Rattle.inst_journal.proofs.OwnBookings.{and-false}
 
 -- what one more event leaves of what waits
@@ -173,13 +172,6 @@ at_end s who K d e (x ∷ L) zero =
 at_end s who K d e (x ∷ L) (suc k) =
     at_end s who K d e L k ∙ ap (λ (b : Bool). takes_waiting s who K d (slice_get L k) || (takes_waiting s who K d (Some e) && b)) (sym (suc_same k (length L)))
 
-pub undone : (h i j : Bool) → (h ≡ true → j ≡ true → ⊥) → ((h || (i && j)) && not j) ≡ h
-undone true i true never = absurd (never refl refl)
-undone true i false never = refl
-undone false true true never = refl
-undone false true false never = refl
-undone false false j never = refl
-
 -- whether the deadline is this one
 abbrev pub at_deadline : ℕ → Option ℕ → Bool
 at_deadline d None = false
@@ -211,29 +203,3 @@ carried_waits s who J d (Forwarded from other cents x ∷ K) k = carried_waits s
 carried_waits s who J d (Booked from other o ∷ K) k = carried_waits s who J d K k
 carried_waits s who J d (Fetched n ∷ K) k = carried_waits s who J d K k
 carried_waits s who J d (Opened ∷ K) k = carried_waits s who J d K k
-
-taken_at : (E : List ℕ) (index k : ℕ) → k < index → slice_get (take index E) k ≡ slice_get E k
-taken_at [] zero k below = absurd (omega arith)
-taken_at [] (suc index) k below = refl
-taken_at (x ∷ E) zero k below = absurd (omega arith)
-taken_at (x ∷ E) (suc index) zero below = refl
-taken_at (x ∷ E) (suc index) (suc k) below = taken_at E index k (omega arith)
-
-apart : (k index : ℕ) → nat_eq k index ≡ false → k ≢ index
-apart k index other e = absurd (false≢true (sym other ∙ same_number k index e))
-
--- the last goes, after its pair
-pub timed_taken : (E F : List ℕ) (index : ℕ) (old new : List (ℕ × ℕ)) → AreTimed E new → F ≡ take index E → ((d k : ℕ) → has new d k ≡ (has old d k && not (nat_eq k index))) → index + 1 ≡ length E → AreTimed F new
-timed_taken E F index old new timed cut out long d k there =
-    let p = and_parts (has old d k) (not (nat_eq k index)) (sym (out d k) ∙ there) in
-    let at : slice_get E k ≡ Some d = timed d k there in
-    let within : k < length E = slice_get_within E k d at in
-    let other : nat_eq k index ≡ false = unless (nat_eq k index) p.1 in
-    ap (λ (l : List ℕ). slice_get l k) cut ∙ taken_at E index k (earlier k index (length E) within long other) ∙ at
-  where
-    unless : (b : Bool) → not b ≡ true → b ≡ false
-    unless true h = absurd (false≢true h)
-    unless false h = refl
-
-    earlier : (k index n : ℕ) → k < n → index + 1 ≡ n → nat_eq k index ≡ false → k < index
-    earlier k index n within long other = omega (arith, within, long, apart k index other)

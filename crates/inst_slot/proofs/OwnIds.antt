@@ -1,12 +1,11 @@
 -- The identifiers of a participant's own live transfers, and what the table of their indexes tells of the history.
-use Rattle.std.proofs.Common.{◌≡◌, ℕ, zero, suc, Bool, true, false, not, ◌&&◌, ◌||◌, cond, take, ◌<◌, List, [], ◌∷◌, ◌++◌, length, refl, sym, ap, ◌∙◌, arith, subst, Option, Some, None, is_none, is_some}
+use Rattle.std.proofs.Common.{◌≡◌, ℕ, zero, suc, Bool, true, false, not, ◌&&◌, ◌||◌, cond, List, [], ◌∷◌, ◌++◌, length, refl, sym, ap, ◌∙◌, subst, Option, Some, None, is_none, is_some}
 use Rattle.std.specs.Prelude.{slice_get, position, map, nat_eq}
 use Rattle.std.specs.List.{filter}
 use Rattle.std.specs.Cmp.Lexicographic.{same_text as text_same}
 use Rattle.std.proofs.lemmas.List.{map-append, length-map}
-use Rattle.std.proofs.Math.Seq.{take-append_seam}
-use Rattle.std.proofs.lemmas.Option.{slice_get_within, same_Some}
-use Rattle.std.proofs.lemmas.Bool.{true≢false, eqb-true}
+use Rattle.std.proofs.lemmas.Option.{same_Some}
+use Rattle.std.proofs.lemmas.Bool.{true≢false}
 use Rattle.inst_base.specs.TimeLimit.{deadline_of}
 use Rattle.inst_due.specs.Due.{is_of, has, comes_after, Adds, IsLeast}
 use Rattle.inst_settings.specs.Settings.{HubSettings, same_text}
@@ -29,7 +28,7 @@ use Rattle.inst_slot.specs.inner.Indexed.{is_id}
 use Rattle.inst_slot.specs.OwnState.{booked_state, state_of, own_state}
 use Rattle.inst_slot.specs.Waiting.{Deadlines, IsRight, IsWaiting, GivesNextDue, waits, takes_waiting, deadline_in}
 use Rattle.inst_slot.specs.inner.Waiting.{moves_none, books_own}
-use Rattle.inst_slot.proofs.Dues.{waiting_after, and_true_is, taken_books_none, at_end, undone}
+use Rattle.inst_slot.proofs.Dues.{waiting_after, and_true_is, taken_books_none, at_end}
 use Rattle.inst_slot.proofs.Entering.{takes_the_next}
 use Rattle.inst_slot.proofs.Growing.{live_taken_still}
 use Rattle.inst_slot.proofs.Indexed.{is_found}
@@ -210,33 +209,6 @@ takes_right old new ids more w v id to cents stamp right fits added longer adds 
       added ∙ ap (λ (l : List (List ℕ)). l ++ id ∷ []) right.2 ∙ sym (own_more old.settings old.who old.events id to cents stamp right.1 fits),
       waits_more old.settings old.who old.events id to cents stamp w v right.1 fits right.3 longer adds,
     )
-
-waits_within : (s : HubSettings) (who : ℕ) (J : List Event) (d : ℕ) (L : List Event) (k : ℕ) → takes_waiting s who J d (slice_get L k) ≡ true → k < length L
-waits_within s who J d L k there = go (slice_get L k) refl there
-  where
-    go : (o : Option Event) → slice_get L k ≡ o → takes_waiting s who J d o ≡ true → k < length L
-    go None at h = absurd (true≢false (sym h))
-    go (Some x) at h = slice_get_within L k x at
-
--- a submission that was taken out again
-pub right_again : (s : HubSettings) (who : ℕ) (J : List Event) (ids same_ids : List (List ℕ)) (w v u : Deadlines) (x index : ℕ) → IsRight s who J ids w → same_ids ≡ ids → index ≡ length w.deadlines
-    → v.deadlines ≡ w.deadlines ++ x ∷ [] → Adds w.pairs v.pairs x (length w.deadlines) → u.deadlines ≡ take index v.deadlines → ((d k : ℕ) → has u.pairs d k ≡ (has v.pairs d k && not (nat_eq k index))) → IsRight s who J same_ids u
-right_again s who J ids same_ids w v u x index right same at longer adds cut out = (
-  right.0,
-  right.1,
-  same ∙ right.2,
-  record {
-    deadlines = cut ∙ ap (take index) longer ∙ ap (λ (n : ℕ). take n (w.deadlines ++ x ∷ [])) at ∙ take-append_seam w.deadlines (x ∷ []) ∙ right.3.deadlines;
-    pairs = λ d k. out d k ∙ ap (λ (b : Bool). b && not (nat_eq k index)) (adds d k) ∙ ap (λ (n : ℕ). (has w.pairs d k || (nat_eq d x && nat_eq k (length w.deadlines))) && not (nat_eq k n)) at
-        ∙ undone (has w.pairs d k) (nat_eq d x) (nat_eq k (length w.deadlines)) (λ was yes. absurd (past d k was (eqb-true k (length w.deadlines) yes))) ∙ right.3.pairs d k;
-  },
-)
-  where
-    past : (d k : ℕ) → has w.pairs d k ≡ true → k ≡ length w.deadlines → ⊥
-    past d k was e =
-        let within : k < length (live_taken who J) = waits_within s who J d (live_taken who J) k (sym (right.3.pairs d k) ∙ was) in
-        let long : length w.deadlines ≡ length (live_taken who J) = ap length right.3.deadlines ∙ length-map (live_taken who J) (deadline_in s) in
-        absurd (omega (arith, within, long, e))
 
 -- what comes next of what waits
 pub next_due : (book : Book) (pairs : List (ℕ × ℕ)) (pair : Option (ℕ × ℕ)) (next : Option (ℕ × ℕ)) → ((d k : ℕ) → has pairs d k ≡ waits book.settings book.who book.events d k) → IsLeast pairs (comes_after pair) next → GivesNextDue book pair next

@@ -26,6 +26,11 @@ use Rattle.inst_slot.specs.Telling.{booking}
 use Rattle.inst_slot.proofs.Keeping.{with_events, lying}
 use Rattle.inst_slot.proofs.Deciding.{asked}
 
+-- what holds whatever the answer is holds where it is an error
+pub on_err : {T E : Type 0} (r : Result T E) (P : Type 0) → P → OnErr r P
+on_err (Ok value) P p = tt
+on_err (Err error) P p = p
+
 pub on_error : (P : Fault → Type 0) (r : Result Reply Fault) → ((fault : Fault) → r ≡ Err fault → P fault) → IfErr r P
 on_error P (Ok reply) all = tt
 on_error P (Err fault) all = all fault refl

@@ -58,16 +58,6 @@ impl Waiting {
         Ok(())
     }
 
-    /// Takes the last transfer, which has this index and still waits, out again.
-    pub(crate) fn take_back(&mut self, index: u16)
-        requires { index + 1 ≡ length self.old.deadlines }
-        ensures deadlines { self.new.deadlines ≡ take index self.old.deadlines }
-        ensures pairs { (d k : ℕ) → has self.new.pairs d k ≡ (has self.old.pairs d k && not (nat_eq k index)) }
-    {
-        self.take_out(index);
-        self.deadlines.truncate(usize::from(index));
-    }
-
     /// Takes out the pair of an own transfer that the event books.
     pub(crate) fn book(&mut self, ledger: &Ledger, who: u8, event: &Event)
         ensures deadlines { self.new.deadlines ≡ self.old.deadlines }

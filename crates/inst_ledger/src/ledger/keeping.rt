@@ -68,13 +68,22 @@ impl Ledger {
         Ok(())
     }
 
-    /// Keeps a submission, and reserves its amount.
-    fn keep_taken(&mut self, id: Ident, sending: Sending) -> Result<(), AllocError>
-        requires { Fits self.old.book.settings self.old.book.who self.old.book.events
+    /// Makes room for one more transfer: for its event, and in the table. The book stays as it is.
+    pub fn reserve_transfer(&mut self) -> Result<(), AllocError>
+        ensures book { self.new.book ≡ self.old.book }
+        ensures room { OnOk result ((0 < self.new.room) × (0 < self.new.table.room)) }
+    {
+        self.reserve()?;
+        self.table.reserve()
+    }
+
+    /// Keeps a submission, and reserves its amount, in room that was made. It takes no memory.
+    pub fn keep_taken(&mut self, id: Ident, sending: Sending)
+        requires room { (0 < self.old.room) × (0 < self.old.table.room) }
+        requires fits { Fits self.old.book.settings self.old.book.who self.old.book.events
             (Event.Taken id sending.to sending.cents sending.stamp) }
-        ensures ok { OnOk result (self.new.book ≡
-            with_event self.old.book (Event.Taken id sending.to sending.cents sending.stamp)) }
-        ensures err { OnErr result (self.new.book ≡ self.old.book) }
+        ensures { self.new.book ≡
+            with_event self.old.book (Event.Taken id sending.to sending.cents sending.stamp) }
     {
         let Sending { to, cents, stamp } = sending;
         let taken = Event::Taken {
@@ -86,11 +95,8 @@ impl Ledger {
         let _ = self.journal.events().len();
         // That an amount is within the most is known where it is read.
         let _ = cents.get();
-        self.journal.reserve()?;
-        self.table.reserve()?;
-        self.journal.push(taken)?;
+        self.journal.push(taken).unwrap();
         self.table.take(id, to, cents, stamp);
-        Ok(())
     }
 
     /// Keeps a transfer that is forwarded to the participant.
@@ -216,7 +222,11 @@ impl Ledger {
                 to,
                 cents,
                 stamp,
-            } => self.keep_taken(id, Sending { to, cents, stamp }),
+            } => {
+                self.reserve_transfer()?;
+                self.keep_taken(id, Sending { to, cents, stamp });
+                Ok(())
+            }
             Event::Forwarded {
                 from,
                 id,

@@ -17,6 +17,7 @@ use inst_base::{Fault, Moment};
 use inst_board::Board;
 use inst_command::{Ask, Outcome, Reply};
 use inst_journal::{Event, Handled};
+use inst_ledger::Sending;
 use inst_terms::Terms;
 use std::alloc::AllocError;
 
@@ -49,22 +50,11 @@ impl Slot {
         let index = self.ledger.live_submissions() as u16;
         let &Terms { to, cents, id } = terms;
         let deadline = stamp.deadline(self.ledger.settings().limit());
+        self.ledger.reserve_transfer()?;
         self.waiting.add(deadline)?;
-        match self.ledger.keep(Event::Taken {
-            id,
-            to,
-            cents,
-            stamp,
-        }) {
-            Ok(()) => {
-                self.open_place(board, index, terms, stamp);
-                Ok(())
-            }
-            Err(error) => {
-                self.waiting.take_back(index);
-                Err(error)
-            }
-        }
+        self.ledger.keep_taken(id, Sending { to, cents, stamp });
+        self.open_place(board, index, terms, stamp);
+        Ok(())
     }
 
     /// Keeps an event that fits, but for an opening, and opens the next place where it takes a submission.

@@ -1,6 +1,7 @@
 //! Rows that are answered: by the ledger, by the plain functions on its events, and a statement by a walk over them.
 ghost use Rattle.std.specs.Prelude.{◌≡◌, true};
 ghost use Rattle.inst_command.specs.Ask.{command_fits};
+ghost use Rattle.inst_journal.specs.Sound.{Fits};
 
 use crate::comparing::same_at;
 use crate::ledger::asked::{Asks, command, outcome};
@@ -8,7 +9,7 @@ use crate::ledger::told::{Told, is_refused, is_reply};
 use inst_base::{Fault, Moment};
 use inst_command::{Ask, Outcome};
 use inst_journal::{Event, Handled, handle_command, reply_of};
-use inst_ledger::Ledger;
+use inst_ledger::{Ledger, Sending};
 use inst_rows::{End, Shown, are_lines};
 use inst_statement::statement;
 use std::alloc::Global;
@@ -101,6 +102,25 @@ fn by_a_walk(
     }
 }
 
+/// Keeps the event; a submission in room that was made before.
+fn keep(ledger: &mut Ledger, event: Event) -> Result<(), Fault>
+    requires { Fits ledger.old.book.settings ledger.old.book.who ledger.old.book.events event }
+{
+    if let Event::Taken {
+        id,
+        to,
+        cents,
+        stamp,
+    } = event
+    {
+        ledger.reserve_transfer()?;
+        ledger.keep_taken(id, Sending { to, cents, stamp });
+    } else {
+        ledger.keep(event)?;
+    }
+    Ok(())
+}
+
 /// Compares what the ledger and the plain functions answer, and keeps what is to be kept.
 fn by_the_ledger(
     rt: &(impl Abort + AllocGlobal),
@@ -116,7 +136,7 @@ fn by_the_ledger(
             same_at(rt, *ask, is_reply(&reply, told), true);
             plainly(rt, ledger, ask, found, told, &kept);
             if let Some(event) = kept {
-                ledger.keep(event)?;
+                keep(ledger, event)?;
             }
         }
         Err(fault) => {

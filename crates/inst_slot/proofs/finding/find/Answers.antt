@@ -1,5 +1,4 @@
-use Rattle.std.proofs.Common.{◌≡◌, ℕ, true, inl, ⊎_elim, refl, sym, ap, subst, ◌∙◌, Option, Some, None, is_none, Result, Ok, Err, OnErr}
-use Rattle.std.specs.declared.alloc.AllocError.{AllocError}
+use Rattle.std.proofs.Common.{◌≡◌, ℕ, true, inl, ⊎_elim, refl, sym, ap, subst, ◌∙◌, Option, Some, None, is_none}
 use Rattle.std.proofs.lemmas.Bool.{true≢false}
 use Rattle.inst_settings.specs.Settings.{HubSettings}
 use Rattle.inst_command.specs.declared.outcome.Outcome.{Outcome}
@@ -11,11 +10,8 @@ use Rattle.inst_board.specs.Standing.{Standing, unused, pending, decided, look_o
 use Rattle.inst_board.specs.Wish.{wanted}
 use Rattle.inst_board.specs.Learning.{Looks, Answers, Decides}
 use Rattle.inst_slot.specs.Asking.{stays_pending, Finds, OnlyLooks}
+use Rattle.inst_slot.proofs.Refusing.{on_err}
 use Rattle.inst_slot.proofs.finding.find.Goals as goal
-
-on_err : (r : Result (Option Outcome) AllocError) (P : Type 0) → P → OnErr r P
-on_err (Ok found) P p = tt
-on_err (Err refusal) P p = p
 
 no_outcome : (o : Option Outcome) → is_none o ≡ true → o ≡ None
 no_outcome None e = refl
