@@ -75,12 +75,11 @@ fn expected_events(settings: &Settings) -> usize
 }
 
 impl Ledger {
-    /// The books of the participant `who`, with no history. They have a copy of the settings, and room for the events
-    /// that an opening may keep; more of them take more memory.
-    pub fn open(alloc: Global, settings: &Settings, who: u8) -> Result<Ledger, AllocError>
+    /// The books of the participant `who`, with no history, and with room for so many events.
+    fn begin(alloc: Global, settings: &Settings, who: u8, room: usize) -> Result<Ledger, AllocError>
         ensures ok { IfOk result (λ l. l.book ≡ record { settings = settings.now; who = who; events = [] }) }
     {
-        let journal = Journal::with_room(alloc, expected_events(settings))?;
+        let journal = Journal::with_room(alloc, room)?;
         Ok(Ledger {
             settings: boxed(alloc, settings)?,
             who,
@@ -95,8 +94,16 @@ impl Ledger {
         })
     }
 
-    /// The books of the participant `who` with this history, opened again from them. It is copied. It costs
-    /// a look at a table for each event.
+    /// The books of the participant `who`, with no history. They have a copy of the settings, and room for the events
+    /// that an opening may keep; more of them take more memory.
+    pub fn open(alloc: Global, settings: &Settings, who: u8) -> Result<Ledger, AllocError>
+        ensures ok { IfOk result (λ l. l.book ≡ record { settings = settings.now; who = who; events = [] }) }
+    {
+        Ledger::begin(alloc, settings, who, expected_events(settings))
+    }
+
+    /// The books of the participant `who` with this history, opened again from them. It is copied, and there is room for
+    /// the events of an opening behind it. It costs a look at a table for each event.
     pub fn open_from(
         alloc: Global,
         settings: &Settings,
@@ -111,7 +118,9 @@ impl Ledger {
           events = journal.now.events ++ Event.Opened ∷ [];
         }) }
     {
-        let mut ledger = Ledger::open(alloc, settings, who)?;
+        let kept = journal.events().len();
+        let room = kept.saturating_add(expected_events(settings));
+        let mut ledger = Ledger::begin(alloc, settings, who, room)?;
         ledger.carry(journal)?;
         Ok(ledger)
     }
