@@ -76,7 +76,12 @@ fn expected_events(settings: &Settings) -> usize
 
 impl Ledger {
     /// The books of the participant `who`, with no history, and with room for so many events.
-    fn begin(alloc: Global, settings: &Settings, who: u8, room: usize) -> Result<Ledger, AllocError>
+    fn with_room(
+        alloc: Global,
+        settings: &Settings,
+        who: u8,
+        room: usize,
+    ) -> Result<Ledger, AllocError>
         ensures ok { IfOk result (λ l. l.book ≡ record { settings = settings.now; who = who; events = [] }) }
     {
         let journal = Journal::with_room(alloc, room)?;
@@ -99,7 +104,7 @@ impl Ledger {
     pub fn open(alloc: Global, settings: &Settings, who: u8) -> Result<Ledger, AllocError>
         ensures ok { IfOk result (λ l. l.book ≡ record { settings = settings.now; who = who; events = [] }) }
     {
-        Ledger::begin(alloc, settings, who, expected_events(settings))
+        Ledger::with_room(alloc, settings, who, expected_events(settings))
     }
 
     /// The books of the participant `who` with this history, opened again from them. It is copied, and there is room for
@@ -120,7 +125,7 @@ impl Ledger {
     {
         let kept = journal.events().len();
         let room = kept.saturating_add(expected_events(settings));
-        let mut ledger = Ledger::begin(alloc, settings, who, room)?;
+        let mut ledger = Ledger::with_room(alloc, settings, who, room)?;
         ledger.carry(journal)?;
         Ok(ledger)
     }

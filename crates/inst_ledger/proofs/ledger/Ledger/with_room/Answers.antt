@@ -4,7 +4,7 @@ use Rattle.inst_settings.specs.Lawful.{IsSettings}
 use Rattle.inst_ledger.proofs.Begun.{begun}
 use Rattle.inst_ledger.proofs.Stating.{stated_at}
 use Rattle.inst_statement.proofs.Stated.{nothing_stated}
-use Rattle.inst_ledger.proofs.ledger.Ledger.begin.Goals as goal
+use Rattle.inst_ledger.proofs.ledger.Ledger.with_room.Goals as goal
 
 pub invariant_of-result : goal.invariant_of-result
 invariant_of-result c =
