@@ -27,12 +27,17 @@ pub(crate) struct Spot {
     pub(crate) index: Option<u16>,
 }
 
-/// Where the spot at this position of the table stands. It takes a number of steps that grows with the logarithm of
-/// the arrivals.
+/// Where the spot at this position of the table stands. It takes one step for the last arrival, else a number that
+/// grows with the logarithm of the arrivals.
 fn spot_at(spots: &[Spot], position: usize) -> Option<usize>
     requires rising { AreRising (positions_of spots.now) }
     ensures { FindsSpot spots.now position result }
 {
+    if let Some(last) = spots.last() {
+        if last.position == position {
+            return Some(spots.len() - 1);
+        }
+    }
     match spots.binary_search_by_key(&position, |spot| spot.position) {
         Ok(at) => Some(at),
         Err(_) => None,

@@ -1,5 +1,5 @@
 -- What one row more, and one row changed, do to what a table of transfers shows.
-use Rattle.std.proofs.Common.{◌≡◌, ℕ, zero, suc, ◌+◌, ◌<◌, ◌≤◌, Bool, true, false, ◌&&◌, ◌==◌, cond, List, [], ◌∷◌, ◌++◌, length, Option, Some, None, is_some, is_none, inl, inr, ◌⊎◌, ⊎_elim, Result, Ok, OnOk, refl, sym, ap, ◌∙◌, subst, arith, get_or}
+use Rattle.std.proofs.Common.{◌≡◌, ℕ, zero, suc, ◌+◌, ◌<◌, ◌≤◌, Bool, true, false, ◌&&◌, ◌==◌, cond, List, [], ◌∷◌, ◌++◌, length, Option, Some, None, is_some, is_none, inl, inr, ◌⊎◌, ⊎_elim, Result, Ok, OnOk, IfSome, refl, sym, ap, ◌∙◌, subst, arith, get_or}
 use Rattle.std.specs.Prelude.{slice_get}
 use Rattle.std.specs.Cmp.{IsEquivalence, nat_eq_equiv}
 use Rattle.std.specs.Cmp.Lexicographic.{same_text as text_same, nat_list_eq_equiv}
@@ -17,7 +17,7 @@ use Rattle.inst_transfers.specs.declared.transfer.Found.{Found}
 use Rattle.inst_transfers.specs.declared.transfer.Transfer.{Transfer}
 use Rattle.inst_transfers.specs.State.{Key, same_key, put, outcome_in}
 use Rattle.inst_transfers.specs.Held.{found_at, row_in, rows_in, AreApart, id_in, ids_at, AreWithin, AreOwn, AreAbove, AreRising, ArePositions, FindsAt, FindsOwn, Held}
-use Rattle.inst_transfers.specs.inner.Held.{waits_row, waits_at}
+use Rattle.inst_transfers.specs.inner.Held.{waits_row, waits_at, FindsIndex}
 
 and_parts : (a b : Bool) → (a && b) ≡ true → (a ≡ true) × (b ≡ true)
 and_parts true b h = (refl, h)
@@ -355,3 +355,16 @@ not_there ps j k p under over there =
         | inr more ↦ omega (arith, over k (omega (arith, more)) within, at_k)
       ]
     ]
+
+-- what is found at the position is the only index at which it stands
+pub index_is : (ps : List ℕ) (p : ℕ) (r : Option ℕ) → AreRising ps → FindsIndex ps p r → (k : ℕ) → slice_get ps k ≡ Some p → r ≡ Some k
+index_is ps p None rising finds k there = absurd (finds k there)
+index_is ps p (Some i) rising finds k there =
+    ap (λ (n : ℕ). Some n) (same_index ps i k p rising (slice_get_within ps i p finds) (get_or_from_slice_get ps i p 0 finds) there)
+
+pub index_there : (ps : List ℕ) (p : ℕ) (r : Option ℕ) → FindsIndex ps p r → (k : ℕ) → r ≡ Some k → slice_get ps k ≡ Some p
+index_there ps p r finds k is = subst (FindsIndex ps p) is finds
+
+pub index_within : (ps : List ℕ) (p : ℕ) (r : Option ℕ) → FindsIndex ps p r → IfSome r (λ k. k < length ps)
+index_within ps p None finds = tt
+index_within ps p (Some i) finds = slice_get_within ps i p finds

@@ -4,8 +4,8 @@ ghost use Rattle.std.specs.Map.{keys_of};
 ghost use Rattle.inst_journal.specs.declared.event.Event.{Event};
 ghost use Rattle.inst_journal.specs.Sums.{if_accepted};
 ghost use Rattle.inst_transfers.specs.State.{nothing, step};
-ghost use Rattle.inst_transfers.specs.Held.{Finds, FindsAt, FindsOwn, IsFound, Covers, AreApart, found_at, rows_in, state_in};
-ghost use Rattle.inst_transfers.specs.inner.Held.{waits_at};
+ghost use Rattle.inst_transfers.specs.Held.{Finds, FindsAt, FindsOwn, IsFound, Covers, AreApart, AreRising, found_at, rows_in, state_in};
+ghost use Rattle.inst_transfers.specs.inner.Held.{waits_at, FindsIndex};
 
 use crate::transfer::{Found, Side, Transfer};
 use indexmap::IndexMap;
@@ -243,8 +243,9 @@ impl Transfers {
         self.at(position)
     }
 
-    /// The index of the place of the participant's own transfer that was found, where it is live. It takes a
-    /// number of steps that grows with the logarithm of the live ones, and looks nothing up by its key.
+    /// The index of the place of the participant's own transfer that was found, where it is live. It takes one step
+    /// for the last of the live ones, else a number that grows with the logarithm of theirs, and looks nothing up by
+    /// its key.
     pub fn own_index(&self, found: &Found) -> Option<usize>
         requires there { IsFound self.now found.now }
         requires own { found.now.from ≡ self.now.who }
@@ -254,10 +255,7 @@ impl Transfers {
     {
         // That the keys are distinct is known where the table's length is read.
         let _ = self.table.len();
-        match self.own.as_slice().binary_search(&found.position) {
-            Ok(index) => Some(index),
-            Err(_) => None,
-        }
+        index_of(self.own.as_slice(), found.position)
     }
 
     /// How many of the participant's own transfers are live.
@@ -286,6 +284,21 @@ impl Transfers {
         ensures { result ≡ self.now.debits }
     {
         self.debits
+    }
+}
+
+/// Where this position stands among others that rise. It takes one step for the last of them, else a number that
+/// grows with the logarithm of how many there are.
+fn index_of(positions: &[usize], position: usize) -> Option<usize>
+    requires rising { AreRising positions.now }
+    ensures { FindsIndex positions.now position result }
+{
+    if positions.last() == Some(&position) {
+        return Some(positions.len() - 1);
+    }
+    match positions.binary_search(&position) {
+        Ok(index) => Some(index),
+        Err(_) => None,
     }
 }
 
