@@ -137,3 +137,9 @@ eight_below n c most h =
     let below = number_below n c h in
     let least : 128 ^ n ≤ 128 ^ 8 = pow-le-pow_right (omega arith) most in
     omega arith
+
+-- where all digits are 0, so is the number
+pub no_digits : (n : ℕ) (c : ℕ → ℕ) → ((j : ℕ) → c j ≡ 0) → in_base_128 n c ≡ 0
+unfolding sum_below
+no_digits zero c none = refl
+no_digits (suc n) c none = let rest = no_digits n c none in let last = ap (λ (x : ℕ). x * 128 ^ n) (none n) in omega arith

@@ -20,12 +20,13 @@ const LIMIT: u64 = 1 << 63;
 pub(crate) fn pack_identifier(id: &Ident) -> [u64; 4]
     ensures { result ≡ identifier_words id.now }
 {
-    let characters = padded(id.text().as_bytes());
+    let text = id.text().as_bytes();
+    let characters = padded(text);
     [
-        nine_from(&characters, 0),
-        nine_from(&characters, NINE),
-        nine_from(&characters, 2 * NINE),
-        nine_from(&characters, 3 * NINE),
+        word_from(&characters, 0, text.len()),
+        word_from(&characters, NINE, text.len()),
+        word_from(&characters, 2 * NINE, text.len()),
+        word_from(&characters, 3 * NINE, text.len()),
     ]
 }
 
@@ -54,6 +55,19 @@ fn padded(text: &[u8]) -> [u8; ROOM]
     let mut characters = [0; ROOM];
     characters[..text.len()].copy_from_slice(text);
     characters
+}
+
+/// The word of the nine characters from `start` on. Where the text has ended, it is 0 at once.
+fn word_from(characters: &[u8; ROOM], start: usize, len: usize) -> u64
+    requires ascii { IsAscii characters.now }
+    requires start { start + NINE ≤ ROOM }
+    requires zeros { (k : ℕ) → len ≤ k → get_or characters.now k 0 ≡ 0 }
+    ensures { result ≡ nine_from characters.now start }
+{
+    if len <= start {
+        return 0;
+    }
+    nine_from(characters, start)
 }
 
 /// The word of the nine characters from `start` on.
