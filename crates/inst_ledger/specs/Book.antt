@@ -1,14 +1,17 @@
 -- What a contract sees of a ledger: the participant's book, and for how many more events of no new key it has room.
 -- Keeping a history is this hub's own choice.
-use Rattle.std.specs.Prelude.{ℕ, Bool, true, false, List, [], ◌∷◌, ◌++◌, Option, Some, None, Result}
+use Rattle.std.specs.Prelude.{ℕ, Bool, true, false, List, [], ◌∷◌, ◌++◌, Option, Some, None, Result, Ok, Err}
+use Rattle.inst_base.specs.TimeLimit.{deadline_of}
 use Rattle.inst_base.specs.declared.fault.Fault.{Fault}
 use Rattle.inst_settings.specs.Settings.{HubSettings}
 use Rattle.inst_journal.specs.declared.event.Event.{Event}
 use Rattle.inst_command.specs.declared.command.Command.{Command}
 use Rattle.inst_command.specs.declared.outcome.Outcome.{Outcome}
+use Rattle.inst_command.specs.declared.reply.Reply.TheVariants.{Taken as TakenReply}
+use Rattle.inst_command.specs.declared.submission.Submission.{Submission}
 use Rattle.inst_journal.specs.declared.handle.Handled.{Handled}
 use Rattle.inst_transfers.specs.Held.{Held}
-use Rattle.inst_journal.specs.Reply.{handle}
+use Rattle.inst_journal.specs.Reply.{handle, answered, keeping}
 use Rattle.inst_journal.specs.Sound.{Fits}
 use Rattle.inst_journal.specs.declared.event.Event.TheVariants.{Funded, Defunded, Taken, Forwarded, Booked, Fetched, Opened}
 
@@ -40,6 +43,16 @@ brings_key Opened = false
 -- what the participant is answered on its book, and what the book is to keep of it
 abbrev pub answer_to : Book → Command → ℕ → Option Outcome → Result Handled Fault
 answer_to book command at found = handle book.settings book.who book.events command at found
+
+-- that a submission is taken
+abbrev pub taken : Submission → Event
+taken x = Taken x.id x.to x.cents x.stamp
+
+-- what a submission is answered, and what the book is to keep of it, where it is refused, a repeat, or new
+abbrev pub submitted : HubSettings → Submission → Result Bool Fault → Result Handled Fault
+submitted s x (Err fault) = Err fault
+submitted s x (Ok false) = answered (TakenReply x.id (deadline_of s.limit x.stamp))
+submitted s x (Ok true) = keeping (taken x) (TakenReply x.id (deadline_of s.limit x.stamp))
 
 -- the event, if any, fits the book
 abbrev pub MayKeep : Book → Option Event → Type 0

@@ -1,14 +1,15 @@
 -- What a command that decides nothing keeps of what the books have to do with the board: a submission that is taken
 -- opens the next place, and what else is kept moves no transfer.
-use Rattle.std.proofs.Common.{◌≡◌, ℕ, ◌<◌, arith, Bool, true, false, ◌==◌, cond, List, [], ◌∷◌, ◌++◌, length, length-append, append-nil, inl, ⊎_elim, refl, sym, ap, ◌∙◌, subst, Option, Some, None, is_none}
+use Rattle.std.proofs.Common.{◌≡◌, ℕ, ◌<◌, arith, Bool, true, false, ◌&&◌, ◌||◌, ◌==◌, cond, List, [], ◌∷◌, ◌++◌, length, length-append, append-nil, inl, inr, ⊎_elim, refl, sym, ap, ◌∙◌, subst, Option, Some, None, is_none}
 use Rattle.std.specs.Prelude.{slice_get, take, Result, Ok, Err, nat_le, nat_lt}
 use Rattle.std.specs.List.{list_all}
 use Rattle.std.proofs.lemmas.Bool.{false≢true, and_parts}
 use Rattle.std.proofs.lemmas.List.Sums.{length-filter}
 use Rattle.inst_base.proofs.Lists.{snoc_cases}
+use Rattle.inst_base.specs.Fault.{IsUnlessMemory}
 use Rattle.inst_base.specs.TimeLimit.{deadline_of, is_due, is_ahead}
 use Rattle.inst_base.specs.declared.fault.Fault.{Fault}
-use Rattle.inst_base.specs.declared.fault.Fault.TheVariants.{Expired}
+use Rattle.inst_base.specs.declared.fault.Fault.TheVariants.{Expired, Memory}
 use Rattle.inst_settings.specs.Settings.{HubSettings}
 use Rattle.inst_command.specs.Ask.{command_fits}
 use Rattle.inst_command.specs.declared.ask.Ask.{Ask}
@@ -17,6 +18,7 @@ use Rattle.inst_command.specs.declared.command.Command.TheVariants.{Fund, Defund
 use Rattle.inst_command.specs.declared.entry.Entry.{Entry}
 use Rattle.inst_command.specs.declared.outcome.Outcome.{Outcome}
 use Rattle.inst_command.specs.declared.reply.Reply.{Reply}
+use Rattle.inst_command.specs.declared.submission.Submission.{Submission}
 use Rattle.inst_board.specs.declared.place.Place.{Place}
 use Rattle.inst_board.specs.declared.about.About.TheVariants.{Opened, HasTerms, Due, Decided}
 use Rattle.inst_board.specs.declared.about.Fact.{Fact}
@@ -30,7 +32,7 @@ use Rattle.inst_journal.specs.Booked.{is_taken, is_forwarded, booked, books}
 use Rattle.inst_journal.specs.Keys.{is_fund_repeat, is_defund_repeat, is_submission_repeat}
 use Rattle.inst_journal.specs.Money.{available}
 use Rattle.inst_journal.specs.Opened.{is_opening, carried, takes_live, live_taken, live_submissions}
-use Rattle.inst_journal.specs.Reply.{entry_of, funding, is_new_funding, standing, still_pending, unread, hand_out, handle, kept_event, kept_events}
+use Rattle.inst_journal.specs.Reply.{entry_of, funding, is_new_funding, standing, still_pending, unread, hand_out, handle, submit, copies, told, kept_event, kept_events}
 use Rattle.inst_journal.specs.Sound.{Fits, FitAfter, IsSound}
 use Rattle.inst_journal.proofs.Carrying.{carried_unbooked}
 use Rattle.inst_journal.proofs.Counting.{stranger_unbooked}
@@ -39,6 +41,9 @@ use Rattle.inst_journal.proofs.OwnBookings.{own_unforwarded}
 use Rattle.inst_slot.specs.Book.{Book, place_at, terms_to}
 use Rattle.inst_slot.specs.LawfulBoard.{IsLawfulBoard}
 use Rattle.inst_slot.specs.Asking.{handle_ask, Opens, Enters}
+use Rattle.inst_slot.specs.inner.Entering.{EntersAlone}
+use Rattle.inst_slot.specs.inner.Waiting.{moves_none}
+use Rattle.inst_ledger.specs.Book.{submitted, taken}
 use Rattle.inst_slot.proofs.Growing.{live_inbox_still, live_push, still_booked, booked_cases}
 use Rattle.inst_slot.proofs.Keeping.{kept_opening, with_events, same_after, moved, learnt_truly, learnt_answer, lies_after_taking}
 use Rattle.inst_ledger.proofs.OwnIds.{live_taken_push}
@@ -53,43 +58,76 @@ enters (Forwarded from id cents d) = false
 enters (Booked from id o) = false
 enters OpenedEvent = false
 
-abbrev AllEnter : Result Handled Fault → Type 0
-AllEnter r = list_all enters (kept_events r) ≡ true
+-- each event that is kept is such a one
+abbrev KeepsOnly : (Event → Bool) → Result Handled Fault → Type 0
+KeepsOnly p r = list_all p (kept_events r) ≡ true
 
-either : (b : Bool) (x y : Result Handled Fault) → AllEnter x → AllEnter y → AllEnter (cond b x y)
-either true x y first second = first
-either false x y first second = second
+one : (p : Event → Bool) (e : Event) → p e ≡ true → list_all p (e ∷ []) ≡ true
+one p e is = ap (λ (b : Bool). b && true) is
 
-funding_enters : (reference : List ℕ) (new : Result Handled Fault) (r : Result Bool Fault) → AllEnter new → AllEnter (funding reference new r)
-funding_enters reference new (Err fault) all = refl
-funding_enters reference new (Ok true) all = all
-funding_enters reference new (Ok false) all = refl
+either : (p : Event → Bool) (b : Bool) (x y : Result Handled Fault) → KeepsOnly p x → KeepsOnly p y → KeepsOnly p (cond b x y)
+either p true x y first second = first
+either p false x y first second = second
 
-standing_enters : (from : ℕ) (id : List ℕ) (waiting : Result Handled Fault) (known : Option Outcome) → AllEnter waiting → AllEnter (standing from id waiting known None)
-standing_enters from id waiting None all = all
-standing_enters from id waiting (Some o) all = refl
+funding_keeps : (p : Event → Bool) (reference : List ℕ) (new : Result Handled Fault) (r : Result Bool Fault) → KeepsOnly p new → KeepsOnly p (funding reference new r)
+funding_keeps p reference new (Err fault) all = refl
+funding_keeps p reference new (Ok true) all = all
+funding_keeps p reference new (Ok false) all = refl
 
-handed_enters : (entries : List Entry) → AllEnter (hand_out entries)
-handed_enters [] = refl
-handed_enters (entry ∷ entries) = refl
+standing_keeps : (p : Event → Bool) (from : ℕ) (id : List ℕ) (waiting : Result Handled Fault) (known : Option Outcome) → KeepsOnly p waiting → KeepsOnly p (standing from id waiting known None)
+standing_keeps p from id waiting None all = all
+standing_keeps p from id waiting (Some o) all = refl
 
-all_enter : (s : HubSettings) (who : ℕ) (J : List Event) (command : Command) (at : ℕ) → AllEnter (handle s who J command at None)
-all_enter s who J (Fund reference cents) at = funding_enters reference _ (is_new_funding s J reference (is_fund_repeat reference cents J)) refl
-all_enter s who J (Defund reference cents) at = funding_enters reference _ (is_new_funding s J reference (is_defund_repeat reference cents J)) (either (nat_lt (available J) cents) _ _ refl refl)
-all_enter s who J (Submit x) at =
-    either (x.to == who) _ _ refl
-    (either (is_submission_repeat x J) _ _ refl
-    (either (is_taken x.id J) _ _ refl
-    (either (is_ahead s.ahead x.stamp at) _ _ refl
-    (either (is_due (deadline_of s.limit x.stamp) at) _ _ refl
-    (either (nat_le s.places (live_submissions who J)) _ _ refl
-    (either (nat_lt (available J) x.cents) _ _ refl refl))))))
-all_enter s who J (Confirm from id) at = either (is_forwarded from id J) _ _ (standing_enters from id (Err Expired) (booked from id J) refl) refl
-all_enter s who J (Reject from id reason) at = either (is_forwarded from id J) _ _ (standing_enters from id (still_pending from id) (booked from id J) refl) refl
-all_enter s who J (Investigate id) at = either (is_taken id J) _ _ (standing_enters who id (still_pending who id) (booked who id J) refl) refl
-all_enter s who J (Fetch max) at = handed_enters (take max (unread J))
-all_enter s who J Position at = refl
-all_enter s who J (Statement skip count) at = refl
+handed_keeps : (p : Event → Bool) (entries : List Entry) → ((count : ℕ) → p (Fetched count) ≡ true) → KeepsOnly p (hand_out entries)
+handed_keeps p [] fetched = refl
+handed_keeps p (entry ∷ entries) fetched = one p (Fetched (length (entry ∷ entries))) (fetched (length (entry ∷ entries)))
+
+-- what is kept of a command that decides nothing: a funding, a defunding, a submission that is taken, or that entries
+-- were handed out
+keeps_only : (p : Event → Bool) → ((reference : List ℕ) (cents : ℕ) → p (Funded reference cents) ≡ true) → ((reference : List ℕ) (cents : ℕ) → p (Defunded reference cents) ≡ true) → ((count : ℕ) → p (Fetched count) ≡ true)
+    → (s : HubSettings) (who : ℕ) (J : List Event) (command : Command) (at : ℕ) → ((x : Submission) → command ≡ Submit x → p (taken x) ≡ true) → KeepsOnly p (handle s who J command at None)
+keeps_only p funded defunded fetched s who J (Fund reference cents) at new = funding_keeps p reference _ (is_new_funding s J reference (is_fund_repeat reference cents J)) (one p (Funded reference cents) (funded reference cents))
+keeps_only p funded defunded fetched s who J (Defund reference cents) at new = funding_keeps p reference _ (is_new_funding s J reference (is_defund_repeat reference cents J)) (either p (nat_lt (available J) cents) _ _ refl (one p (Defunded reference cents) (defunded reference cents)))
+keeps_only p funded defunded fetched s who J (Submit x) at new =
+    either p (x.to == who) _ _ refl
+    (either p (is_submission_repeat x J) _ _ refl
+    (either p (is_taken x.id J) _ _ refl
+    (either p (is_ahead s.ahead x.stamp at) _ _ refl
+    (either p (is_due (deadline_of s.limit x.stamp) at) _ _ refl
+    (either p (nat_le s.places (live_submissions who J)) _ _ refl
+    (either p (nat_lt (available J) x.cents) _ _ refl (one p (taken x) (new x refl))))))))
+keeps_only p funded defunded fetched s who J (Confirm from id) at new = either p (is_forwarded from id J) _ _ (standing_keeps p from id (Err Expired) (booked from id J) refl) refl
+keeps_only p funded defunded fetched s who J (Reject from id reason) at new = either p (is_forwarded from id J) _ _ (standing_keeps p from id (still_pending from id) (booked from id J) refl) refl
+keeps_only p funded defunded fetched s who J (Investigate id) at new = either p (is_taken id J) _ _ (standing_keeps p who id (still_pending who id) (booked who id J) refl) refl
+keeps_only p funded defunded fetched s who J (Fetch max) at new = handed_keeps p (take max (unread J)) fetched
+keeps_only p funded defunded fetched s who J Position at new = refl
+keeps_only p funded defunded fetched s who J (Statement skip count) at new = refl
+
+all_enter : (s : HubSettings) (who : ℕ) (J : List Event) (command : Command) (at : ℕ) → KeepsOnly enters (handle s who J command at None)
+all_enter s who J command at = keeps_only enters (λ reference cents. refl) (λ reference cents. refl) (λ count. refl) s who J command at (λ x is. refl)
+
+-- a command that is no submission and decides nothing moves no transfer of the participant's own
+pub others_move_none : (s : HubSettings) (who : ℕ) (J : List Event) (command : Command) (at : ℕ) → ((x : Submission) → command ≡ Submit x → ⊥) → list_all moves_none (kept_events (handle s who J command at None)) ≡ true
+others_move_none s who J command at other = keeps_only moves_none (λ reference cents. refl) (λ reference cents. refl) (λ count. refl) s who J command at (λ x is. absurd (other x is))
+
+-- where no own transfer is moved, no place is opened
+pub opens_none : {B : Type 0} (margin : ℕ) (knows : B → Fact → Type 0) (book : Book) (b : B) (r : Result Handled Fault) → list_all moves_none (kept_events r) ≡ true → Opens margin knows book (kept_events r) b b
+opens_none margin knows book b (Err fault) none = refl
+opens_none margin knows book b (Ok handled) none = of handled.kept none
+  where
+    of : (kept : Option Event) → list_all moves_none (kept_event kept) ≡ true → Opens margin knows book (kept_event kept) b b
+    of None none' = refl
+    of (Some (Funded reference cents)) none' = refl
+    of (Some (Defunded reference cents)) none' = refl
+    of (Some (Forwarded from id cents deadline)) none' = refl
+    of (Some (Booked from id outcome)) none' = refl
+    of (Some (Fetched count)) none' = refl
+    of (Some OpenedEvent) none' = refl
+    of (Some (Taken id to cents stamp)) none' = absurd (false≢true none')
+
+or_true : (a : Bool) → (a || true) ≡ true
+or_true true = refl
+or_true false = refl
 
 pub next_index : (who : ℕ) (J : List Event) → length (live_taken who J) ≡ live_submissions who J
 next_index who J = length-filter (takes_live who (carried J)) J
@@ -189,7 +227,7 @@ module _ {B : Type 0} (settings : B → HubSettings) (knows : B → Fact → Typ
       (subst (λ (l : List Event). IsLawfulBoard settings knows has_role b (with_events book l)) (sym (append-nil book.events)) was)
   all_entered margin b c book (Some e) all same margins role sound fits opens was = entered margin b c book e (and_parts (enters e) true all).0 same margins role sound fits.0 opens was
 
-  kept_entered : (margin : ℕ) (b c : B) (book : Book) (r : Result Handled Fault) → AllEnter r → settings c ≡ settings b → margin ≡ (settings b).margin → (has_role b book.who → has_role c book.who)
+  kept_entered : (margin : ℕ) (b c : B) (book : Book) (r : Result Handled Fault) → KeepsOnly enters r → settings c ≡ settings b → margin ≡ (settings b).margin → (has_role b book.who → has_role c book.who)
       → IsSound book.settings book.who book.events → FitAfter book.settings book.who book.events (kept_events r) → Opens margin knows book (kept_events r) b c
       → IsLawfulBoard settings knows has_role b book → IsLawfulBoard settings knows has_role c (with_events book (book.events ++ kept_events r))
   kept_entered margin b c book (Ok handled) all same margins role sound fits opens was = all_entered margin b c book handled.kept all same margins role sound fits opens was
@@ -212,3 +250,58 @@ next_unused settings knows has_role b book was kn =
     let below = was.only_taken (live_submissions book.who book.events) kn in
     let count = next_index book.who book.events in
     absurd (omega arith)
+
+module _ {B : Type 0} (knows : B → Fact → Type 0) (margin : ℕ) (book : Book) (ask : Ask) where
+  -- an ask that is handled so, and keeps this
+  pub enters_as : (b c : B) (h : Result Handled Fault) (result : Result Reply Fault) (new : Book) → handle_ask book ask None ≡ h → result ≡ told h
+      → new ≡ with_events book (book.events ++ kept_events h) → Opens margin knows book (kept_events h) b c → Enters margin knows b book ask result c new
+  enters_as b c h result new is replied kept opens = inl (
+    replied ∙ ap told (sym is),
+    kept ∙ ap (λ (r : Result Handled Fault). with_events book (book.events ++ kept_events r)) (sym is),
+    subst (λ (r : Result Handled Fault). Opens margin knows book (kept_events r) b c) (sym is) opens,
+  )
+
+  -- an ask that is handled so, and keeps nothing
+  pub enters_quietly : (b : B) (h : Result Handled Fault) (result : Result Reply Fault) → handle_ask book ask None ≡ h → kept_events h ≡ [] → result ≡ told h → Enters margin knows b book ask result b book
+  enters_quietly b h result is none replied =
+      enters_as b b h result book is replied
+      (sym (ap (λ (K : List Event). with_events book (book.events ++ K)) none ∙ ap (λ (J : List Event). with_events book J) (append-nil book.events)))
+      (subst (λ (K : List Event). Opens margin knows book K b b) (sym none) refl)
+
+  -- an ask that was to keep something, for which memory was refused
+  pub enters_in_want : (b : B) (h : Result Handled Fault) (e : Event) → handle_ask book ask None ≡ h → kept_events h ≡ e ∷ [] → (result : Result Reply Fault) → result ≡ Err Memory → (new : Book) → new ≡ book → (c : B) → c ≡ b → Enters margin knows b book ask result c new
+  enters_in_want b h e is some result refused new left c same =
+      inr (refused, left, same, ap (λ (r : Result Handled Fault). copies book.events ask.command || nat_lt 0 (length (kept_events r))) is ∙ ap (λ (K : List Event). copies book.events ask.command || nat_lt 0 (length K)) some ∙ or_true (copies book.events ask.command))
+
+-- how a submission is handled, by whether it is new
+pub submission_as : (kept book : Book) (ask : Ask) (x : Submission) (new : Result Bool Fault) → kept ≡ book → ask.command ≡ Submit x → submit kept.settings kept.who kept.events ask.at x ≡ submitted kept.settings x new → handle_ask book ask None ≡ submitted book.settings x new
+submission_as kept book ask x new same is answer =
+    ap (λ (command : Command). handle book.settings book.who book.events command ask.at None) is
+    ∙ subst (λ (k : Book). submit k.settings k.who k.events ask.at x ≡ submitted k.settings x new) same answer
+
+-- a command in which the board has no part leaves it as it is
+pub entered_alone : {B : Type 0} (knows : B → Fact → Type 0) (margin : ℕ) (b : B) (book : Book) (ask : Ask) (result : Result Reply Fault) (new : Book) → EntersAlone book ask result new → Enters margin knows b book ask result b new
+entered_alone knows margin b book ask result new e = ⊎_elim
+    (λ answered. inl (answered.0, answered.1, opens_none margin knows book b (handle_ask book ask None) answered.2))
+    (λ refused. inr (refused.0, refused.1, refl, refused.2))
+    e
+
+-- what was handled without want of memory
+pub handled_as : (book : Book) (ask : Ask) (handled : Handled) → IsUnlessMemory (Ok handled) (handle_ask book ask None) → handle_ask book ask None ≡ Ok handled
+handled_as book ask handled is = ⊎_elim (λ refused. let none : ⊥ = cc in absurd none) (λ same. sym same) is
+
+module _ (book : Book) (ask : Ask) (handled : Handled) (other : (x : Submission) → ask.command ≡ Submit x → ⊥) (is : handle_ask book ask None ≡ Ok handled) where
+  -- an event that is kept of a command that is no submission moves no transfer of the participant's own
+  pub kept_moves_none : (e : Event) → handled.kept ≡ Some e → moves_none e ≡ true
+  kept_moves_none e kept =
+      (and_parts (moves_none e) true
+      (subst (λ (o : Option Event). list_all moves_none (kept_event o) ≡ true) kept
+      (subst (λ (r : Result Handled Fault). list_all moves_none (kept_events r) ≡ true) is (others_move_none book.settings book.who book.events ask.command ask.at other)))).0
+
+  -- such a command is answered as it was handled, and what is to be kept is kept
+  pub alone_as : (new : Book) → new ≡ with_events book (book.events ++ kept_event handled.kept) → EntersAlone book ask (Ok handled.reply) new
+  alone_as new kept = inl (
+    ap told (sym is),
+    kept ∙ ap (λ (r : Result Handled Fault). with_events book (book.events ++ kept_events r)) (sym is),
+    others_move_none book.settings book.who book.events ask.command ask.at other,
+  )

@@ -122,15 +122,6 @@ used_there who J ids i id same there =
     of (Some (Fetched n)) h = cc
     of (Some Opened) h = cc
 
-pub untaken_moves_none : (e : Event) → ((id : List ℕ) (to cents stamp : ℕ) → e ≡ Taken id to cents stamp → ⊥) → is_opening e ≡ false → moves_none e ≡ true
-untaken_moves_none (Booked from id outcome) other h = refl
-untaken_moves_none (Funded reference cents) other h = refl
-untaken_moves_none (Defunded reference cents) other h = refl
-untaken_moves_none (Forwarded from id cents d) other h = refl
-untaken_moves_none (Fetched n) other h = refl
-untaken_moves_none (Taken id to cents stamp) other h = absurd (other id to cents stamp refl)
-untaken_moves_none Opened other h = absurd (true≢false h)
-
 pub still_taken : (who : ℕ) (J : List Event) (e : Event) → moves_none e ≡ true → live_taken who (J ++ e ∷ []) ≡ live_taken who J
 still_taken who J e still = live_taken_still who J e (kinds e still).0 (kinds e still).1
   where

@@ -4,3 +4,4 @@ pub mod Waiting
 pub mod Answering
 pub mod Lessons
 pub mod Expiries
+pub mod Entering

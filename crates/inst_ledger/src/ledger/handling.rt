@@ -1,12 +1,11 @@
 //! What a command is answered, and what the history is to keep of it.
 ghost use Rattle.std.specs.Prelude.{◌≡◌, ◌≤◌, true, false, take, drop, length, IfOk, IsOk};
 ghost use Rattle.inst_base.specs.Fault.{IsUnlessMemory};
-ghost use Rattle.inst_base.specs.Moment.{is_moment};
-ghost use Rattle.inst_base.specs.TimeLimit.{deadline_of};
 ghost use Rattle.inst_command.specs.Ask.{command_fits, is_count};
 ghost use Rattle.inst_journal.specs.Reply.{is_new_funding, fund, defund, submit, answer_forwarded, confirm, reject, investigate, unread, hand_out, answered, copies};
 ghost use Rattle.inst_journal.specs.Statement.{statement_part};
-ghost use Rattle.inst_ledger.specs.Book.{answer_to, MayKeep};
+ghost use Rattle.inst_journal.specs.Sound.{Fits};
+ghost use Rattle.inst_ledger.specs.Book.{answer_to, submitted, taken, MayKeep};
 ghost use Rattle.inst_ledger.specs.Inbox.{entries_at};
 ghost use Rattle.inst_transfers.specs.State.{rows_of};
 ghost use Rattle.inst_transfers.specs.Held.{AreWithin};
@@ -65,11 +64,14 @@ impl Ledger {
         })
     }
 
-    /// Reserves the amount: refused, in this order, by `SelfTransfer`, `Duplicate`, `StampAhead`,
-    /// `Expired`, `Full` and `Shortage`.
-    fn submit(&self, at: Moment, submission: &Submission) -> Result<Handled, Fault>
-        requires { is_moment (deadline_of self.now.book.settings.limit submission.now.stamp) ≡ true }
-        ensures { result ≡ submit self.now.book.settings self.now.book.who self.now.book.events at submission.now }
+    /// Whether a submission is new, and no repeat. Refused, in this order, by `SelfTransfer`,
+    /// `Duplicate`, `StampAhead`, `Expired`, `Full` and `Shortage`. It looks once at the table.
+    pub fn is_new_submission(&self, at: Moment, submission: &Submission) -> Result<bool, Fault>
+        requires { command_fits self.now.book.settings (Command.Submit submission.now) ≡ true }
+        ensures answer { submit self.now.book.settings self.now.book.who self.now.book.events at submission.now
+            ≡ submitted self.now.book.settings submission.now result }
+        ensures fits { IfOk result (λ is_new. is_new ≡ true →
+            Fits self.now.book.settings self.now.book.who self.now.book.events (taken submission.now)) }
     {
         let settings = self.settings();
         let &Submission {
@@ -79,13 +81,12 @@ impl Ledger {
             stamp,
         } = submission;
         let deadline = stamp.deadline(settings.limit());
-        let reply = Reply::Taken { id, deadline };
         if to == self.who() {
             return Err(Fault::SelfTransfer);
         }
         let known = self.transfer(self.who(), &id);
         if self.is_known_repeat(&known, submission) {
-            return Ok(Handled { reply, kept: None });
+            return Ok(false);
         }
         if self.is_known_taken(&known, &id) {
             return Err(Fault::Duplicate);
@@ -102,6 +103,22 @@ impl Ledger {
         if u128::from(cents.get()) > self.available() {
             return Err(Fault::Shortage);
         }
+        Ok(true)
+    }
+
+    /// Reserves the amount, refused as `is_new_submission` is.
+    fn submit(&self, at: Moment, submission: &Submission) -> Result<Handled, Fault>
+        requires { command_fits self.now.book.settings (Command.Submit submission.now) ≡ true }
+        ensures { result ≡ submit self.now.book.settings self.now.book.who self.now.book.events at submission.now }
+    {
+        let is_new = self.is_new_submission(at, submission)?;
+        let &Submission {
+            id,
+            to,
+            cents,
+            stamp,
+        } = submission;
+        let deadline = stamp.deadline(self.settings().limit());
         let event = Event::Taken {
             id,
             to,
@@ -109,8 +126,8 @@ impl Ledger {
             stamp,
         };
         Ok(Handled {
-            reply,
-            kept: Some(event),
+            reply: Reply::Taken { id, deadline },
+            kept: is_new.then_some(event),
         })
     }
 

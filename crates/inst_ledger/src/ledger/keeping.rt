@@ -69,7 +69,7 @@ impl Ledger {
     }
 
     /// Makes room for one more transfer: for its event, and in the table. The book stays as it is.
-    pub fn reserve_transfer(&mut self) -> Result<(), AllocError>
+    pub fn make_room_for_transfer(&mut self) -> Result<(), AllocError>
         ensures book { self.new.book ≡ self.old.book }
         ensures room { OnOk result ((0 < self.new.room) × (0 < self.new.table.room)) }
     {
@@ -223,7 +223,7 @@ impl Ledger {
                 cents,
                 stamp,
             } => {
-                self.reserve_transfer()?;
+                self.make_room_for_transfer()?;
                 self.keep_taken(id, Sending { to, cents, stamp });
                 Ok(())
             }

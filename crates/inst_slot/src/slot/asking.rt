@@ -4,19 +4,21 @@ ghost use Rattle.inst_base.specs.Fault.{IsUnlessMemory};
 ghost use Rattle.inst_settings.specs.Settings.{is_participant};
 ghost use Rattle.inst_command.specs.Ask.{ask_fits};
 ghost use Rattle.inst_board.specs.Learning.{KnowTheSame};
-ghost use Rattle.inst_journal.specs.Opened.{is_opening};
+ghost use Rattle.inst_ledger.specs.Book.{taken};
 ghost use Rattle.inst_journal.specs.Sound.{Fits, FitAfter};
 ghost use Rattle.inst_journal.specs.Reply.{copies, kept_event};
 ghost use Rattle.inst_slot.specs.LawfulBoard.{IsLawfulBoard, KeepsOthers, AllAreAdopted};
 ghost use Rattle.inst_slot.specs.Asking.{request, decides, AsksAdopted, handle_ask, Opens, Enters, Applies};
 ghost use Rattle.inst_slot.specs.Telling.{with_event};
+ghost use Rattle.inst_slot.specs.inner.Entering.{EntersAlone};
+ghost use Rattle.inst_command.specs.declared.submission.Submission.{Submission};
 
 use super::Slot;
 use crate::answering::{request_of, settle};
-use inst_base::{Fault, Moment};
+use inst_base::Fault;
 use inst_board::Board;
-use inst_command::{Ask, Outcome, Reply};
-use inst_journal::{Event, Handled};
+use inst_command::{Ask, Command, Outcome, Reply, Submission};
+use inst_journal::Handled;
 use inst_ledger::Sending;
 use inst_terms::Terms;
 use std::alloc::AllocError;
@@ -33,60 +35,70 @@ impl Slot {
     }
 
     /// Keeps a submission, and opens the next place for it.
-    fn take<B: Board>(
-        &mut self,
-        board: &mut B,
-        terms: &Terms,
-        stamp: Moment,
-    ) -> Result<(), AllocError>
+    fn take<B: Board>(&mut self, board: &mut B, submission: &Submission) -> Result<(), AllocError>
         requires lawful { IsLawfulBoard B.settings B.knows B.has_role board.old self.old }
         requires participant { is_participant self.old.settings self.old.who ≡ true }
-        requires fits { Fits self.old.settings self.old.who self.old.events (Event.Taken terms.now.id terms.now.to terms.now.cents stamp) }
-        ensures ok { OnOk result (self.new ≡ with_event self.old (Some (Event.Taken terms.now.id terms.now.to terms.now.cents stamp))) }
-        ensures opens { OnOk result (Opens (B.settings board.old).margin B.knows self.old (Event.Taken terms.now.id terms.now.to terms.now.cents stamp ∷ []) board.old board.new) }
+        requires fits { Fits self.old.settings self.old.who self.old.events (taken submission.now) }
+        ensures ok { OnOk result (self.new ≡ with_event self.old (Some (taken submission.now))) }
+        ensures opens { OnOk result (Opens (B.settings board.old).margin B.knows self.old (taken submission.now ∷ []) board.old board.new) }
         ensures err { OnErr result ((self.new ≡ self.old) × (board.new ≡ board.old)) }
         ensures stays { B.stays board.old board.new }
     {
         let index = self.ledger.live_submissions() as u16;
-        let &Terms { to, cents, id } = terms;
+        let &Submission {
+            id,
+            to,
+            cents,
+            stamp,
+        } = submission;
         let deadline = stamp.deadline(self.ledger.settings().limit());
-        self.ledger.reserve_transfer()?;
+        self.ledger.make_room_for_transfer()?;
         self.waiting.add(deadline)?;
         self.ledger.keep_taken(id, Sending { to, cents, stamp });
-        self.open_place(board, index, terms, stamp);
+        self.open_place(board, index, &Terms { to, cents, id }, stamp);
         Ok(())
     }
 
-    /// Keeps an event that fits, but for an opening, and opens the next place where it takes a submission.
-    fn keep<B: Board>(&mut self, board: &mut B, event: &Event) -> Result<(), AllocError>
+    /// Answers a submission, which is kept where it is new.
+    fn submit<B: Board>(
+        &mut self,
+        board: &mut B,
+        ask: &Ask,
+        submission: &Submission,
+    ) -> Result<Reply, Fault>
+        requires own { ask.now.who ≡ self.old.who }
+        requires fits { ask_fits self.old.settings ask.now ≡ true }
         requires lawful { IsLawfulBoard B.settings B.knows B.has_role board.old self.old }
-        requires participant { is_participant self.old.settings self.old.who ≡ true }
-        requires fits { Fits self.old.settings self.old.who self.old.events event.now }
-        requires within { is_opening event.now ≡ false }
-        ensures ok { OnOk result (self.new ≡ with_event self.old (Some event.now)) }
-        ensures opens { OnOk result (Opens (B.settings board.old).margin B.knows self.old (event.now ∷ []) board.old board.new) }
-        ensures err { OnErr result ((self.new ≡ self.old) × (board.new ≡ board.old)) }
+        requires command { ask.now.command ≡ Command.Submit submission.now }
+        ensures enters { Enters (B.settings board.old).margin B.knows board.old self.old ask.now result board.new self.new }
         ensures stays { B.stays board.old board.new }
     {
-        match event {
-            Event::Taken {
-                id,
-                to,
-                cents,
-                stamp,
-            } => {
-                let terms = Terms {
-                    to: *to,
-                    cents: *cents,
-                    id: *id,
-                };
-                self.take(board, &terms, *stamp)
-            }
-            _ => self.book(*event),
+        let id = submission.id;
+        let deadline = submission.stamp.deadline(self.ledger.settings().limit());
+        let is_new = self.ledger.is_new_submission(ask.at, submission)?;
+        if is_new {
+            self.take(board, submission)?;
         }
+        Ok(Reply::Taken { id, deadline })
     }
 
-    /// Answers any other command.
+    /// Answers a command that is no submission and decides no transfer: the board has no part in it.
+    // A function clears the locals of all that is inlined into it, and these commands are the rare ones.
+    #[inline(never)]
+    fn enter_alone(&mut self, ask: &Ask) -> Result<Reply, Fault>
+        requires own { ask.now.who ≡ self.old.who }
+        requires fits { ask_fits self.old.settings ask.now ≡ true }
+        requires other { (submission : Submission) → ask.now.command ≢ Command.Submit submission }
+        ensures { EntersAlone self.old ask.now result self.new }
+    {
+        let Handled { reply, kept } = self.handle(ask, None)?;
+        if let Some(event) = kept {
+            self.book(event)?;
+        }
+        Ok(reply)
+    }
+
+    /// Answers a command that decides no transfer.
     fn enter<B: Board>(&mut self, board: &mut B, ask: &Ask) -> Result<Reply, Fault>
         requires own { ask.now.who ≡ self.old.who }
         requires fits { ask_fits self.old.settings ask.now ≡ true }
@@ -95,11 +107,10 @@ impl Slot {
         ensures enters { Enters (B.settings board.old).margin B.knows board.old self.old ask.now result board.new self.new }
         ensures stays { B.stays board.old board.new }
     {
-        let Handled { reply, kept } = self.handle(ask, None)?;
-        if let Some(event) = kept {
-            self.keep(board, &event)?;
+        match &ask.command {
+            Command::Submit(submission) => self.submit(board, ask, submission),
+            _ => self.enter_alone(ask),
         }
-        Ok(reply)
     }
 
     /// Answers a command of the participant, and keeps what its history is to keep of it. Refused by

@@ -7,7 +7,7 @@ use crate::comparing::same_at;
 use crate::ledger::asked::{Asks, command, outcome};
 use crate::ledger::told::{Told, is_refused, is_reply};
 use inst_base::{Fault, Moment};
-use inst_command::{Ask, Outcome};
+use inst_command::{Ask, Command, Outcome};
 use inst_journal::{Event, Handled, handle_command, reply_of};
 use inst_ledger::{Ledger, Sending};
 use inst_rows::{End, Shown, are_lines};
@@ -113,12 +113,26 @@ fn keep(ledger: &mut Ledger, event: Event) -> Result<(), Fault>
         stamp,
     } = event
     {
-        ledger.reserve_transfer()?;
+        ledger.make_room_for_transfer()?;
         ledger.keep_taken(id, Sending { to, cents, stamp });
     } else {
         ledger.keep(event)?;
     }
     Ok(())
+}
+
+/// Whether the ledger, asked by itself whether a submission is new, tells what it tells where it handles it.
+fn is_new(ledger: &Ledger, ask: &Ask, handled: &Result<Handled, Fault>) -> bool
+    requires { command_fits ledger.now.book.settings ask.now.command ≡ true }
+{
+    let Command::Submit(submission) = &ask.command else {
+        return true;
+    };
+    match (ledger.is_new_submission(ask.at, submission), handled) {
+        (Ok(is_new), Ok(handled)) => is_new == handled.kept.is_some(),
+        (Err(fault), Err(told)) => fault == *told,
+        _ => false,
+    }
 }
 
 /// Compares what the ledger and the plain functions answer, and keeps what is to be kept.
@@ -131,7 +145,9 @@ fn by_the_ledger(
 ) -> Result<(), Fault>
     requires { command_fits ledger.old.book.settings ask.now.command ≡ true }
 {
-    match ledger.handle(rt.alloc(), &ask.command, ask.at, *found) {
+    let handled = ledger.handle(rt.alloc(), &ask.command, ask.at, *found);
+    same_at(rt, *ask, is_new(ledger, ask, &handled), true);
+    match handled {
         Ok(Handled { reply, kept }) => {
             same_at(rt, *ask, is_reply(&reply, told), true);
             plainly(rt, ledger, ask, found, told, &kept);

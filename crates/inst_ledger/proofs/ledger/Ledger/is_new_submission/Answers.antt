@@ -1,5 +1,5 @@
 use Rattle.std.proofs.Common.{rules}
-use Rattle.inst_ledger.proofs.ledger.Ledger.submit.Goals as goal
+use Rattle.inst_ledger.proofs.ledger.Ledger.is_new_submission.Goals as goal
 
 pub returns : goal.returns
 returns c = search rules
