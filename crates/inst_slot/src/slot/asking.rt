@@ -60,6 +60,8 @@ impl Slot {
     }
 
     /// Answers a submission, which is kept where it is new.
+    // A function clears the locals of all that is inlined into it, and the other commands have no use for these.
+    #[inline(never)]
     fn submit<B: Board>(
         &mut self,
         board: &mut B,
@@ -83,8 +85,6 @@ impl Slot {
     }
 
     /// Answers a command that is no submission and decides no transfer: the board has no part in it.
-    // A function clears the locals of all that is inlined into it, and these commands are the rare ones.
-    #[inline(never)]
     fn enter_alone(&mut self, ask: &Ask) -> Result<Reply, Fault>
         requires own { ask.now.who ≡ self.old.who }
         requires fits { ask_fits self.old.settings ask.now ≡ true }
