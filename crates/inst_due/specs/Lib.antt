@@ -1,1 +1,4 @@
+-- Public contracts cite these.
 pub mod Due
+-- Only inner functions and proofs cite these.
+pub mod inner

@@ -1,16 +1,20 @@
-ghost use Rattle.std.specs.Prelude.{◌≡◌, [], true, false, OnOk, OnErr};
+ghost use Rattle.std.specs.Prelude.{◌≡◌, ◌≤◌, [], true, false, OnOk, OnErr};
 ghost use Rattle.std.specs.Bool.{OnFalse};
+ghost use Rattle.std.specs.List.{insert};
+ghost use Rattle.std.specs.VecDeque.{deque_len};
 ghost use Rattle.inst_base.specs.TimeLimit.{is_due};
 ghost use Rattle.inst_due.specs.Due.{has, comes_before, comes_after, Adds, TakesOut, IsLeast};
+ghost use Rattle.inst_due.specs.inner.Due.{IsPlace};
 
 use inst_base::Moment;
-use std::alloc::{AllocError, Global};
-use std::collections::BTreeSet;
+use std::alloc::{AllocError, AllocFailed, Global};
+use std::cmp::Ordering;
+use std::collections::VecDeque;
 use std::marker::Model;
-use std::ops::Bound;
 
 /// The unbooked transfers of an originator in the order in which they are due: a set of pairs of a
-/// deadline and the index of a place, by deadline and, where that is the same, by index.
+/// deadline and the index of a place, by deadline and, where that is the same, by index. They stand in
+/// a row, for deadlines come nearly in order: most pairs join at its end and leave from one of its ends.
 ///
 /// ```text
 /// let mut due = Due::new(alloc);
@@ -21,15 +25,18 @@ use std::ops::Bound;
 /// ```
 #[derive(Debug, Drop)]
 pub struct Due {
-    pairs: BTreeSet<(Moment, u16)>,
+    pairs: VecDeque<(Moment, u16)>,
 }
 
 impl Model for Due {
     ghost use Rattle.std.specs.Prelude.{ℕ, List};
+    ghost use Rattle.inst_due.specs.inner.Due.{IsRising};
 
     ghost Value = { List (ℕ × ℕ) };
 
-    ghost view = { λ due. due.pairs.keys };
+    ghost view = { λ due. due.pairs.items };
+
+    ghost invariant = { λ due. IsRising due.pairs.items };
 }
 
 impl Due {
@@ -38,43 +45,48 @@ impl Due {
         ensures { result ≡ [] }
     {
         Due {
-            pairs: BTreeSet::new(alloc),
+            pairs: VecDeque::new(alloc),
         }
     }
 
     /// Adds the pair. Where memory is refused the set stays as it was. A pair that is there takes no
-    /// memory. The cost grows with the logarithm of the number of pairs.
+    /// memory. The search costs the logarithm of the number of pairs, and those on the shorter side of
+    /// the pair move: none at either end. Where there is no room for one more, all may move.
     pub fn add(&mut self, deadline: Moment, index: u16) -> Result<(), AllocError>
         ensures ok { OnOk result (Adds self.old self.new deadline index) }
         ensures present { has self.old deadline index ≡ true → self.new ≡ self.old }
         ensures err { OnErr result (self.new ≡ self.old) }
         ensures absent { OnErr result (has self.old deadline index ≡ false) }
     {
-        self.pairs.insert((deadline, index))?;
+        let pair = (deadline, index);
+        if let Err(place) = self.place_of(&pair) {
+            put(&mut self.pairs, place, pair)?;
+        }
         Ok(())
     }
 
-    /// Takes the pair out, and says whether it was there. The cost grows with the logarithm of the
-    /// number of pairs.
+    /// Takes the pair out, and says whether it was there. The search costs the logarithm of the number
+    /// of pairs, and those on the shorter side of the pair move: none at either end.
     pub fn take_out(&mut self, deadline: Moment, index: u16) -> bool
         ensures there { result ≡ has self.old deadline index }
         ensures taken_out { TakesOut self.old self.new deadline index }
         ensures unchanged { OnFalse result (self.new ≡ self.old) }
     {
-        self.pairs.remove(&(deadline, index))
+        match self.place_of(&(deadline, index)) {
+            // Most are the first when they go, and a pop takes fewer steps.
+            Ok(0) => self.pairs.pop_front().is_some(),
+            Ok(place) => self.pairs.remove(place).is_some(),
+            Err(_) => false,
+        }
     }
 
-    /// The first pair, where it is due at `at`: its deadline isn't after it. The cost grows with the
-    /// logarithm of the number of pairs.
+    /// The first pair, where it is due at `at`: its deadline isn't after it. The cost is the same for any
+    /// number of pairs.
     pub fn first_due(&self, at: Moment) -> Option<(Moment, u16)>
         ensures { IsLeast self.now (λ pair. is_due pair.0 at) result }
     {
-        let first = self.pairs.first()?;
-        if at.is_due(first.0) {
-            Some(*first)
-        } else {
-            None
-        }
+        let first = *self.pairs.front()?;
+        at.is_due(first.0).then_some(first)
     }
 
     /// The first pair after this one, which need not be in the set; of `None`, the first of all. The cost
@@ -83,7 +95,7 @@ impl Due {
         ensures { IsLeast self.now (comes_after pair) result }
     {
         match pair {
-            None => Some(*self.pairs.first()?),
+            None => Some(*self.pairs.front()?),
             Some(pair) => self.above(pair),
         }
     }
@@ -92,9 +104,39 @@ impl Due {
     fn above(&self, pair: (Moment, u16)) -> Option<(Moment, u16)>
         ensures { IsLeast self.now (comes_before pair) result }
     {
-        self.pairs
-            .range((Bound::Excluded(pair), Bound::Unbounded))
-            .next()
-            .copied()
+        let place = self.pairs.partition_point(|other| *other <= pair);
+        self.pairs.get(place).copied()
+    }
+
+    /// Where the pair stands, or else where it would. Most stand at an end, so those are looked at first.
+    fn place_of(&self, pair: &(Moment, u16)) -> Result<usize, usize>
+        ensures { IsPlace self.now pair.now result }
+    {
+        let Some(last) = self.pairs.back() else {
+            return Err(0);
+        };
+        match last.cmp(pair) {
+            Ordering::Less => Err(self.pairs.len()),
+            Ordering::Equal => Ok(self.pairs.len() - 1),
+            Ordering::Greater if self.pairs.front() == Some(pair) => Ok(0),
+            Ordering::Greater => self.pairs.binary_search(pair),
+        }
+    }
+}
+
+/// Inserts the pair at this place. Most come to the end, where a push takes fewer steps.
+fn put(
+    row: &mut VecDeque<(Moment, u16)>,
+    place: usize,
+    pair: (Moment, u16),
+) -> Result<(), AllocFailed<(Moment, u16)>>
+    requires { place ≤ deque_len row.old }
+    ensures ok { OnOk result (row.new.items ≡ insert row.old.items place pair) }
+    ensures err { OnErr result (row.new.items ≡ row.old.items) }
+{
+    if place == row.len() {
+        row.push_back(pair)
+    } else {
+        row.insert(place, pair)
     }
 }

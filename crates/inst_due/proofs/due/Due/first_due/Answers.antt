@@ -1,16 +1,15 @@
-use Rattle.std.proofs.Common.{◌≡◌, true, sym, subst, ◌∙◌}
+use Rattle.std.proofs.Common.{◌≡◌, ℕ, List, Some, subst, rules}
+use Rattle.std.specs.Bool.{then_some}
 use Rattle.inst_base.specs.TimeLimit.{is_due}
-use Rattle.inst_due.specs.Due.{has, IsFirst}
-use Rattle.inst_due.proofs.Pairs.{first_is_due, none_is_due}
+use Rattle.inst_due.specs.Due.{IsLeast}
+use Rattle.inst_due.proofs.Pairs.{got, first_if_due}
 use Rattle.inst_due.proofs.due.Due.first_due.Goals as goal
 
-pub returns-then-is_due : goal.returns-then-is_due
-returns-then-is_due c =
-    subst (λ pairs. IsFirst pairs (λ pair. is_due pair.0 c.args.at) c.in_ok-first.first.now) c.self.view_is
-    (first_is_due c.self.inside.pairs c.in_ok-first.first.now c.args.at c.in_ok-first.ensures.member c.in_ok-first.ensures.least
-    (sym c.is_due.ensures ∙ c.if-is_due.true))
-
-pub returns-else-is_due : goal.returns-else-is_due
-returns-else-is_due c = λ d k has_it.
-    none_is_due c.self.inside.pairs c.in_ok-first.first.now c.args.at c.in_ok-first.ensures.least (sym c.is_due.ensures ∙ c.if-is_due.false) d k
-    (subst (λ pairs. has pairs d k ≡ true) (sym c.self.view_is) has_it)
+pub returns : goal.returns
+returns c =
+    let pairs = c.self.inside.pairs.items in
+    let first = c.in_ok-first.field-0 in
+    let given : then_some (is_due first.now.0 c.args.at) first.now ≡ c.then_some.result = search rules in
+    subst (λ (l : List (ℕ × ℕ)). IsLeast l (λ pair. is_due pair.0 c.args.at) c.then_some.result) c.self.view_is
+    (subst (IsLeast pairs (λ pair. is_due pair.0 c.args.at)) given
+    (first_if_due pairs first.now c.args.at c.self.invariant (got pairs 0 (Some first) c.in_ok-first.ensures.item)))

@@ -1,0 +1,15 @@
+-- The row in which the pairs stand, and where a pair stands in it.
+use Rattle.std.specs.Prelude.{◌≡◌, ℕ, ◌≤◌, true, List, length, slice_get, Some, Result, Ok, Err}
+use Rattle.std.specs.List.{AllPairs}
+use Rattle.std.specs.List.Sorted.{IsPartitionPoint}
+use Rattle.inst_due.specs.Due.{comes_before}
+
+-- each pair comes before all that stand behind it
+abbrev pub IsRising : List (ℕ × ℕ) → Type 0
+IsRising pairs = AllPairs (λ one other. comes_before one other ≡ true) pairs
+
+-- where the pair stands in the row, or else where it would: behind those that come before it
+abbrev pub IsPlace : List (ℕ × ℕ) → ℕ × ℕ → Result ℕ ℕ → Type 0
+IsPlace pairs pair (Ok n) = slice_get pairs n ≡ Some pair
+IsPlace pairs pair (Err n) =
+    (n ≤ length pairs) × IsPartitionPoint (λ other. comes_before other pair ≡ true) (λ other. comes_before pair other ≡ true) pairs n
