@@ -3,6 +3,7 @@ use Rattle.std.proofs.Common.{◌≡◌, ℕ, eqb, cond, zero, suc, ◌+◌, ◌
 use Rattle.std.specs.Prelude.{Contains, Option, slice_get, map}
 use Rattle.std.proofs.lemmas.List.{append-nil, append_assoc, length-map}
 use Rattle.std.proofs.lemmas.List.Elements.{Contains-append_cases}
+use Rattle.std.proofs.lemmas.Option.{slice_get-get_or, get_or_from_slice_get}
 use mathlib.Core.Option.{none, some, some-injective, some-ne-none}
 use mathlib.Core.List.{IsPrefix}
 use mathlib.Core.Logic.{dite}
@@ -13,6 +14,7 @@ use Rattle.atomic_table.specs.Table.{State, Me, step, keeps, takes, gives, stepp
 use Rattle.atomic_table.proofs.Lists.{at_set, at_snoc, set_here, set_else, set_again}
 use Rattle.inst_row.specs.declared.view.Front.{Front}
 use Rattle.inst_row.specs.declared.view.View.{View}
+use Rattle.inst_row.specs.Place.{place}
 use Rattle.inst_row.specs.View.{front, count, held, fronts_of, first_view, took, behind, gave, told, left_of, parts, united, nobody}
 use Rattle.inst_row.specs.Rule.{Guarded, takers}
 use Rattle.inst_row.specs.Steps.{takes_lock, gives_lock, tells_nothing}
@@ -42,10 +44,16 @@ whole_prefix xs ys e = ([], append-nil xs ∙ e)
 longer_prefix : {E : Type 0} (xs ys zs : List E) → IsPrefix xs ys → IsPrefix ys zs → IsPrefix xs zs
 longer_prefix {E} xs ys zs p q = (p.0 ++ q.0, sym (append_assoc xs p.0 q.0) ∙ (ap (λ (l : List E). l ++ q.0) p.1 ∙ q.1))
 
-word_by : (words : List ℕ) (p n : ℕ) → p < length words → (P : ℕ → Type 0) (q : ℕ) → (q ≡ p → P n) → (q ≢ p → P (get_or words q 0)) → P (get_or (set words p n) q 0)
+apart : (p q : ℕ) → q ≢ p → place q ≢ place p
+apart p q ne e = ne (omega arith)
+
+pub one_place : (p q : ℕ) → place p ≡ place q → p ≡ q
+one_place p q e = omega arith
+
+word_by : (words : List ℕ) (p n : ℕ) → place p < length words → (P : ℕ → Type 0) (q : ℕ) → (q ≡ p → P n) → (q ≢ p → P (get_or words (place q) 0)) → P (get_or (set words (place p) n) (place q) 0)
 word_by words p n within P q here there = dite (ℕ_discrete q p)
-    (λ e. subst P (sym (ap (λ i. get_or (set words p n) i 0) e ∙ get_or-set_same words p n 0 within)) (here e))
-    (λ ne. subst P (sym (get_or-set_else words p q n ne)) (there ne))
+    (λ e. subst P (sym (ap (λ i. get_or (set words (place p) n) (place i) 0) e ∙ get_or-set_same words (place p) n 0 within)) (here e))
+    (λ ne. subst P (sym (get_or-set_else words (place p) (place q) n (apart p q ne))) (there ne))
 
 abbrev is_at : ℕ → ℕ → ℕ
 is_at p q = cond (eqb p q) 1 0
@@ -63,13 +71,11 @@ counts_in {E} p (x ∷ xs) m c e = ⊎_elim
     (λ there. let r = counts_in p xs m there e in omega arith)
     (in_cons x m xs c)
 
-first_value : {T : Type 0} → List (ℕ × Option T) → Option T
-first_value [] = None
-first_value (x ∷ xs) = x.1
-
-one_value : {T : Type 0} (p : ℕ) (y z : T) (cs : List (ℕ × Option T)) → (p, Some y) ∷ cs ≡ (p, Some z) ∷ cs → y ≡ z
-unfolding first_value
-one_value p y z cs e = let f : Some y ≡ Some z = ap first_value e in cc
+one_value : {T : Type 0} (p q : ℕ) (y z : T) (cs : List (ℕ × Option T)) → (p, Some y) ∷ cs ≡ (q, Some z) ∷ cs → (p ≡ q) × (y ≡ z)
+one_value {T} p q y z cs e = (
+  ap (λ (l : List (ℕ × Option T)). (get_or l 0 (p, Some y)).0) e,
+  let value : Some y ≡ Some z = ap (λ (l : List (ℕ × Option T)). (get_or l 0 (p, Some y)).1) e in cc,
+)
 
 only_one : {A : Type 0} (x y : A) (i : ℕ) → get_elem? (x ∷ []) i ≡ some y → x ≡ y
 only_one x y zero e = some-injective x y e
@@ -123,25 +129,25 @@ module _ {T E K : Type 0} (law : K → ℕ → T → Type 0) (history : T → Li
   each_set : (l : List (View E K)) (id : ℕ) (w : View E K) (P : View E K → Type 0) → P w → ((i : ℕ) (v : View E K) → get_elem? l i ≡ some v → P v) → (i : ℕ) (v : View E K) → get_elem? (set l id w) i ≡ some v → P v
   each_set l id w P here there i v e = ⊎_elim (λ t. subst P t.1 here) (λ t. there i v t.1) (at_set l id i w v e)
 
-  module _ (slots id p : ℕ) (within : p < slots) where
+  module _ (slots id p : ℕ) (within : place p < slots) where
     -- the lock is free, and the seat takes it
-    takes_it : (m : ℕ) → 0 < m → (me : Sat) (s : St) (r : G s) → 0 < me.0.parts → length s.homes ≡ slots → get_elem? s.views id ≡ some me.0 → get_or s.words p 0 ≡ 0 → (x : T) → history x ≡ r.latest p
-        → G (stepped s p m id me.1 (took me.0 p (history x)) (takes p (Some x)))
+    takes_it : (m : ℕ) → 0 < m → (me : Sat) (s : St) (r : G s) → 0 < me.0.parts → length s.homes ≡ slots → get_elem? s.views id ≡ some me.0 → get_or s.words (place p) 0 ≡ 0 → (x : T) → history x ≡ r.latest p
+        → G (stepped s (place p) m id me.1 (took me.0 p (history x)) (takes (place p) (Some x)))
     takes_it m set_to me s r part wide at free x is =
         let w : View E K = took me.0 p (history x) in
-        let sized = r.sized in let long : p < length s.words = omega arith in
+        let sized = r.sized in let long : place p < length s.words = omega arith in
         let adds : (q : ℕ) → held q (set s.views id w) + count q me.0.held ≡ held q s.views + (is_at p q + count q me.0.held) = λ q. held-set q s.views id me.0 w at in
         record {
           latest = r.latest;
-          sized = length-set s.homes p none ∙ (r.sized ∙ sym (length-set s.words p m));
+          sized = length-set s.homes (place p) none ∙ (r.sized ∙ sym (length-set s.words (place p) m));
           counted = λ q. word_by s.words p m long (λ n. held q (set s.views id w) ≡ takers n) q
-              (λ e. let a = adds q in let old : held q s.views ≡ 0 = r.counted q ∙ ap takers (ap (λ i. get_or s.words i 0) e ∙ free) in
+              (λ e. let a = adds q in let old : held q s.views ≡ 0 = r.counted q ∙ ap takers (ap (λ i. get_or s.words (place i) 0) e ∙ free) in
               let one : is_at p q ≡ 1 = at_one p q (sym e) in let now : takers m ≡ 1 = one_taker m set_to in omega arith)
-              (λ ne. let a = adds q in let old : held q s.views ≡ takers (get_or s.words q 0) = r.counted q in
+              (λ ne. let a = adds q in let old : held q s.views ≡ takers (get_or s.words (place q) 0) = r.counted q in
               let none_more : is_at p q ≡ 0 = at_zero p q ne in omega arith);
-          home = λ q below. word_by s.words p m long (λ n. n ≡ 0 → (y : T) × (get_elem? (set s.homes p none) q ≡ some (some (Some y))) × law key q y × (history y ≡ r.latest q)) q
+          home = λ q below. word_by s.words p m long (λ n. n ≡ 0 → (y : T) × (get_elem? (set s.homes (place p) none) (place q) ≡ some (some (Some y))) × law key q y × (history y ≡ r.latest q)) q
               (λ e z. absurd (omega arith))
-              (λ ne z. let longer : q < length s.words = subst (λ n. q < n) (length-set s.words p m) below in let h = r.home q longer z in (h.0, set_else s.homes p q none ne ∙ h.1, h.2, h.3));
+              (λ ne z. let longer : place q < length s.words = subst (λ n. place q < n) (length-set s.words (place p) m) below in let h = r.home q longer z in (h.0, set_else s.homes (place p) (place q) none (apart p q ne) ∙ h.1, h.2, h.3));
           known = each_set s.views id w (λ v. (m : Front E) → Contains v.fronts m → IsPrefix m.history (r.latest m.lock))
               (λ m c. ⊎_elim (λ old. r.known id me.0 at m old)
               (λ new. of_front (λ q h. IsPrefix h (r.latest q)) p (history x) m (one_of_one _ m new) (whole_prefix _ _ is))
@@ -158,11 +164,11 @@ module _ {T E K : Type 0} (law : K → ℕ → T → Type 0) (history : T → Li
     -- the seat gives the lock back, with a value whose history goes on from what it found
     gives_it : (v : View E K) (cs : List (ℕ × Option T)) (y : T) (h : List E) (hs : List (Front E)) (s : St) (r : G s) → length s.homes ≡ slots → get_elem? s.views id ≡ some v
         → v.held ≡ front p h ∷ hs → law key p y → IsPrefix h (history y)
-        → G (stepped s p 0 id ((p, Some y) ∷ cs) (gave v p (history y)) gives)
+        → G (stepped s (place p) 0 id ((place p, Some y) ∷ cs) (gave v p (history y)) gives)
     gives_it v cs y h hs s r wide at mine lawful grows =
         let w : View E K = gave v p (history y) in
         let views : List (View E K) = set s.views id w in
-        let sized = r.sized in let long : p < length s.words = omega arith in
+        let sized = r.sized in let long : place p < length s.words = omega arith in
         let latest : ℕ → List E = λ q. cond (eqb q p) (history y) (r.latest q) in
         let latest_here : (q : ℕ) → q ≡ p → latest q ≡ history y = λ q e. ap (λ (b : Bool). cond b (history y) (r.latest q)) (eq-eqb q p e) in
         let latest_else : (q : ℕ) → q ≢ p → latest q ≡ r.latest q = λ q ne. ap (λ (b : Bool). cond b (history y) (r.latest q)) (ne_eqb q p ne) in
@@ -171,7 +177,7 @@ module _ {T E K : Type 0} (law : K → ℕ → T → Type 0) (history : T → Li
         let adds : (q : ℕ) → held q views + count q v.held ≡ held q s.views + count q w.held = λ q. held-set q s.views id v w at in
         let found : h ≡ r.latest p = r.mine id v at (front p h) (subst (λ (l : List (Front E)). Contains l (front p h)) (sym mine) (0, omega arith, refl)) in
         let mine_one : is_at p p ≡ 1 = at_one p p refl in
-        let free : held p views ≡ 0 = (let a = adds p in let b = before p in let c = after p in let d : held p s.views ≡ takers (get_or s.words p 0) = r.counted p in let f = most_takers (get_or s.words p 0) in omega arith) in
+        let free : held p views ≡ 0 = (let a = adds p in let b = before p in let c = after p in let d : held p s.views ≡ takers (get_or s.words (place p) 0) = r.counted p in let f = most_takers (get_or s.words (place p) 0) in omega arith) in
         let not_p : (i : ℕ) (u : View E K) → get_elem? views i ≡ some u → (m : Front E) → Contains u.held m → m.lock ≢ p =
         λ i u e m c is. (let one = held_one p views i u e in let more = counts_in p u.held m c is in absurd (omega arith)) in
         let seen : (m : Front E) → IsPrefix m.history (r.latest m.lock) → IsPrefix m.history (latest m.lock) = λ m pre. dite (ℕ_discrete m.lock p)
@@ -181,14 +187,14 @@ module _ {T E K : Type 0} (law : K → ℕ → T → Type 0) (history : T → Li
         (let in_hs : Contains hs m = subst (λ (l : List (Front E)). Contains (behind l) m) mine c in (suc in_hs.0, (let b = in_hs.1 in omega arith), in_hs.2))) in
         record {
           latest = latest;
-          sized = length-set s.homes p (some (Some y)) ∙ (r.sized ∙ sym (length-set s.words p 0));
+          sized = length-set s.homes (place p) (some (Some y)) ∙ (r.sized ∙ sym (length-set s.words (place p) 0));
           counted = λ q. word_by s.words p 0 long (λ n. held q views ≡ takers n) q
               (λ e. ap (λ i. held i views) e ∙ free)
-              (λ ne. let a = adds q in let b = before q in let c = after q in let old : held q s.views ≡ takers (get_or s.words q 0) = r.counted q in
+              (λ ne. let a = adds q in let b = before q in let c = after q in let old : held q s.views ≡ takers (get_or s.words (place q) 0) = r.counted q in
               let none_more : is_at p q ≡ 0 = at_zero p q ne in omega arith);
-          home = λ q below. word_by s.words p 0 long (λ n. n ≡ 0 → (x : T) × (get_elem? (set s.homes p (some (Some y))) q ≡ some (some (Some x))) × law key q x × (history x ≡ latest q)) q
-              (λ e z. (y, ap (λ i. get_elem? (set s.homes p (some (Some y))) i) e ∙ set_here s.homes p (some (Some y)) (omega arith), subst (λ i. law key i y) (sym e) lawful, sym (latest_here q e)))
-              (λ ne z. let longer : q < length s.words = subst (λ n. q < n) (length-set s.words p 0) below in let f = r.home q longer z in (f.0, set_else s.homes p q (some (Some y)) ne ∙ f.1, f.2, f.3 ∙ sym (latest_else q ne)));
+          home = λ q below. word_by s.words p 0 long (λ n. n ≡ 0 → (x : T) × (get_elem? (set s.homes (place p) (some (Some y))) (place q) ≡ some (some (Some x))) × law key q x × (history x ≡ latest q)) q
+              (λ e z. (y, ap (λ i. get_elem? (set s.homes (place p) (some (Some y))) (place i)) e ∙ set_here s.homes (place p) (some (Some y)) (omega arith), subst (λ i. law key i y) (sym e) lawful, sym (latest_here q e)))
+              (λ ne z. let longer : place q < length s.words = subst (λ n. place q < n) (length-set s.words (place p) 0) below in let f = r.home q longer z in (f.0, set_else s.homes (place p) (place q) (some (Some y)) (apart p q ne) ∙ f.1, f.2, f.3 ∙ sym (latest_else q ne)));
           known = each_set s.views id w (λ u. (m : Front E) → Contains u.fronts m → IsPrefix m.history (latest m.lock))
               (λ m c. ⊎_elim (λ old. seen m (r.known id v at m old))
               (λ new. of_front (λ q l. IsPrefix l (latest q)) p (history y) m (one_of_one _ m new) (whole_prefix _ _ (sym (latest_here p refl))))
@@ -200,20 +206,20 @@ module _ {T E K : Type 0} (law : K → ℕ → T → Type 0) (history : T → Li
           named = each_set s.views id w (λ u. (k : K) → u.about ≡ Some k → k ≡ key) (λ k e. r.named id v at k e) r.named;
         }
 
-  module _ (slots id p : ℕ) (within : p < slots) where
+  module _ (slots id p : ℕ) (within : place p < slots) where
     -- the word says something else, of a lock that as many seats have
-    says_it : (m : ℕ) → (s : St) → takers m ≡ takers (get_or s.words p 0) → G s → length s.homes ≡ slots → (v : View E K) → get_elem? s.views id ≡ some v
-        → G record { words = set s.words p m; homes = s.homes; views = set s.views id v }
+    says_it : (m : ℕ) → (s : St) → takers m ≡ takers (get_or s.words (place p) 0) → G s → length s.homes ≡ slots → (v : View E K) → get_elem? s.views id ≡ some v
+        → G record { words = set s.words (place p) m; homes = s.homes; views = set s.views id v }
     says_it m s alike r wide v at =
-        let sized = r.sized in let long : p < length s.words = omega arith in
-        let here : (q : ℕ) → q ≡ p → takers (get_or s.words q 0) ≡ takers m = λ q e. ap takers (ap (λ i. get_or s.words i 0) e) ∙ sym alike in
-        subst (λ (l : List (View E K)). G record { words = set s.words p m; homes = s.homes; views = l }) (sym (set_again s.views id v at)) record {
+        let sized = r.sized in let long : place p < length s.words = omega arith in
+        let here : (q : ℕ) → q ≡ p → takers (get_or s.words (place q) 0) ≡ takers m = λ q e. ap takers (ap (λ i. get_or s.words (place i) 0) e) ∙ sym alike in
+        subst (λ (l : List (View E K)). G record { words = set s.words (place p) m; homes = s.homes; views = l }) (sym (set_again s.views id v at)) record {
           latest = r.latest;
-          sized = r.sized ∙ sym (length-set s.words p m);
+          sized = r.sized ∙ sym (length-set s.words (place p) m);
           counted = λ q. word_by s.words p m long (λ n. held q s.views ≡ takers n) q (λ e. r.counted q ∙ here q e) (λ ne. r.counted q);
-          home = λ q below. word_by s.words p m long (λ n. n ≡ 0 → (y : T) × (get_elem? s.homes q ≡ some (some (Some y))) × law key q y × (history y ≡ r.latest q)) q
-              (λ e z. r.home q (subst (λ n. q < n) (length-set s.words p m) below) (is_free _ (here q e ∙ ap takers z)))
-              (λ ne z. r.home q (subst (λ n. q < n) (length-set s.words p m) below) z);
+          home = λ q below. word_by s.words p m long (λ n. n ≡ 0 → (y : T) × (get_elem? s.homes (place q) ≡ some (some (Some y))) × law key q y × (history y ≡ r.latest q)) q
+              (λ e z. r.home q (subst (λ n. place q < n) (length-set s.words (place p) m) below) (is_free _ (here q e ∙ ap takers z)))
+              (λ ne z. r.home q (subst (λ n. place q < n) (length-set s.words (place p) m) below) z);
           known = r.known;
           mine = r.mine;
           dealt = r.dealt;
@@ -221,28 +227,29 @@ module _ {T E K : Type 0} (law : K → ℕ → T → Type 0) (history : T → Li
           named = r.named;
         }
 
-    pub waits_rule : (me : Sat) → Allows (G) slots id me p (λ n. either (eqb n 1) 2 n) (tells_nothing (step slots p 0 0 none) me)
-    waits_rule me s r wide at _ = let n : ℕ = get_or s.words p 0 in
+    pub waits_rule : (me : Sat) → Allows (G) slots id me (place p) (λ n. either (eqb n 1) 2 n) (tells_nothing (step slots (place p) 0 0 none) me)
+    waits_rule me s r wide at _ = let n : ℕ = get_or s.words (place p) 0 in
         (me.0, keeps, tt, says_it (either (eqb n 1) 2 n) s (as_taken n) r wide me.0 at, (refl, refl))
 
-    pub takes_rule : (m : ℕ) → 0 < m → (me : Sat) → 0 < me.0.parts → Allows (G) slots id me p (λ n. either (eqb n 0) m n) (takes_lock law history (step slots p 0 0 none) me)
-    takes_rule m more me part s r wide at _ = let n : ℕ = get_or s.words p 0 in let next : ℕ = either (eqb n 0) m n in let taken : 0 < next = never_free m more n in dite (ℕ_discrete n 0)
+    pub takes_rule : (m : ℕ) → 0 < m → (me : Sat) → 0 < me.0.parts → Allows (G) slots id me (place p) (λ n. either (eqb n 0) m n) (takes_lock law history (step slots (place p) 0 0 none) me)
+    takes_rule m more me part s r wide at _ = let n : ℕ = get_or s.words (place p) 0 in let next : ℕ = either (eqb n 0) m n in let taken : 0 < next = never_free m more n in dite (ℕ_discrete n 0)
         (λ hit.
         let sized = r.sized in
         let h = r.home p (omega arith) hit in
         let w : View E K = took me.0 p (history h.0) in (
           w,
-          takes p (Some h.0),
+          takes (place p) (Some h.0),
           h.1,
           takes_it slots id p within next taken me s r part wide at hit h.0 h.3,
           (
-            (λ z. (
-              h.0,
-              (λ k e. subst (λ j. law j p h.0) (sym (r.named id me.0 at k e)) h.2),
-              (λ f c e. subst (λ l. IsPrefix f.history l) (ap r.latest e ∙ sym h.3) (r.known id me.0 at f c)),
-              refl,
-              refl,
-            )),
+            (λ z q e. subst (λ o. (x : T) × ((k : K) → me.0.about ≡ Some k → law k o x) × ((f : Front E) → Contains me.0.fronts f → f.lock ≡ o → IsPrefix f.history (history x))
+                × (w ≡ took me.0 o (history x)) × ((place p, Some h.0) ∷ me.1 ≡ (place o, Some x) ∷ me.1)) (one_place p q e) (
+                  h.0,
+                  (λ k e. subst (λ j. law j p h.0) (sym (r.named id me.0 at k e)) h.2),
+                  (λ f c e. subst (λ l. IsPrefix f.history l) (ap r.latest e ∙ sym h.3) (r.known id me.0 at f c)),
+                  refl,
+                  refl,
+                )),
             λ nz. absurd (nz hit),
           ),
         ))
@@ -251,19 +258,20 @@ module _ {T E K : Type 0} (law : K → ℕ → T → Type 0) (history : T → Li
           keeps,
           tt,
           says_it next s (one_taker next taken ∙ sym (one_taker n (positive n miss))) r wide me.0 at,
-          ((λ z. absurd (miss z)), λ nz. (refl, refl)),
+          ((λ z q e. absurd (miss z)), λ nz. (refl, refl)),
         ))
 
-    pub gives_rule : (me : Sat) (y : T) (h : List E) (hs : List (Front E)) (k : K) → me.1 ≡ (p, Some y) ∷ rest me.1 → me.0.held ≡ front p h ∷ hs → me.0.about ≡ Some k → law k p y → IsPrefix h (history y)
-        → Allows (G) slots id me p (λ _. 0) (λ _. gives_lock history (step slots p 0 0 none) me 0)
+    pub gives_rule : (me : Sat) (y : T) (h : List E) (hs : List (Front E)) (k : K) → me.1 ≡ (place p, Some y) ∷ rest me.1 → me.0.held ≡ front p h ∷ hs → me.0.about ≡ Some k → law k p y → IsPrefix h (history y)
+        → Allows (G) slots id me (place p) (λ _. 0) (λ _. gives_lock history (step slots (place p) 0 0 none) me 0)
     gives_rule me y h hs k carries mine about lawful grows s r wide at _ =
         let w : View E K = gave me.0 p (history y) in (
           w,
           gives,
           tt,
-          subst (λ (cs : List (ℕ × Option T)). G (stepped s p 0 id cs w gives)) (sym carries)
+          subst (λ (cs : List (ℕ × Option T)). G (stepped s (place p) 0 id cs w gives)) (sym carries)
               (gives_it slots id p within me.0 (rest me.1) y h hs s r wide at mine (subst (λ j. law j p y) (r.named id me.0 at k about) lawful) grows),
-          λ z e. (let is : y ≡ z = one_value p y z (rest me.1) (sym carries ∙ e) in (ap (λ (x : T). gave me.0 p (history x)) is, refl)),
+          λ q z e. (let one = one_value (place p) (place q) y z (rest me.1) (sym carries ∙ e) in
+              (ap (λ (x : T). gave me.0 p (history x)) one.1 ∙ ap (λ i. gave me.0 i (history z)) (one_place p q one.0), refl)),
         )
 
   pub tells : (id : ℕ) (v : View E K) → v.held ≡ [] → Splits (G) id v (left_of v) (told v)
@@ -273,7 +281,7 @@ module _ {T E K : Type 0} (law : K → ℕ → T → Type 0) (history : T → Li
       record {
         latest = r.latest;
         sized = r.sized;
-        counted = λ q. let a = held-snoc q (set s.views id (left_of v)) (told v) in let b = held-set q s.views id v (left_of v) at in let c : held q s.views ≡ takers (get_or s.words q 0) = r.counted q in omega arith;
+        counted = λ q. let a = held-snoc q (set s.views id (left_of v)) (told v) in let b = held-set q s.views id v (left_of v) at in let c : held q s.views ≡ takers (get_or s.words (place q) 0) = r.counted q in omega arith;
         home = r.home;
         known = each (λ u. (m : Front E) → Contains u.fronts m → IsPrefix m.history (r.latest m.lock)) (r.known id v at) (r.known id v at) r.known;
         mine = each (λ u. (m : Front E) → Contains u.held m → m.history ≡ r.latest m.lock) (r.mine id v at) (λ m c. absurd (let z = c.1 in omega arith)) r.mine;
@@ -292,7 +300,7 @@ module _ {T E K : Type 0} (law : K → ℕ → T → Type 0) (history : T → Li
         latest = r.latest;
         sized = r.sized;
         counted = λ q. let a = held-set q s.views id v both at in let b = held-set q (set s.views id both) other w nobody at' in let e = count-append q v.held w.held in
-            let c : held q s.views ≡ takers (get_or s.words q 0) = r.counted q in omega arith;
+            let c : held q s.views ≡ takers (get_or s.words (place q) 0) = r.counted q in omega arith;
         home = r.home;
         known = each (λ u. (m : Front E) → Contains u.fronts m → IsPrefix m.history (r.latest m.lock))
             (λ m c. ⊎_elim (λ l. r.known id v at m l) (λ rt. r.known other w there m rt) (Contains-append_cases v.fronts w.fronts m c)) (λ m c. absurd (let z = c.1 in omega arith)) r.known;
@@ -332,17 +340,18 @@ module _ {T E K : Type 0} (law : K → ℕ → T → Type 0) (history : T → Li
       (λ there. next p (Some x) xs m (front_at (suc p) xs m there))
       (in_cons (front p (history x)) m (fronts_of history (suc p) xs) c)
 
-  starts : (words : List ℕ) (xs : List (Option T)) → length words ≡ length xs → ((k : ℕ) → get_or words k 0 ≡ 0) → ((k : ℕ) → k < length xs → (x : T) × (slice_get xs k ≡ Some (Some x)) × law key k x)
-      → G (opening words xs (first_view history key xs))
+  starts : (words : List ℕ) (slots xs : List (Option T)) → length words ≡ place (length xs) → length slots ≡ length words → ((k : ℕ) → get_or words k 0 ≡ 0)
+      → ((k : ℕ) → k < length xs → get_or slots (place k) None ≡ get_or xs k None) → ((k : ℕ) → k < length xs → (x : T) × (slice_get xs k ≡ Some (Some x)) × law key k x)
+      → G (opening words slots (first_view history key xs))
   unfolding start_of
-  starts words xs same zeros all =
+  starts words slots xs long same zeros lie all =
       let first : View E K = first_view history key xs in
       let only : (P : View E K → Type 0) → P first → (i : ℕ) (u : View E K) → get_elem? (first ∷ []) i ≡ some u → P u = λ P h i u e. subst P (only_one first u i e) h in
       record {
         latest = λ q. start_of (slice_get xs q);
-        sized = length-map xs some ∙ sym same;
-        counted = λ q. sym (ap takers (zeros q));
-        home = λ q below z. let a = all q (omega arith) in (a.0, slice_some xs q (Some a.0) a.1, a.2, sym (ap start_of a.1));
+        sized = length-map slots some ∙ same;
+        counted = λ q. sym (ap takers (zeros (place q)));
+        home = λ q below z. let within : q < length xs = omega arith in let a = all q within in (a.0, slice_some slots (place q) (Some a.0) (slice_get-get_or slots (place q) None (omega arith) ∙ ap Some (lie q within ∙ get_or_from_slice_get xs q (Some a.0) None a.1)), a.2, sym (ap start_of a.1));
         known = only (λ u. (m : Front E) → Contains u.fronts m → IsPrefix m.history (start_of (slice_get xs m.lock))) (λ m c. let f = front_at 0 xs m c in let at : m.lock ≡ f.index = f.lock_is ∙ omega arith in whole_prefix _ _ (f.history_is ∙ sym (ap start_of (ap (slice_get xs) at ∙ f.there))));
         mine = only (λ u. (m : Front E) → Contains u.held m → m.history ≡ start_of (slice_get xs m.lock)) (λ m c. absurd (let z = c.1 in omega arith));
         dealt = refl;
@@ -350,13 +359,14 @@ module _ {T E K : Type 0} (law : K → ℕ → T → Type 0) (history : T → Li
         named = only (λ u. (k : K) → u.about ≡ Some k → k ≡ key) (λ k e. cc);
       }
 
-  pub starts_with : (words : List ℕ) (xs ys : List (Option T)) → ys ≡ xs → length words ≡ length xs → ((k : ℕ) → get_or words k 0 ≡ 0) → ((k : ℕ) → k < length xs → (x : T) × (slice_get xs k ≡ Some (Some x)) × law key k x)
-      → G (opening words xs (first_view history key ys))
-  starts_with words xs ys e same zeros all = subst (λ (zs : List (Option T)). G (opening words xs (first_view history key zs))) (sym e) (starts words xs same zeros all)
+  pub starts_with : (words : List ℕ) (slots xs ys : List (Option T)) → ys ≡ xs → length words ≡ place (length xs) → length slots ≡ length words → ((k : ℕ) → get_or words k 0 ≡ 0)
+      → ((k : ℕ) → k < length xs → get_or slots (place k) None ≡ get_or xs k None) → ((k : ℕ) → k < length xs → (x : T) × (slice_get xs k ≡ Some (Some x)) × law key k x)
+      → G (opening words slots (first_view history key ys))
+  starts_with words slots xs ys e long same zeros lie all = subst (λ (zs : List (Option T)). G (opening words slots (first_view history key zs))) (sym e) (starts words slots xs long same zeros lie all)
 
   -- who has all parts, and no lock, knows that each value is at home
   pub all_home : (s : St) (r : G s) (id : ℕ) (v : View E K) → get_elem? s.views id ≡ some v → v.parts ≡ 16 → v.held ≡ []
-      → (p : ℕ) → p < length s.words → (x : T) × (get_elem? s.homes p ≡ some (some (Some x))) × law key p x × ((h : List E) → Contains v.fronts (front p h) → IsPrefix h (history x))
+      → (p : ℕ) → place p < length s.words → (x : T) × (get_elem? s.homes (place p) ≡ some (some (Some x))) × law key p x × ((h : List E) → Contains v.fronts (front p h) → IsPrefix h (history x))
   all_home s r id v at all idle p below =
       let dealt : parts s.views ≡ 16 = r.dealt in
       let none : held p s.views ≡ 0 = none_held p s.views (λ i u e. dite (ℕ_discrete i id)

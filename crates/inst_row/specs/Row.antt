@@ -12,4 +12,4 @@ module _ {T E K L : Type 0} where
   key_of r = r.table.shared.key.about.value
 
   abbrev pub size : LockRow T E K L → ℕ
-  size r = (row_id r).words
+  size r = r.locks

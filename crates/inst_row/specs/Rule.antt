@@ -7,6 +7,7 @@ use lib.ListN.{get_elem?}
 use Rattle.atomic_table.specs.Table.{State}
 use Rattle.inst_row.specs.declared.view.Front.{Front}
 use Rattle.inst_row.specs.declared.view.View.{View}
+use Rattle.inst_row.specs.Place.{place}
 use Rattle.inst_row.specs.View.{held, parts}
 use Rattle.inst_row.specs.declared.row.TheConstants.{PARTS}
 
@@ -29,9 +30,9 @@ pub record Guarded {T E K : Type 0} (law : K → ℕ → T → Type 0) (history 
     (s : State (Option T) (View E K)) : Type 0 where
   pub latest : ℕ → List E
   pub sized : length s.homes ≡ length s.words
-  pub counted : (p : ℕ) → held p s.views ≡ takers (slice_index s.words p)
-  pub home : (p : ℕ) → p < length s.words → slice_index s.words p ≡ 0 →
-      (x : T) × (get_elem? s.homes p ≡ some (some (Some x))) × law key p x × (history x ≡ latest p)
+  pub counted : (p : ℕ) → held p s.views ≡ takers (slice_index s.words (place p))
+  pub home : (p : ℕ) → place p < length s.words → slice_index s.words (place p) ≡ 0 →
+      (x : T) × (get_elem? s.homes (place p) ≡ some (some (Some x))) × law key p x × (history x ≡ latest p)
   pub known : (id : ℕ) (v : View E K) → get_elem? s.views id ≡ some v → (f : Front E) → Contains v.fronts f →
       IsPrefix f.history (latest f.lock)
   pub mine : (id : ℕ) (v : View E K) → get_elem? s.views id ≡ some v → (f : Front E) → Contains v.held f →

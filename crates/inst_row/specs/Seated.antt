@@ -5,6 +5,7 @@ use mathlib.Core.List.{IsPrefix}
 use Rattle.atomic_table.specs.Seated.{TableId}
 use Rattle.inst_row.specs.declared.view.View.{View}
 use Rattle.inst_row.specs.declared.seat.RowSeat.{RowSeat}
+use Rattle.inst_row.specs.Place.{place}
 use Rattle.inst_row.specs.View.{front}
 use Rattle.inst_row.specs.declared.row.TheConstants.{PARTS}
 
@@ -29,7 +30,7 @@ module _ {T E K : Type 0} where
 
   -- it has the lock p and no other, where it found the history h
   pub record Has (p : ℕ) (h : List E) (s : RowSeat T E K) : Type 0 where
-    pub hands : s.seat.me.1 ≡ (p, None) ∷ []
+    pub hands : s.seat.me.1 ≡ (place p, None) ∷ []
     pub lock : (view_of s).held ≡ front p h ∷ []
     pub part : 0 < (view_of s).parts
 

@@ -3,6 +3,7 @@
 #![tactic(auto)]
 
 mod beginning;
+mod ended;
 mod lawful;
 mod row;
 mod rule;
@@ -11,6 +12,7 @@ mod steps;
 mod view;
 
 pub use beginning::Beginning;
+pub use ended::Ended;
 pub use lawful::Lawful;
 pub use row::{LockRow, PARTS};
 pub use rule::Guarding;

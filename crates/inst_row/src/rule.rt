@@ -4,8 +4,8 @@ use crate::view::View;
 use atomic_table::TableRule;
 use std::marker::PhantomData;
 
-/// What holds of the locks and of all seats between any two steps of any threads: word p is 0 while the value
-/// lies in slot p, lawful; else a seat has the lock p, and at 2 others may sleep until it is given back.
+/// What holds of the locks and of all seats between any two steps of any threads: a lock's word is 0 while its
+/// value lies in its slot, lawful; else a seat has the lock, and at 2 others may sleep until it is given back.
 pub struct Guarding<L> {
     law: PhantomData<L>,
 }

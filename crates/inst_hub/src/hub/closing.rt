@@ -87,18 +87,15 @@ fn empty(row: Row, seat: Seat, slots: &mut Vec<Slot>, boards: &mut Vec<SharedBoa
     ensures taken { AreTakenOut (key_of row) (size row) seat slots.new.items boards.new.items }
 {
     mention::<Outcome>();
-    let mut closed = row.take_apart(seat);
-    for lock in 0..closed.slot_count() {
-        let Some(found) = closed.take(lock) else {
-            unreachable!()
-        };
-        let Participant { slot, board } = Box::into_inner(found);
+    let mut ended = row.take_apart(seat);
+    for lock in 0..ended.len() {
+        let Participant { slot, board } = Box::into_inner(ended.take(lock));
         // The check is told that a history is sound only by a call.
         let _ = slot.journal();
         slots.push_reserved(slot);
         boards.push_reserved(board);
     }
-    closed.free();
+    ended.free();
 }
 
 impl Hub {

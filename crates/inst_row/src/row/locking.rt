@@ -4,7 +4,7 @@ ghost use mathlib.Core.List.{IsPrefix};
 ghost use Rattle.inst_row.specs.Seated.{IsOn, IsFree, Has, GoesOn, Sees};
 ghost use Rattle.inst_row.specs.Row.{row_id, key_of, size};
 
-use super::LockRow;
+use super::{LockRow, STRIDE};
 use crate::lawful::Lawful;
 use crate::seat::RowSeat;
 use crate::steps::{Awaiting, Giving, Taking};
@@ -36,9 +36,10 @@ impl<T, E, K, L: Lawful<T, E, K>> LockRow<T, E, K, L> {
         ensures none { IfNone result (seat.new.seat.me ≡ seat.old.seat.me) }
     {
         let shared = &self.table.shared;
+        let place = lock * STRIDE;
         for _ in 0..TRIES {
-            if shared.compare_exchange::<Taking<L>>(&mut seat.seat, lock, 0, word) == 0 {
-                return shared.exchange(&mut seat.seat, lock, None);
+            if shared.compare_exchange::<Taking<L>>(&mut seat.seat, place, 0, word) == 0 {
+                return shared.exchange(&mut seat.seat, place, None);
             }
             yield_now();
         }
@@ -53,8 +54,9 @@ impl<T, E, K, L: Lawful<T, E, K>> LockRow<T, E, K, L> {
         ensures same { seat.new.seat.me ≡ seat.old.seat.me }
     {
         let shared = &self.table.shared;
-        shared.compare_exchange::<Awaiting>(&mut seat.seat, lock, TAKEN, AWAITED);
-        shared.park(rt, lock, AWAITED as u32);
+        let place = lock * STRIDE;
+        shared.compare_exchange::<Awaiting>(&mut seat.seat, place, TAKEN, AWAITED);
+        shared.park(rt, place, AWAITED as u32);
     }
 
     /// The value behind the lock. It waits while another seat has it; a seat that has a lock takes no second
@@ -94,10 +96,11 @@ impl<T, E, K, L: Lawful<T, E, K>> LockRow<T, E, K, L> {
         ensures sees { Sees lock (L.history value) seat.old seat.new }
     {
         let shared = &self.table.shared;
-        let old = shared.exchange(&mut seat.seat, lock, Some(value));
+        let place = lock * STRIDE;
+        let old = shared.exchange(&mut seat.seat, place, Some(value));
         let None = old else { unreachable!() };
-        if shared.swap::<Giving<L>>(&mut seat.seat, lock, 0) == AWAITED {
-            shared.wake_one(lock);
+        if shared.swap::<Giving<L>>(&mut seat.seat, place, 0) == AWAITED {
+            shared.wake_one(place);
         }
     }
 }

@@ -1,11 +1,12 @@
 //! How a row of locks is made.
-ghost use Rattle.std.specs.Prelude.{◌≡◌, ℕ, ◌<◌, length, slice_get, Some, IfOk};
+ghost use Rattle.std.specs.Prelude.{◌≡◌, ℕ, ◌<◌, length, slice_get, slice_index_or, Some, None, IfOk};
 ghost use Rattle.inst_row.specs.Seated.{IsOn, HasAll, view_of};
 ghost use Rattle.inst_row.specs.Row.{row_id, key_of, size};
+ghost use Rattle.inst_row.specs.Place.{place};
 ghost use Rattle.inst_row.specs.View.{fronts_of};
 ghost use Rattle.inst_row.specs.declared.row.TheConstants.{PARTS};
 
-use super::LockRow;
+use super::{LockRow, STRIDE};
 use crate::beginning::Beginning;
 use crate::lawful::Lawful;
 use crate::seat::RowSeat;
@@ -27,13 +28,18 @@ impl<T: Drop, E, K, L: Lawful<T, E, K>> LockRow<T, E, K, L> {
         ensures parts { IfOk result (λ r. (view_of r.1).parts ≡ PARTS) }
         ensures seen { IfOk result (λ r. (view_of r.1).fronts ≡ fronts_of L.history 0 values.items) }
     {
-        let words = vec![in alloc; 0; values.len()]?;
+        let locks = values.len();
+        let Some(places) = locks.checked_mul(STRIDE) else {
+            return Err(AllocError);
+        };
+        let words = vec![in alloc; 0; places]?;
         let key = Beginning {
             about: Snapshot::of(about),
             values: Snapshot::of(&values),
         };
-        match Table::new(alloc, words.as_slice(), values, &key) {
-            Ok((table, seat)) => Ok((LockRow { table }, RowSeat { seat })),
+        let slots = spread(alloc, values, places)?;
+        match Table::new(alloc, words.as_slice(), slots, &key) {
+            Ok((table, seat)) => Ok((LockRow { table, locks }, RowSeat { seat })),
             Err(_) => Err(AllocError),
         }
     }
@@ -42,6 +48,24 @@ impl<T: Drop, E, K, L: Lawful<T, E, K>> LockRow<T, E, K, L> {
     pub fn len(&self) -> usize
         ensures { result ≡ size self.now }
     {
-        self.table.word_count()
+        self.locks
     }
+}
+
+/// A slot for each word: the values lie where their locks have their places, and nothing lies between.
+fn spread<T: Drop>(
+    alloc: Global,
+    mut values: Vec<Option<T>>,
+    places: usize,
+) -> Result<Vec<Option<T>>, AllocError>
+    requires { places ≡ place (length values.items) }
+    ensures len { IfOk result (λ slots. length slots.items ≡ places) }
+    ensures values { IfOk result (λ slots. (p : ℕ) → p < length values.items → slice_index_or slots.items (place p) None ≡ slice_index_or values.items p None) }
+{
+    let mut slots = Vec::with_capacity(alloc, places)?;
+    slots.resize_with(places, || None)?;
+    while let Some(value) = values.pop() {
+        slots[values.len() * STRIDE] = value;
+    }
+    Ok(slots)
 }
