@@ -180,13 +180,10 @@ fn books(row: Row, seat: Caller) -> (Book, Book)
     requires all { HasAll seat }
     requires two { size row ≡ 2 }
 {
-    let mut closed = row.take_apart(seat);
-    let first = closed.take(0);
-    let second = closed.take(1);
-    closed.free();
-    let (Some(first), Some(second)) = (first, second) else {
-        unreachable!()
-    };
+    let mut ended = row.take_apart(seat);
+    let first = ended.take(0);
+    let second = ended.take(1);
+    ended.free();
     (first, second)
 }
 
