@@ -1,4 +1,5 @@
-//! The load of `inst_loads` at a shared hub: `uniform`, `split` or `hot`, threads, rounds.
+//! The load of `inst_loads` at a shared hub: `uniform`, `split` or `hot`, threads, rounds, and how many transfers each
+//! thread makes in a round.
 use crate::shared::{SharedHub, Size, Submission};
 use crate::text::Ident;
 use std::thread;
@@ -26,18 +27,22 @@ enum Pattern {
 struct Load {
     pattern: Pattern,
     threads: u32,
+    /// How many transfers each thread makes in a round.
+    share: u32,
+}
+
+impl Pattern {
+    /// The most transfers for which each of so many threads finds places.
+    fn most(self, threads: u32) -> u32 {
+        match self {
+            Pattern::Uniform => PARTICIPANTS * PLACES / threads,
+            Pattern::Split => PARTICIPANTS / threads * PLACES,
+            Pattern::Hot => PLACES / threads,
+        }
+    }
 }
 
 impl Load {
-    /// How many transfers each thread makes in a round: as many as find places.
-    fn share(self) -> u32 {
-        match self.pattern {
-            Pattern::Uniform => PARTICIPANTS * PLACES / self.threads,
-            Pattern::Split => PARTICIPANTS / self.threads * PLACES,
-            Pattern::Hot => PLACES / self.threads,
-        }
-    }
-
     fn pair(self, thread: u32, number: u32) -> (u8, u8) {
         match self.pattern {
             Pattern::Uniform => pair_of(0, PARTICIPANTS, number * self.threads + thread),
@@ -59,7 +64,7 @@ fn pair_of(first: u32, size: u32, number: u32) -> (u8, u8) {
 /// How many of the thread's transfers were accepted.
 fn settle(hub: &SharedHub, load: Load, thread: u32) -> u32 {
     let mut settled = 0;
-    for number in 0..load.share() {
+    for number in 0..load.share {
         let (from, to) = load.pair(thread, number);
         let Ok(id) = Ident::read(&format!("T{thread}-{number}")) else {
             continue;
@@ -95,10 +100,11 @@ fn round(load: Load) -> Option<u32> {
     });
     let sum: u64 = (0..SIZE.participants).map(|who| hub.position(who)).sum();
     let is_whole = sum == FUNDS * u64::from(SIZE.participants) && hub.is_whole();
-    (is_whole && settled == load.share() * load.threads).then_some(settled)
+    (is_whole && settled == load.share * load.threads).then_some(settled)
 }
 
-/// Runs the load that the words choose: how many transfers were settled, or nothing where one wasn't.
+/// Runs the load that the words choose: how many transfers were settled, or nothing where one wasn't. Without a word for
+/// it each thread makes as many as find places.
 pub fn run(words: &[String]) -> Option<u64> {
     let pattern = match words.first()?.as_str() {
         "uniform" => Pattern::Uniform,
@@ -108,6 +114,14 @@ pub fn run(words: &[String]) -> Option<u64> {
     };
     let threads = words.get(1)?.parse().ok().filter(|n| (1..=15).contains(n))?;
     let rounds: u32 = words.get(2)?.parse().ok()?;
-    let load = Load { pattern, threads };
+    let share = match words.get(3) {
+        Some(word) => word.parse().ok()?,
+        None => pattern.most(threads),
+    };
+    let load = Load {
+        pattern,
+        threads,
+        share,
+    };
     (0..rounds).map(|_| round(load).map(u64::from)).sum()
 }
