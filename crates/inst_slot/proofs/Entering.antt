@@ -18,6 +18,7 @@ use Rattle.inst_command.specs.declared.command.Command.TheVariants.{Fund, Defund
 use Rattle.inst_command.specs.declared.entry.Entry.{Entry}
 use Rattle.inst_command.specs.declared.outcome.Outcome.{Outcome}
 use Rattle.inst_command.specs.declared.reply.Reply.{Reply}
+use Rattle.inst_command.specs.declared.reply.Reply.TheVariants.{Position as PositionReply}
 use Rattle.inst_command.specs.declared.submission.Submission.{Submission}
 use Rattle.inst_board.specs.declared.place.Place.{Place}
 use Rattle.inst_board.specs.declared.about.About.TheVariants.{Opened, HasTerms, Due, Decided}
@@ -30,7 +31,7 @@ use Rattle.inst_journal.specs.declared.event.Event.TheVariants.{Funded, Defunded
 use Rattle.inst_journal.specs.declared.handle.Handled.{Handled}
 use Rattle.inst_journal.specs.Booked.{is_taken, is_forwarded, booked, books}
 use Rattle.inst_journal.specs.Keys.{is_fund_repeat, is_defund_repeat, is_submission_repeat}
-use Rattle.inst_journal.specs.Money.{available}
+use Rattle.inst_journal.specs.Money.{position, reserved, available}
 use Rattle.inst_journal.specs.Opened.{is_opening, carried, takes_live, live_taken, live_submissions}
 use Rattle.inst_journal.specs.Reply.{entry_of, funding, is_new_funding, standing, still_pending, unread, hand_out, handle, submit, copies, told, kept_event, kept_events}
 use Rattle.inst_journal.specs.Sound.{Fits, FitAfter, IsSound}
@@ -305,3 +306,11 @@ module _ (book : Book) (ask : Ask) (handled : Handled) (other : (x : Submission)
     kept ∙ ap (λ (r : Result Handled Fault). with_events book (book.events ++ kept_events r)) (sym is),
     others_move_none book.settings book.who book.events ask.command ask.at other,
   )
+
+-- a position is told, and nothing is kept
+pub position_alone : (book : Book) (ask : Ask) → ask.command ≡ Position → EntersAlone book ask (Ok (PositionReply (position book.events) (reserved book.events) (available book.events))) book
+position_alone book ask is =
+    let J : List Event = book.events in
+    let handled : Handled = record { reply = PositionReply (position J) (reserved J) (available J); kept = None } in
+    let handles : handle_ask book ask None ≡ Ok handled = ap (λ (command : Command). handle book.settings book.who J command ask.at None) is in
+    alone_as book ask handled (λ x submits. let none : ⊥ = cc in none) handles book (sym (ap (λ (L : List Event). with_events book L) (append-nil J)))

@@ -178,8 +178,8 @@ impl Ledger {
         standing(who, id, still_pending(who, id), booked, found)
     }
 
-    /// The position, what of it is reserved, and what is available.
-    fn position_reply(&self) -> Reply
+    /// The position, what of it is reserved, and what is available, in cents: what `handle` answers to `Position`.
+    pub fn position_reply(&self) -> Reply
         ensures { result ≡ Reply.Position
             (position self.now.book.events) (reserved self.now.book.events) (available self.now.book.events) }
     {

@@ -109,6 +109,8 @@ impl Slot {
     {
         match &ask.command {
             Command::Submit(submission) => self.submit(board, ask, submission),
+            // A function clears the locals of each of its arms, and this one has no use for those of the others.
+            Command::Position => Ok(self.ledger.position_reply()),
             _ => self.enter_alone(ask),
         }
     }
