@@ -135,6 +135,14 @@ fn is_new(ledger: &Ledger, ask: &Ask, handled: &Result<Handled, Fault>) -> bool
     }
 }
 
+/// Whether the ledger, asked by itself for the position, tells what is told.
+fn is_position(ledger: &Ledger, ask: &Ask, told: &Told) -> bool {
+    match &ask.command {
+        Command::Position => is_reply(&ledger.position_reply(), told),
+        _ => true,
+    }
+}
+
 /// Compares what the ledger and the plain functions answer, and keeps what is to be kept.
 fn by_the_ledger(
     rt: &(impl Abort + AllocGlobal),
@@ -147,6 +155,7 @@ fn by_the_ledger(
 {
     let handled = ledger.handle(rt.alloc(), &ask.command, ask.at, *found);
     same_at(rt, *ask, is_new(ledger, ask, &handled), true);
+    same_at(rt, *ask, is_position(ledger, ask, told), true);
     match handled {
         Ok(Handled { reply, kept }) => {
             same_at(rt, *ask, is_reply(&reply, told), true);
