@@ -1,14 +1,15 @@
 //! Hubs with logs on disks in memory, and what they write.
-ghost use Rattle.std.specs.Prelude.{◌≤◌, length, IfOk, OnOk, IfSome, IsTrue};
+ghost use Rattle.std.specs.Prelude.{◌≤◌, length, IfSome, IsTrue};
 ghost use Rattle.sqlite_disk.specs.Disk.{Only};
 
+use crate::disks::filled;
 use inst_bytes::find_newline;
 use inst_lines::{Mode, play_lines, run_lines};
 use inst_logged::{LoggedError, LoggedHub};
 use inst_settings::Settings;
 use sqlite_disk::{Disk, Memory};
 use std::alloc::Global;
-use std::io::{self, Read};
+use std::io::Read;
 use std::test::Fail;
 
 /// Lines of each kind: what is taken, what is refused, what doesn't begin with a brace, and what is nothing at all.
@@ -92,26 +93,6 @@ pub(crate) fn wanted_of(alloc: Global, mode: Mode, settings: &Settings) -> Resul
     let input = text_of(alloc, LINES)?;
     let replies = plainly(alloc, mode, settings, &input)?;
     Ok(Wanted { input, replies })
-}
-
-/// Puts these bytes on an empty disk.
-fn put<D: Disk>(disk: &mut D, bytes: &[u8]) -> io::Result<()>
-    requires usable { IsTrue (D.Disk.is_usable disk.old) }
-    ensures known { OnOk result (Only (D.Disk.seen disk.new) (D.Disk.may_leave disk.new)) }
-    ensures usable { OnOk result (IsTrue (D.Disk.is_usable disk.new)) }
-{
-    disk.write_at(0, bytes)?;
-    disk.sync()
-}
-
-/// An empty disk with these bytes put on it.
-pub(crate) fn filled<D: Disk + Drop>(mut disk: D, bytes: &[u8]) -> io::Result<D>
-    requires usable { IsTrue (D.Disk.is_usable disk) }
-    ensures known { IfOk result (λ disk. Only (D.Disk.seen disk) (D.Disk.may_leave disk)) }
-    ensures usable { IfOk result (λ disk. IsTrue (D.Disk.is_usable disk)) }
-{
-    put(&mut disk, bytes)?;
-    Ok(disk)
 }
 
 /// How a run ended, and its disk.

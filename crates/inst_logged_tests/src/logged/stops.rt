@@ -1,6 +1,7 @@
 //! A machine that stops at each call of its disk in turn, and another run that goes on from what is left.
 use crate::comparing::same;
-use crate::logged::keeping::{Wanted, filled, front_len, go_on, newlines, serve_on, wanted_of};
+use crate::disks::filled;
+use crate::logged::keeping::{Wanted, front_len, go_on, newlines, serve_on, wanted_of};
 use inst_lines::Mode;
 use inst_log::{LogError, read};
 use inst_rows::{Pieces, settings};
