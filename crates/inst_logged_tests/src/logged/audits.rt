@@ -1,7 +1,4 @@
 //! Books that were changed in the file of a log.
-ghost use Rattle.std.specs.Prelude.{IsTrue};
-ghost use Rattle.sqlite_disk.specs.Disk.{Only};
-
 use crate::comparing::{same, same_at};
 use crate::disks::filled;
 use crate::logged::keeping::text_of;
@@ -10,7 +7,7 @@ use inst_log::LogError;
 use inst_logged::{LoggedError, LoggedHub};
 use inst_rows::settings;
 use inst_settings::Settings;
-use sqlite_disk::{Disk, Memory};
+use sqlite_disk::Memory;
 use std::alloc::Global;
 use std::process::Abort;
 use std::test::Fail;
@@ -109,16 +106,6 @@ fn log_with(alloc: Global, books: &[&[u8]]) -> Result<Vec<u8>, Fail> {
     Ok(log)
 }
 
-/// How a hub opens on this disk.
-fn open_on<D: Disk + Drop>(alloc: Global, settings: &Settings, disk: D) -> Result<(), LoggedError>
-    requires usable { IsTrue (D.Disk.is_usable disk) }
-    requires known { Only (D.Disk.seen disk) (D.Disk.may_leave disk) }
-{
-    let mut hub = LoggedHub::of_log(alloc, Mode::Run, settings, disk)?;
-    let mut reader: &[u8] = b"";
-    hub.run(alloc, None, &mut reader, &mut Vec::new(alloc))
-}
-
 /// How a hub opens on a log with these lines of books.
 fn open(
     alloc: Global,
@@ -127,7 +114,11 @@ fn open(
 ) -> Result<Result<(), LoggedError>, Fail> {
     let log = log_with(alloc, books)?;
     let disk = filled(Memory::new(alloc), &log)?;
-    Ok(open_on(alloc, settings, disk))
+    let mut reader: &[u8] = b"";
+    match LoggedHub::of_log(alloc, Mode::Run, settings, disk) {
+        Ok(mut hub) => Ok(hub.run(alloc, None, &mut reader, &mut Vec::new(alloc))),
+        Err(error) => Ok(Err(error)),
+    }
 }
 
 fn is_refused(

@@ -6,6 +6,7 @@ use crate::disks::filled;
 use inst_bytes::find_newline;
 use inst_lines::{Mode, play_lines, run_lines};
 use inst_logged::{LoggedError, LoggedHub};
+use inst_rows::settings;
 use inst_settings::Settings;
 use sqlite_disk::{Disk, Memory};
 use std::alloc::Global;
@@ -81,18 +82,30 @@ pub(crate) fn plainly(
     Ok(written)
 }
 
-/// What a reader gives, and what is written to it by a hub that keeps nothing.
+/// A hub, what a reader gives it, and what is written to that by a hub that keeps nothing.
 #[derive(Drop)]
-pub(crate) struct Wanted {
+pub(crate) struct Case {
+    pub(crate) mode: Mode,
+    pub(crate) settings: Settings,
     pub(crate) input: Vec<u8>,
     pub(crate) replies: Vec<u8>,
 }
 
-/// What is to be written to all lines.
-pub(crate) fn wanted_of(alloc: Global, mode: Mode, settings: &Settings) -> Result<Wanted, Fail> {
-    let input = text_of(alloc, LINES)?;
-    let replies = plainly(alloc, mode, settings, &input)?;
-    Ok(Wanted { input, replies })
+/// The case of a hub that gets this input.
+pub(crate) fn case_with(alloc: Global, mode: Mode, input: Vec<u8>) -> Result<Case, Fail> {
+    let settings = settings(alloc)?;
+    let replies = plainly(alloc, mode, &settings, &input)?;
+    Ok(Case {
+        mode,
+        settings,
+        input,
+        replies,
+    })
+}
+
+/// The case of a hub that gets all lines.
+pub(crate) fn case_of(alloc: Global, mode: Mode) -> Result<Case, Fail> {
+    case_with(alloc, mode, text_of(alloc, LINES)?)
 }
 
 /// How a run ended, and its disk.
