@@ -4,6 +4,8 @@
 #[cfg(test)]
 mod comparing;
 #[cfg(test)]
+mod disks;
+#[cfg(test)]
 mod log;
 #[cfg(test)]
 mod logged;

@@ -1,5 +1,4 @@
 //! Tests of what lines of JSON are read as, and of the lines that replies are written as.
-mod bounds;
 mod breaking;
 mod hub;
 mod reading;

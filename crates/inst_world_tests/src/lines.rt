@@ -1,9 +1,8 @@
-//! Tests of runs of lines: malformed lines, lines that are cut off, and what readers and writers do to a run.
+//! Tests of runs of lines: lines that are cut off, and what readers and writers do to a run.
 mod checking;
 mod cuts;
 mod failing;
 mod failing_writers;
 mod flushes;
-mod malformed;
 mod newlines;
 pub(crate) mod serving;

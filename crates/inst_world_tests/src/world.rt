@@ -1,7 +1,5 @@
-//! Tests of the hub in one thread: worked rows as scripts of lines, worlds step by step, and openings.
+//! Tests of the hub in one thread: worlds step by step, openings, and what is hidden of others' traffic.
 mod next_openings;
-mod rows;
-mod script_rows;
 mod told;
 mod two_runs;
 mod worlds;

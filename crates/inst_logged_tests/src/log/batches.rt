@@ -1,12 +1,9 @@
-//! Batches of one line or two, and files that are on their disk.
-ghost use Rattle.std.specs.Prelude.{◌<◌, length, IfOk, IsTrue, OnOk};
-ghost use Rattle.sqlite_disk.specs.Disk.{Only};
+//! Batches of one line or two.
+ghost use Rattle.std.specs.Prelude.{◌<◌, length, IfOk, OnOk};
 ghost use Rattle.inst_log.specs.Layout.{recovered, IsBatch, IsWhole};
 
 use inst_bytes::find_newline;
 use inst_log::{close_batch, push_line};
-use sqlite_disk::Disk;
-use std::io;
 use std::process::Abort;
 use std::test::Fail;
 
@@ -46,14 +43,4 @@ pub(crate) fn two(
     add(rt, &mut batch, second)?;
     close_batch(&mut batch)?;
     Ok(batch)
-}
-
-/// Puts these bytes on an empty disk.
-pub(crate) fn put<D: Disk>(disk: &mut D, bytes: &[u8]) -> io::Result<()>
-    requires usable { IsTrue (D.Disk.is_usable disk.old) }
-    ensures known { OnOk result (Only (D.Disk.seen disk.new) (D.Disk.may_leave disk.new)) }
-    ensures usable { OnOk result (IsTrue (D.Disk.is_usable disk.new)) }
-{
-    disk.write_at(0, bytes)?;
-    disk.sync()
 }

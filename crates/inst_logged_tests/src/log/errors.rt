@@ -1,7 +1,7 @@
 //! What the errors of a log tell.
+use crate::comparing::tells;
 use inst_log::LogError;
 use std::io::{Error, ErrorKind};
-use std::process::Abort;
 use std::test::Fail;
 
 /// Errors that hold nothing, and what each tells.
@@ -20,8 +20,7 @@ const ROWS: &[(LogError, &str)] = &[
 #[test]
 fn an_error_tells_what_went_wrong(rt: HostRuntime) -> Result<(), Fail> {
     for (error, told) in ROWS {
-        let text = format!(in rt.alloc(); "{error}")?;
-        assert_eq!(rt; text.as_str(), *told);
+        tells(&rt, error, told)?;
     }
     Ok(())
 }
@@ -29,7 +28,5 @@ fn an_error_tells_what_went_wrong(rt: HostRuntime) -> Result<(), Fail> {
 #[test]
 fn an_error_of_the_disk_tells_the_disks_own(rt: HostRuntime) -> Result<(), Fail> {
     let error = LogError::Disk(Error::from(ErrorKind::NotFound));
-    let text = format!(in rt.alloc(); "{error}")?;
-    assert_eq!(rt; text.as_str(), "the disk failed: entity not found");
-    Ok(())
+    tells(&rt, &error, "the disk failed: entity not found")
 }

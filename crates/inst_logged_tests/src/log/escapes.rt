@@ -1,7 +1,7 @@
 //! How lines stand in the file, and that they come back.
+use crate::comparing::same_at;
 use crate::log::batches::add;
 use inst_log::{first_line, line_of};
-use std::process::Abort;
 use std::test::Fail;
 
 /// A line, and what the file has of it.
@@ -20,13 +20,17 @@ const ROWS: &[(&[u8], &[u8])] = &[
     (b"{\x01}", b"{\x01{\x01}"),
 ];
 
-/// The file has this text of the line alone, which comes back.
-fn comes_back(rt: &impl Abort, text: &[u8], line: &[u8], raw: &[u8]) {
-    let (newline, front) = text.split_last().expect(rt, "a newline");
-    assert_eq!(rt;
-        (first_line(text), *newline, front, line_of(front)),
-        (Some(text.len()), b'\n', raw, line)
-    );
+/// Whether the file has this text of the line alone, which comes back.
+fn comes_back(text: &[u8], line: &[u8], raw: &[u8]) -> bool {
+    match text {
+        [front @ .., newline] => {
+            *newline == b'\n'
+                && front == raw
+                && line_of(front) == line
+                && first_line(text) == Some(text.len())
+        }
+        [] => false,
+    }
 }
 
 #[test]
@@ -34,7 +38,7 @@ fn lines_come_back(rt: HostRuntime) -> Result<(), Fail> {
     for &(line, raw) in ROWS {
         let mut text = Vec::new(rt.alloc());
         add(&rt, &mut text, line)?;
-        comes_back(&rt, &text, line, raw);
+        same_at(&rt, line, comes_back(&text, line, raw), true);
     }
     Ok(())
 }

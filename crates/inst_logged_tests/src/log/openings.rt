@@ -1,5 +1,7 @@
 //! Which files open with some settings, and what is left of those that don't.
-use crate::log::batches::{one, put};
+use crate::comparing::same_at;
+use crate::disks::filled;
+use crate::log::batches::one;
 use inst_log::{Log, LogError};
 use sqlite_disk::Memory;
 use std::process::Abort;
@@ -7,7 +9,7 @@ use std::test::Fail;
 
 const SETTINGS: &[u8] = b"{\"s\":1}";
 
-#[derive(Clone, Copy, Debug, PartialEq, Eq)]
+#[derive(Clone, Copy)]
 enum Opening {
     /// It opens, and has this text.
     Text(&'static [u8]),
@@ -53,47 +55,44 @@ const ROWS: &[(&[u8], Opening)] = &[
     (b"\n{\"s\":1}\n\0", NoLog),
 ];
 
-/// Opens a file with these bytes, and says what the file has then.
-fn open(
-    rt: &(impl Abort + AllocGlobal),
-    bytes: &[u8],
-) -> Result<(Result<Vec<u8>, LogError>, Vec<u8>), Fail> {
-    let alloc = rt.alloc();
-    let settings = one(rt, SETTINGS)?;
-    let mut disk = Memory::new(alloc);
-    put(&mut disk, bytes)?;
-    let mut log = Log { disk, end: 0 };
-    let opened = log.open(alloc, &settings);
-    let left = log.disk.bytes().to_vec(alloc)?;
-    Ok((opened, left))
+/// Whether these lines are left, and behind them a byte with which no line begins.
+fn are_left(left: &[u8], lines: &[u8]) -> bool {
+    match left {
+        [front @ .., closed] => front == lines && *closed != b'{',
+        [] => false,
+    }
 }
 
-/// A file with these bytes opened so, and these are left.
-fn opens_so(
-    rt: &impl Abort,
-    opened: &Result<Vec<u8>, LogError>,
-    left: &[u8],
-    bytes: &[u8],
-    opening: Opening,
-) {
-    match (opened, opening) {
-        (Ok(text), Text(expected)) => {
-            let (closed, lines) = left.split_last().expect(rt, "a closed byte");
-            assert_ne!(rt; *closed, b'{');
-            assert_eq!(rt; (text.as_slice(), lines), (expected, expected));
-        }
-        (Err(LogError::OtherSettings), OtherSettings) | (Err(LogError::NoLog), NoLog) => {
-            assert_eq!(rt; left, bytes);
-        }
-        (opened, opening) => panic!(rt; "{:?} for {:?}: {:?}", opened.is_ok(), opening, bytes),
+/// Whether the file opened with these lines, which are left.
+fn has_lines(opened: &Result<Vec<u8>, LogError>, left: &[u8], lines: &[u8]) -> bool {
+    match opened {
+        Ok(text) => text.as_slice() == lines && are_left(left, lines),
+        Err(_) => false,
     }
+}
+
+/// Whether a file with these bytes opened so; one that didn't is left as it is.
+fn is_so(opened: &Result<Vec<u8>, LogError>, left: &[u8], bytes: &[u8], opening: Opening) -> bool {
+    match opening {
+        Text(lines) => has_lines(opened, left, lines),
+        OtherSettings => matches!(opened, Err(LogError::OtherSettings)) && left == bytes,
+        NoLog => matches!(opened, Err(LogError::NoLog)) && left == bytes,
+    }
+}
+
+/// Whether a file with these bytes opens so.
+fn opens(rt: &(impl Abort + AllocGlobal), bytes: &[u8], opening: Opening) -> Result<bool, Fail> {
+    let settings = one(rt, SETTINGS)?;
+    let disk = filled(Memory::new(rt.alloc()), bytes)?;
+    let mut log = Log { disk, end: 0 };
+    let opened = log.open(rt.alloc(), &settings);
+    Ok(is_so(&opened, log.disk.bytes(), bytes, opening))
 }
 
 #[test]
 fn files_open_or_are_left(rt: HostRuntime) -> Result<(), Fail> {
     for &(bytes, opening) in ROWS {
-        let (opened, left) = open(&rt, bytes)?;
-        opens_so(&rt, &opened, &left, bytes, opening);
+        same_at(&rt, bytes, opens(&rt, bytes, opening)?, true);
     }
     Ok(())
 }

@@ -1,5 +1,6 @@
 //! What is read of files of which nothing is repaired.
-use crate::log::batches::put;
+use crate::comparing::{same, same_at};
+use crate::disks::filled;
 use inst_log::{LogError, Reading, read};
 use sqlite_disk::Memory;
 use std::process::Abort;
@@ -23,26 +24,26 @@ fn read_file(
     rt: &(impl Abort + AllocGlobal),
     bytes: &[u8],
 ) -> Result<Result<Reading, LogError>, Fail> {
-    let mut disk = Memory::new(rt.alloc());
-    put(&mut disk, bytes)?;
+    let mut disk = filled(Memory::new(rt.alloc()), bytes)?;
     let reading = read(rt.alloc(), &mut disk);
-    assert_eq!(rt; disk.bytes(), bytes);
+    same(rt, disk.bytes(), bytes);
     Ok(reading)
 }
 
 /// A log has the settings, and so many lines behind them.
 fn is_log(rt: &(impl Abort + AllocGlobal), bytes: &[u8], behind: usize) -> Result<(), Fail> {
     let reading = read_file(rt, bytes)??;
-    assert_eq!(rt;
+    same(
+        rt,
         (reading.first.as_slice(), reading.behind),
-        (SETTINGS, behind)
+        (SETTINGS, behind),
     );
     Ok(())
 }
 
 fn is_no_log(rt: &(impl Abort + AllocGlobal), bytes: &[u8]) -> Result<(), Fail> {
     let reading = read_file(rt, bytes)?;
-    assert!(rt; matches!(reading, Err(LogError::NoLog)));
+    same_at(rt, bytes, matches!(reading, Err(LogError::NoLog)), true);
     Ok(())
 }
 

@@ -1,14 +1,16 @@
 //! Two runs of one log, of which the first is cut off after each call of its disk: each line is answered once.
 ghost use Rattle.std.specs.Prelude.{◌≡◌, [], IfOk};
 ghost use Rattle.std.proofs.Common.{ap};
-ghost use Rattle.inst_log.specs.Layout.{blocks};
+ghost use Rattle.inst_log.specs.Layout.{blocks, IsBatch};
 ghost use Rattle.inst_log.specs.Serving.{Replies, AllBatches};
 
-use crate::log::batches::{one, put, two};
+use crate::comparing::{same, same_at};
+use crate::disks::filled;
+use crate::log::batches::{one, two};
 use inst_log::{Answers, whole_lines};
 use inst_log_restart::run_twice;
 use sqlite_disk::Memory;
-use std::alloc::AllocError;
+use std::alloc::{AllocError, Global};
 use std::process::Abort;
 use std::test::Fail;
 
@@ -51,36 +53,52 @@ fn last_batch(rt: &(impl Abort + AllocGlobal)) -> Result<Vec<Vec<u8>>, Fail>
 }
 
 /// What the reader has of both runs, of which the first stops after so many calls.
-fn told(rt: &(impl Abort + AllocGlobal), calls: u64) -> Result<Vec<u8>, Fail> {
-    let mut disk = Memory::new(rt.alloc());
-    put(&mut disk, b"")?;
-    let settings = one(rt, b"{\"s\":1}")?;
-    let batches = first_batches(rt)?;
-    let more = last_batch(rt)?;
-    Ok(
-        run_twice(
-            rt.alloc(),
-            disk,
-            calls,
-            &settings,
-            Echo,
-            Echo,
-            &batches,
-            &more,
-        )?
-        .told,
-    )
+fn told(
+    alloc: Global,
+    calls: u64,
+    settings: &[u8],
+    batches: &[Vec<u8>],
+    more: &[Vec<u8>],
+) -> Result<Vec<u8>, Fail>
+    requires settings { IsBatch settings.now }
+    requires batches { AllBatches batches.now }
+    requires more { AllBatches more.now }
+{
+    let disk = filled(Memory::new(alloc), b"")?;
+    Ok(run_twice(alloc, disk, calls, settings, Echo, Echo, batches, more)?.told)
+}
+
+/// How many batches of the first run stand by what was told, if that is what it may be.
+fn standing(told: &[u8]) -> Option<usize> {
+    TOLD.iter().position(|front| *front == told)
+}
+
+/// Each line is told once, and the later the first run stops the more of its batches stand, up to all.
+fn say_each_line_once(
+    rt: &(impl Abort + AllocGlobal),
+    settings: &[u8],
+    batches: &[Vec<u8>],
+    more: &[Vec<u8>],
+) -> Result<(), Fail>
+    requires settings { IsBatch settings.now }
+    requires batches { AllBatches batches.now }
+    requires more { AllBatches more.now }
+{
+    let mut longest = 0;
+    for calls in 0..40 {
+        let told = told(rt.alloc(), calls, settings, batches, more)?;
+        let stand = standing(&told);
+        same_at(rt, calls, stand.is_some_and(|stand| stand >= longest), true);
+        longest = stand.unwrap_or(0);
+    }
+    same(rt, longest, 2);
+    Ok(())
 }
 
 #[test]
 fn two_runs_say_each_line_once(rt: HostRuntime) -> Result<(), Fail> {
-    let mut longest = 0;
-    for calls in 0..40 {
-        let told = told(&rt, calls)?;
-        let stand = TOLD.iter().position(|front| *front == told.as_slice());
-        assert!(rt; stand.is_some_and(|stand| stand >= longest));
-        longest = stand.unwrap_or(0);
-    }
-    assert_eq!(rt; longest, 2);
-    Ok(())
+    let settings = one(&rt, b"{\"s\":1}")?;
+    let batches = first_batches(&rt)?;
+    let more = last_batch(&rt)?;
+    say_each_line_once(&rt, &settings, &batches, &more)
 }

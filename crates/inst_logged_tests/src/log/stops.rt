@@ -3,8 +3,10 @@ ghost use Rattle.std.specs.Prelude.{IsTrue};
 ghost use Rattle.sqlite_disk.specs.Disk.{Only};
 ghost use Rattle.inst_log.specs.Layout.{IsBatch};
 
-use crate::log::batches::{one, put, two};
-use inst_log::{Log, LogError};
+use crate::comparing::{same, same_at};
+use crate::disks::filled;
+use crate::log::batches::{one, two};
+use inst_log::Log;
 use sqlite_disk::{Disk, Fuse, Memory};
 use std::alloc::{AllocError, Global};
 use std::process::Abort;
@@ -36,28 +38,30 @@ const STARTS: &[(&[u8], &[u8])] = &[
     (b"{\"s\":1}\n\0\"a\":2}\n{\"b\":3}\n{\"c\":4}\n\0", b""),
 ];
 
-/// Opens a log and adds two batches; `added` says how much of that is acknowledged.
-fn run<D: Disk>(
+/// Opens a log and adds two batches, and says how much of that is acknowledged.
+fn acknowledged<D: Disk>(
     alloc: Global,
     log: &mut Log<D>,
     settings: &[u8],
     first: &[u8],
     second: &[u8],
-    added: &mut usize,
-) -> Result<(), LogError>
+) -> usize
     requires usable { IsTrue (D.Disk.is_usable log.old.disk) }
     requires known { Only (D.Disk.seen log.old.disk) (D.Disk.may_leave log.old.disk) }
     requires settings { IsBatch settings.now }
     requires first { IsBatch first.now }
     requires second { IsBatch second.now }
 {
-    log.open(alloc, settings)?;
-    *added = 1;
-    log.append(first)?;
-    *added = 2;
-    log.append(second)?;
-    *added = 3;
-    Ok(())
+    if log.open(alloc, settings).is_err() {
+        return 0;
+    }
+    if log.append(first).is_err() {
+        return 1;
+    }
+    if log.append(second).is_err() {
+        return 2;
+    }
+    3
 }
 
 /// What a run leaves that stops after so many calls, and how much of it is acknowledged.
@@ -75,15 +79,11 @@ fn added<D: Disk>(rt: &(impl Abort + AllocGlobal), log: &mut Log<D>) -> Result<u
     let settings = one(rt, SETTINGS)?;
     let first = two(rt, FIRST[0], FIRST[1])?;
     let second = one(rt, SECOND)?;
-    let mut added = 0;
-    let ended = run(rt.alloc(), log, &settings, &first, &second, &mut added).is_ok();
-    assert_eq!(rt; ended, added == 3);
-    Ok(added)
+    Ok(acknowledged(rt.alloc(), log, &settings, &first, &second))
 }
 
 fn stop(rt: &(impl Abort + AllocGlobal), start: &[u8], calls: u64) -> Result<Stopped, Fail> {
-    let mut disk = Fuse::new(Memory::new(rt.alloc()), calls);
-    put(&mut disk, start)?;
+    let disk = filled(Fuse::new(Memory::new(rt.alloc()), calls), start)?;
     let mut log = Log { disk, end: 0 };
     let added = added(rt, &mut log)?;
     let bytes = log.disk.inner().bytes().to_vec(rt.alloc())?;
@@ -102,8 +102,7 @@ fn torn(alloc: Global, before: &[u8], after: &[u8], len: usize) -> Result<Vec<u8
 fn text_of(rt: &(impl Abort + AllocGlobal), bytes: &[u8]) -> Result<Vec<u8>, Fail> {
     let alloc = rt.alloc();
     let settings = one(rt, SETTINGS)?;
-    let mut disk = Memory::new(alloc);
-    put(&mut disk, bytes)?;
+    let disk = filled(Memory::new(alloc), bytes)?;
     let mut log = Log { disk, end: 0 };
     Ok(log.open(alloc, &settings)?)
 }
@@ -124,6 +123,19 @@ fn is_front(text: &[u8], kept: &[u8], acknowledged: usize) -> bool {
     }
 }
 
+/// Whether a log opens to a front where the last call was cut off behind so many of its bytes.
+fn leaves_a_front(
+    rt: &(impl Abort + AllocGlobal),
+    kept: &[u8],
+    before: &Stopped,
+    after: &Stopped,
+    len: usize,
+) -> Result<bool, Fail> {
+    let bytes = torn(rt.alloc(), &before.bytes, &after.bytes, len)?;
+    let text = text_of(rt, &bytes)?;
+    Ok(is_front(&text, kept, before.added.saturating_sub(1)))
+}
+
 /// Tries each byte at which the last call may be cut off.
 fn tears(
     rt: &(impl Abort + AllocGlobal),
@@ -132,9 +144,7 @@ fn tears(
     after: &Stopped,
 ) -> Result<(), Fail> {
     for len in 0..=before.bytes.len().max(after.bytes.len()) {
-        let bytes = torn(rt.alloc(), &before.bytes, &after.bytes, len)?;
-        let text = text_of(rt, &bytes)?;
-        assert!(rt; is_front(&text, kept, before.added.saturating_sub(1)));
+        same_at(rt, len, leaves_a_front(rt, kept, before, after, len)?, true);
     }
     Ok(())
 }
@@ -151,7 +161,7 @@ fn stop_at_each_call(
         tears(rt, kept, &before, &after)?;
         before = after;
     }
-    assert_eq!(rt; before.added, 3);
+    same(rt, before.added, 3);
     Ok(())
 }
 

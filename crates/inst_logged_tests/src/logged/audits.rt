@@ -1,6 +1,7 @@
 //! Books that were changed in the file of a log.
 use crate::comparing::{same, same_at};
-use crate::logged::keeping::{filled, text_of};
+use crate::disks::filled;
+use crate::logged::keeping::text_of;
 use inst_lines::Mode;
 use inst_log::LogError;
 use inst_logged::{LoggedError, LoggedHub};

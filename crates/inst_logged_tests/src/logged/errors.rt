@@ -1,7 +1,7 @@
 //! What the errors of a hub with a log tell.
+use crate::comparing::tells;
 use inst_log::LogError;
 use inst_logged::LoggedError;
-use std::process::Abort;
 use std::test::Fail;
 
 /// Errors, and what each tells: one of the log tells what the log's does.
@@ -17,8 +17,7 @@ const ROWS: &[(LoggedError, &str)] = &[
 #[test]
 fn an_error_tells_what_went_wrong(rt: HostRuntime) -> Result<(), Fail> {
     for (error, told) in ROWS {
-        let text = format!(in rt.alloc(); "{error}")?;
-        assert_eq!(rt; text.as_str(), *told);
+        tells(&rt, error, told)?;
     }
     Ok(())
 }

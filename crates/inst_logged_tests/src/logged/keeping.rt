@@ -1,14 +1,16 @@
 //! Hubs with logs on disks in memory, and what they write.
-ghost use Rattle.std.specs.Prelude.{◌≤◌, length, IfOk, OnOk, IfSome, IsTrue};
+ghost use Rattle.std.specs.Prelude.{◌≤◌, length, IfSome, IsTrue};
 ghost use Rattle.sqlite_disk.specs.Disk.{Only};
 
+use crate::disks::filled;
 use inst_bytes::find_newline;
 use inst_lines::{Mode, play_lines, run_lines};
 use inst_logged::{LoggedError, LoggedHub};
+use inst_rows::settings;
 use inst_settings::Settings;
 use sqlite_disk::{Disk, Memory};
 use std::alloc::Global;
-use std::io::{self, Read};
+use std::io::Read;
 use std::test::Fail;
 
 /// Lines of each kind: what is taken, what is refused, what doesn't begin with a brace, and what is nothing at all.
@@ -80,38 +82,30 @@ pub(crate) fn plainly(
     Ok(written)
 }
 
-/// What a reader gives, and what is written to it by a hub that keeps nothing.
+/// A hub, what a reader gives it, and what is written to that by a hub that keeps nothing.
 #[derive(Drop)]
-pub(crate) struct Wanted {
+pub(crate) struct Case {
+    pub(crate) mode: Mode,
+    pub(crate) settings: Settings,
     pub(crate) input: Vec<u8>,
     pub(crate) replies: Vec<u8>,
 }
 
-/// What is to be written to all lines.
-pub(crate) fn wanted_of(alloc: Global, mode: Mode, settings: &Settings) -> Result<Wanted, Fail> {
-    let input = text_of(alloc, LINES)?;
-    let replies = plainly(alloc, mode, settings, &input)?;
-    Ok(Wanted { input, replies })
+/// The case of a hub that gets this input.
+pub(crate) fn case_with(alloc: Global, mode: Mode, input: Vec<u8>) -> Result<Case, Fail> {
+    let settings = settings(alloc)?;
+    let replies = plainly(alloc, mode, &settings, &input)?;
+    Ok(Case {
+        mode,
+        settings,
+        input,
+        replies,
+    })
 }
 
-/// Puts these bytes on an empty disk.
-fn put<D: Disk>(disk: &mut D, bytes: &[u8]) -> io::Result<()>
-    requires usable { IsTrue (D.Disk.is_usable disk.old) }
-    ensures known { OnOk result (Only (D.Disk.seen disk.new) (D.Disk.may_leave disk.new)) }
-    ensures usable { OnOk result (IsTrue (D.Disk.is_usable disk.new)) }
-{
-    disk.write_at(0, bytes)?;
-    disk.sync()
-}
-
-/// An empty disk with these bytes put on it.
-pub(crate) fn filled<D: Disk + Drop>(mut disk: D, bytes: &[u8]) -> io::Result<D>
-    requires usable { IsTrue (D.Disk.is_usable disk) }
-    ensures known { IfOk result (λ disk. Only (D.Disk.seen disk) (D.Disk.may_leave disk)) }
-    ensures usable { IfOk result (λ disk. IsTrue (D.Disk.is_usable disk)) }
-{
-    put(&mut disk, bytes)?;
-    Ok(disk)
+/// The case of a hub that gets all lines.
+pub(crate) fn case_of(alloc: Global, mode: Mode) -> Result<Case, Fail> {
+    case_with(alloc, mode, text_of(alloc, LINES)?)
 }
 
 /// How a run ended, and its disk.

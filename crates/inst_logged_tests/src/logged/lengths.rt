@@ -1,9 +1,8 @@
 //! Lines of each length, read in pieces of each size, and answered again.
 use crate::comparing::same_at;
-use crate::logged::keeping::{Wanted, go_on, plainly, serve};
+use crate::logged::keeping::{Case, case_with, go_on, serve};
 use inst_lines::Mode;
-use inst_rows::{Pieces, settings};
-use inst_settings::Settings;
+use inst_rows::Pieces;
 use sqlite_disk::Memory;
 use std::alloc::Global;
 use std::process::Abort;
@@ -52,15 +51,10 @@ fn text(alloc: Global) -> Result<Vec<u8>, Fail> {
 }
 
 /// Compares what is written to the lines with the plain replies, and gives their log.
-fn answer(
-    rt: &(impl Abort + AllocGlobal),
-    mode: Mode,
-    settings: &Settings,
-    wanted: &Wanted,
-    most: usize,
-) -> Result<Memory, Fail> {
+fn answer(rt: &(impl Abort + AllocGlobal), case: &Case, most: usize) -> Result<Memory, Fail> {
+    let (mode, settings) = (case.mode, &case.settings);
     let mut reader = Pieces {
-        bytes: &wanted.input,
+        bytes: &case.input,
         most,
         fails: false,
     };
@@ -74,50 +68,35 @@ fn answer(
         &mut reader,
         &mut written,
     )?;
+    same_at(rt, most, written.as_slice(), case.replies.as_slice());
     ended.outcome?;
-    same_at(rt, most, written.as_slice(), wanted.replies.as_slice());
     Ok(ended.disk)
 }
 
 /// Compares what is written to a log alone with the plain replies.
 fn answer_again(
     rt: &(impl Abort + AllocGlobal),
-    mode: Mode,
-    settings: &Settings,
-    wanted: &Wanted,
+    case: &Case,
     log: &[u8],
     most: usize,
 ) -> Result<(), Fail> {
+    let (mode, settings) = (case.mode, &case.settings);
     let mut written = Vec::new(rt.alloc());
     go_on(rt.alloc(), mode, settings, log, Some(0), b"", &mut written)?;
-    same_at(rt, most, written.as_slice(), wanted.replies.as_slice());
+    same_at(rt, most, written.as_slice(), case.replies.as_slice());
     Ok(())
 }
 
 /// Reads the lines by so many bytes, and then their log.
-fn answer_in_pieces(
-    rt: &(impl Abort + AllocGlobal),
-    mode: Mode,
-    settings: &Settings,
-    wanted: &Wanted,
-    most: usize,
-) -> Result<(), Fail> {
-    let disk = answer(rt, mode, settings, wanted, most)?;
-    answer_again(rt, mode, settings, wanted, disk.bytes(), most)
-}
-
-/// The lines of each length, and what is to be written to them.
-fn wanted_of(alloc: Global, mode: Mode, settings: &Settings) -> Result<Wanted, Fail> {
-    let input = text(alloc)?;
-    let replies = plainly(alloc, mode, settings, &input)?;
-    Ok(Wanted { input, replies })
+fn answer_in_pieces(rt: &(impl Abort + AllocGlobal), case: &Case, most: usize) -> Result<(), Fail> {
+    let disk = answer(rt, case, most)?;
+    answer_again(rt, case, disk.bytes(), most)
 }
 
 fn answer_in_each_size(rt: &(impl Abort + AllocGlobal), mode: Mode) -> Result<(), Fail> {
-    let settings = settings(rt.alloc())?;
-    let wanted = wanted_of(rt.alloc(), mode, &settings)?;
+    let case = case_with(rt.alloc(), mode, text(rt.alloc())?)?;
     for most in SIZES {
-        answer_in_pieces(rt, mode, &settings, &wanted, most)?;
+        answer_in_pieces(rt, &case, most)?;
     }
     Ok(())
 }

@@ -5,7 +5,8 @@ ghost use Rattle.inst_world.specs.NextOpening.{CanOpenFrom};
 ghost use Rattle.inst_logged.specs.Logged.{IsUnbegun};
 
 use crate::comparing::{same, same_at};
-use crate::logged::keeping::{filled, text_of};
+use crate::disks::filled;
+use crate::logged::keeping::text_of;
 use inst_journal::Journal;
 use inst_lines::Mode;
 use inst_logged::LoggedHub;

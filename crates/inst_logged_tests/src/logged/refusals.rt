@@ -29,13 +29,13 @@ fn reordered(alloc: Global) -> Result<Settings, Fail> {
     Ok(Settings::check(codes.to_vec(alloc)?, numbers)?)
 }
 
-/// Why a run with a file that has these bytes ends. It leaves the file and writes nothing.
-fn refusal(
+/// How a run with a file that has these bytes ends. It leaves the file and writes nothing.
+fn outcome(
     rt: &(impl Abort + AllocGlobal),
     mode: Mode,
     settings: &Settings,
     bytes: &[u8],
-) -> Result<LogError, Fail> {
+) -> Result<Result<(), LoggedError>, Fail> {
     let alloc = rt.alloc();
     let mut reader: &[u8] = b"{}\n";
     let mut written = Vec::new(alloc);
@@ -49,10 +49,7 @@ fn refusal(
         &mut written,
     )?;
     same(rt, (ended.disk.bytes(), written.len()), (bytes, 0));
-    match ended.outcome {
-        Err(LoggedError::Log(error)) => Ok(error),
-        _ => panic!(rt; "taken"),
-    }
+    Ok(ended.outcome)
 }
 
 fn is_of_others(
@@ -61,8 +58,9 @@ fn is_of_others(
     settings: &Settings,
     log: &[u8],
 ) -> Result<(), Fail> {
-    let error = refusal(rt, mode, settings, log)?;
-    same(rt, matches!(error, LogError::OtherSettings), true);
+    let outcome = outcome(rt, mode, settings, log)?;
+    let is_of_others = matches!(outcome, Err(LoggedError::Log(LogError::OtherSettings)));
+    same(rt, is_of_others, true);
     Ok(())
 }
 
@@ -119,8 +117,9 @@ fn is_no_log(
     settings: &Settings,
     bytes: &[u8],
 ) -> Result<(), Fail> {
-    let error = refusal(rt, mode, settings, bytes)?;
-    same_at(rt, bytes, matches!(error, LogError::NoLog), true);
+    let outcome = outcome(rt, mode, settings, bytes)?;
+    let is_no_log = matches!(outcome, Err(LoggedError::Log(LogError::NoLog)));
+    same_at(rt, bytes, is_no_log, true);
     Ok(())
 }
 

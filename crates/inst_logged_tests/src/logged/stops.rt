@@ -1,10 +1,10 @@
 //! A machine that stops at each call of its disk in turn, and another run that goes on from what is left.
-use crate::comparing::same;
-use crate::logged::keeping::{Wanted, filled, front_len, go_on, newlines, serve_on, wanted_of};
+use crate::comparing::{same, same_at};
+use crate::disks::filled;
+use crate::logged::keeping::{Case, case_of, front_len, go_on, newlines, serve_on};
 use inst_lines::Mode;
 use inst_log::{LogError, read};
-use inst_rows::{Pieces, settings};
-use inst_settings::Settings;
+use inst_rows::Pieces;
 use sqlite_disk::{Fuse, Memory};
 use std::alloc::Global;
 use std::process::Abort;
@@ -28,16 +28,11 @@ struct Stopped {
 }
 
 /// Runs a hub on a disk that stops after so many calls.
-fn stop(
-    alloc: Global,
-    mode: Mode,
-    settings: &Settings,
-    input: &[u8],
-    calls: u64,
-) -> Result<Stopped, Fail> {
+fn stop(alloc: Global, case: &Case, calls: u64) -> Result<Stopped, Fail> {
+    let (mode, settings) = (case.mode, &case.settings);
     let disk = filled(Fuse::new(Memory::new(alloc), calls), b"")?;
     let mut reader = Pieces {
-        bytes: input,
+        bytes: &case.input,
         most: MOST,
         fails: false,
     };
@@ -62,17 +57,16 @@ fn kept_lines(rt: &(impl Abort + AllocGlobal), log: &[u8]) -> Result<usize, Fail
     }
 }
 
-/// Goes on for a reader that has these first bytes of the replies, and keeps those of them that are whole.
-fn go_on_behind(
-    rt: &(impl Abort + AllocGlobal),
-    mode: Mode,
-    settings: &Settings,
-    wanted: &Wanted,
+/// What a reader has that has these first bytes of the replies, and keeps those of them that are whole.
+fn gone_on(
+    alloc: Global,
+    case: &Case,
     log: &[u8],
+    kept: usize,
     front: &[u8],
-) -> Result<(), Fail> {
-    let alloc = rt.alloc();
-    let rest = &wanted.input[front_len(&wanted.input, kept_lines(rt, log)?)..];
+) -> Result<Vec<u8>, Fail> {
+    let (mode, settings) = (case.mode, &case.settings);
+    let rest = &case.input[front_len(&case.input, kept)..];
     let told = newlines(front);
     let mut replies = front[..front_len(front, told)].to_vec(alloc)?;
     go_on(
@@ -84,43 +78,49 @@ fn go_on_behind(
         rest,
         &mut replies,
     )?;
-    same(rt, replies.as_slice(), wanted.replies.as_slice());
+    Ok(replies)
+}
+
+/// Goes on for a reader that has these first bytes of the replies.
+fn go_on_behind(
+    rt: &(impl Abort + AllocGlobal),
+    case: &Case,
+    log: &[u8],
+    front: &[u8],
+) -> Result<(), Fail> {
+    let kept = kept_lines(rt, log)?;
+    let replies = gone_on(rt.alloc(), case, log, kept, front)?;
+    same(rt, replies.as_slice(), case.replies.as_slice());
     Ok(())
 }
 
-/// Stops after so many calls, and goes on: all that was written came to the reader, or half of it. Says whether the
-/// first run came to its end.
-fn stop_and_go_on(
+/// Goes on where all that was written came to the reader, and where half of it did.
+fn go_on_from(
     rt: &(impl Abort + AllocGlobal),
-    mode: Mode,
-    settings: &Settings,
-    wanted: &Wanted,
-    calls: u64,
-) -> Result<bool, Fail> {
-    let stopped = stop(rt.alloc(), mode, settings, &wanted.input, calls)?;
-    let half = stopped.written.len() / 2;
-    go_on_behind(rt, mode, settings, wanted, &stopped.log, &stopped.written)?;
-    go_on_behind(
-        rt,
-        mode,
-        settings,
-        wanted,
-        &stopped.log,
-        &stopped.written[..half],
-    )?;
+    case: &Case,
+    log: &[u8],
+    written: &[u8],
+) -> Result<(), Fail> {
+    go_on_behind(rt, case, log, written)?;
+    go_on_behind(rt, case, log, &written[..written.len() / 2])
+}
+
+/// Stops after so many calls, and goes on. Says whether the first run came to its end.
+fn stop_and_go_on(rt: &(impl Abort + AllocGlobal), case: &Case, calls: u64) -> Result<bool, Fail> {
+    let stopped = stop(rt.alloc(), case, calls)?;
+    go_on_from(rt, case, &stopped.log, &stopped.written)?;
     Ok(stopped.is_done)
 }
 
 fn stop_at_each_call(rt: &(impl Abort + AllocGlobal), mode: Mode) -> Result<(), Fail> {
-    let settings = settings(rt.alloc())?;
-    let wanted = wanted_of(rt.alloc(), mode, &settings)?;
+    let case = case_of(rt.alloc(), mode)?;
     let mut done = 0u64;
     for calls in FIRST_CALLS..CALLS {
-        if stop_and_go_on(rt, mode, &settings, &wanted, calls)? {
+        if stop_and_go_on(rt, &case, calls)? {
             done = done.saturating_add(1);
         }
     }
-    assert!(rt; done > 0 && done < 20, "{done}");
+    same_at(rt, done, done > 0 && done < 20, true);
     Ok(())
 }
 

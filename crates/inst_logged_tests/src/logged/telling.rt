@@ -1,54 +1,39 @@
 //! Replies that are handed out again, to a reader that has some of them.
 use crate::comparing::same_at;
-use crate::logged::keeping::{LINES, Wanted, front_len, go_on, serve, wanted_of};
+use crate::logged::keeping::{Case, LINES, case_of, front_len, go_on, serve};
 use inst_lines::Mode;
 use inst_log::LogError;
 use inst_logged::LoggedError;
-use inst_rows::settings;
-use inst_settings::Settings;
 use std::alloc::Global;
 use std::process::Abort;
 use std::test::Fail;
 
-/// What a whole run leaves.
-#[derive(Drop)]
-struct Whole {
-    log: Vec<u8>,
-    replies: Vec<u8>,
-}
-
 /// Compares what is written to a reader that has the replies to so many lines.
-fn tell(
-    rt: &(impl Abort + AllocGlobal),
-    mode: Mode,
-    settings: &Settings,
-    whole: &Whole,
-    told: usize,
-) -> Result<(), Fail> {
-    let alloc = rt.alloc();
-    let mut written = Vec::new(alloc);
+fn tell(rt: &(impl Abort + AllocGlobal), case: &Case, log: &[u8], told: usize) -> Result<(), Fail> {
+    let (mode, settings) = (case.mode, &case.settings);
+    let mut written = Vec::new(rt.alloc());
     go_on(
-        alloc,
+        rt.alloc(),
         mode,
         settings,
-        &whole.log,
+        log,
         Some(told as u64),
         b"",
         &mut written,
     )?;
-    let front = front_len(&whole.replies, told);
-    same_at(rt, told, written.as_slice(), &whole.replies[front..]);
+    let front = front_len(&case.replies, told);
+    same_at(rt, told, written.as_slice(), &case.replies[front..]);
     Ok(())
 }
 
 /// Tells of more replies than the log has lines.
 fn tell_too_many(
     rt: &(impl Abort + AllocGlobal),
-    mode: Mode,
-    settings: &Settings,
+    case: &Case,
     log: &[u8],
     told: u64,
 ) -> Result<(), Fail> {
+    let (mode, settings) = (case.mode, &case.settings);
     let mut reader: &[u8] = b"{}\n";
     let mut written = Vec::new(rt.alloc());
     let ended = serve(
@@ -66,22 +51,33 @@ fn tell_too_many(
     Ok(())
 }
 
-/// Runs all lines.
-fn whole_run(alloc: Global, mode: Mode, settings: &Settings) -> Result<Whole, Fail> {
-    let Wanted { input, replies } = wanted_of(alloc, mode, settings)?;
+/// Tells of each number of replies, and of more than there are.
+fn tell_each_number(rt: &(impl Abort + AllocGlobal), case: &Case, log: &[u8]) -> Result<(), Fail> {
+    for told in 0..=LINES.len() {
+        tell(rt, case, log, told)?;
+    }
+    tell_too_many(rt, case, log, LINES.len() as u64 + 1)?;
+    tell_too_many(rt, case, log, u64::MAX)
+}
+
+/// The log of a run of all lines.
+fn whole_log(alloc: Global, case: &Case) -> Result<Vec<u8>, Fail> {
     let mut written = Vec::new(alloc);
-    let log = go_on(alloc, mode, settings, b"", Some(0), &input, &mut written)?;
-    Ok(Whole { log, replies })
+    go_on(
+        alloc,
+        case.mode,
+        &case.settings,
+        b"",
+        Some(0),
+        &case.input,
+        &mut written,
+    )
 }
 
 fn tell_each(rt: &(impl Abort + AllocGlobal), mode: Mode) -> Result<(), Fail> {
-    let settings = settings(rt.alloc())?;
-    let whole = whole_run(rt.alloc(), mode, &settings)?;
-    for told in 0..=LINES.len() {
-        tell(rt, mode, &settings, &whole, told)?;
-    }
-    tell_too_many(rt, mode, &settings, &whole.log, LINES.len() as u64 + 1)?;
-    tell_too_many(rt, mode, &settings, &whole.log, u64::MAX)
+    let case = case_of(rt.alloc(), mode)?;
+    let log = whole_log(rt.alloc(), &case)?;
+    tell_each_number(rt, &case, &log)
 }
 
 #[test]

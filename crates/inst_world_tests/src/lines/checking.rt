@@ -1,9 +1,9 @@
-//! What is told of lines by themselves, and a hub that has answered lines.
+//! A hub that has answered lines.
 use crate::comparing::same;
 use inst_agenda::Runner;
 use inst_base::{Fault, Moment};
 use inst_command::{Answer, Ask, Command, Reply, Step};
-use inst_lines::{Counts, Mode, Served, check_lines, serve_lines};
+use inst_lines::{Counts, Mode, Served, serve_lines};
 use inst_rows::{A, settings};
 use inst_settings::Settings;
 use std::alloc::Global;
@@ -16,18 +16,6 @@ const LINES: &str = r#"{"at":0,"cents":500,"cmd":"fund","ref":"F1","who":"AAAADE
 {"at":0,"cents":500,"cmd":"submit","id":"T1","stamp":0,"to":"BBBBFRPP","who":"AAAADEFF"}
 
 {"at":10,"cents":100,"cmd":"defund","ref":"D1","who":"AAAADEFF"}"#;
-
-const TOLD: &str = "line 2: fault 2 BadField in \"ref\"\nline 4: fault 1 NotJson\n";
-
-#[test]
-fn tells_the_field_of_each_refused_line(rt: HostRuntime) -> Result<(), Fail> {
-    let alloc = rt.alloc();
-    let settings = settings(alloc)?;
-    let mut told = Vec::new(alloc);
-    check_lines(alloc, &settings, &mut LINES.as_bytes(), &mut told)?;
-    same(&rt, told.as_slice(), TOLD.as_bytes());
-    Ok(())
-}
 
 /// What the first participant is answered that asks for its position: that, what is reserved and what is available.
 fn money_of(runner: &mut Runner) -> Result<[u64; 3], Fail> {

@@ -5,7 +5,7 @@ ghost use Rattle.inst_model.specs.Interleaving.{IsInterleaving};
 ghost use Rattle.inst_world.specs.NextOpening.{CanOpenFrom};
 
 use crate::comparing::{same, same_at};
-use crate::world::told::{Told, is_told};
+use crate::world::told::{Told, answers, is_told};
 use inst_base::{Fault, Ident, Moment, mention};
 use inst_command::{Answer, Command, LineKind, Outcome, Step};
 use inst_journal::{Event, Journal};
@@ -79,29 +79,6 @@ fn are_told(rt: &impl Abort, answers: &[Answer], told: &[Told]) {
     }
 }
 
-/// Whether the step is answered so.
-fn is_answered(
-    rt: &impl Abort,
-    world: &mut World,
-    step: &Step,
-    told: Option<&Told>,
-) -> Result<bool, Fail> {
-    assert!(rt; step.fits(world.settings()));
-    let answer = world.step(step)?;
-    match told {
-        Some(told) => Ok(is_told(&answer, told)),
-        None => Ok(false),
-    }
-}
-
-/// Each step is answered so.
-fn answers(rt: &impl Abort, world: &mut World, steps: &[Step], told: &[Told]) -> Result<(), Fail> {
-    for (nth, step) in steps.iter().enumerate() {
-        same_at(rt, nth, is_answered(rt, world, step, told.get(nth))?, true);
-    }
-    Ok(())
-}
-
 /// A hub that opens from books in which a transfer was delivered.
 fn opened_again(alloc: Global) -> Result<World, Fault> {
     let steps = delivered()?;
@@ -117,25 +94,28 @@ fn carried_over_an_opening(rt: HostRuntime) -> Result<(), Fail> {
     answers(&rt, &mut world, &steps, &CARRIED)
 }
 
-/// All events but the last, if there is one.
-fn all_but_last(events: &[Event]) -> Option<&[Event]> {
+/// Whether these are the events of the book and one more.
+fn are_one_more(events: &[Event], book: &[Event]) -> bool {
+    mention::<Outcome>();
     match events {
-        [front @ .., _] => Some(front),
-        [] => None,
+        [front @ .., _] => front == book,
+        [] => false,
     }
 }
 
-/// Each slot has the events of its book and one more, and each book its slot.
+/// Whether the slot has the events of its book and one more.
+fn goes_on(slot: &Slot, book: Option<&Journal>) -> bool {
+    match book {
+        Some(book) => slot.unfound() == 0 && are_one_more(slot.journal().events(), book.events()),
+        None => false,
+    }
+}
+
+/// Each slot goes on from its book, and each book has its slot.
 fn go_on(rt: &impl Abort, slots: &[Slot], books: &[Journal]) {
     same(rt, slots.len(), books.len());
-    for (slot, book) in slots.iter().zip(books) {
-        mention::<Outcome>();
-        same(rt, slot.unfound(), 0);
-        same(
-            rt,
-            all_but_last(slot.journal().events()),
-            Some(book.events()),
-        );
+    for (who, slot) in slots.iter().enumerate() {
+        same_at(rt, who, goes_on(slot, books.get(who)), true);
     }
 }
 

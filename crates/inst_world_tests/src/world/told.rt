@@ -1,12 +1,17 @@
-//! What is told, by short texts and plain numbers.
+//! What a world tells, by short texts and plain numbers.
+use crate::comparing::same_at;
 use inst_base::{Fault, Ident, Moment};
-use inst_command::{Answer, Outcome, Reply, State};
+use inst_command::{Answer, Outcome, Reply, State, Step};
 use inst_rows::{Came, Shown, are_entries, are_lines};
+use inst_world::World;
+use std::process::Abort;
+use std::test::Fail;
 
 #[derive(Clone, Copy)]
 pub(crate) enum Told {
     /// Whether a step was new.
     New(bool),
+    Done(&'static str),
     Taken(&'static str, u64),
     Decided(u8, Outcome),
     /// The position, what of it is reserved, and what is available.
@@ -14,6 +19,13 @@ pub(crate) enum Told {
     Inbox(&'static [Came]),
     Lines(&'static [Shown]),
     Refused(Fault),
+}
+
+fn is_done(reference: &Ident, told: &Told) -> bool {
+    match told {
+        Told::Done(name) => reference.text() == *name,
+        _ => false,
+    }
 }
 
 fn is_taken(id: &Ident, deadline: &Moment, told: &Told) -> bool {
@@ -55,7 +67,7 @@ fn is_reply(reply: &Reply, told: &Told) -> bool {
             matches!(told, Told::Lines(wanted) if are_lines(lines.as_slice(), wanted))
         }
         Reply::Refused(fault) => matches!(told, Told::Refused(wanted) if fault == wanted),
-        Reply::Done { .. } => false,
+        Reply::Done { reference } => is_done(reference, told),
     }
 }
 
@@ -66,4 +78,32 @@ pub(crate) fn is_told(answer: &Answer, told: &Told) -> bool {
         (Answer::Reply(reply), told) => is_reply(reply, told),
         _ => false,
     }
+}
+
+/// Whether the step is answered so.
+fn is_answered(
+    rt: &impl Abort,
+    world: &mut World,
+    step: &Step,
+    told: Option<&Told>,
+) -> Result<bool, Fail> {
+    assert!(rt; step.fits(world.settings()));
+    let answer = world.step(step)?;
+    match told {
+        Some(told) => Ok(is_told(&answer, told)),
+        None => Ok(false),
+    }
+}
+
+/// Each step is answered so.
+pub(crate) fn answers(
+    rt: &impl Abort,
+    world: &mut World,
+    steps: &[Step],
+    told: &[Told],
+) -> Result<(), Fail> {
+    for (nth, step) in steps.iter().enumerate() {
+        same_at(rt, nth, is_answered(rt, world, step, told.get(nth))?, true);
+    }
+    Ok(())
 }

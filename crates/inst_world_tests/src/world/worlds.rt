@@ -1,6 +1,6 @@
 //! Worlds, step by step and line by line, over three participants with 2 places and 4 fundings each.
 use crate::comparing::{same, same_at};
-use crate::world::told::{Told, is_told};
+use crate::world::told::{Told, answers};
 use inst_agenda::{Runner, follow_up};
 use inst_base::{Cents, Fault, Ident, Moment, Reason, mention};
 use inst_board::Place;
@@ -21,16 +21,20 @@ fn journal_is(rt: &impl Abort, world: &World, who: u8, events: &[Event]) -> Resu
     Ok(())
 }
 
-/// Compares the money of the three participants: position, and what of it is reserved.
-fn money_is(rt: &impl Abort, world: &World, money: [(u64, u64); 3]) -> Result<(), Fail> {
-    for (who, (position, reserved)) in money.iter().enumerate() {
-        let who = who as u8;
-        assert!(rt; world.settings().has_participant(who));
-        let journal = world.journal(who);
-        let wanted = (u128::from(*position), u128::from(*reserved));
-        same_at(rt, who, (journal.position(), journal.reserved()), wanted);
+/// The position of a participant, and what of it is reserved, if there is such a participant.
+fn money_of(world: &World, who: u8) -> Option<(u128, u128)> {
+    if !world.settings().has_participant(who) {
+        return None;
     }
-    Ok(())
+    let journal = world.journal(who);
+    Some((journal.position(), journal.reserved()))
+}
+
+/// Compares the money of the three participants: position, and what of it is reserved.
+fn money_is(rt: &impl Abort, world: &World, money: [(u128, u128); 3]) {
+    for (who, wanted) in money.iter().enumerate() {
+        same_at(rt, who, money_of(world, who as u8), Some(*wanted));
+    }
 }
 
 /// Whether this is a reply, and no refusal.
@@ -39,22 +43,6 @@ fn is_taken(answer: &Answer) -> bool {
         Answer::Reply(reply) => !matches!(reply, Reply::Refused(_)),
         Answer::New(_) => false,
     }
-}
-
-/// Whether the step is answered so.
-fn steps_to(rt: &impl Abort, world: &mut World, step: &Step, is_new: bool) -> Result<(), Fail> {
-    assert!(rt; step.fits(world.settings()));
-    let answer = world.step(step)?;
-    same(rt, is_told(&answer, &Told::New(is_new)), true);
-    Ok(())
-}
-
-/// Whether the step is answered by a reply that is no refusal.
-fn asks(rt: &impl Abort, world: &mut World, step: &Step) -> Result<(), Fail> {
-    assert!(rt; step.fits(world.settings()));
-    let answer = world.step(step)?;
-    same(rt, is_taken(&answer), true);
-    Ok(())
 }
 
 /// The transfer of the first participant to the second lies at its first place, and is pending until 11,000.
@@ -68,6 +56,26 @@ fn lies_at_the_first_place(rt: &impl Abort, world: &mut World, id: &Ident) -> Re
     Ok(())
 }
 
+/// The first is funded, and submits a transfer to the second.
+fn is_submitted(rt: &impl Abort, world: &mut World) -> Result<(), Fail> {
+    mention::<(Ask, Command, Submission)>();
+    let steps = [fund(0, "F1", 500, 0)?, submit(0, "T1", 1, 200, 1000, 1000)?];
+    answers(
+        rt,
+        world,
+        &steps,
+        &[Told::Done("F1"), Told::Taken("T1", 11_000)],
+    )?;
+    lies_at_the_first_place(rt, world, &Ident::new("T1")?)
+}
+
+/// What is told where a transfer comes, twice, and is confirmed.
+const CONFIRMED: [Told; 3] = [
+    Told::New(true),
+    Told::New(false),
+    Told::Decided(0, Outcome::Accepted),
+];
+
 /// The second is told of a transfer of the first, once, and confirms it.
 fn is_confirmed(rt: &impl Abort, world: &mut World) -> Result<(), Fail> {
     let deliver = Step::Deliver {
@@ -75,11 +83,14 @@ fn is_confirmed(rt: &impl Abort, world: &mut World) -> Result<(), Fail> {
         index: 0,
         to: 1,
     };
-    steps_to(rt, world, &deliver, true)?;
-    steps_to(rt, world, &deliver, false)?;
-    asks(rt, world, &confirm(1, 0, "T1", 2000)?)?;
-    money_is(rt, world, [(500, 200), (200, 0), (0, 0)])
+    let steps = [deliver, deliver, confirm(1, 0, "T1", 2000)?];
+    answers(rt, world, &steps, &CONFIRMED)?;
+    money_is(rt, world, [(500, 200), (200, 0), (0, 0)]);
+    Ok(())
 }
+
+/// What is told where an outcome is learnt, twice, and then the deadline passes.
+const LEARNT: [Told; 3] = [Told::New(true), Told::New(false), Told::New(false)];
 
 /// The first learns it, once, and nothing is left that may expire.
 fn is_learnt(rt: &impl Abort, world: &mut World) -> Result<(), Fail> {
@@ -88,25 +99,14 @@ fn is_learnt(rt: &impl Abort, world: &mut World) -> Result<(), Fail> {
         from: 0,
         index: 0,
     };
-    steps_to(rt, world, &learn, true)?;
-    steps_to(rt, world, &learn, false)?;
     let expire = Step::Expire {
         who: 0,
         index: 0,
         at: Moment::new(0, 20_000)?,
     };
-    steps_to(rt, world, &expire, false)?;
-    money_is(rt, world, [(300, 0), (200, 0), (0, 0)])
-}
-
-/// The first is funded, and submits a transfer to the second.
-fn is_submitted(rt: &impl Abort, world: &mut World) -> Result<(), Fail> {
-    mention::<(Ask, Command, Submission)>();
-    let funding = fund(0, "F1", 500, 0)?;
-    asks(rt, world, &funding)?;
-    let submission = submit(0, "T1", 1, 200, 1000, 1000)?;
-    asks(rt, world, &submission)?;
-    lies_at_the_first_place(rt, world, &Ident::new("T1")?)
+    answers(rt, world, &[learn, learn, expire], &LEARNT)?;
+    money_is(rt, world, [(300, 0), (200, 0), (0, 0)]);
+    Ok(())
 }
 
 /// A transfer is submitted, confirmed and learnt.
@@ -123,6 +123,19 @@ fn a_world_goes_step_by_step(rt: HostRuntime) -> Result<(), Fail> {
     goes_step_by_step(&rt, &mut world)
 }
 
+/// Whether the reply to the line is no refusal, and the reading of the line.
+fn is_line_taken(
+    reader: &mut LineReader,
+    runner: &mut Runner,
+    line: &str,
+) -> Result<(bool, Moment), Fault> {
+    mention::<Command>();
+    let ask = reader.read_command(runner.settings(), line.as_bytes())?;
+    let at = ask.at;
+    let answer = runner.ask(ask)?;
+    Ok((is_taken(&answer), at))
+}
+
 /// Runs the line as a run does, and goes over what it names and what is due; it must not be refused.
 fn run_line(
     rt: &impl Abort,
@@ -130,12 +143,9 @@ fn run_line(
     runner: &mut Runner,
     line: &str,
 ) -> Result<(), Fail> {
-    let ask = reader.read_command(runner.settings(), line.as_bytes())?;
-    let at = ask.at;
-    let answer = runner.ask(ask)?;
-    same(rt, is_taken(&answer), true);
-    follow_up(runner, at)?;
-    Ok(())
+    let (is_taken, at) = is_line_taken(reader, runner, line)?;
+    same(rt, is_taken, true);
+    Ok(follow_up(runner, at)?)
 }
 
 /// Runs the lines one after another.
@@ -186,13 +196,14 @@ fn runs_to(
     runner: &mut Runner,
     lines: &str,
     ends: &[Ended],
-    money: [(u64, u64); 3],
+    money: [(u128, u128); 3],
 ) -> Result<(), Fail> {
     run_lines(rt, runner, lines)?;
     for ended in ends {
         is_booked(rt, &runner.world, ended)?;
     }
-    money_is(rt, &runner.world, money)
+    money_is(rt, &runner.world, money);
+    Ok(())
 }
 
 /// The same at a hub of its own.
@@ -201,7 +212,7 @@ fn opens_and_runs_to(
     settings: &Settings,
     lines: &str,
     ends: &[Ended],
-    money: [(u64, u64); 3],
+    money: [(u128, u128); 3],
 ) -> Result<(), Fail> {
     let mut runner = Runner::open(rt.alloc(), settings)?;
     runs_to(rt, &mut runner, lines, ends, money)

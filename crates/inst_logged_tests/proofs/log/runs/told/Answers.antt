@@ -2,4 +2,4 @@ use Rattle.inst_logged_tests.proofs.Echoes.{blocks_begin}
 use Rattle.inst_logged_tests.proofs.log.runs.told.Goals as goal
 
 pub run_twice-requires-clause-begins : goal.run_twice-requires-clause-begins
-run_twice-requires-clause-begins g c = blocks_begin
+run_twice-requires-clause-begins c = blocks_begin
