@@ -1,4 +1,4 @@
--- A row that has ended, while the values are taken out.
+-- A row that has ended, while the values are taken out. This hub's own choice.
 use Rattle.std.specs.Prelude.{◌≡◌, ℕ, true, false, slice_index_or, Some}
 use Rattle.std.specs.Mem.Slots.{slots_items, slots_filled}
 use mathlib.Core.Option.{some}
