@@ -6,3 +6,13 @@ use std::process::Abort;
 pub(crate) fn same<T: PartialEq + Debug + Drop>(rt: &impl Abort, found: T, wanted: T) {
     assert_eq!(rt; found, wanted);
 }
+
+/// Both are the same in this case, or the test ends and tells all three.
+pub(crate) fn same_at<T: PartialEq + Debug + Drop, C: PartialEq + Debug + Drop>(
+    rt: &impl Abort,
+    case: C,
+    found: T,
+    wanted: T,
+) {
+    same(rt, (&case, found), (&case, wanted));
+}

@@ -1,4 +1,4 @@
-//! Tests of hubs that threads share, of how they close, and of the crews and drills that run them.
+//! Tests of what threads share: boards and locks, hubs, how they close, and the crews and drills that run them.
 #![tactic(auto)]
 
 #[cfg(test)]
@@ -13,5 +13,7 @@ mod crew;
 mod drill;
 #[cfg(test)]
 mod hub;
+#[cfg(test)]
+mod shared;
 #[cfg(test)]
 mod tellers;

@@ -1,11 +1,23 @@
-//! Tests of the hub in one thread, of its runs of lines, and of what lines are read as and replies are written as.
+//! Tests of what runs in one thread: values, one participant's books and slot, the hub with its runs of lines, and logs.
 #![tactic(auto)]
 
 #[cfg(test)]
 mod comparing;
 #[cfg(test)]
+mod disks;
+#[cfg(test)]
 mod json;
 #[cfg(test)]
+mod ledger;
+#[cfg(test)]
 mod lines;
+#[cfg(test)]
+mod log;
+#[cfg(test)]
+mod logged;
+#[cfg(test)]
+mod slot;
+#[cfg(test)]
+mod values;
 #[cfg(test)]
 mod world;
