@@ -1,4 +1,5 @@
 use Rattle.std.proofs.Common.{ap, length, length-append, ◌∷◌, [], arith}
+use Rattle.std.proofs.lemmas.Grind.{elements}
 use Rattle.inst_audit.proofs.Replaying.{one_kept}
 use Rattle.inst_audit.proofs.audit.all_replayed.Goals as goal
 
@@ -12,3 +13,6 @@ loop-who-preserved c =
           one_kept c.args.settings.now c.args.journals.now c.loop-who.ledgers.items c.push.new.self.items c.in-Some.ledger c.index-journals-who.result c.in_ok-ledger.field-0 c.loop-who.who
           c.loop-who.invariant.count c.loop-who-test.true c.index-journals-who.is c.in-Some.is kept.can kept.same pushed.items c.loop-who.invariant.kept;
     }
+
+pub returns-in-None-clause-can : goal.returns-in-None-clause-can
+returns-in-None-clause-can c = grind (arith, elements)

@@ -1,8 +1,10 @@
 use Rattle.std.proofs.Common.{◌≡◌, ◌<◌, ◌≤◌, length, get_or, ap, ◌∙◌, arith}
+use Rattle.std.proofs.lemmas.Grind.{common_steps}
 use Rattle.std.proofs.lemmas.List.{length-map}
 use Rattle.inst_settings.specs.Lawful.{IsSettings}
 use Rattle.inst_journal.specs.History.{History}
 use Rattle.inst_books.proofs.Journals.{written_next, writable_next, form_next, code_next, form_all, code_all}
+use Rattle.inst_books.specs.Books.{books_text}
 use Rattle.inst_books.proofs.books.append_books.Goals as goal
 
 pub loop-who-preserved : goal.loop-who-preserved
@@ -36,3 +38,11 @@ returns-clause-books c = λ (lawful : IsSettings c.args.settings.now).
       writable = c.requires.writable;
       form = form_all journals who all c.loop-who.invariant.form;
     }
+
+pub append_book-requires-clause-writable : goal.append_book-requires-clause-writable
+unfolding books_text
+append_book-requires-clause-writable c = grind (arith, common_steps)
+
+pub returns-clause-text : goal.returns-clause-text
+unfolding books_text
+returns-clause-text c = grind (arith, common_steps)

@@ -1,4 +1,5 @@
 use Rattle.std.proofs.Common.{◌≡◌, ◌+◌, ℕ, length, List, sym, ap, ◌∙◌, arith, ◌++◌, ◌∷◌, []}
+use Rattle.std.proofs.lemmas.Grind.{common_steps}
 use Rattle.inst_command.specs.declared.line.Line.{Line}
 use Rattle.inst_journal.specs.declared.event.Event.{Event}
 use Rattle.inst_journal.specs.Statement.{line_of, statement}
@@ -37,3 +38,6 @@ loop-index-preserved c =
           rw same (walked_none J c.loop-index.index x old (statement J) after (omega arith) c.index-events-index.is c.position_after-position.ensures
           (at ∙ w.in_default.is) (record { walked = c.loop-index.invariant.walked; few = c.loop-index.invariant.few }))
     ]
+
+pub returns : goal.returns
+returns c = grind (arith, common_steps)

@@ -1,4 +1,5 @@
-use Rattle.std.proofs.Common.{refl, sym, ap, ◌∙◌}
+use Rattle.std.proofs.Common.{refl, sym, ap, ◌∙◌, arith}
+use Rattle.std.proofs.lemmas.Grind.{elements}
 use Rattle.inst_slot.specs.declared.arrivals.Spot.{Spot}
 use Rattle.inst_transfers.specs.Held.{AreApart}
 use Rattle.inst_slot.specs.Spots.{rows_of}
@@ -25,3 +26,9 @@ returns c =
     let at = c.in_ok-at.ensures in
     ap (λ (s : Spot). s.index) (get_or_from_slice_get c.args.spots.now c.in_ok-at.at at.spot _ at.there)
     ∙ sym (arrived_here rows c.args.spots.now (subst AreApart right.rows c.transfers.ensures.apart) c.requires.spots f.from f.id f.position _ (found_row l.book.who l.book.events l.table f right c.requires.there) refl refl c.in_ok-at.at at)
+
+pub offset_bounds-spots-at : goal.offset_bounds-spots-at
+offset_bounds-spots-at c = grind (arith, elements)
+
+pub bounds-spots-at : goal.bounds-spots-at
+bounds-spots-at c = grind (arith, elements)

@@ -1,4 +1,5 @@
 use Rattle.std.proofs.Common.{◌≡◌, ◌++◌, ◌∷◌, [], true, false, not, take, length, ℕ, ◌+◌, List, Option, None, arith, sym, ap, subst, ◌∙◌}
+use Rattle.std.proofs.lemmas.Grind.{common_steps}
 use Rattle.std.specs.List.{cons_option}
 use Rattle.inst_command.specs.declared.entry.Entry.{Entry}
 use Rattle.inst_journal.specs.declared.event.Event.{Event}
@@ -71,3 +72,9 @@ booked_at-requires c =
     let e : Entry = record { from = f.from; id = f.id; cents = f.cents; deadline = f.deadline } in
     let more : take (i + 1) J ≡ take i J ++ x ∷ [] = one_more J c.events-event-items.result.now i x (c.events-event-items.ensures ∙ c.journal.ensures.events) c.loop-event-test.true c.event-item.is in
     (row_here who J i x e c.loop-event.position more (ap (row_of who) f.is) c.loop-event.invariant.0.2).1
+
+pub returns-clause-ok : goal.returns-clause-ok
+returns-clause-ok c = grind (arith, common_steps)
+
+pub returns-clause-spots : goal.returns-clause-spots
+returns-clause-spots c = grind (arith, common_steps)

@@ -1,4 +1,5 @@
-use Rattle.std.proofs.Common.{◌≡◌, ℕ, true, inl, ⊎_elim, refl, sym, ap, subst, ◌∙◌, Option, Some, None, is_none}
+use Rattle.std.proofs.Common.{◌≡◌, ℕ, true, inl, ⊎_elim, refl, sym, ap, subst, ◌∙◌, Option, Some, None, is_none, arith}
+use Rattle.std.proofs.lemmas.Grind.{pieces}
 use Rattle.std.proofs.lemmas.Bool.{true≢false}
 use Rattle.inst_settings.specs.Settings.{HubSettings}
 use Rattle.inst_command.specs.declared.outcome.Outcome.{Outcome}
@@ -72,3 +73,6 @@ returns-clause-found g c =
       looks = l.1;
       decides = subst (λ (m : ℕ). Decides m b.knows b.stood c.glance-glance.new.self c.args.place c.args.wish c.args.at c.decide.result c.decide.new.self) same c.decide.ensures.decides;
     }
+
+pub returns-clause-stays : goal.returns-clause-stays
+returns-clause-stays g c = search (pieces, arith) depth 5 fits 300

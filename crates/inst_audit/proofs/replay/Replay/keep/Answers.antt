@@ -1,4 +1,5 @@
 use Rattle.std.proofs.Common.{◌≡◌, ℕ, arith, rules, length, refl, sym, ap, ◌∙◌}
+use Rattle.std.proofs.lemmas.Grind.{common_steps}
 use Rattle.inst_journal.specs.declared.event.Event.TheVariants.{Forwarded, Booked, Opened}
 use Rattle.inst_ledger.specs.Book.{Book}
 use Rattle.inst_audit.proofs.Tallying.{IsQuiet, quiet_one, own_booked, one_came, some_wait, one_booked, begun, after_keeping, fits_within, sound_before}
@@ -77,3 +78,6 @@ invariant_of-self-in-Funded-4 c =
     let b = c.self.inside.ledger.book in
     let quiet : IsQuiet c.args.event = search rules in
     after_keeping b c.keep.new.self.book c.args.event c.args.event c.self.inside.tally c.in_ok-keep.ensures.ok refl (quiet_one b.who b.events c.args.event c.self.inside.tally quiet c.self.invariant)
+
+pub arrive-requires-clause-waiting : goal.arrive-requires-clause-waiting
+arrive-requires-clause-waiting c = grind (arith, common_steps)

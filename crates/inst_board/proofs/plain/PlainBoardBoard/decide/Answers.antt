@@ -1,4 +1,5 @@
-use Rattle.std.proofs.Common.{◌≡◌, ℕ, Some, ap, subst, sym, ◌∙◌}
+use Rattle.std.proofs.Common.{◌≡◌, ℕ, Some, ap, subst, sym, ◌∙◌, arith}
+use Rattle.std.proofs.lemmas.Grind.{common_steps}
 use Rattle.inst_board.specs.Plain.{Contents, kept_at}
 use Rattle.inst_board.specs.Wish.{wanted}
 use Rattle.inst_board.proofs.PlainSteps.{kept_pending, decided_lawful, decides_now}
@@ -30,3 +31,6 @@ returns-in_ok-outcome-in-Pending-clause-decides c =
     decides_now margin b c.args.place c.args.wish c.args.at t deadline outcome c.ended.result c.keep.new.self
     c.shown.ensures.lawful kept c.ended.ensures c.keep.ensures
     (subst (λ (n : ℕ). wanted n c.args.wish deadline c.args.at ≡ Some outcome) same (sym c.outcome.ensures ∙ c.in_ok-outcome-in-Pending.was))
+
+pub returns-in_ok-outcome-in-Pending-clause-here : goal.returns-in_ok-outcome-in-Pending-clause-here
+returns-in_ok-outcome-in-Pending-clause-here c = grind (arith, common_steps)

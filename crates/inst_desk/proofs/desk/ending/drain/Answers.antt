@@ -1,4 +1,5 @@
-use Rattle.std.proofs.Common.{rules}
+use Rattle.std.proofs.Common.{rules, arith}
+use Rattle.std.proofs.lemmas.Grind.{common_steps}
 use Rattle.inst_desk.proofs.Steps.{takes, may_lie}
 use Rattle.inst_desk.proofs.Whole.{some_part, begun, has_room, short}
 use Rattle.inst_desk.proofs.desk.ending.drain.Goals as goal
@@ -17,3 +18,9 @@ loop-init g c =
 pub push_reserved-requires : goal.push_reserved-requires
 push_reserved-requires g c =
     let i = c.loop.invariant in let short = has_room _ _ _ _ _ _ i.1 c.in-Some-pop_as.ensures.rule.1 i.3 in search (rules, short)
+
+pub returns-in_default : goal.returns-in_default
+returns-in_default g c = grind (arith, common_steps)
+
+pub loop-preserved : goal.loop-preserved
+loop-preserved g c = grind (arith, common_steps)

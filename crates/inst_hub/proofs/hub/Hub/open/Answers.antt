@@ -1,4 +1,5 @@
-use Rattle.std.proofs.Common.{ℕ, ◌<◌, length, [], refl, ap, ◌≡◌, ◌∙◌, Some, rules, sym, subst, List}
+use Rattle.std.proofs.Common.{ℕ, ◌<◌, length, [], refl, ap, ◌≡◌, ◌∙◌, Some, rules, sym, subst, List, arith}
+use Rattle.std.proofs.lemmas.Grind.{common_steps}
 use Rattle.std.specs.Prelude.{slice_get}
 use Rattle.inst_journal.specs.declared.event.Event.{Event}
 use Rattle.inst_cell.specs.declared.shared_board.SharedBoard.{SharedBoard}
@@ -70,3 +71,6 @@ returns-clause-opened c = λ p below.
     let many : length c.in_ok-all.all.items ≡ participants c.args.settings = sym (unboxed_length c.in_ok-all.all.items) ∙ (c.in_ok-all.ensures.ok.enough ∙ c.in_ok-boards.ensures.ok.participants) in
     ap (λ k. outset_of k p) c.in_ok-row.ensures.row.1
     ∙ first_carried (record { words = c.of-words.result; all = c.of.result }) c.of-words.result.value (participants c.args.settings) (λ q. []) c.in_ok-all.all.items are (ap (λ v. v.items) c.of.ensures) p (subst (λ (n : ℕ). p < n) (sym many) below)
+
+pub admit-requires-clause-some : goal.admit-requires-clause-some
+admit-requires-clause-some c = grind (arith, common_steps)

@@ -1,4 +1,5 @@
-use Rattle.std.proofs.Common.{◌<◌, length, ◌≡◌, ◌∙◌, ℕ, List, ap, sym, subst}
+use Rattle.std.proofs.Common.{◌<◌, length, ◌≡◌, ◌∙◌, ℕ, List, ap, sym, subst, arith}
+use Rattle.std.proofs.lemmas.Grind.{common_steps}
 use Rattle.inst_journal.specs.declared.event.Event.{Event}
 use Rattle.inst_settings.specs.Settings.{participants}
 use Rattle.inst_cell.specs.Opening.{MayOpen}
@@ -58,3 +59,6 @@ returns-clause-opened c = λ p below.
     ap (λ k. outset_of k p) c.in_ok-row.ensures.row.1
     ∙ (first_carried (record { words = c.of-words.result; all = c.of.result }) c.in_ok-whole.whole (participants c.args.settings) (histories_from c.args.journals.now) c.in_ok-all.all.items c.in_ok-all.ensures.ok (ap (λ v. v.items) c.of.ensures) p (subst (λ (n : ℕ). p < n) (sym many) below)
     ∙ carried_opened (books_of c.args.journals.now p))
+
+pub admit-requires-clause-some : goal.admit-requires-clause-some
+admit-requires-clause-some c = grind (arith, common_steps)

@@ -1,4 +1,5 @@
 use Rattle.std.proofs.Common.{◌≡◌, arith, sym, ap, ◌∙◌, [], ◌∷◌, ◌++◌, Global}
+use Rattle.std.proofs.lemmas.Grind.{common_steps}
 use Rattle.std.specs.Vec.Iter.{into_iter_items}
 use Rattle.std.specs.declared.vec.IntoIter.{IntoIter}
 use Rattle.std.proofs.lemmas.List.{nil_from_length}
@@ -62,3 +63,9 @@ returns-clause-sights c =
     let i = c.loop-teller.invariant.3 in
     let none = nil_from_length (into_iter_items c.loop-teller.teller-iterator) (omega (arith, c.loop-teller.teller-iterator.rest.ok, c.in-None.ensures.steps.0)) in
     all_sights (row_id c.args.row.now) (key_of c.args.row.now) c.args.tellers.items i.0 (into_iter_items c.loop-teller.teller-iterator) c.loop-teller.whole c.loop-teller.sights.items none i.1
+
+pub unreachable-requires : goal.unreachable-requires
+unreachable-requires c = grind (arith, common_steps)
+
+pub push_reserved-requires-in-loop-teller : goal.push_reserved-requires-in-loop-teller
+push_reserved-requires-in-loop-teller c = grind (arith, common_steps)

@@ -1,4 +1,5 @@
 use Rattle.std.proofs.Common.{rules, ◌≡◌, ◌<◌, ap, ◌∙◌, sym, subst, arith, ◌∷◌, [], ◌++◌, List, length, length-append}
+use Rattle.std.proofs.lemmas.Grind.{common_steps}
 use Rattle.std.specs.Vec.Iter.{into_iter_items}
 use Rattle.inst_row.specs.Row.{row_id, key_of}
 use Rattle.inst_row.specs.Seated.{view_of}
@@ -64,3 +65,12 @@ returns-clause-new c =
     } in
     subst (λ (l : List Teller). AreNew (row_id c.args.row.now) (key_of c.args.row.now) (view_of c.args.seat).fronts l) (sym c.in_ok-push-2.ensures.items)
     (one_teller (row_id c.args.row.now) (key_of c.args.row.now) (view_of c.args.seat).fronts c.loop-sight.all.items teller i.7 new)
+
+pub split-seat-requires-clause-free : goal.split-seat-requires-clause-free
+split-seat-requires-clause-free c = grind (arith, common_steps)
+
+pub returns-clause-enough : goal.returns-clause-enough
+returns-clause-enough c = grind (arith, common_steps)
+
+pub returns-clause-parts : goal.returns-clause-parts
+returns-clause-parts c = grind (arith, common_steps)

@@ -1,4 +1,5 @@
-use Rattle.std.proofs.Common.{rules, ap, ◌∙◌, sym, subst, ◌+◌, ◌∷◌, [], ◌++◌, List, length-append, append_assoc}
+use Rattle.std.proofs.Common.{rules, ap, ◌∙◌, sym, subst, ◌+◌, ◌∷◌, [], ◌++◌, List, length-append, append_assoc, arith}
+use Rattle.std.proofs.lemmas.Grind.{common_steps}
 use Rattle.std.specs.Prelude.{Option}
 use Rattle.std.specs.Vec.Iter.{into_iter_items}
 use Rattle.inst_participant.specs.declared.participant.Participant.{Participant}
@@ -29,3 +30,6 @@ loop-board-preserved c =
       subst (λ (l : List (Option Participant)). AreParticipants (c.loop-board.yielded ++ c.in-Some.board ∷ []) l) (sym (ap unboxed c.in_ok-push.ensures.items ∙ unboxed_push c.loop-board.all.items c.in_ok-participant.field-0))
           (one_more c.loop-board.yielded (unboxed c.loop-board.all.items) c.in-Some.board c.loop-board.who c.in_ok-participant.field-0.value i.4 i.2 c.in_ok-participant.ensures.ok c.in_ok-participant.ensures.new),
     )
+
+pub returns : goal.returns
+returns c = grind (arith, common_steps)

@@ -1,4 +1,5 @@
 use Rattle.std.proofs.Common.{◌≡◌, ◌++◌, ◌∷◌, [], length, refl, subst, ap, arith}
+use Rattle.std.proofs.lemmas.Grind.{common_steps}
 use Rattle.std.specs.Prelude.{OnOk}
 use Rattle.inst_journal.specs.declared.event.Event.{Event}
 use Rattle.inst_ledger.proofs.Beside.{within, taken_absent, taken_beside, beside_at, fits_at}
@@ -30,3 +31,6 @@ invariant_of-self c =
       beside = beside_at events (taken_beside i.settings.value i.who i.journal.events i.totals i.table _ i.fundings i.inbox.items i.read c.self.invariant.beside c.args.id t.to t.cents t.stamp c.take.new.self fits c.take.ensures.who c.take.ensures.state);
       lines = stated_at events (line_less i.settings.value i.who i.journal.events event c.self.invariant.beside.sound fits i.statement i.statement refl refl refl refl c.self.invariant.lines);
     }
+
+pub take-requires-clause-count : goal.take-requires-clause-count
+take-requires-clause-count c = grind (arith, common_steps)

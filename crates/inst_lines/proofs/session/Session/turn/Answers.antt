@@ -1,4 +1,5 @@
-use Rattle.std.proofs.Common.{◌≡◌, refl, sym, subst, ◌∙◌}
+use Rattle.std.proofs.Common.{◌≡◌, refl, sym, subst, ◌∙◌, arith}
+use Rattle.std.proofs.lemmas.Grind.{common_steps}
 use Rattle.std.proofs.lemmas.Result.{err_from_is_err_and}
 use Rattle.inst_base.specs.declared.fault.Fault.TheVariants.{ReadFault, WriteFault}
 use Rattle.inst_lines.specs.Answering.{answering, Keeps}
@@ -74,3 +75,6 @@ returns-clause-ok g c =
       | else-self-eq-MOST_LINES-via-then-self-eq-MOST_LINES+else-is_in_line w ↦ sym w.is_in_line.ensures ∙ w.if-is_in_line.false
       | else-self-eq-MOST_LINES-via-else-self-eq-MOST_LINES w ↦ absurd (w.if-self-eq-MOST_LINES.false full)
     ])
+
+pub make_room-requires : goal.make_room-requires
+make_room-requires g c = grind (arith, common_steps)

@@ -1,4 +1,5 @@
-use Rattle.std.proofs.Common.{subst, IsTrue}
+use Rattle.std.proofs.Common.{subst, IsTrue, arith}
+use Rattle.std.proofs.lemmas.Grind.{common_steps}
 use Rattle.inst_log.specs.Opening.{IsNew}
 use Rattle.inst_log.proofs.Beginning.{blank_crash, begin_crash, blank_closed}
 use Rattle.inst_log.proofs.log.Log.begin.Goals as goal
@@ -36,3 +37,6 @@ returns-clause-any_moment g c clean left may =
     let was = subst IsTrue c.blank.ensures.clean mid in
     let new = subst (IsNew c.args.settings.now) (c.requires.bytes was) c.requires.new in
     begin_crash _ c.requires.settings _ _ left new (c.in_ok-blank.ensures.written mid) (c.append.ensures.stages clean left may)
+
+pub returns-clause-text : goal.returns-clause-text
+returns-clause-text g c = grind (arith, common_steps)

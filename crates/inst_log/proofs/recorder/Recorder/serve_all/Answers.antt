@@ -1,4 +1,5 @@
 use Rattle.std.proofs.Common.{◌≡◌, refl, sym, ◌++◌, ◌∙◌, ◌+◌, ◌∷◌, [], List, ℕ, drop, ap, subst, append_assoc, length, length-append, ◌≤◌, ◌^◌, IsTrue, arith, rules}
+use Rattle.std.proofs.lemmas.Grind.{common_steps}
 use Rattle.std.specs.Bool.{⊤}
 use Rattle.std.proofs.lemmas.Result.{err_from_is_err_and}
 use Rattle.std.proofs.lemmas.List.{append-nil, drop_more, drop_all}
@@ -79,3 +80,12 @@ returns-clause-any_moment g c clean =
     let s = c.loop-batch.invariant.served in
     let none : drop c.loop-batch.batch-index c.args.batches.now ≡ [] = drop_all c.loop-batch.batch-index c.args.batches.now (search rules) in
     kept_all _ _ _ _ _ _ _ _ _ none s (λ left may. ap recovered ((s.kept.1 clean).0.durable left may) ∙ (s.kept.1 clean).1)
+
+pub serve-requires-clause-batch : goal.serve-requires-clause-batch
+serve-requires-clause-batch g c = grind (arith, common_steps)
+
+pub returns-clause-acknowledged : goal.returns-clause-acknowledged
+returns-clause-acknowledged g c = grind (arith, common_steps)
+
+pub returns-clause-replied : goal.returns-clause-replied
+returns-clause-replied g c = grind (arith, common_steps)

@@ -1,4 +1,5 @@
 use Rattle.std.proofs.Common.{◌≡◌, ◌+◌, ◌-◌, ◌≤◌, ℕ, [], ◌++◌, List, map, length, take, ◌∙◌, ap, arith}
+use Rattle.std.proofs.lemmas.Grind.{common_steps}
 use Rattle.std.proofs.lemmas.List.{with_items_is, length-take-le, length-drop}
 use borrow.Rule.Slice.PartMut.{put_mid}
 use Rattle.inst_lines.proofs.BufferLemmas.{length-put_mid}
@@ -50,3 +51,9 @@ returns-clause-part g c =
     let bytes_are = ap (take (old.len + n)) (with_items_is old.bytes (put_mid old.len k xs new) (length-put_mid xs new old.len k (omega arith) room ∙ c.deref_mut.ensures.len))
     ∙ read_behind xs new old.len k n within few ∙ ap (λ (l : List ℕ). take old.len l ++ take n new) c.deref_mut.ensures.value in
     quiet_held (held old ++ take n new) _ (c.in_ok-take_lines.ensures.held ∙ ap (λ (l : List ℕ). cut (rest_from [] l)) bytes_are)
+
+pub take_last-requires-clause-part : goal.take_last-requires-clause-part
+take_last-requires-clause-part g c = grind (arith, common_steps)
+
+pub returns-then-count-eq0-clause-lines : goal.returns-then-count-eq0-clause-lines
+returns-then-count-eq0-clause-lines g c = grind (arith, common_steps)

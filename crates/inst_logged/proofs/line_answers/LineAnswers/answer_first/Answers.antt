@@ -1,4 +1,5 @@
 use Rattle.std.proofs.Common.{◌≡◌, ◌-◌, ℕ, [], length, drop, refl, ap, ◌∙◌, arith}
+use Rattle.std.proofs.lemmas.Grind.{common_steps}
 use Rattle.std.proofs.lemmas.List.{take_rest, length-drop}
 use Rattle.inst_logged.proofs.Answering.{answers_none, front_next}
 use Rattle.inst_logged.proofs.Intaking.{suffix_more}
@@ -29,3 +30,6 @@ loop-preserved c =
       within = omega (arith, i.within, length-drop n rest);
       suffix = suffix_more c.args.lines.now rest n i.suffix i.within next.first.within;
     })
+
+pub returns-clause-ok : goal.returns-clause-ok
+returns-clause-ok c = grind (arith, common_steps)

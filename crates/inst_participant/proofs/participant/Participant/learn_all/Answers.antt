@@ -1,5 +1,6 @@
 use Rattle.std.proofs.lemmas.Result.{err_from_is_err_and}
-use Rattle.std.proofs.Common.{true, false, is_ok, Bool, sym, subst}
+use Rattle.std.proofs.Common.{true, false, is_ok, Bool, sym, subst, arith}
+use Rattle.std.proofs.lemmas.Grind.{elements}
 use Rattle.std.specs.Prelude.{Result}
 use Rattle.std.specs.declared.alloc.AllocError.{AllocError}
 use Rattle.inst_participant.specs.declared.follow_up.Errand.TheVariants.{Learn}
@@ -25,3 +26,9 @@ returns-in_err-follow-clause-learns c =
     subst (λ (r : Result (Unit {0}) AllocError). LearnsAll 0 (is_ok r) c.args.self.now c.follow.new.self) (sym (err_from_is_err_and c.from_residual.result c.from_residual.ensures.1).1)
     (c.loop-position.invariant.1 false c.follow.new.self (refused c.loop-position.from c.in-Some.position c.in-Some.place c.loop-position.self c.follow.new.self c.in-Some.ensures.next
     (subst (λ (r : Result Bool AllocError). Does Learn c.loop-position.self c.in-Some.place r c.follow.new.self) c.in_err-follow.was c.follow.ensures.does)))
+
+pub overflow_add-from : goal.overflow_add-from
+overflow_add-from c = grind (arith, elements)
+
+pub loop-position-smaller : goal.loop-position-smaller
+loop-position-smaller c = grind (arith, elements)

@@ -1,4 +1,5 @@
-use Rattle.std.proofs.Common.{refl, ◌∙◌, sym, subst}
+use Rattle.std.proofs.Common.{refl, ◌∙◌, sym, subst, arith}
+use Rattle.std.proofs.lemmas.Grind.{common_steps}
 use Rattle.inst_slot.specs.Book.{Book}
 use Rattle.inst_slot.specs.LawfulBoard.{IsLawfulBoard}
 use Rattle.inst_slot.proofs.Looking.{looked_on}
@@ -58,3 +59,6 @@ returns-in_ok-forward-in-Some-clause-others g c =
     let b = g.B.Board in
     others_look b.settings b.knows b.has_role (b.settings c.args.board.now).margin b.stood b.stays (λ x y. g.met.B.Board.stays_settings x y) (λ x y p. g.met.B.Board.stays_roles x y p) (λ x k t o. g.met.B.Board.stood_seldom x k t o)
     c.args.board.now c.look-look.new.self c.look-look.ensures.stays refl c.args.place c.look-look.result c.args.self.now.who c.look-look.ensures.look
+
+pub returns-in_ok-forward-in-Some-clause-adopted : goal.returns-in_ok-forward-in-Some-clause-adopted
+returns-in_ok-forward-in-Some-clause-adopted g c = grind (arith, common_steps)

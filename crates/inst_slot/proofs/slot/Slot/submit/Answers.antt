@@ -1,4 +1,5 @@
-use Rattle.std.proofs.Common.{rules, ◌≡◌, ◌∙◌, ◌∷◌, [], ℕ, true, false, Bool, Ok, Err, refl, sym, ap, subst}
+use Rattle.std.proofs.Common.{rules, ◌≡◌, ◌∙◌, ◌∷◌, [], ℕ, true, false, Bool, Ok, Err, refl, sym, ap, subst, arith}
+use Rattle.std.proofs.lemmas.Grind.{common_steps}
 use Rattle.inst_base.specs.TimeLimit.{deadline_of}
 use Rattle.inst_base.specs.declared.fault.Fault.TheVariants.{Memory}
 use Rattle.inst_settings.specs.Settings.{HubSettings}
@@ -54,3 +55,6 @@ returns-clause-enters g c =
           subst (λ (k : Book). Enters margin b.knows c.args.board.now book c.args.ask.now result c.if-is_new.board k) (sym w.self-is)
           (subst (λ (d : g.row.B.Denot). Enters margin b.knows c.args.board.now book c.args.ask.now result d book) (sym w.board-is) quiet)
     ]
+
+pub returns-in_err-is_new-clause-stays : goal.returns-in_err-is_new-clause-stays
+returns-in_err-is_new-clause-stays g c = grind (arith, common_steps)

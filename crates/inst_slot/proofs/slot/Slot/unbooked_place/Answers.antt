@@ -1,4 +1,5 @@
-use Rattle.std.proofs.Common.{Bool, None, cond, sym, ap, ◌∙◌, subst}
+use Rattle.std.proofs.Common.{Bool, None, cond, sym, ap, ◌∙◌, subst, arith}
+use Rattle.std.proofs.lemmas.Grind.{common_steps}
 use Rattle.inst_ledger.specs.Right.{IsRight}
 use Rattle.inst_transfers.specs.Held.{state_in}
 use Rattle.inst_slot.specs.Book.{Book, placed}
@@ -21,3 +22,6 @@ returns c =
     let yes = is_unbooked f.transfer.outcome _ (sym c.is_some.ensures ∙ c.if-is_some.false) in
     sym (unbooked_is c.args.self.now c.self.inside.ledger.table f s right c.in_ok-found.ensures.found.1 c.in_ok-found.ensures.found.0 ∙ ap (λ (b : Bool). cond b (placed f.from s.index) None) yes
     ∙ ap (placed f.from) c.in_ok-index.was)
+
+pub returns-in_err-found : goal.returns-in_err-found
+returns-in_err-found c = grind (arith, common_steps)
