@@ -1,4 +1,5 @@
 use Rattle.std.proofs.Common.{◌≡◌, ◌≤◌, ◌+◌, ◌++◌, ◌∷◌, [], ℕ, suc, arith, length, sym, ap, ◌∙◌, List, Some}
+use Rattle.std.proofs.lemmas.Grind.{elements}
 use Rattle.std.specs.Prelude.{slice_get, take}
 use Rattle.std.specs.Option.{option_copied}
 use Rattle.std.proofs.lemmas.List.{take_all}
@@ -20,3 +21,6 @@ pub returns : goal.returns
 returns c =
     let many : length c.args.settings.now.codes ≤ c.loop-number.number = omega (arith, c.loop-number-test.false, c.participants-number-end.ensures.value) in
     c.in_ok-extend_from_slice.ensures.items ∙ ap (λ (l : List Code). l ++ c.args.more.now) (c.loop-number.invariant ∙ take_all c.loop-number.number c.args.settings.now.codes many)
+
+pub unreachable-requires : goal.unreachable-requires
+unreachable-requires c = grind (arith, elements)

@@ -1,4 +1,5 @@
-use Rattle.std.proofs.Common.{◌∙◌, ◌+◌, ap, sym, drop}
+use Rattle.std.proofs.Common.{◌∙◌, ◌+◌, ap, sym, drop, arith}
+use Rattle.std.proofs.lemmas.Grind.{common_steps}
 use Rattle.std.proofs.lemmas.List.{at_drop_more}
 use Rattle.clap.specs.Words.{App, app_of, with_subcommand}
 use Rattle.inst_options.specs.inner.Table.{with_rows}
@@ -15,3 +16,6 @@ loop-row-preserved c =
     ap (λ (a : App). with_rows a (drop (at.row-index + 1) rows)) with_one
     ∙ sym (at_drop_more (with_rows (app_of at.program)) rows at.row-index _ c.loop-row-test.true)
     ∙ at.invariant
+
+pub returns : goal.returns
+returns c = grind (arith, common_steps)

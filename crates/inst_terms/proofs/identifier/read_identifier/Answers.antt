@@ -1,4 +1,5 @@
-use Rattle.std.proofs.Common.{◌≡◌, ◌^◌, ℕ, List, true, ◌∙◌, sym, subst, nat_lt}
+use Rattle.std.proofs.Common.{◌≡◌, ◌^◌, ℕ, List, true, ◌∙◌, sym, subst, nat_lt, arith}
+use Rattle.std.proofs.lemmas.Grind.{common_steps}
 use Rattle.std.specs.List.{list_all}
 use Rattle.inst_terms.proofs.Identifiers.{words_are, words_stand, words_below}
 use Rattle.inst_terms.proofs.identifier.read_identifier.Goals as goal
@@ -18,3 +19,6 @@ returns c = λ id.
       λ e. let h = reads.0 e in (h.0, words_are ws c.characters_of.result c.told-words c.characters_of.ensures below id h.1),
       λ h. reads.1 (h.0, words_stand ws c.characters_of.result c.told-words c.characters_of.ensures id h.0 h.1),
     )
+
+pub identifier_in-requires-clause-zeros : goal.identifier_in-requires-clause-zeros
+identifier_in-requires-clause-zeros c = grind (arith, common_steps)
