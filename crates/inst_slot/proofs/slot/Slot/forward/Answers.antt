@@ -1,4 +1,4 @@
-use Rattle.std.proofs.Common.{◌∙◌, ◌++◌, ◌∷◌, [], List, length, sym, ap, subst, refl, Some}
+use Rattle.std.proofs.Common.{◌∙◌, ◌++◌, ◌∷◌, [], List, length, sym, ap, subst, refl, Some, rules}
 use Rattle.std.proofs.lemmas.List.{length-map}
 use Rattle.inst_journal.specs.declared.event.Event.{Event}
 use Rattle.inst_journal.specs.declared.event.Event.TheVariants.{Forwarded}
@@ -39,3 +39,9 @@ returns-clause-ok c =
     let items = c.push_reserved.ensures.items ∙ ap (λ (l : List Spot). l ++ s ∷ []) c.in_ok-try_reserve.ensures.items in
     ap (over c.keep.new.self.book) items ∙ over_forwarded old c.keep.new.self.book entry c.self.inside.arrivals.items s c.in_ok-keep.ensures.ok at c.self.invariant.1
     ∙ ap (λ (x : Book). with_delivery x c.args.place (Some entry)) c.self.view_is
+
+pub invariant_of-self : goal.invariant_of-self
+invariant_of-self c = search rules
+
+pub invariant_of-self-in_err-keep : goal.invariant_of-self-in_err-keep
+invariant_of-self-in_err-keep c = search rules

@@ -1,4 +1,4 @@
-use Rattle.std.proofs.Common.{◌<◌, ◌∙◌, List, Some, None, get_or, length, sym, ap, subst, arith}
+use Rattle.std.proofs.Common.{◌<◌, ◌∙◌, List, Some, None, get_or, length, sym, ap, subst, arith, rules}
 use Rattle.std.specs.Prelude.{slice_get}
 use Rattle.std.proofs.lemmas.Option.{slice_get-get_or, slice_get_within}
 use Rattle.std.proofs.lemmas.List.{length-map}
@@ -52,3 +52,6 @@ returns-clause-next c = λ i arrival from there.
     let below = slice_get_within c.args.self.now.arrivals i arrival there in
     let many = ap (λ (x : Book). length x.arrivals) (sym c.self.view_is) ∙ length-map c.self.inside.arrivals.items (arrival_of (rows_of l.who l.events)) ∙ ap length (sym c.as_slice-spots.ensures.value) in
     c.loop-at.invariant.1 i arrival from (omega (arith, below, many, c.loop-at-test.false)) there
+
+pub loop-at-init : goal.loop-at-init
+loop-at-init c = search rules
