@@ -4,9 +4,8 @@ use Rattle.std.proofs.lemmas.List.{length-map, length-replicate}
 use Rattle.inst_settings.specs.Settings.{participants}
 use Rattle.inst_journal.specs.History.{History}
 use Rattle.inst_log.specs.Layout.{recovered}
-use Rattle.inst_books.specs.Books.{all_events, with_lines}
+use Rattle.inst_books.specs.Books.{all_events, books_of_text, with_lines}
 use Rattle.inst_books.proofs.Journals.{no_books_writable}
-use Rattle.inst_books.specs.Books.{books_of_text}
 use Rattle.inst_books.proofs.books.read_books.Goals as goal
 
 pub loop-len-init : goal.loop-len-init

@@ -1,6 +1,5 @@
 use Rattle.std.proofs.Common.{arith}
-use Rattle.std.proofs.lemmas.Grind.{elements}
-use Rattle.std.proofs.lemmas.Grind.{common_steps}
+use Rattle.std.proofs.lemmas.Grind.{common_steps, elements}
 use Rattle.inst_lines.proofs.line_buffer.LineBuffer.drop_line.Goals as goal
 
 pub overflow_add-self : goal.overflow_add-self
