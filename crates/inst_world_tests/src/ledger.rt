@@ -1,6 +1,6 @@
 //! Worked rows of one participant's books: each is answered by the ledger and, on the same events, by the plain functions.
 mod answering;
-mod asked;
+pub(crate) mod asked;
 mod beneficiary;
 mod cases;
 mod journals;

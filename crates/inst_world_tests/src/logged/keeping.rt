@@ -3,8 +3,9 @@ ghost use Rattle.std.specs.Prelude.{◌≤◌, length, IfSome, IsTrue};
 ghost use Rattle.sqlite_disk.specs.Disk.{Only};
 
 use crate::disks::filled;
+use crate::lines::serving::written;
 use inst_bytes::find_newline;
-use inst_lines::{Mode, play_lines, run_lines};
+use inst_lines::Mode;
 use inst_logged::{LoggedError, LoggedHub};
 use inst_rows::settings;
 use inst_settings::Settings;
@@ -66,22 +67,6 @@ pub(crate) fn newlines(text: &[u8]) -> usize {
     text.iter().filter(|byte| **byte == b'\n').count()
 }
 
-/// What is written to this input by a run or a play that keeps nothing.
-pub(crate) fn plainly(
-    alloc: Global,
-    mode: Mode,
-    settings: &Settings,
-    input: &[u8],
-) -> Result<Vec<u8>, Fail> {
-    let mut reader = input;
-    let mut written = Vec::new(alloc);
-    match mode {
-        Mode::Run => run_lines(alloc, settings, &mut reader, &mut written)?,
-        Mode::Play => play_lines(alloc, settings, &mut reader, &mut written)?,
-    };
-    Ok(written)
-}
-
 /// A hub, what a reader gives it, and what is written to that by a hub that keeps nothing.
 #[derive(Drop)]
 pub(crate) struct Case {
@@ -94,7 +79,7 @@ pub(crate) struct Case {
 /// The case of a hub that gets this input.
 pub(crate) fn case_with(alloc: Global, mode: Mode, input: Vec<u8>) -> Result<Case, Fail> {
     let settings = settings(alloc)?;
-    let replies = plainly(alloc, mode, &settings, &input)?;
+    let replies = written(alloc, mode, &settings, &input)?;
     Ok(Case {
         mode,
         settings,

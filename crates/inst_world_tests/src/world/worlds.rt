@@ -1,8 +1,9 @@
 //! Worlds, step by step and line by line, over three participants with 2 places and 4 fundings each.
 use crate::comparing::{same, same_at};
+use crate::ledger::asked::outcome;
 use crate::world::told::{Told, answers};
 use inst_agenda::{Runner, follow_up};
-use inst_base::{Cents, Fault, Ident, Moment, Reason, mention};
+use inst_base::{Cents, Fault, Ident, Moment, mention};
 use inst_board::Place;
 use inst_command::{Answer, Ask, Command, Outcome, Reply, Step, Submission};
 use inst_journal::Event;
@@ -164,14 +165,6 @@ fn run_lines(
 /// How a transfer of the first participant ended: its beneficiary, its identifier, its cents, and the end.
 type Ended = (u8, &'static str, u64, End);
 
-fn outcome(end: End) -> Result<Outcome, Fault> {
-    Ok(match end {
-        End::Accepted => Outcome::Accepted,
-        End::Rejected(reason) => Outcome::Rejected(Reason::new(reason)?),
-        End::TimedOut => Outcome::TimedOut,
-    })
-}
-
 /// The beneficiary was told of the transfer, and has booked how it ended.
 fn is_booked(rt: &impl Abort, world: &World, ended: &Ended) -> Result<(), Fail> {
     let (to, id, cents, end) = *ended;
@@ -185,7 +178,7 @@ fn is_booked(rt: &impl Abort, world: &World, ended: &Ended) -> Result<(), Fail> 
     let booked = Event::Booked {
         from: 0,
         id,
-        outcome: outcome(end)?,
+        outcome: outcome(&end)?,
     };
     journal_is(rt, world, to, &[forwarded, booked])
 }
