@@ -10,7 +10,7 @@ use std::marker::Model;
 
 /// The places whose transfers are gone over next, in order of originator and index, and those that wait:
 /// before its moment there is nothing to do of a transfer. Each call costs the logarithm of their number.
-#[derive(Debug, Drop)]
+#[derive(Drop)]
 pub struct Agenda {
     waiting: BTreeSet<(Moment, (u8, u16))>,
     next: BTreeSet<(u8, u16)>,

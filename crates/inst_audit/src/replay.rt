@@ -23,7 +23,7 @@ use std::marker::Model;
 /// replay.may_keep(&event) // whether a participant's history can go on so
 /// replay.keep(event)?     // only where it may
 /// ```
-#[derive(Debug, Drop)]
+#[derive(Drop)]
 pub struct Replay {
     ledger: Ledger,
     tally: Tally,

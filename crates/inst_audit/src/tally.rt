@@ -6,7 +6,7 @@ use inst_settings::MOST_PARTICIPANTS;
 
 /// How many transfers came from each originator, by its number, and how often the hub was opened: an entry for each
 /// number that a participant may have.
-#[derive(Clone, Copy, Debug, Drop)]
+#[derive(Clone, Copy, Drop)]
 pub(crate) struct Tally {
     /// Those that are live.
     pub(crate) live: [usize; MOST_PARTICIPANTS],

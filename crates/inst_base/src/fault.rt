@@ -7,7 +7,7 @@ use std::fmt::{self, Display, Formatter};
 
 /// Why a line, a command or a run is refused. The first fourteen are in the order in which the
 /// checks are made; the last four stand outside commands.
-#[derive(Clone, Copy, Debug, PartialEq, Eq, Hash)]
+#[derive(Clone, Copy, Debug, PartialEq, Eq)]
 pub enum Fault {
     /// The line is no JSON text.
     NotJson,

@@ -17,7 +17,7 @@ pub const LAST: u64 = 2_199_023_255_551;
 /// Moment::new(0, 10_999)?.is_in_time(deadline)    // true
 /// Moment::new(0, 11_000)?.is_due(deadline)        // true
 /// ```
-#[derive(Clone, Copy, Debug, PartialEq, Eq, PartialOrd, Ord, Hash)]
+#[derive(Clone, Copy, Debug, PartialEq, Eq, PartialOrd, Ord)]
 pub struct Moment {
     past_base: u64,
 }

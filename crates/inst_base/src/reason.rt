@@ -10,7 +10,7 @@ use std::marker::Model;
 pub const REASON_LENGTH: usize = 4;
 
 /// Why a beneficiary rejects a transfer: four characters of `A-Z 0-9`, passed on unread.
-#[derive(Clone, Copy, Debug, PartialEq, Eq, Hash)]
+#[derive(Clone, Copy, Debug, PartialEq, Eq)]
 pub struct Reason {
     text: ShortText<REASON_LENGTH>,
 }

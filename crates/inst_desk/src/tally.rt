@@ -1,7 +1,7 @@
 use crate::job::Job;
 
 /// What was done at a desk until it was ended.
-#[derive(Debug, Drop)]
+#[derive(Drop)]
 pub struct Tally {
     /// How many jobs were put, at most the largest number.
     pub put: u64,

@@ -23,7 +23,7 @@ use std::marker::Model;
 /// due.first_due(at_11_000)    // Some((deadline, 0))
 /// due.take_out(deadline, 0)   // true
 /// ```
-#[derive(Debug, Drop)]
+#[derive(Drop)]
 pub struct Due {
     pairs: VecDeque<(Moment, u16)>,
 }

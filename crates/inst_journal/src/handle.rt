@@ -17,7 +17,7 @@ use inst_settings::Settings;
 use std::alloc::Global;
 
 /// A reply, and the event that the history keeps of its command, if any.
-#[derive(Debug, Drop)]
+#[derive(Drop)]
 pub struct Handled {
     pub reply: Reply,
     pub kept: Option<Event>,

@@ -13,7 +13,7 @@ use std::marker::Model;
 /// journal.push(Event::Funded { reference, cents })?; // 500 cents
 /// journal.position()                                 // 500
 /// ```
-#[derive(Debug, Drop)]
+#[derive(Drop)]
 pub struct Journal {
     events: Vec<Event>,
 }

@@ -20,7 +20,7 @@ use std::marker::Model;
 
 /// The books of one participant: its history, which is sound, and beside it running totals, tables and the
 /// statement, so that nothing walks the history.
-#[derive(Debug, Drop)]
+#[derive(Drop)]
 pub struct Ledger {
     settings: Box<Settings>,
     who: u8,

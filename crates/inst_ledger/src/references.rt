@@ -8,14 +8,14 @@ use inst_base::{Cents, Ident};
 use std::alloc::{AllocError, Global};
 
 /// A kept fund or defund command.
-#[derive(Clone, Copy, Debug)]
+#[derive(Clone, Copy)]
 pub(crate) struct KeptFunding {
     pub(crate) is_defunding: bool,
     pub(crate) cents: Cents,
 }
 
 /// The fundings of a history.
-#[derive(Debug, Drop)]
+#[derive(Drop)]
 pub(crate) struct References {
     table: IndexMap<Ident, KeptFunding>,
 }

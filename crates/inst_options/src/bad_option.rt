@@ -8,7 +8,7 @@ use clap::ArgMatches;
 use inst_settings::{MOST_AHEAD, MOST_BASE, MOST_CEILING, MOST_FUNDINGS, MOST_LIMIT, MOST_PLACES};
 
 /// An option whose value no hub can have beside the others.
-#[derive(Clone, Copy, Debug)]
+#[derive(Clone, Copy)]
 pub struct BadOption<'a> {
     /// Its name, without the dashes.
     pub name: &'static str,

@@ -1,7 +1,7 @@
 use inst_settings::Settings;
 
 /// The log of a run.
-#[derive(Clone, Copy, Debug)]
+#[derive(Clone, Copy)]
 pub struct LogOptions<'a> {
     /// Its file.
     pub path: &'a str,

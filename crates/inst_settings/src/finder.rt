@@ -10,7 +10,7 @@ use inst_base::{BRANCH_CODE_LENGTH, CODE_LENGTH, Code};
 const MARKS: usize = 4096;
 
 /// Whose codes have a mark.
-#[derive(Clone, Copy, Debug)]
+#[derive(Clone, Copy)]
 pub(crate) enum Holders {
     Nobody,
     /// The participant with this number.
@@ -31,7 +31,7 @@ impl Holders {
 }
 
 /// The holders of each mark. A code whose mark nobody holds is no participant's.
-#[derive(Clone, Copy, Debug, Drop)]
+#[derive(Clone, Copy, Drop)]
 pub(crate) struct Finder {
     table: [Holders; MARKS],
 }

@@ -20,7 +20,7 @@ use std::marker::Model;
 /// let settings = Settings::check(codes, numbers)?;
 /// settings.index_of(&Code::new("BBBBFRPP")?) // Some(1)
 /// ```
-#[derive(Debug, Drop)]
+#[derive(Drop)]
 pub struct Settings {
     codes: Vec<Code>,
     finder: Finder,

@@ -21,7 +21,7 @@ use std::alloc::{AllocError, Global};
 
 /// Where the table of transfers holds an arrival, and the index of its place: `None` for one that was carried over an
 /// opening, until its place is found.
-#[derive(Clone, Copy, Debug)]
+#[derive(Clone, Copy)]
 pub(crate) struct Spot {
     pub(crate) position: usize,
     pub(crate) index: Option<u16>,

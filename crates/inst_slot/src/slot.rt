@@ -35,7 +35,7 @@ use std::marker::Model;
 /// slot.deliver(&mut board, place)?   // true: a transfer of another's came
 /// slot.apply(&mut board, &confirm)?  // its state, decided
 /// ```
-#[derive(Debug, Drop)]
+#[derive(Drop)]
 pub struct Slot {
     alloc: Global,
     ledger: Ledger,

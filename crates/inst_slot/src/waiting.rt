@@ -16,7 +16,7 @@ use std::marker::Model;
 
 /// The deadlines of the own live transfers in the order of their places, and of those that wait the
 /// pairs of a deadline and an index.
-#[derive(Debug, Drop)]
+#[derive(Drop)]
 pub(crate) struct Waiting {
     deadlines: Vec<Moment>,
     due: Due,

@@ -9,7 +9,7 @@ use inst_journal::Event;
 
 /// A statement line as it is kept. Its number is where it stands, its name is its event's, and its amount lies
 /// between its position and the one before.
-#[derive(Clone, Copy, Debug)]
+#[derive(Clone, Copy)]
 pub(crate) struct KeptLine {
     /// The index of its event in the participant's journal.
     pub(crate) event: u32,

@@ -20,7 +20,7 @@ use std::marker::Model;
 /// statement.add(0, funded); // event 0, 500 cents: line 1, position 500
 /// statement.part(alloc, events, 0, 10)
 /// ```
-#[derive(Debug, Drop)]
+#[derive(Drop)]
 pub struct KeptStatement {
     lines: Vec<KeptLine>,
     /// The position before the first line, in cents.

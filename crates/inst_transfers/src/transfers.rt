@@ -16,7 +16,7 @@ use std::alloc::{AllocError, Global};
 use std::marker::Model;
 
 /// The transfers of one participant, by originator and identifier. A step looks each up once.
-#[derive(Debug, Drop)]
+#[derive(Drop)]
 pub struct Transfers {
     who: u8,
     table: IndexMap<(u8, Ident), Transfer>,

@@ -4,7 +4,7 @@ use inst_command::{Answer, Items};
 pub type Answers = Items<Answer>;
 
 /// What the steps of a run are answered.
-#[derive(Debug, Drop)]
+#[derive(Drop)]
 pub struct Trace {
     /// One for each step.
     pub answers: Answers,
