@@ -3,9 +3,8 @@ ghost use Rattle.std.specs.Prelude.{◌≡◌, IfOk, IfErr};
 ghost use Rattle.inst_c.specs.Chosen.{mode_of};
 
 use inst_base::Fault;
-use inst_codes::codes;
 use inst_lines::Mode;
-use inst_settings::{Numbers, Settings};
+use inst_settings::{Numbers, Settings, parse_codes};
 use std::alloc::Global;
 
 /// The settings of a hub but for its participants. The header has their ranges.
@@ -39,7 +38,7 @@ impl Chosen {
         ensures good { IfOk result AreOfAHub }
         ensures fault { IfErr result (IsRefusal (chosen participants.now self.now)) }
     {
-        let codes = codes(alloc, participants)?;
+        let codes = parse_codes(alloc, participants)?;
         let numbers = Numbers {
             places: self.places,
             fundings: self.fundings,

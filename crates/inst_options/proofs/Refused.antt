@@ -4,7 +4,7 @@ use Rattle.std.specs.Str.Parse.{digits_value, without_leading_plus}
 use Rattle.std.proofs.lemmas.Bool.{cases_lt}
 use Rattle.std.proofs.lemmas.Slice.Eq.{bytes_eq-Decides}
 use Rattle.clap.specs.Words.{Row, Text, subcommand_of}
-use Rattle.inst_codes.specs.Parts.{parts_of}
+use Rattle.inst_settings.specs.Parts.{parts_of}
 use Rattle.inst_base.specs.declared.fault.Fault.{Fault}
 use Rattle.inst_base.specs.declared.fault.Fault.TheVariants.{BadSettings}
 use Rattle.inst_settings.specs.Settings.{HubSettings, same_text}

@@ -2,7 +2,7 @@
 use Rattle.std.specs.Prelude.{◌⊎◌, ◌≡◌, ◌<◌, ◌^◌, ℕ, Bool, true, false, List, Some, None, codes}
 use Rattle.std.specs.Str.Parse.{IsNumeral, digits_value, without_leading_plus}
 use Rattle.clap.specs.Words.{Row, Text, first_of, one_of}
-use Rattle.inst_codes.specs.Parts.{parts_of}
+use Rattle.inst_settings.specs.Parts.{parts_of}
 use Rattle.inst_settings.specs.Settings.{HubSettings, same_text}
 
 -- what the subcommand of a name does at a hub, or for one

@@ -12,8 +12,7 @@ ghost use Rattle.inst_settings.specs.Lawful.{IsSettings};
 use crate::wish::{LogOptions, Wish};
 use clap::ArgMatches;
 use inst_base::Fault;
-use inst_codes::codes;
-use inst_settings::{Numbers, Settings};
+use inst_settings::{Numbers, Settings, parse_codes};
 use std::alloc::Global;
 
 /// What the subcommand of this name and its options ask for. `BadSettings` as from `hub_wish`.
@@ -122,7 +121,7 @@ fn settings(alloc: Global, options: &ArgMatches<'_>) -> Result<Settings, Fault>
         ceiling,
         base,
     };
-    let codes = codes(alloc, participants.as_bytes())?;
+    let codes = parse_codes(alloc, participants.as_bytes())?;
     Settings::check(codes, numbers)
 }
 

@@ -4,11 +4,10 @@ ghost use Rattle.inst_settings.specs.Settings.{participants};
 ghost use Rattle.inst_command.specs.Ask.{ask_fits};
 
 use inst_base::{Cents, Code, Fault, Moment};
-use inst_codes::codes;
 use inst_command::{Ask, Command};
 use inst_faults::fault_of;
 use inst_options::{Wish, wished};
-use inst_settings::{Numbers, Settings};
+use inst_settings::{Numbers, Settings, parse_codes};
 use std::alloc::Global;
 
 /// A deadline, and whether a transfer is due by it.
@@ -59,7 +58,7 @@ pub fn faults() -> Option<(u8, &'static str)> {
 
 /// The codes of two participants.
 pub fn participants(alloc: Global) -> Result<Settings, Fault> {
-    let codes = codes(alloc, b"AAAADEFF,BBBBFRPP")?; // two codes, or `BadSettings`
+    let codes = parse_codes(alloc, b"AAAADEFF,BBBBFRPP")?; // two codes, or `BadSettings`
     Settings::check(codes, Numbers::DEFAULT)
 }
 

@@ -3,7 +3,7 @@ use Rattle.std.proofs.lemmas.Result.{IfOk-weaker}
 use Rattle.clap.specs.Words.{first_of, found_of, rows_of}
 use Rattle.inst_options.specs.Options.{Gives, Chooses}
 use Rattle.inst_options.specs.inner.Options.{GivesNoneBelow, ChooseNone}
-use Rattle.inst_codes.specs.Parts.{parts_of}
+use Rattle.inst_settings.specs.Parts.{parts_of}
 use Rattle.inst_settings.specs.Settings.{HubSettings}
 use Rattle.inst_settings.specs.Lawful.{IsSettings, settings_with}
 use Rattle.inst_options.proofs.Refused.{none_in_range, no_places, no_fundings, no_limit, no_margin, no_ahead, no_ceiling, no_base, passed_on, refused_by}

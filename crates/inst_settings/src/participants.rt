@@ -1,9 +1,7 @@
 //! The participants of a hub as one text.
-#![tactic(auto)]
-
 ghost use Rattle.std.specs.Prelude.{◌≡◌, OkIff, true, IfOk, IfErr, IsOkUnless, map};
 ghost use Rattle.inst_base.specs.Text.{is_code};
-ghost use Rattle.inst_codes.specs.Parts.{parts_of, are_codes, IsRefusal};
+ghost use Rattle.inst_settings.specs.Parts.{parts_of, are_codes, IsRefusal};
 
 use inst_base::{Code, Fault};
 use std::alloc::{AllocError, Global};
@@ -11,7 +9,7 @@ use std::str;
 
 /// The codes between the commas, in their order. Nothing is trimmed, so an empty part is no code. `BadSettings` where a
 /// part is none, and `Memory` where there is no room for them. Whether a code stands twice isn't looked at.
-pub fn codes(alloc: Global, text: &[u8]) -> Result<Vec<Code>, Fault>
+pub fn parse_codes(alloc: Global, text: &[u8]) -> Result<Vec<Code>, Fault>
     ensures codes { IfOk result (λ codes. codes.items ≡ parts_of text.now) }
     ensures formed { IfOk result (λ _. are_codes text.now ≡ true) }
     ensures fault { IfErr result (IsRefusal text.now) }

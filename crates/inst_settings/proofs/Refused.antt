@@ -10,7 +10,7 @@ use Rattle.inst_base.specs.Text.{is_code}
 use Rattle.inst_base.proofs.Ascii.{IsAscii-code}
 use Rattle.inst_base.specs.declared.fault.Fault.{Fault}
 use Rattle.inst_base.specs.declared.fault.Fault.TheVariants.{BadSettings}
-use Rattle.inst_codes.specs.Parts.{are_codes, IsRefusal}
+use Rattle.inst_settings.specs.Parts.{are_codes, IsRefusal}
 
 second : (x y : Bool) → (x && y) ≡ true → y ≡ true
 second true y is = is

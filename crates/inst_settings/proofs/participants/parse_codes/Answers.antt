@@ -1,7 +1,7 @@
 use Rattle.std.proofs.Common.{◌≡◌, List, ℕ, map, Bor, ap, ◌∙◌, arith}
-use Rattle.inst_codes.specs.Parts.{parts_of}
-use Rattle.inst_codes.proofs.Refused.{other_code, passed_on}
-use Rattle.inst_codes.proofs.codes.Goals as goal
+use Rattle.inst_settings.specs.Parts.{parts_of}
+use Rattle.inst_settings.proofs.Refused.{other_code, passed_on}
+use Rattle.inst_settings.proofs.participants.parse_codes.Goals as goal
 
 pub returns-in_err-code-clause-fault : goal.returns-in_err-code-clause-fault
 returns-in_err-code-clause-fault c =

@@ -1,7 +1,7 @@
 use Rattle.std.proofs.Common.{◌==◌, refl, rules}
 use Rattle.std.proofs.lemmas.Iterator.Consumers.{map_from_collect}
 use Rattle.std.proofs.lemmas.Iterator.Splits.{YieldsList-from_slice_split}
-use Rattle.inst_codes.proofs.parts.Goals as goal
+use Rattle.inst_settings.proofs.participants.parts.Goals as goal
 
 pub returns : goal.returns
 returns c = map_from_collect _ c.collect.ensures.ran

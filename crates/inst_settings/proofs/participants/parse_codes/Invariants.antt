@@ -1,7 +1,7 @@
 use Rattle.std.proofs.Common.{◌≡◌, true, map, take}
 use Rattle.std.specs.List.{list_all}
 use Rattle.inst_base.specs.Text.{is_code}
-use Rattle.inst_codes.proofs.codes.Given as goal
+use Rattle.inst_settings.proofs.participants.parse_codes.Given as goal
 
 abbrev pub invariant-loop-part : goal.invariant-loop-part
 invariant-loop-part l = record {
