@@ -33,8 +33,6 @@ const DEADLINE: u64 = 11_000;
 pub(crate) struct Finish {
     /// Of how many transfers the originator's expiry booked an outcome.
     expired: u16,
-    /// How many the beneficiary's confirmation was answered for.
-    confirmed: u16,
     /// Of how many both books say that they were accepted.
     pub(crate) accepted: u16,
     /// Of how many both books say that they timed out.
@@ -44,11 +42,10 @@ pub(crate) struct Finish {
 }
 
 impl Finish {
-    /// Whether it is a finish that a race may have: each side was answered for all transfers, both books
-    /// have the same outcome of each, and no cent came or went.
+    /// Whether it is a finish that a race may have: each expiry booked an outcome, both books have the same one of each
+    /// transfer, and no cent came or went.
     pub(crate) fn is_whole(&self) -> bool {
         self.expired == TRANSFERS
-            && self.confirmed == TRANSFERS
             && self.accepted.checked_add(self.timed_out) == Some(TRANSFERS)
             && self.sum == u128::from(FUNDS)
     }
@@ -85,13 +82,13 @@ fn submit_all(
     Ok(())
 }
 
-/// The beneficiary confirms all, and answers how many these are.
-fn confirm_all(alloc: Global, second: &mut Participant, at: Moment) -> Result<u16, Fault> {
+/// The beneficiary confirms all.
+fn confirm_all(alloc: Global, second: &mut Participant, at: Moment) -> Result<(), Fault> {
     for index in 0..TRANSFERS {
         let id = name(alloc, index)?;
         second.does(Command::Confirm { from: 0, id }, at)?;
     }
-    Ok(TRANSFERS)
+    Ok(())
 }
 
 /// The originator lets all expire. Of how many that booked an outcome.
@@ -144,10 +141,10 @@ fn run<R: Threads + Sync>(
         &mut || expire_all(first, deadline),
         &mut || confirm_all(alloc, second, last),
     );
+    confirmed?;
     let (accepted, timed_out) = outcomes(alloc, first, second)?;
     Ok(Finish {
         expired: expired?,
-        confirmed: confirmed?,
         accepted,
         timed_out,
         sum: sum(first, second),

@@ -21,6 +21,9 @@ places. How it ended is told on standard error. The exit status is 0, or 1 where
 where the words are others.
 ";
 
+/// How many words there are at most, with the program's name.
+const MOST_WORDS: usize = 5;
+
 /// What is run.
 #[derive(Clone, Copy)]
 pub(crate) enum Task {
@@ -40,10 +43,13 @@ pub(crate) enum Task {
 impl Task {
     /// What these words ask for, the first of which is the program's name.
     pub(crate) fn of(words: &[String]) -> Option<Task> {
+        if words.len() > MOST_WORDS {
+            return None;
+        }
         match words.get(1)?.as_str() {
-            "--help" => Some(Task::Help),
+            "--help" if words.len() == 2 => Some(Task::Help),
             "stress" => Some(Task::Stress(Stress::of(words)?)),
-            "race" => race_of(words.get(2)?),
+            "race" if words.len() == 3 => race_of(words.get(2)?),
             "scarce" if words.len() == 2 => Some(Task::Scarce),
             _ => {
                 let (load, count) = Load::of(words)?;
