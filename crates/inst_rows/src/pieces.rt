@@ -5,8 +5,11 @@ use std::io::{self, ErrorKind, Read};
 /// the end. Its error is the one after which std's own loops try again.
 #[derive(Drop)]
 pub struct Pieces<'a> {
+    /// What is still to be given.
     pub bytes: &'a [u8],
+    /// How many bytes a read gives at most.
     pub most: usize,
+    /// Whether it fails behind the last one.
     pub fails: bool,
 }
 

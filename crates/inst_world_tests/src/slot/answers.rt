@@ -26,7 +26,7 @@ fn is_state(state: &State, told: &Told) -> bool {
     }
 }
 
-fn are_entries(entries: &[Entry], ids: &[&str]) -> bool {
+fn have_ids(entries: &[Entry], ids: &[&str]) -> bool {
     for (entry, id) in entries.iter().zip(ids) {
         if entry.id.text() != *id {
             return false;
@@ -35,7 +35,7 @@ fn are_entries(entries: &[Entry], ids: &[&str]) -> bool {
     entries.len() == ids.len()
 }
 
-fn are_lines(lines: &[Line], wanted: &[(u32, LineKind, u64)]) -> bool {
+fn have_positions(lines: &[Line], wanted: &[(u32, LineKind, u64)]) -> bool {
     for (line, (number, kind, position)) in lines.iter().zip(wanted) {
         if line.number != *number || line.kind != *kind || line.position != *position {
             return false;
@@ -58,8 +58,11 @@ fn is_reply(reply: &Reply, told: &Told) -> bool {
             },
             Told::Position(all, held, free),
         ) => position == all && reserved == held && available == free,
-        (Reply::Inbox { entries }, Told::Inbox(ids)) => are_entries(entries.as_slice(), ids),
-        (Reply::Statement { lines }, Told::Lines(wanted)) => are_lines(lines.as_slice(), wanted),
+        (Reply::Inbox { entries }, Told::Inbox(ids)) => have_ids(entries.as_slice(), ids),
+        (Reply::Statement { lines }, Told::Lines(wanted)) => have_positions(
+            lines.as_slice(),
+            wanted,
+        ),
         _ => false,
     }
 }

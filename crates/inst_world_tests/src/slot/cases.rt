@@ -1,9 +1,10 @@
 //! What is done, one act after another, what is answered, and what is kept.
+use crate::ledger::asked::submit;
 use crate::slot::answers::{Told, tells};
 use crate::slot::histories::{Kept, are_copied, copied, keeps};
 use inst_base::{Cents, Fault, Ident, Moment, Reason, mention};
 use inst_board::Place;
-use inst_command::{Answer, Command, Submission};
+use inst_command::{Answer, Command};
 use inst_rows::{Act, Slots};
 use std::alloc::Global;
 use std::process::Abort;
@@ -57,15 +58,6 @@ pub(crate) struct Case {
     pub(crate) margin: u32,
     pub(crate) rows: &'static [Row],
     pub(crate) histories: [&'static [Kept]; 3],
-}
-
-fn submit(id: &str, to: u8, cents: u64, stamp: u64) -> Result<Command, Fault> {
-    Ok(Command::Submit(Submission {
-        id: Ident::new(id)?,
-        to,
-        cents: Cents::new(cents)?,
-        stamp: Moment::new(0, stamp)?,
-    }))
 }
 
 /// The command, or none for a step or a question.
