@@ -5,6 +5,7 @@ ghost use Rattle.std.specs.Box.Ownership.{box_owns};
 use std::alloc::Allocator;
 use std::marker::Model;
 
+/// A box in parts: its address, and the allocator that it came from.
 pub struct BoxParts<T, A: Allocator> {
     pub(super) ptr: *mut T,
     pub(super) alloc: A,
