@@ -9,7 +9,7 @@ use std::marker::Model;
 pub const MOST_CENTS: u64 = 99_999_999_999;
 
 /// An amount of whole cents, 1 to 99,999,999,999.
-#[derive(Clone, Copy, Debug, PartialEq, Eq, PartialOrd, Ord)]
+#[derive(Clone, Copy, Debug, PartialEq, Eq)]
 pub struct Cents {
     cents: u64,
 }

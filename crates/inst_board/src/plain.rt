@@ -14,7 +14,7 @@ use std::marker::Model;
 use std::snapshot::Snapshot;
 
 /// What a plain board keeps of a place, as clauses see it.
-#[derive(Clone, Copy, Debug, PartialEq, Eq)]
+#[derive(Clone, Copy)]
 pub enum Kept {
     /// Nothing.
     Unused,

@@ -30,12 +30,4 @@ impl<T> Items<T> {
     {
         self.items.as_slice()
     }
-
-    /// The vector back, without a copy.
-    pub fn into_vec(self) -> Vec<T>
-        ensures { result.items ≡ self }
-    {
-        let Items { items } = self;
-        items
-    }
 }

@@ -21,7 +21,7 @@ const CENTS: u64 = 100;
 pub const MOST_DRILL_OPENINGS: u8 = 10;
 
 /// What a drill does in each opening.
-#[derive(Clone, Copy, Debug, PartialEq, Eq)]
+#[derive(Clone, Copy)]
 pub(crate) struct Plan {
     /// How many transfers there are.
     pub(crate) transfers: u16,

@@ -2,7 +2,7 @@
 use inst_base::{Cents, Moment};
 
 /// What was sent with a taken submission.
-#[derive(Clone, Copy, Debug, PartialEq, Eq)]
+#[derive(Clone, Copy)]
 pub struct Sending {
     pub to: u8,
     pub cents: Cents,
@@ -10,7 +10,7 @@ pub struct Sending {
 }
 
 /// What came with a forwarded transfer.
-#[derive(Clone, Copy, Debug, PartialEq, Eq)]
+#[derive(Clone, Copy)]
 pub struct Forwarding {
     pub cents: Cents,
     pub deadline: Moment,

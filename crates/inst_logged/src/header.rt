@@ -10,6 +10,7 @@ ghost use Rattle.inst_logged.specs.Header.{header, header_from, header_line, boo
 use inst_books::append_books;
 use inst_bytes::find_newline;
 use inst_journal::Journal;
+use inst_json::code_text;
 use inst_lines::Mode;
 use inst_log::{close_batch, count_lines, push_line, whole_lines};
 use inst_settings::Settings;
@@ -185,15 +186,4 @@ fn push_comma(text: &mut String, number: u8) -> Result<(), AllocError>
         text.push_str(",")?;
     }
     Ok(())
-}
-
-/// The code of the participant with this number.
-fn code_text(settings: &Settings, number: u8) -> &str
-    requires { is_participant settings.now number ≡ true }
-    ensures { result.now ≡ code_numbered settings.now number }
-{
-    match settings.code(number) {
-        Some(code) => code.text(),
-        None => unreachable!(),
-    }
 }

@@ -1,7 +1,7 @@
 use inst_board::Place;
 
 /// What a side does once the other side's command was answered.
-#[derive(Clone, Copy, Debug, PartialEq, Eq)]
+#[derive(Clone, Copy)]
 pub enum Errand {
     /// The beneficiary gets the transfer that was taken.
     Deliver,
@@ -10,7 +10,7 @@ pub enum Errand {
 }
 
 /// What the participant `who` does about the transfer of this place.
-#[derive(Clone, Copy, Debug, PartialEq, Eq)]
+#[derive(Clone, Copy)]
 pub struct FollowUp {
     pub who: u8,
     pub errand: Errand,

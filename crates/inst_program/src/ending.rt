@@ -5,7 +5,7 @@ use inst_faults::LogFault;
 use std::alloc::AllocError;
 
 /// Why the program ends without having done what the words ask for.
-#[derive(Clone, Copy, Debug)]
+#[derive(Clone, Copy)]
 pub(crate) enum Ending {
     /// A hub can't do the drill, or a run failed, or something that reads nothing.
     Fault(Fault),

@@ -10,7 +10,7 @@ use inst_terms::Terms;
 
 /// A live transfer that was forwarded to the participant, and the index of its place: `None` for one
 /// that was carried over an opening, until its place is found.
-#[derive(Clone, Copy, Debug, PartialEq, Eq)]
+#[derive(Clone, Copy)]
 pub struct Arrival {
     pub entry: Entry,
     pub index: Option<u16>,

@@ -2,7 +2,7 @@ use inst_base::Cents;
 use inst_command::LineKind;
 
 /// What moves a position: a funding, a defunding, an accepted transfer that came or one that was sent.
-#[derive(Clone, Copy, Debug, PartialEq, Eq)]
+#[derive(Clone, Copy)]
 pub struct Movement {
     pub kind: LineKind,
     /// The participant at the other side of a transfer.

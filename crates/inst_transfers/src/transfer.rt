@@ -6,14 +6,14 @@ use inst_base::{Cents, Ident, Moment};
 use inst_command::{Entry, Outcome};
 
 /// Whose transfer it is: the participant's own, or one that was forwarded to it.
-#[derive(Clone, Copy, Debug, PartialEq, Eq)]
+#[derive(Clone, Copy)]
 pub enum Side {
     Own { to: u8, stamp: Moment },
     Other { deadline: Moment },
 }
 
 /// What the history says of a transfer.
-#[derive(Clone, Copy, Debug, PartialEq, Eq)]
+#[derive(Clone, Copy)]
 pub struct Transfer {
     pub cents: Cents,
     pub side: Side,
@@ -22,7 +22,7 @@ pub struct Transfer {
 
 /// A transfer that was looked up, and where the table holds it: until the next one comes it need not be looked
 /// up again.
-#[derive(Clone, Copy, Debug, PartialEq, Eq)]
+#[derive(Clone, Copy)]
 pub struct Found {
     pub from: u8,
     pub id: Ident,
