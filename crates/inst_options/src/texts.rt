@@ -34,7 +34,7 @@ Tells with which settings a log begins, and how many lines it has
 
 Two lines go to standard output; standard input isn't read, and the log is left as it is:
   settings S    the first line of the log: settings, and whether its lines are of a run or of a play
-  lines N       N lines stand behind it";
+  lines N       N lines stand behind it and its books";
 
 /// What `next` does, at length.
 pub(crate) const NEXT: &str = "\
@@ -72,16 +72,16 @@ Moments are milliseconds of any clock that all participants share; the hub has n
 the base and end 2^41 - 1 ms after it. Unix time in milliseconds fits base 0 until 2039-09-07. A hub that is to run
 past that needs a base near its start, as --base 1767225600000, which is 2026-01-01 00:00 UTC.
 
-Exit status: 0 at the end of the input or of the drill, 2 for wrong words or settings, 3 where fault 14, 17 or 18
-ended it, or with a log fault 19.";
+Exit status: 0 at the end of the input or of the drill, 2 for wrong words or settings or a log that is refused, 3 where
+fault 14, 17 or 18 ended it, or with a log fault 19.";
 
 /// At the end of the program's help.
 pub(crate) const PROGRAM: &str = "\
 Exit status:
-  0  the input was read to its end, and each line has its reply, be it a refusal;
+  0  the input was read to its end, and each line has its reply, be it a refusal, or was checked;
      or the drill is done, and no outcome that was seen differs from the books;
-     or help, the version or an explanation was asked for
-  2  the command line or the settings are wrong; nothing was read or written
-  3  a fault ended the run or the drill; standard error has its line, as `fault 17 ReadFault`
+     or the next opening is made, or what was asked is told: a log, a fault, help, the version
+  2  the command line or the settings are wrong, or the log is refused; nothing was read or written
+  3  a fault ended what was asked for; standard error has its line, as `fault 17 ReadFault`
 
 `inst_main run --help` has the options. README.md and docs/FORMATS.md tell of lines, replies and refusals.";

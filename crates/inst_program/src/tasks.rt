@@ -36,14 +36,12 @@ use std::thread::Threads;
 /// log, each line is in it before its reply is written, and the lines that it has come first. `log` tells what one has,
 /// and `next` begins one with the books of another.
 /// `check` tells which command lines of `reader` no hub of these settings takes, and answers none.
-/// `drill` has two more options, reads nothing, and drills a hub of these settings by threads: `writer` gets what each
-/// opening came to, and `errors` how far it is, where `is_watched`. `explain` tells what a fault usually means.
-/// Answers the exit status: 0 at the end of the input or of the drill and after
-/// `--help`, 2 for a command line that is wrong, with a text on `errors`, and for bad settings, 3
-/// for a run or a drill that failed and where memory was wanting before it began. A fault is one line
-/// `fault <number> <name>` on `errors`; so is what is wrong with a log, with status 2 where it wasn't taken and 3 where
-/// the disk failed. What `errors` doesn't take is lost. It reads line by line: its time is in the bytes of the input
-/// and of the log.
+/// `drill` reads nothing, and drills a hub of these settings by threads: `writer` gets what each opening came to, and
+/// `errors` how far it is, where `is_watched`. `explain` tells what a fault usually means.
+/// Answers the exit status: 0 where what was asked for is done, 2 for words or settings that are wrong and for a log
+/// that isn't taken, 3 for what failed, and where memory was wanting before it began. What is wrong is told on `errors`:
+/// a text, or one line `fault <number> <name>`. What `errors` doesn't take is lost. Its time is in the bytes of the
+/// input and of the log.
 pub fn program<H: Threads + Wait + Sync, L: Logs, R: Read, W: Write, E: Write>(
     rt: &H,
     logs: &L,
