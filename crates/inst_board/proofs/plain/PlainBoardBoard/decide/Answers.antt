@@ -1,4 +1,4 @@
-use Rattle.std.proofs.Common.{◌≡◌, ℕ, Some, ap, subst, sym, ◌∙◌, arith}
+use Rattle.std.proofs.Common.{◌≡◌, ℕ, Some, ap, subst, sym, ◌∙◌, arith, rules}
 use Rattle.std.proofs.lemmas.Grind.{common_steps}
 use Rattle.inst_board.specs.Plain.{Contents, kept_at}
 use Rattle.inst_board.specs.Wish.{wanted}
@@ -34,3 +34,9 @@ returns-in_ok-outcome-in-Pending-clause-decides c =
 
 pub returns-in_ok-outcome-in-Pending-clause-here : goal.returns-in_ok-outcome-in-Pending-clause-here
 returns-in_ok-outcome-in-Pending-clause-here c = grind (arith, common_steps)
+
+pub returns-in-Decided-clause-answer : goal.returns-in-Decided-clause-answer
+returns-in-Decided-clause-answer c = search rules
+
+pub returns-in-Decided-clause-decides : goal.returns-in-Decided-clause-decides
+returns-in-Decided-clause-decides c = search rules
