@@ -49,6 +49,9 @@ impl<D: Disk, A: Answers + Drop> Recorder<D, A> {
         ensures replied { OnOk result (IsTrue (D.Disk.is_clean self.new.log.disk)
             → Tells (Owing (A.Answers.says self.old.answers) (kept settings.now (D.Disk.seen self.old.log.disk)) told)
             (lines_of batches.now) (W.Write.contents writer.old) (W.Write.contents writer.new)) }
+        // It was a log of these settings, or a new file.
+        ensures began { OnOk result (IsTrue (D.Disk.is_clean self.new.log.disk)
+            → Opens settings.now (D.Disk.seen self.old.log.disk)) }
 
         // At `Ok` and at `Err`: each file that a crash may leave has the lines that were there and a front of those
         // read, among them each line of whose reply a byte was handed to the writer.
@@ -98,6 +101,8 @@ impl<D: Disk, A: Answers + Drop> Recorder<D, A> {
         ensures replied { OnOk result (IsTrue (D.Disk.is_clean self.new.log.disk)
             → Tells (Owing (A.Answers.says self.old.answers) (kept settings.now (D.Disk.seen self.old.log.disk)) told)
             [] (W.Write.contents writer.old) (W.Write.contents writer.new)) }
+        ensures began { OnOk result (IsTrue (D.Disk.is_clean self.new.log.disk)
+            → Opens settings.now (D.Disk.seen self.old.log.disk)) }
         ensures told { OnOk result (IsTrue (D.Disk.is_clean self.new.log.disk)
             → (replies : Replies) → A.Answers.says self.old.answers replies
             → told ≤ length (replies (kept settings.now (D.Disk.seen self.old.log.disk)))) }

@@ -1,11 +1,16 @@
--- Which logs a hub doesn't take, and why. This hub's own choice.
-use Rattle.std.specs.Prelude.{◌≡◌, ◌<◌, ℕ, List, [], length, Option}
+-- Which logs a hub takes, which it doesn't, and why. This hub's own choice.
+use Rattle.std.specs.Prelude.{◌≡◌, ◌<◌, ◌≤◌, ℕ, List, [], length, Option}
 use Rattle.inst_log.specs.Layout.{recovered}
-use Rattle.inst_log.specs.Opening.{kept, Begins, IsNew}
+use Rattle.inst_log.specs.Opening.{kept, Begins, IsNew, Opens}
 use Rattle.inst_log.specs.declared.error.LogError.TheVariants.{Disk, Memory, Full, Write, Told, OtherSettings, NoLog}
 use Rattle.inst_logged.specs.declared.error.LoggedError.{LoggedError}
 use Rattle.inst_logged.specs.declared.error.LoggedError.TheVariants.{Log, Read, Books}
 use Rattle.inst_logged.specs.Answering.{told_of}
+
+-- The log is taken: it begins with the header, or is a new file, and has as many lines behind it as have been told.
+pub record IsTaken (header : List ℕ) (told : Option ℕ) (file : List ℕ) : Type 0 where
+  pub opens : Opens header file
+  pub enough : told_of told (kept header file) ≤ length (kept header file)
 
 -- the log isn't taken: it begins with other settings or with books of none, is none, or has fewer lines than have been
 -- told

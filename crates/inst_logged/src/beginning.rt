@@ -1,6 +1,9 @@
 //! What the first line of a log says, read again.
+ghost use Rattle.std.specs.Prelude.{◌≡◌, [], IfOk, None};
+ghost use Rattle.inst_log.specs.Layout.{recovered};
+
 use crate::header::header_line;
-use inst_base::{Code, Fault};
+use inst_base::Code;
 use inst_lines::Mode;
 use inst_log::first_line;
 use inst_settings::{Numbers, Settings};
@@ -66,11 +69,7 @@ fn settings_of(alloc: Global, value: &Value) -> Result<Option<Settings>, AllocEr
     let Some(codes) = codes_of(alloc, value)? else {
         return Ok(None);
     };
-    match Settings::check(codes, numbers) {
-        Ok(settings) => Ok(Some(settings)),
-        Err(Fault::Memory) => Err(AllocError),
-        Err(_) => Ok(None),
-    }
+    Ok(Settings::check(codes, numbers).ok())
 }
 
 /// The codes of the participants.
@@ -120,7 +119,9 @@ pub(crate) fn books_behind<'a>(
     mode: Mode,
     settings: &Settings,
     bytes: &'a [u8],
-) -> Result<Option<&'a [u8]>, AllocError> {
+) -> Result<Option<&'a [u8]>, AllocError>
+    ensures { recovered bytes.now ≡ [] → IfOk result (λ text. text ≡ None) }
+{
     let Some(len) = first_line(bytes) else {
         return Ok(None);
     };

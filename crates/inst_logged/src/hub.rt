@@ -15,7 +15,7 @@ ghost use Rattle.inst_logged.specs.Header.{header, header_from};
 ghost use Rattle.inst_logged.specs.Input.{cut};
 ghost use Rattle.inst_logged.specs.Intake.{held};
 ghost use Rattle.inst_logged.specs.Answering.{SaysLines, opened_from, told_of};
-ghost use Rattle.inst_logged.specs.Refused.{IsRefused, IsStrange, IsCause};
+ghost use Rattle.inst_logged.specs.Refused.{IsTaken, IsRefused, IsStrange, IsCause};
 ghost use Rattle.inst_logged.specs.Logged.{Are, owed, IsUnbegun};
 ghost use Rattle.inst_logged.specs.Logged.{HasLogged, SurvivesACrash};
 ghost use Rattle.inst_logged.specs.inner.Logged.{Turned, Ended, Came, IsInput, CameIn, ServedOn, KeptOn};
@@ -161,6 +161,8 @@ impl<D: Disk + Drop> LoggedHub<D> {
         requires known { IsTrue (D.Disk.is_clean self.old.recorder.log.disk)
             → Only (D.Disk.seen self.old.recorder.log.disk) (D.Disk.may_leave self.old.recorder.log.disk) }
 
+        ensures taken { OnOk result (IsTrue (D.Disk.is_clean self.new.recorder.log.disk)
+            → IsTaken self.old.header.items told (D.Disk.seen self.old.recorder.log.disk)) }
         ensures end { OnOk result (IsAtEnd (R.remaining reader.new)) }
         ensures logged { OnOk result (IsTrue (D.Disk.is_clean self.new.recorder.log.disk)
             → (past : Past) → Keeps self.old.recorder.answers.mode past self.old.recorder.answers.runner
@@ -202,6 +204,8 @@ impl<D: Disk + Drop> LoggedHub<D> {
         requires known { IsTrue (D.Disk.is_clean self.old.recorder.log.disk)
             → Only (D.Disk.seen self.old.recorder.log.disk) (D.Disk.may_leave self.old.recorder.log.disk) }
         requires header { IsBatch self.old.header.items }
+        ensures taken { OnOk result (IsTrue (D.Disk.is_clean self.new.recorder.log.disk)
+            → IsTaken self.old.header.items told (D.Disk.seen self.old.recorder.log.disk)) }
         ensures settled { OnOk result (IsTrue (D.Disk.is_clean self.new.recorder.log.disk)
             → IsSettled D.Disk.seen D.Disk.may_leave self.new.recorder.log
             × (recovered (D.Disk.seen self.new.recorder.log.disk)

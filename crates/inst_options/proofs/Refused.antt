@@ -10,9 +10,9 @@ use Rattle.inst_base.specs.declared.fault.Fault.TheVariants.{BadSettings}
 use Rattle.inst_settings.specs.Settings.{HubSettings, same_text}
 use Rattle.inst_settings.specs.Lawful.{IsSettings, are_different}
 use Rattle.inst_options.specs.CommandLine.{command_line}
-use Rattle.inst_options.specs.Options.{Chooses, Gives, IsTask, SpeaksOfALog, Task}
+use Rattle.inst_options.specs.Options.{Chooses, Gives, HasAHub, IsTask, SpeaksOfALog, Task}
 use Rattle.inst_options.specs.inner.Asking.{IsAsked, IsUnasked}
-use Rattle.inst_options.specs.inner.Options.{AskForNone, ChooseNone, GivesLog, GivesNoneBelow, IsWish}
+use Rattle.inst_options.specs.inner.Options.{AskForNone, ChooseNone, FitNoTask, GivesLog, GivesNoneBelow, IsWish}
 use Rattle.inst_options.specs.Options.Task.{Run, Play, Drill, Check}
 use Rattle.inst_options.specs.Asking.{AreChosen, AreUnfit, AreWhole, IsNoWish, IsRefusal, IsWished, NameTheLog}
 use Rattle.inst_options.specs.declared.error.WordsError.{WordsError}
@@ -117,8 +117,8 @@ passed_more P Q (Err e) fault is weaker (inl memory) = inl (is ∙ memory)
 passed_more P Q (Err e) fault is weaker (inr bad) = inr (is ∙ bad.0, weaker bad.1)
 
 -- options that choose no settings do so for each task
-pub none_of_all : (name : List ℕ) (rows : List Row) → ChooseNone rows → AskForNone name rows
-none_of_all name rows none task s is chosen good = none s chosen good.0
+pub none_of_all : (name : List ℕ) (rows : List Row) → HasAHub name → ChooseNone rows → AskForNone name rows
+none_of_all name rows hub none = (hub, λ task s is chosen good. none s chosen good.0)
 
 -- a name is no other one
 pub no_other : (name one other : List ℕ) → same_text name one ≡ true → same_text one other ≡ false → same_text name other ≡ false
@@ -126,7 +126,7 @@ no_other name one other is differs = ap (λ (n : List ℕ). same_text n other) (
 
 -- a number of a drill that is too large for its type is too large for any hub
 no_transfers : (name : List ℕ) (rows : List Row) → same_text name (codes "play") ≡ false → same_text name (codes "drill") ≡ true →
-    GivesNoneBelow (2 ^ 16) rows (codes "transfers") → AskForNone name rows
+    GivesNoneBelow (2 ^ 16) rows (codes "transfers") → FitNoTask name rows
 no_transfers name rows other drill none Run s is chosen good = let no : ⊥ = cc (is.1, drill) in absurd no
 no_transfers name rows other drill none Check s is chosen good = let no : ⊥ = cc (is.1, drill) in absurd no
 no_transfers name rows other drill none Play s is chosen good = let no : ⊥ = cc (is, other) in absurd no
@@ -136,7 +136,7 @@ no_transfers name rows other drill none (Drill transfers openings) s is chosen g
     omega arith
 
 no_openings : (name : List ℕ) (rows : List Row) → same_text name (codes "play") ≡ false → same_text name (codes "drill") ≡ true →
-    GivesNoneBelow (2 ^ 8) rows (codes "openings") → AskForNone name rows
+    GivesNoneBelow (2 ^ 8) rows (codes "openings") → FitNoTask name rows
 no_openings name rows other drill none Run s is chosen good = let no : ⊥ = cc (is.1, drill) in absurd no
 no_openings name rows other drill none Check s is chosen good = let no : ⊥ = cc (is.1, drill) in absurd no
 no_openings name rows other drill none Play s is chosen good = let no : ⊥ = cc (is, other) in absurd no
@@ -145,12 +145,20 @@ no_openings name rows other drill none (Drill transfers openings) s is chosen go
     let most = good.1.1 in
     omega arith
 
-pub numberless : {A : Type 0} (name : List ℕ) (rows : List Row) (r : Result A Fault) (fault : Fault) → same_text name (codes "play") ≡ false → same_text name (codes "drill") ≡ true →
+pub numberless : {A : Type 0} (name : List ℕ) (rows : List Row) (r : Result A Fault) (fault : Fault) → HasAHub name → same_text name (codes "play") ≡ false → same_text name (codes "drill") ≡ true →
     IsErrAnd r (λ e. e ≡ fault) → GivesNoneBelow (2 ^ 16) rows (codes "transfers") ⊎ GivesNoneBelow (2 ^ 8) rows (codes "openings") → fault ≡ BadSettings →
     IfErr r (IsRefusal (AskForNone name rows ⊎ SpeaksOfALog name rows))
-numberless name rows r fault other drill is none bad =
+numberless name rows r fault hub other drill is none bad =
     passed_on (AskForNone name rows ⊎ SpeaksOfALog name rows) r fault is bad
-    (inl (⊎_elim (no_transfers name rows other drill) (no_openings name rows other drill) none))
+    (inl (hub, ⊎_elim (no_transfers name rows other drill) (no_openings name rows other drill) none))
+
+-- words name one subcommand, and where it has a hub, they name none that has none
+pub hub_of : (words : List (List ℕ)) (name : List ℕ) (rows : List Row) → subcommand_of command_line words ≡ Some (name, rows) → HasAHub name →
+    (other : List ℕ) (more : List Row) → subcommand_of command_line words ≡ Some (other, more) → HasAHub other
+hub_of words name rows at hub other more so =
+    let e : Some (name, rows) ≡ Some (other, more) = sym at ∙ so in
+    let same : name ≡ other = ap (λ (o : Option (List ℕ × List Row)). elim o [ None ↦ name | Some p ↦ p.0 ]) e in
+    subst (λ (n : List ℕ). HasAHub n) same hub
 
 -- what is chosen by words is chosen by their subcommand and its options
 pub chosen_by : (words : List (List ℕ)) (name : List ℕ) (rows : List Row) (task : Task) (s : HubSettings) → subcommand_of command_line words ≡ Some (name, rows) →
@@ -167,7 +175,8 @@ unfit : (words : List (List ℕ)) (name : List ℕ) (rows : List Row) → AreWho
     AskForNone name rows → AreUnfit words
 unfit words name rows whole at none = record {
   whole = whole;
-  none = λ task s chosen. let is = chosen_by words name rows task s at chosen in none task s is.0 is.1;
+  hub = hub_of words name rows at none.0;
+  none = λ task s chosen. let is = chosen_by words name rows task s at chosen in none.1 task s is.0 is.1;
 }
 
 pub unsettled : (words : List (List ℕ)) (name : List ℕ) (rows : List Row) (fault : Fault) → AreWhole words → subcommand_of command_line words ≡ Some (name, rows) →
@@ -191,8 +200,8 @@ wished_of words name rows (wish.Play s log sums) whole at is =
     (is.0, whole, (name, rows, at, is.1, is.2), names_it words name rows log whole at is.3, (name, rows, at, is.4))
 wished_of words name rows (wish.Drill s transfers openings) whole at is = (is.0, whole, (name, rows, at, is.1, is.2))
 wished_of words name rows (wish.Check s) whole at is = (is.0, whole, (name, rows, at, is.1, is.2))
-wished_of words name rows (wish.Log path) whole at is = (whole, (name, rows, at, inl (inl is.0)))
-wished_of words name rows (wish.Next from to) whole at is = (whole, (name, rows, at, inl (inr is.0)))
+wished_of words name rows (wish.Log path) whole at is = (whole, (name, rows, at, inl is.0))
+wished_of words name rows (wish.Next from to) whole at is = (whole, (name, rows, at, inr is.0))
 wished_of words name rows (wish.Explain word) whole at is = (whole, (name, rows, at, is.0, is.1))
 
 pub wished_from : (words : List (List ℕ)) (found : Option (Text × List Row)) → AreWhole words → found ≡ subcommand_of command_line words →
@@ -204,6 +213,7 @@ wished_from words (Some (name, rows)) whole at wish is = wished_of words name ro
 none_chosen : (words : List (List ℕ)) → AreWhole words → subcommand_of command_line words ≡ None → AreUnfit words
 none_chosen words whole at = record {
   whole = whole;
+  hub = λ name rows so. let no : ⊥ = cc (at, so) in absurd no;
   none = λ task s chosen. let no : ⊥ = cc (at, chosen.2) in absurd no;
 }
 

@@ -8,7 +8,7 @@ use Rattle.inst_base.specs.declared.fault.Fault.TheVariants.{BadSettings, Memory
 use Rattle.inst_settings.specs.Settings.{HubSettings, same_text}
 use Rattle.inst_settings.specs.Lawful.{AreOfAHub, IsSettings}
 use Rattle.inst_options.specs.CommandLine.{command_line}
-use Rattle.inst_options.specs.Options.{Chooses, HasSmallNumbers, IsFlag, IsTask, IsText, SpeaksOfALog, Task}
+use Rattle.inst_options.specs.Options.{Chooses, HasAHub, HasSmallNumbers, IsAboutLogs, IsFlag, IsTask, IsText, SpeaksOfALog, Task}
 use Rattle.inst_options.specs.Options.Task.{Run, Play, Drill, Check}
 use Rattle.inst_options.specs.declared.bad_option.BadOption.{BadOption}
 use Rattle.inst_options.specs.declared.error.WordsError.{WordsError}
@@ -47,7 +47,12 @@ abbrev pub NameALog : List (List ℕ) → Type 0
 NameALog words = AreWhole words
     × ((name : List ℕ) × (rows : List Row) × (subcommand_of command_line words ≡ Some (name, rows)) × SpeaksOfALog name rows)
 
--- the same, where a log is given
+-- they name the subcommand `log` or `next`
+abbrev pub AskAboutLogs : List (List ℕ) → Type 0
+AskAboutLogs words = AreWhole words
+    × ((name : List ℕ) × (rows : List Row) × (subcommand_of command_line words ≡ Some (name, rows)) × IsAboutLogs name)
+
+-- they speak of one, where a log is given
 abbrev pub NameTheLog : List (List ℕ) → Option LogOptions → Type 0
 NameTheLog words None = Unit {0}
 NameTheLog words (Some log) = NameALog words
@@ -72,13 +77,14 @@ IsWished words (wish.Play s log sums) =
 IsWished words (wish.Drill s transfers openings) =
     IsSettings s × AreWhole words × AreChosen words (Drill transfers openings) s
 IsWished words (wish.Check s) = IsSettings s × AreWhole words × AreChosen words Check s
-IsWished words (wish.Log path) = NameALog words
-IsWished words (wish.Next from to) = NameALog words
+IsWished words (wish.Log path) = AskAboutLogs words
+IsWished words (wish.Next from to) = AskAboutLogs words
 IsWished words (wish.Explain word) = AskToExplain words word.now
 
--- the words are a whole command line, and choose no settings that a hub can have, or no task that fits
+-- the words are a whole command line for a hub, and choose no settings that one can have, or no task that fits
 pub record AreUnfit (words : List (List ℕ)) : Type 0 where
   pub whole : AreWhole words
+  pub hub : (name : List ℕ) (rows : List Row) → subcommand_of command_line words ≡ Some (name, rows) → HasAHub name
   pub none : (task : Task) (s : HubSettings) → AreChosen words task s → ¬ (AreOfAHub s × HasSmallNumbers task)
 
 -- the bad option has its value in the words

@@ -34,11 +34,18 @@ IsFlag name rows flag =
     (one_of name rows ≡ Some (codes "true") → flag ≡ true)
     × (((one_of name rows ≡ None) ⊎ (one_of name rows ≡ Some (codes "false"))) → flag ≡ false)
 
--- the subcommand is `log` or `next`, or an option is of a log
+-- the subcommand is `log` or `next`
+abbrev pub IsAboutLogs : List ℕ → Type 0
+IsAboutLogs name = (same_text name (codes "log") ≡ true) ⊎ (same_text name (codes "next") ≡ true)
+
+-- it has a hub: it is none of `log`, `next` and `explain`
+abbrev pub HasAHub : List ℕ → Type 0
+HasAHub name =
+    (same_text name (codes "log") ≡ false) × (same_text name (codes "next") ≡ false) × (same_text name (codes "explain") ≡ false)
+
+-- it is `log` or `next`, or an option is of a log
 abbrev pub SpeaksOfALog : List ℕ → List Row → Type 0
-SpeaksOfALog name rows =
-    ((same_text name (codes "log") ≡ true) ⊎ (same_text name (codes "next") ≡ true))
-    ⊎ (IsGiven (codes "log") rows ⊎ IsGiven (codes "told") rows)
+SpeaksOfALog name rows = IsAboutLogs name ⊎ (IsGiven (codes "log") rows ⊎ IsGiven (codes "told") rows)
 
 -- the options give a drill's numbers
 abbrev pub IsDrill : List Row → ℕ → ℕ → Type 0

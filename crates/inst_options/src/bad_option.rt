@@ -4,6 +4,7 @@ ghost use Rattle.clap.specs.Words.{first_of, found_of, rows_of};
 ghost use Rattle.inst_options.specs.Options.{Gives};
 
 use crate::options::{text, whole};
+use crate::texts;
 use clap::ArgMatches;
 use inst_settings::{MOST_AHEAD, MOST_BASE, MOST_CEILING, MOST_FUNDINGS, MOST_LIMIT, MOST_PLACES};
 
@@ -105,12 +106,10 @@ pub(crate) fn bad_option<'a>(options: &ArgMatches<'a>) -> Option<BadOption<'a>>
         });
     }
     let value = text(options, "participants").ok()?;
-    let range =
-        "1 to 256 different codes of 8 or 11 characters of A-Z 0-9, with commas between them";
     Some(BadOption {
         name: "participants",
         value,
-        range,
+        range: texts::PARTICIPANTS,
     })
 }
 

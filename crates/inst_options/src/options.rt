@@ -2,7 +2,7 @@
 ghost use Rattle.std.specs.Prelude.{◌≡◌, ◌^◌, ◌⊎◌, IfOk, IfErr, OnErr, IsOkUnless, Some, None};
 ghost use Rattle.std.specs.Prelude.{codes};
 ghost use Rattle.clap.specs.Words.{first_of, found_of, rows_of};
-ghost use Rattle.inst_options.specs.Options.{SpeaksOfALog, IsText};
+ghost use Rattle.inst_options.specs.Options.{HasAHub, SpeaksOfALog, IsText};
 ghost use Rattle.inst_options.specs.Options.{IsFlag, Gives, Chooses, IsDrill};
 ghost use Rattle.inst_options.specs.inner.Options.{GivesLog, TellsOfNoLog, IsWish};
 ghost use Rattle.inst_options.specs.inner.Options.{GivesNoneBelow, ChooseNone, AskForNone};
@@ -42,6 +42,7 @@ pub(crate) fn wish<'a>(
 /// `drill` and `check` is `run`. `BadSettings` where a number of a drill is too large for any hub, as from
 /// `log_options`, and then as from `settings`, which come last: nothing fails that would let them go.
 fn hub_wish<'a>(alloc: Global, name: &str, options: &ArgMatches<'a>) -> Result<Wish<'a>, Fault>
+    requires hub { HasAHub name.now }
     ensures wish { IfOk result (IsWish name.now (rows_of (found_of options.now))) }
     ensures fault { IfErr result (IsRefusal (AskForNone name.now (rows_of (found_of options.now))
         ⊎ SpeaksOfALog name.now (rows_of (found_of options.now)))) }

@@ -161,7 +161,7 @@ const HUB: &'static [Choice] = &[
         required: true,
         value_names: &["CODES"],
         defaults: &[],
-        help: "1 to 256 different codes of 8 or 11 characters of A-Z 0-9, with commas between them",
+        help: texts::PARTICIPANTS,
     },
     Choice {
         name: "places",

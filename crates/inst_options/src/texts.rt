@@ -1,5 +1,9 @@
 //! What help says beside the options.
 
+/// What the participants may be.
+pub(crate) const PARTICIPANTS: &str =
+    "1 to 256 different codes of 8 or 11 characters of A-Z 0-9, with commas between them";
+
 /// What `run` does, at length.
 pub(crate) const RUN: &str = "\
 Answers each command line of standard input by one line on standard output

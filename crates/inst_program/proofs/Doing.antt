@@ -5,7 +5,7 @@ use Rattle.inst_settings.specs.Settings.{HubSettings}
 use Rattle.inst_settings.specs.Lawful.{IsSettings}
 use Rattle.inst_lines.specs.declared.mode.Mode.{Mode}
 use Rattle.inst_options.specs.Options.Task.{Drill, Check}
-use Rattle.inst_options.specs.Asking.{AreChosen, AreWhole, AskToExplain, NameALog, NameTheLog}
+use Rattle.inst_options.specs.Asking.{AreChosen, AreWhole, AskAboutLogs, AskToExplain, NameALog, NameTheLog}
 use Rattle.inst_options.specs.declared.wish.LogOptions.{LogOptions}
 use Rattle.inst_program.specs.Program.{AskForADrill, Checks, Drills, FailsAtLines, task_of}
 use Rattle.inst_program.specs.inner.Ending.{IsAnswered, IsEnding, IsServed, IsUnanswered, IsUnchecked, IsUndrilled, IsUnexplained, IsUnkept}
@@ -31,11 +31,21 @@ drilled words s transfers openings unread left left' held held' lawful whole cho
     inr (inr (inr (still, inl (asks, told))))
 
 -- a log wasn't taken, or its disk failed
-pub unkept : (words : List (List ℕ)) (unread unwritten untouched : Type 0) (fails : Fault → Type 0) (e : Ending) → NameALog words →
+unkept : (words : List (List ℕ)) (unread unwritten untouched : Type 0) (fails : Fault → Type 0) (e : Ending) → NameALog words →
     (untouched → unread × unwritten) → IsUnkept untouched e → IsEnding words unread unwritten fails e
 unkept words unread unwritten untouched fails (ending.Fault fault) named both is = inr (inr (inr (is, named)))
 unkept words unread unwritten untouched fails (ending.Log fault) named both is = (named, λ refused. both (is refused))
 unkept words unread unwritten untouched fails ending.Unexplained named both is = absurd is
+
+-- words about logs speak of one
+names_a_log : (words : List (List ℕ)) → AskAboutLogs words → NameALog words
+names_a_log words (whole, (name, rows, at, is)) = (whole, (name, rows, at, inl is))
+
+-- what they ask about logs wasn't done
+pub unlogged_err : {A : Type 0} (words : List (List ℕ)) (unread unwritten untouched : Type 0) (fails : Fault → Type 0) (r : Result A Ending) → AskAboutLogs words →
+    (untouched → unread × unwritten) → IfErr r (IsUnkept untouched) → IfErr r (IsEnding words unread unwritten fails)
+unlogged_err words unread unwritten untouched fails (Ok x) asked both is = tt
+unlogged_err words unread unwritten untouched fails (Err e) asked both is = unkept words unread unwritten untouched fails e (names_a_log words asked) both is
 
 -- lines weren't answered
 unanswered : (words : List (List ℕ)) (mode : Mode) (s : HubSettings) (log : Option LogOptions) (unread unwritten : Type 0)

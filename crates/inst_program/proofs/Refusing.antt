@@ -1,5 +1,5 @@
 -- Words that a hub can't do.
-use Rattle.std.proofs.Common.{◌<◌, ◌≤◌, ℕ, List, length, codes, subst, arith}
+use Rattle.std.proofs.Common.{◌<◌, ◌≤◌, ℕ, List, length, codes, refl, subst, arith}
 use Rattle.clap.specs.Words.{Row}
 use Rattle.inst_settings.specs.Settings.{HubSettings}
 use Rattle.inst_settings.specs.Lawful.{AreOfAHub}
@@ -7,7 +7,7 @@ use Rattle.inst_drill.specs.Plan.{MayDrill}
 use Rattle.inst_options.specs.Options.{Chooses, HasSmallNumbers, IsTask, Task}
 use Rattle.inst_options.specs.Options.Task.{Run, Play, Drill, Check}
 use Rattle.inst_options.specs.Asking.{AreChosen, AreUnfit, AreWhole}
-use Rattle.inst_options.proofs.Refused.{chosen_by, codes_one, given_one}
+use Rattle.inst_options.proofs.Refused.{chosen_by, codes_one, given_one, hub_of, no_other}
 use Rattle.inst_program.specs.Program.{AreRefused, MayDo}
 
 -- what a hub can do fits
@@ -25,6 +25,7 @@ fits s (Drill transfers openings) good may =
 pub refused : (words : List (List ℕ)) → AreUnfit words → AreRefused words
 refused words unfit = record {
   whole = unfit.whole;
+  hub = unfit.hub;
   none = λ task s chosen good. unfit.none task s chosen (good.0, fits s task good.0 good.1);
 }
 
@@ -55,6 +56,10 @@ pub undrillable : (words : List (List ℕ)) (s : HubSettings) (transfers opening
     ¬ (MayDrill s transfers openings) → AreRefused words
 undrillable words s transfers openings whole chosen unfit = record {
   whole = whole;
+  hub =
+      let drill = chosen.3.1 in
+      hub_of words chosen.0 chosen.1 chosen.2
+      (no_other chosen.0 (codes "drill") (codes "log") drill refl, no_other chosen.0 (codes "drill") (codes "next") drill refl, no_other chosen.0 (codes "drill") (codes "explain") drill refl);
   none = λ task t other.
       let is = chosen_by words chosen.0 chosen.1 task t chosen.2 other in
       other_drill chosen.0 chosen.1 s transfers openings chosen.3 chosen.4 unfit task t is.0 is.1;

@@ -1,7 +1,8 @@
 -- What the program leaves, by its exit status. Exit statuses are this hub's own choice.
-use Rattle.std.specs.Prelude.{◌≡◌, ◌≢◌, ◌⊎◌, ◌++◌, ◌∷◌, [], ℕ, List, length, All, Option, IfSome, codes}
+use Rattle.std.specs.Prelude.{◌≡◌, ◌≢◌, ◌⊎◌, ◌++◌, ◌∷◌, [], ℕ, List, length, All, Option, Some, IfSome, codes}
 use Rattle.std.specs.Fmt.{decimal}
 use Rattle.std.specs.Io.KnownBytes.{Appends, IsAtEnd}
+use Rattle.clap.specs.Words.{Row, subcommand_of}
 use Rattle.inst_base.specs.declared.fault.Fault.{Fault}
 use Rattle.inst_base.specs.declared.fault.Fault.TheVariants.{BadSettings}
 use Rattle.inst_settings.specs.Settings.{HubSettings}
@@ -19,7 +20,8 @@ use Rattle.inst_drill.specs.Plan.{MayDrill}
 use Rattle.inst_drill.specs.Report.{IsUnited, reports_text}
 use Rattle.inst_faults.specs.AnyFault.{IsNamed, name_of, number_of}
 use Rattle.inst_faults.specs.declared.any_fault.AnyFault.{AnyFault}
-use Rattle.inst_options.specs.Options.{Task}
+use Rattle.inst_options.specs.CommandLine.{command_line}
+use Rattle.inst_options.specs.Options.{HasAHub, Task}
 use Rattle.inst_options.specs.Options.Task.{Run, Play, Drill, Check}
 use Rattle.inst_options.specs.Asking.{AreChosen, AreWhole, AskToExplain, NameALog}
 
@@ -44,9 +46,10 @@ pub record AskForADrill (words : List (List ℕ)) : Type 0 where
   pub openings : ℕ
   pub chosen : AreChosen words (Drill transfers openings) settings
 
--- the words are a whole command line and choose no settings that a hub can have and do the task with
+-- the words are a whole command line for a hub, and choose no settings that one can have and do the task with
 pub record AreRefused (words : List (List ℕ)) : Type 0 where
   pub whole : AreWhole words
+  pub hub : (name : List ℕ) (rows : List Row) → subcommand_of command_line words ≡ Some (name, rows) → HasAHub name
   pub none : (task : Task) (s : HubSettings) → AreChosen words task s → ¬ (AreOfAHub s × MayDo s task)
 
 -- what answers lines in this way is called

@@ -1,7 +1,11 @@
 ghost use Rattle.std.specs.Prelude.{◌≡◌};
+ghost use Rattle.inst_logged.specs.Refused.{IsRefused};
+ghost use Rattle.inst_program.specs.inner.Ending.{IsUnkept};
 
 use inst_base::Fault;
 use inst_faults::LogFault;
+use inst_log::LogError;
+use inst_logged::LoggedError;
 use std::alloc::AllocError;
 
 /// Why the program ends without having done what the words ask for.
@@ -43,5 +47,21 @@ impl From<LogFault> for Ending {
 
     fn from(fault: LogFault) -> Ending {
         Ending::Log(fault)
+    }
+}
+
+/// How a program ends by this error of a hub with a log.
+pub(crate) fn ending_of(error: LoggedError) -> Ending
+    ensures { IsUnkept (IsRefused error) result }
+{
+    match error {
+        LoggedError::Read => Ending::Fault(Fault::ReadFault),
+        LoggedError::Books => Ending::Log(LogFault::BadBooks),
+        LoggedError::Log(LogError::Memory) => Ending::Fault(Fault::Memory),
+        LoggedError::Log(LogError::Write) => Ending::Fault(Fault::WriteFault),
+        LoggedError::Log(LogError::Disk(_) | LogError::Full) => Ending::Log(LogFault::DiskFault),
+        LoggedError::Log(LogError::Told) => Ending::Log(LogFault::ToldAhead),
+        LoggedError::Log(LogError::OtherSettings) => Ending::Log(LogFault::OtherSettings),
+        LoggedError::Log(LogError::NoLog) => Ending::Log(LogFault::NoLog),
     }
 }

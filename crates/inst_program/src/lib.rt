@@ -2,10 +2,12 @@
 //! to an exit status.
 #![tactic(auto)]
 
+mod carrying;
 mod ending;
 mod keeping;
 mod logs;
 pub mod rows;
+mod showing;
 mod summary;
 mod tasks;
 

@@ -4,7 +4,7 @@ ghost use Rattle.std.specs.IoError.{error_kind};
 ghost use Rattle.inst_base.specs.declared.fault.Fault.{Fault as SomeFault};
 ghost use Rattle.inst_lines.specs.Answering.{answering, opened};
 ghost use Rattle.inst_lines.specs.Session.{FailsAfter};
-ghost use Rattle.inst_options.specs.Asking.{AskForHelp, AreWrong, IsWished, NameALog};
+ghost use Rattle.inst_options.specs.Asking.{AskAboutLogs, AskForHelp, AreWrong, IsWished, NameALog};
 ghost use Rattle.inst_program.specs.Program.{status_of};
 ghost use Rattle.inst_program.specs.inner.Ending.{status_of_error, status_of_ending};
 ghost use Rattle.inst_program.specs.Program.{Answers, Serves, Checks, HasKept, HasChecked, HasDrilled, HasExplained};
@@ -14,9 +14,11 @@ ghost use Rattle.inst_program.specs.inner.Ending.{IsServed, IsEnding};
 ghost use Rattle.inst_program.specs.Program.{Drills, Explains};
 ghost use Rattle.inst_program.specs.inner.Ending.{IsAnswered, IsUnanswered, IsUndrilled, IsUnchecked, IsUnexplained};
 
+use crate::carrying::next;
 use crate::ending::Ending;
-use crate::keeping::{keep, next, show};
+use crate::keeping::keep;
 use crate::logs::Logs;
+use crate::showing::show;
 use crate::summary::sum_up;
 use clap::error::ErrorKind;
 use inst_base::Fault;
@@ -54,8 +56,8 @@ pub fn program<H: Threads + Wait + Sync, L: Logs, R: Read, W: Write, E: Write>(
 ) -> u8
     ensures status { (result ≡ 0) ⊎ ((result ≡ 2) ⊎ (result ≡ 3)) }
 
-    // All the input is answered, or what no hub takes of it is told, or none is read: the words ask for a help text, or for
-    // a drill, and it is done.
+    // All the input is answered, or what no hub takes of it is told, or none is read: the words ask for a help text, for
+    // a drill, for what a log has or the next one, or for an explanation, and it is done.
     ensures served { result ≡ 0 → Serves (map string_bytes words.items)
         (R.remaining reader.old) (R.remaining reader.new) (W.contents writer.old) (W.contents writer.new)
         ⊎ (HasKept (map string_bytes words.items) (R.remaining reader.new)
@@ -63,7 +65,7 @@ pub fn program<H: Threads + Wait + Sync, L: Logs, R: Read, W: Write, E: Write>(
         (R.remaining reader.old) (R.remaining reader.new) (W.contents writer.old) (W.contents writer.new)
         ⊎ ((reader.new ≡ reader.old) × (AskForHelp (map string_bytes words.items)
         ⊎ (HasDrilled (map string_bytes words.items) (W.contents writer.old) (W.contents writer.new)
-        ⊎ (NameALog (map string_bytes words.items)
+        ⊎ (AskAboutLogs (map string_bytes words.items)
         ⊎ HasExplained (map string_bytes words.items) (W.contents writer.old) (W.contents writer.new))))))) }
 
     // The words are wrong, or they are whole and choose no settings that a hub can have and do the task with, or they

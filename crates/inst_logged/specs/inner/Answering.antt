@@ -25,5 +25,6 @@ pub record AnswersNext (mode : Mode) (old new : Runner) (out_old out_new lines :
 -- the first lines were answered, so many, and the others begin there
 pub record AnswersFirst (mode : Mode) (old new : Runner) (out_old out_new lines : List ℕ) (start count : ℕ) : Type 0 where
   pub within : start ≤ length lines
+  pub enough : count ≤ length (recovered lines)
   pub rest : recovered (drop start lines) ≡ drop count (recovered lines)
   pub answered : AnswersLines mode old new out_old out_new (take count (recovered lines))

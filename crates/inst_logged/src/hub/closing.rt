@@ -2,7 +2,7 @@
 ghost use Rattle.std.specs.Prelude.{◌≡◌, ◌++◌, List, ℕ, IsTrue, IfSome, IfOk, OnOk};
 ghost use Rattle.sqlite_disk.specs.Disk.{Only};
 ghost use Rattle.inst_log.specs.Layout.{recovered};
-ghost use Rattle.inst_log.specs.Opening.{kept, OpensAlike};
+ghost use Rattle.inst_log.specs.Opening.{kept, Opens, OpensAlike};
 ghost use Rattle.inst_lines.specs.Answering.{Past, Keeps};
 ghost use Rattle.inst_world.specs.HasRun.{settings_of};
 ghost use Rattle.inst_world.specs.NextOpening.{CanOpenFrom};
@@ -12,7 +12,6 @@ ghost use Rattle.inst_logged.specs.Logged.{IsUnbegun};
 use super::LoggedHub;
 use crate::LoggedError;
 use inst_journal::Journal;
-use inst_log::LogError;
 use sqlite_disk::Disk;
 use std::alloc::Global;
 
@@ -34,17 +33,15 @@ impl<D: Disk + Drop> LoggedHub<D> {
         ensures log { OnOk result (IsTrue (D.Disk.is_clean self.new.recorder.log.disk)
             → recovered (D.Disk.seen self.new.recorder.log.disk)
             ≡ recovered self.old.header.items ++ kept self.old.header.items (D.Disk.seen self.old.recorder.log.disk)) }
+        ensures began { OnOk result (IsTrue (D.Disk.is_clean self.new.recorder.log.disk)
+            → Opens self.old.header.items (D.Disk.seen self.old.recorder.log.disk)) }
         ensures any_moment { IsTrue (D.Disk.is_clean self.new.recorder.log.disk) → (c : List ℕ)
             → D.Disk.may_leave self.new.recorder.log.disk c
             → OpensAlike self.old.header.items (D.Disk.seen self.old.recorder.log.disk) c }
         ensures clean { IsTrue (D.Disk.is_clean self.new.recorder.log.disk) → IsTrue (D.Disk.is_clean self.old.recorder.log.disk) }
     {
         self.replay(alloc)?;
-        match self.recorder.answers.runner.world.carry(alloc) {
-            Ok(books) => Ok(books),
-            // Nothing but memory is ever missing.
-            Err(_) => Err(LoggedError::Log(LogError::Memory)),
-        }
+        Ok(self.recorder.answers.runner.world.carry(alloc)?)
     }
 
     /// Opens the log with its first lines, and answers the others. Nothing is handed out.
@@ -60,6 +57,8 @@ impl<D: Disk + Drop> LoggedHub<D> {
         ensures log { OnOk result (IsTrue (D.Disk.is_clean self.new.recorder.log.disk)
             → recovered (D.Disk.seen self.new.recorder.log.disk)
             ≡ recovered self.old.header.items ++ kept self.old.header.items (D.Disk.seen self.old.recorder.log.disk)) }
+        ensures began { OnOk result (IsTrue (D.Disk.is_clean self.new.recorder.log.disk)
+            → Opens self.old.header.items (D.Disk.seen self.old.recorder.log.disk)) }
         ensures any_moment { IsTrue (D.Disk.is_clean self.new.recorder.log.disk) → (c : List ℕ)
             → D.Disk.may_leave self.new.recorder.log.disk c
             → OpensAlike self.old.header.items (D.Disk.seen self.old.recorder.log.disk) c }

@@ -1,7 +1,9 @@
 //! Which hub a log is of.
-ghost use Rattle.std.specs.Prelude.{◌≡◌, List, ℕ, IsTrue, IfOk, IfSome};
+ghost use Rattle.std.specs.Prelude.{◌≡◌, List, [], ℕ, IsTrue, IfOk, IfSome, None};
 ghost use Rattle.sqlite_disk.specs.Disk.{Only};
+ghost use Rattle.inst_log.specs.Layout.{recovered};
 ghost use Rattle.inst_world.specs.NextOpening.{CanOpenFrom};
+ghost use Rattle.inst_logged.specs.Header.{header};
 ghost use Rattle.inst_logged.specs.Logged.{IsUnbegun, HasBegun};
 
 use super::LoggedHub;
@@ -30,6 +32,9 @@ impl<D: Disk + Drop> LoggedHub<D> {
         requires known { IsTrue (D.Disk.is_clean disk) → Only (D.Disk.seen disk) (D.Disk.may_leave disk) }
         ensures unbegun { IfOk result (λ hub. IsUnbegun hub.header.items hub.intake) }
         ensures begun { IfOk result (λ hub. HasBegun mode settings.now hub.header.items hub.recorder.answers) }
+        // A log that has no line yet will have no books.
+        ensures first { IfOk result (λ hub. IsTrue (D.Disk.is_clean hub.recorder.log.disk) → recovered (D.Disk.seen disk) ≡ []
+            → hub.header.items ≡ header mode settings.now) }
         ensures seen { IfOk result (λ hub. D.Disk.seen hub.recorder.log.disk ≡ D.Disk.seen disk) }
         ensures usable { IfOk result (λ hub. IsTrue (D.Disk.is_usable hub.recorder.log.disk)) }
         ensures known { IfOk result (λ hub. IsTrue (D.Disk.is_clean hub.recorder.log.disk)
@@ -51,6 +56,8 @@ fn books_on<D: Disk>(
 ) -> Result<Option<Vec<Journal>>, LoggedError>
     requires usable { IsTrue (D.Disk.is_usable disk.old) }
     ensures journals { IfOk result (λ books. IfSome books (λ journals. CanOpenFrom settings.now journals.items)) }
+    ensures none { IfOk result (λ books. IsTrue (D.Disk.is_clean disk.new) → recovered (D.Disk.seen disk.old) ≡ []
+        → books ≡ None) }
     ensures seen { D.Disk.seen disk.new ≡ D.Disk.seen disk.old }
     ensures crash { (c : List ℕ) → D.Disk.may_leave disk.new c → D.Disk.may_leave disk.old c }
     ensures usable { IsTrue (D.Disk.is_usable disk.new) }
@@ -68,11 +75,10 @@ fn journals_of(alloc: Global, settings: &Settings, text: &[u8]) -> Result<Vec<Jo
     ensures { IfOk result (λ journals. CanOpenFrom settings.now journals.items) }
 {
     let journals = read_books(alloc, settings, text).map_err(unread)?;
-    match can_open(alloc, settings, &journals) {
-        Ok(true) => Ok(journals),
-        Ok(false) => Err(LoggedError::Books),
-        Err(error) => Err(LoggedError::from(error)),
+    if !can_open(alloc, settings, &journals)? {
+        return Err(LoggedError::Books);
     }
+    Ok(journals)
 }
 
 /// Why books weren't read.

@@ -6,7 +6,7 @@ use Rattle.inst_settings.specs.Lawful.{AreOfAHub, IsSettings}
 use Rattle.inst_options.specs.declared.wish.LogOptions.{LogOptions}
 use Rattle.inst_options.specs.declared.wish.Wish.{Wish}
 use Rattle.inst_options.specs.declared.wish.Wish.TheVariants as wish
-use Rattle.inst_options.specs.Options.{Task, Gives, IsGiven, IsText, IsFlag, IsTask, Chooses, HasSmallNumbers}
+use Rattle.inst_options.specs.Options.{Task, Gives, HasAHub, IsGiven, IsText, IsFlag, IsTask, Chooses, HasSmallNumbers}
 use Rattle.inst_options.specs.Options.Task.{Run, Play, Drill, Check}
 
 -- the option of this name has no text that is a number below this one
@@ -28,9 +28,13 @@ abbrev pub ChooseNone : List Row → Type 0
 ChooseNone rows = (s : HubSettings) → Chooses rows s → ¬ (AreOfAHub s)
 
 -- the options of the subcommand of this name choose no settings that a hub can have, or no task that fits
-abbrev pub AskForNone : List ℕ → List Row → Type 0
-AskForNone name rows =
+abbrev pub FitNoTask : List ℕ → List Row → Type 0
+FitNoTask name rows =
     (task : Task) (s : HubSettings) → IsTask name rows task → Chooses rows s → ¬ (AreOfAHub s × HasSmallNumbers task)
+
+-- so it is with a subcommand that has a hub
+abbrev pub AskForNone : List ℕ → List Row → Type 0
+AskForNone name rows = HasAHub name × FitNoTask name rows
 
 -- what the subcommand of this name asks for, with these options
 abbrev pub IsWish : List ℕ → List Row → Wish → Type 0

@@ -16,7 +16,7 @@ use Rattle.inst_drill.specs.Plan.{MayDrill}
 use Rattle.inst_faults.specs.AnyFault.{IsNamed}
 use Rattle.inst_faults.specs.LogFault.{status_of_log}
 use Rattle.inst_faults.specs.declared.any_fault.AnyFault.{AnyFault}
-use Rattle.inst_options.specs.Asking.{NameALog}
+use Rattle.inst_options.specs.Asking.{AskAboutLogs, NameALog}
 use Rattle.inst_options.specs.declared.error.WordsError.{WordsError}
 use Rattle.inst_options.specs.declared.error.WordsError.TheVariants as error
 use Rattle.inst_options.specs.declared.wish.LogOptions.{LogOptions}
@@ -88,7 +88,7 @@ IsServed words unread left left' held held' =
     Serves words left left' held held'
     ⊎ (HasKept words left'
     ⊎ (HasChecked words left left' held held'
-    ⊎ (unread × (HasDrilled words held held' ⊎ (NameALog words ⊎ HasExplained words held held')))))
+    ⊎ (unread × (HasDrilled words held held' ⊎ (AskAboutLogs words ⊎ HasExplained words held held')))))
 
 -- a hub can't do the drill and all is untouched, or a run has failed, or what reads nothing
 abbrev pub IsEnding : List (List ℕ) → Type 0 → Type 0 → (Fault → Type 0) → Ending → Type 0

@@ -12,7 +12,7 @@ returns-in_err-settings-clause-fault c =
     let rows = rows_of (found_of c.args.options.now) in
     let told = c.from_residual-in_err-settings in
     passed_more (AskForNone name rows ⊎ SpeaksOfALog name rows) (ChooseNone rows) told.result c.in_err-settings.field-0.0
-    told.ensures.1 (λ none. inl (none_of_all name rows none)) c.in_err-settings.ensures.fault
+    told.ensures.1 (λ none. inl (none_of_all name rows c.requires.hub none)) c.in_err-settings.ensures.fault
 
 pub returns-in_err-log-clause-fault : goal.returns-in_err-log-clause-fault
 returns-in_err-log-clause-fault c =
@@ -30,7 +30,7 @@ returns-in_err-transfers-clause-fault c =
     let drill : same_text name (codes "drill") ≡ true = sym c.eq.ensures ∙ c.if-eq.true in
     let told = c.from_residual in
     let numbers = c.in_err-transfers.ensures in
-    numberless name rows told.result c.in_err-transfers.field-0.0 (no_other name (codes "drill") (codes "play") drill refl) drill told.ensures.1 numbers.none numbers.fault
+    numberless name rows told.result c.in_err-transfers.field-0.0 c.requires.hub (no_other name (codes "drill") (codes "play") drill refl) drill told.ensures.1 numbers.none numbers.fault
 
 pub returns-then-eq-clause-wish : goal.returns-then-eq-clause-wish
 returns-then-eq-clause-wish c =

@@ -1,6 +1,6 @@
 use Rattle.std.proofs.Common.{◌≡◌, refl}
 use Rattle.std.proofs.lemmas.Result.{on_ok_weaker}
-use Rattle.inst_program.proofs.Doing.{answered, checked, drilled, unanswered_err, unchecked_err, undrilled_err, unexplained_err}
+use Rattle.inst_program.proofs.Doing.{answered, checked, drilled, unanswered_err, unchecked_err, undrilled_err, unexplained_err, unlogged_err}
 use Rattle.inst_program.proofs.tasks.serve.Goals as goal
 
 pub returns-in-Run-clause-ok : goal.returns-in-Run-clause-ok
@@ -36,6 +36,16 @@ returns-in_err-drill_hub-in-Drill-clause-err g c words wished =
     let is = rw c.in-Drill.is at wished in
     undrilled_err words c.in-Drill.settings c.in-Drill.transfers c.in-Drill.openings (c.args.reader.now ≡ c.args.reader.now) (c.drill_hub.new.writer ≡ c.args.writer.now) _
     c.from_residual.result c.in_err-drill_hub-in-Drill.field-0.0 c.from_residual.ensures.1 is.0 is.1 is.2 refl c.in_err-drill_hub-in-Drill.ensures.err
+
+pub returns-in-Log-clause-err : goal.returns-in-Log-clause-err
+returns-in-Log-clause-err g c words wished =
+    let is = rw c.in-Log.is at wished in
+    unlogged_err words (c.args.reader.now ≡ c.args.reader.now) (c.show.new.writer ≡ c.args.writer.now) (c.show.new.writer ≡ c.args.writer.now) _ c.show.result is (λ same. (refl, same)) c.show.ensures.err
+
+pub returns-in-Next-clause-err : goal.returns-in-Next-clause-err
+returns-in-Next-clause-err g c words wished =
+    let is = rw c.in-Next.is at wished in
+    unlogged_err words (c.args.reader.now ≡ c.args.reader.now) (c.args.writer.now ≡ c.args.writer.now) (Unit {0}) _ c.next.result is (λ same. (refl, refl)) c.next.ensures.err
 
 pub returns-in-Explain-clause-err : goal.returns-in-Explain-clause-err
 returns-in-Explain-clause-err g c words wished =

@@ -52,6 +52,10 @@ returns-clause-replied g c =
     (owing_on old first c.args.told mid (c.in_ok-reopen.ensures.on was) (c.in_ok-reopen.ensures.told was))
     (c.in_ok-reopen.ensures.replied was) told) c.serve_all.ensures.replied
 
+pub returns-clause-began : goal.returns-clause-began
+returns-clause-began g c =
+    on_ok_weaker c.serve_all.result (λ told clean. c.in_ok-reopen.ensures.began (subst IsTrue c.serve_all.ensures.clean clean)) c.serve_all.ensures.replied
+
 pub returns-clause-any_moment : goal.returns-clause-any_moment
 returns-clause-any_moment g c clean =
     let settings = c.args.settings.now in

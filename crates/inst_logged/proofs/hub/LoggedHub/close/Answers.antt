@@ -3,9 +3,9 @@ use Rattle.inst_logged.specs.Answering.{past_after}
 use Rattle.inst_logged.proofs.Opened.{some_weaker, are_carried}
 use Rattle.inst_logged.proofs.hub.LoggedHub.close.Goals as goal
 
-pub returns-in-Ok-clause-books : goal.returns-in-Ok-clause-books
-returns-in-Ok-clause-books g c =
+pub returns-clause-books : goal.returns-clause-books
+returns-clause-books g c =
     let self = c.args.self.now in
     let mode = self.recorder.answers.mode in
-    some_weaker c.in-Ok.books _ _ (λ journals are clean past keeps.
-    are_carried mode (past_after mode past (kept self.header.items (g.D.Disk.seen self.recorder.log.disk))) c.replay.new.self.recorder.answers.runner journals.items (c.in_ok-replay.ensures.ran clean past keeps) are) c.in-Ok.ensures.books
+    some_weaker c.in_ok-carry.field-0 _ _ (λ journals are clean past keeps.
+    are_carried mode (past_after mode past (kept self.header.items (g.D.Disk.seen self.recorder.log.disk))) c.replay.new.self.recorder.answers.runner journals.items (c.in_ok-replay.ensures.ran clean past keeps) are) c.in_ok-carry.ensures.books

@@ -22,6 +22,16 @@ returns-in_err-deliver-clause-part g c clean past keeps =
     c.answer_told.new.self.mode c.answer_told.ensures.mode _ _ (first.rest ∙ ap (drop n) lines) on (λ f said. said.are [])
     _ _ _ replies (rw c.deref-2.ensures.value at c.deliver.ensures.part)
 
+pub returns-clause-taken : goal.returns-clause-taken
+returns-clause-taken g c clean =
+    let header = c.args.self.now.header.items in
+    let file = g.D.Disk.seen c.args.self.now.recorder.log.disk in
+    let is = c.as_slice-header.ensures.value in
+    let lines = text_behind header c.in_ok-text.text.items file c.requires.header (rw is at (c.in_ok-text.ensures.text clean)) in
+    let value : c.deref.result.now ≡ c.in_ok-text.text.items = c.deref.ensures.value in
+    let first = rw (is, take_rest, value, lines) at (rw c.in-Some.is at c.in_ok-start.ensures.ok) in
+    record { opens = rw is at (c.in_ok-text.ensures.opens clean); enough = rw lines at first.enough }
+
 pub returns-clause-replied : goal.returns-clause-replied
 returns-clause-replied g c clean past keeps =
     let answers = c.args.self.now.recorder.answers in

@@ -16,6 +16,10 @@ returns-in_err-reopen-clause-any_moment g c clean past keeps =
 pub returns-in_err-reopen-clause-opens : goal.returns-in_err-reopen-clause-opens
 returns-in_err-reopen-clause-opens g c clean opens left may = (c.reopen.ensures.any_moment clean left may).opens opens
 
+pub returns-clause-taken : goal.returns-clause-taken
+returns-clause-taken g c =
+    on_ok_weaker c.serve_all.result (λ v clean. c.in_ok-reopen.ensures.taken (subst IsTrue c.serve_all.ensures.clean clean)) c.serve_all.ensures.ok
+
 pub returns-clause-logged : goal.returns-clause-logged
 returns-clause-logged g c =
     let self = c.args.self.now in

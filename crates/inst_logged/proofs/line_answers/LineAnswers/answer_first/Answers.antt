@@ -1,6 +1,7 @@
-use Rattle.std.proofs.Common.{◌≡◌, ◌-◌, ℕ, [], length, drop, refl, ap, ◌∙◌, arith}
+use Rattle.std.proofs.Common.{◌≡◌, ◌≤◌, ◌-◌, ℕ, [], length, length-append, drop, refl, ap, ◌∙◌, arith}
 use Rattle.std.proofs.lemmas.Grind.{common_steps}
 use Rattle.std.proofs.lemmas.List.{take_rest, length-drop}
+use Rattle.inst_log.specs.Layout.{recovered}
 use Rattle.inst_logged.proofs.Answering.{answers_none, front_next}
 use Rattle.inst_logged.proofs.Intaking.{suffix_more}
 use Rattle.inst_logged.proofs.line_answers.LineAnswers.answer_first.Goals as goal
@@ -32,4 +33,8 @@ loop-preserved c =
     })
 
 pub returns-clause-ok : goal.returns-clause-ok
-returns-clause-ok c = grind (arith, common_steps)
+returns-clause-ok c =
+    let f = c.loop.invariant.front in
+    let enough : c.args.count ≤ length (recovered c.args.lines.now) =
+    omega (arith, ap length f.0.split, length-append f.0.done (recovered c.loop.rest.now), f.1, c.loop-test.false) in
+    grind (arith, common_steps, enough)
