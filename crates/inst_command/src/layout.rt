@@ -1,4 +1,4 @@
-ghost use Rattle.std.specs.Prelude.{◌≡◌, ◌≤◌, true, length, Some, IfOk, IfErr, string_bytes};
+ghost use Rattle.std.specs.Prelude.{◌≡◌, ◌≤◌, true, length, Some, IfOk, string_bytes};
 ghost use Rattle.std.specs.List.{list_all};
 ghost use Rattle.inst_base.specs.Text.{is_code_character, is_latin};
 ghost use Rattle.inst_command.specs.LineText.{line_fits, line_text, kind_name, other_code};
@@ -6,9 +6,8 @@ ghost use Rattle.inst_command.specs.Layout.{shown};
 ghost use Rattle.inst_base.specs.declared.code.TheConstants.{BRANCH_CODE_LENGTH};
 
 use crate::{Line, LineKind};
-use inst_base::Fault;
 use inst_settings::Settings;
-use std::alloc::Global;
+use std::alloc::{AllocError, Global};
 use std::fmt::{self, Display, Formatter};
 
 /// A statement line as text, which `Display` writes with no memory of its own: 91 characters in six
@@ -56,14 +55,13 @@ impl Display for LineText<'_> {
     }
 }
 
-/// The text of a statement line, as `LineText` writes it. `Memory` is the only fault.
-pub fn line_text(alloc: Global, settings: &Settings, line: &Line) -> Result<String, Fault>
+/// The text of a statement line, as `LineText` writes it.
+pub fn line_text(alloc: Global, settings: &Settings, line: &Line) -> Result<String, AllocError>
     requires { line_fits settings.now line.now ≡ true }
     ensures text { IfOk result (λ text. string_bytes text ≡ line_text settings.now line.now) }
     ensures len { IfOk result (λ text. length (string_bytes text) ≡ 91) }
-    ensures err { IfErr result (λ fault. fault ≡ Fault.Memory) }
 {
-    Ok(LineText::new(settings, line).to_string(alloc)?)
+    LineText::new(settings, line).to_string(alloc)
 }
 
 /// What a line calls its kind.

@@ -25,9 +25,11 @@ use Rattle.inst_command.specs.declared.outcome.State.{State}
 use Rattle.inst_command.specs.declared.outcome.State.TheVariants as state
 use Rattle.inst_command.specs.declared.entry.Entry.{Entry}
 use Rattle.inst_command.specs.declared.line.Line.{Line}
+use Rattle.inst_command.specs.declared.reply.Answer.{Answer}
+use Rattle.inst_command.specs.declared.reply.Answer.TheVariants as answer
 use Rattle.inst_command.specs.declared.reply.Reply.{Reply}
 use Rattle.inst_command.specs.declared.reply.Reply.TheVariants as reply
-use Rattle.inst_json.specs.Replies.{items, entry_data, new_data, reply_data, state_of}
+use Rattle.inst_json.specs.Replies.{items, entry_data, new_data, answer_data, reply_data, state_of}
 use Rattle.inst_json.specs.Laws.{is_word, entry_has_words, has_words, IsReplyOf}
 
 -- what a value needs for its text to be read back as it
@@ -156,5 +158,9 @@ new_reads : (new : Bool) → ReadsBack (new_data new)
 unfolding serde_json_on_literals
 new_reads new = record { numbers = (tt, (tt, tt)); again = refl; shallow = omega arith }
 
-pub new_reads_back : (new : Bool) → read (compact_text (new_data new)) ≡ Some (new_data new)
+new_reads_back : (new : Bool) → read (compact_text (new_data new)) ≡ Some (new_data new)
 new_reads_back new = from_parts (new_data new) (new_reads new)
+
+pub answer_reads_back : (s : HubSettings) (a : Answer) → ((r : Reply) → a ≡ answer.Reply r → has_words s r ≡ true) → read (compact_text (answer_data s a)) ≡ Some (answer_data s a)
+answer_reads_back s (answer.Reply r) words = words_read_back s r (words r refl)
+answer_reads_back s (answer.New new) words = new_reads_back new

@@ -23,4 +23,4 @@ pub use name::Name;
 pub use read::{LineReader, read_command, read_step};
 pub use refusal::Refusal;
 pub use reply::{append_reply, code_text};
-pub use write::{write_answer, write_reply};
+pub use write::{append_answer, write_answer, write_reply};

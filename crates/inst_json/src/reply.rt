@@ -1,5 +1,5 @@
 //! The text of each reply, put at the end of others piece by piece.
-ghost use Rattle.std.specs.Prelude.{◌≡◌, ◌++◌, true, IsTrue, OnOk, IfErr};
+ghost use Rattle.std.specs.Prelude.{◌≡◌, ◌++◌, true, IsTrue, OnOk};
 ghost use Rattle.serde_json.specs.Written.{compact_text};
 ghost use Rattle.inst_base.specs.Text.{is_code};
 ghost use Rattle.inst_settings.specs.Settings.{is_participant};
@@ -17,23 +17,9 @@ use inst_settings::Settings;
 use std::alloc::AllocError;
 
 /// Puts the line of a reply, without its newline, at the end of `out`: compact JSON with the keys in
-/// byte order. Moments are absolute milliseconds, and amounts are cents. `Memory` is the only fault;
-/// then a part of the line may stand at the end.
-pub fn append_reply(settings: &Settings, reply: &Reply, out: &mut Vec<u8>) -> Result<(), Fault>
-    requires { reply_can_be_written settings.now reply.now ≡ true }
-    ensures text { OnOk result (out.new.items ≡ out.old.items ++ compact_text (reply_data settings.now reply.now)) }
-    ensures err { IfErr result (λ fault. fault ≡ Fault.Memory) }
-{
-    append_text(settings, reply, out)?;
-    Ok(())
-}
-
-/// Puts the text of a reply at the end of `out`.
-pub(crate) fn append_text(
-    settings: &Settings,
-    reply: &Reply,
-    out: &mut Vec<u8>,
-) -> Result<(), AllocError>
+/// byte order. Moments are absolute milliseconds, and amounts are cents. After an error a part of the
+/// line may stand at the end.
+pub fn append_reply(settings: &Settings, reply: &Reply, out: &mut Vec<u8>) -> Result<(), AllocError>
     requires { reply_can_be_written settings.now reply.now ≡ true }
     ensures text { OnOk result (out.new.items ≡ out.old.items ++ compact_text (reply_data settings.now reply.now)) }
     ensures words { OnOk result (has_words settings.now reply.now ≡ true) }

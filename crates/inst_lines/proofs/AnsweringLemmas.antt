@@ -96,9 +96,9 @@ answers_line mode is_long part old new answer out out' refused replies appended 
   refusal = λ past of front is_front. refusal ∙ ap is_refusal (replies.told past of front is_front) ∙ refusal_of mode past (front ++ part);
 }
 
-pub ok_both : {X : Type 0} (r : Result X Fault) (P : X → Type 0) (Q : Type 0) → IfOk r P → OnOk r Q → IfOk r (λ x. P x × Q)
+pub ok_both : {X E : Type 0} (r : Result X E) (P : X → Type 0) (Q : Type 0) → IfOk r P → OnOk r Q → IfOk r (λ x. P x × Q)
 ok_both (Ok x) P Q first second = (first, second)
-ok_both (Err fault) P Q first second = tt
+ok_both (Err e) P Q first second = tt
 
 -- what was read
 pub read_ok : {X : Type 0} (r value : Result X Fault) (x : X) → r ≡ Ok x → IsUnlessMemory r value → value ≡ Ok x

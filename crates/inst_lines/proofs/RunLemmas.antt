@@ -1,9 +1,8 @@
 -- How far a whole run has come, at any world.
-use Rattle.std.proofs.Common.{◌≡◌, ℕ, Bool, false, ◌≤◌, List, [], ◌++◌, Option, Some, None, IfSome, length, refl, sym, ap, subst, ◌∙◌}
+use Rattle.std.proofs.Common.{◌≡◌, ℕ, Bool, false, ◌≤◌, List, [], ◌++◌, Option, Some, None, IfSome, length, sym, ap, subst, ◌∙◌}
 use Rattle.std.proofs.lemmas.List.{append-nil}
 use Rattle.std.specs.Io.KnownBytes.{Appends, Consumes, IsAtEnd}
 use Rattle.inst_base.specs.declared.fault.Fault.{Fault}
-use Rattle.inst_base.specs.declared.fault.Fault.TheVariants.{Memory}
 use Rattle.inst_lines.specs.declared.session.Session.{Session}
 use Rattle.inst_lines.specs.declared.session.Counts.{Counts}
 use Rattle.inst_lines.specs.Lines.{lines_of, IsWithinLimits}
@@ -12,7 +11,7 @@ use Rattle.inst_lines.specs.Answers.{Answerer, output, state_after, refusals}
 use Rattle.inst_lines.specs.LineBuffer.{held}
 use Rattle.inst_lines.specs.Progress.{Progress, Finished}
 use Rattle.inst_lines.specs.Session.{Reached, IsReady, Turns, Ends, Fails, FailsAfter}
-use Rattle.inst_bytes.proofs.Streams.{Consumes-append, Consumes-keeps, Keeps-same, Appends-keeps}
+use Rattle.inst_bytes.proofs.Streams.{Consumes-append, Consumes-keeps, Keeps-same}
 use Rattle.inst_lines.proofs.ProgressLemmas.{progress-start}
 
 -- the session is ready for its next read, and has come this far in what the reader gave
@@ -88,12 +87,4 @@ module _ {S W : Type 0} (a : Answerer S) (holds : S → W → Type 0) (start : S
     bytes = r.bytes ++ f.read;
     consumes = Consumes-append left left' left'' r.bytes f.read r.consumes f.consumes;
     leaves = f.leaves start before r.bytes r.reached;
-  }
-
-  -- no memory for the buffers
-  pub fails-at_once : FailsAfter a start before before left left Memory
-  fails-at_once = record {
-    bytes = [];
-    consumes = Consumes-keeps left left (Keeps-same left);
-    leaves = record { written = []; unwritten = []; appends = Appends-keeps before before (Keeps-same before); is_front = refl };
   }

@@ -1,5 +1,5 @@
 //! The answer to one line: all that a session knows of the world.
-ghost use Rattle.std.specs.Prelude.{◌≡◌, ◌≢◌, ◌++◌, ◌∷◌, [], true, false, IfOk, OnErr, OnOk, IsErrOf};
+ghost use Rattle.std.specs.Prelude.{◌≡◌, ◌≢◌, ◌++◌, ◌∷◌, [], true, false, IfOk, OnOk};
 ghost use Rattle.serde_json.specs.Written.{compact_text};
 ghost use Rattle.inst_json.specs.Replies.{answer_data, answer_can_be_written};
 ghost use Rattle.inst_json.specs.Lines.{command_of_line, step_of_line};
@@ -31,11 +31,11 @@ pub fn answer_line(
     ensures { IfOk result (λ refused. AnswersLine (answering mode) (Keeps mode) false line.now
         runner.old runner.new out.old.items out.new.items refused) }
 {
-    answer_part(reader, mode, runner, false, line, out).map_err(|_| AllocError)
+    answer_part(reader, mode, runner, false, line, out)
 }
 
 /// Appends the answer to a line, and a newline, to `out`, and says whether it is a refusal. This part of the line is
-/// held, and where it is long a front of it was let go. `Memory` comes where there is no room.
+/// held, and where it is long a front of it was let go.
 pub(crate) fn answer_part(
     reader: &mut LineReader,
     mode: Mode,
@@ -43,10 +43,9 @@ pub(crate) fn answer_part(
     is_long: bool,
     part: &[u8],
     out: &mut Vec<u8>,
-) -> Result<bool, Fault>
+) -> Result<bool, AllocError>
     ensures ok { IfOk result (λ refused. AnswersLine (answering mode) (Keeps mode) is_long part.now
         runner.old runner.new out.old.items out.new.items refused) }
-    ensures fault { OnErr result (IsErrOf result Fault.Memory) }
 {
     let answer = answer_to(reader, mode, runner, is_long, part)?;
     append_answer(runner.settings(), &answer, out)
@@ -72,19 +71,16 @@ fn answer_to(
 }
 
 /// Appends the text of an answer, and a newline, to `out`, and says whether it is a refusal.
-fn append_answer(settings: &Settings, answer: &Answer, out: &mut Vec<u8>) -> Result<bool, Fault>
+fn append_answer(
+    settings: &Settings,
+    answer: &Answer,
+    out: &mut Vec<u8>,
+) -> Result<bool, AllocError>
     requires { answer_can_be_written settings.now answer.now ≡ true }
     ensures ok { OnOk result (out.new.items ≡ out.old.items ++ (compact_text (answer_data settings.now answer.now) ++ newline ∷ [])) }
     ensures refusal { IfOk result (λ refused. refused ≡ is_refusal answer.now) }
-    ensures fault { OnErr result (IsErrOf result Fault.Memory) }
 {
-    match answer {
-        Answer::Reply(reply) => inst_json::append_reply(settings, reply, out)?,
-        Answer::New(_) => {
-            let text = inst_json::write_answer(*out.allocator(), settings, answer)?;
-            out.extend_from_slice(&text)?;
-        }
-    }
+    inst_json::append_answer(settings, answer, out)?;
     out.push(b'\n')?;
     Ok(matches!(answer, Answer::Reply(Reply::Refused(_))))
 }

@@ -1,6 +1,6 @@
 //! What a run holds between its reads, and one turn of it: a read, and the answers to what it gave.
 ghost use Rattle.inst_lines.specs.Limits.{most_lines};
-ghost use Rattle.std.specs.Prelude.{◌≡◌, ◌≤◌, ◌<◌, ◌⊎◌, [], OnOk, IfOk, OnErr, IfErr, IsErrOf, MatchBool, false, length};
+ghost use Rattle.std.specs.Prelude.{◌≡◌, ◌≤◌, ◌<◌, ◌⊎◌, [], OnOk, IfOk, OnErr, IfErr, MatchBool, false, length};
 
 use crate::answer::answer_part;
 use crate::limits::MOST_LINES;
@@ -11,7 +11,7 @@ use inst_agenda::Runner;
 use inst_base::Fault;
 use inst_bytes::find_newline;
 use inst_json::LineReader;
-use std::alloc::Global;
+use std::alloc::{AllocError, Global};
 use std::io::{Read, Write};
 
 /// How many lines were answered.
@@ -44,20 +44,18 @@ impl Session {
     ghost use Rattle.inst_lines.specs.inner.Session.{TakesLine, AnswersLast, IsNoReadFault};
     ghost use Rattle.inst_lines.specs.inner.Session.{MovesOn, HasStopped, HasFinished};
 
-    /// A session that has read nothing. `Memory` is the only fault.
-    pub fn new(alloc: Global) -> Result<Session, Fault>
+    /// A session that has read nothing.
+    pub fn new(alloc: Global) -> Result<Session, AllocError>
         ensures ready { IfOk result (λ session. IsReady session) }
         ensures input { IfOk result (λ session. held session.input ≡ []) }
         ensures is_long { IfOk result (λ session. session.input.is_long ≡ false) }
         ensures taken { IfOk result (λ session. session.input.taken ≡ 0) }
         ensures lines { IfOk result (λ session. session.counts.lines ≡ 0) }
         ensures refused { IfOk result (λ session. session.counts.refused ≡ 0) }
-        ensures fault { OnErr result (IsErrOf result Fault.Memory) }
     {
-        let input = LineBuffer::new(alloc).map_err(|_| Fault::Memory)?;
         Ok(Session {
             reader: LineReader::new(alloc),
-            input,
+            input: LineBuffer::new(alloc)?,
             replies: ReplyBuffer::new(alloc),
             counts: Counts {
                 lines: 0,
@@ -67,12 +65,11 @@ impl Session {
     }
 
     /// Answers the rest of a line, of which this many bytes are held, and lets go of it and of its
-    /// newline. `Memory` comes where there is no room for the reply.
-    fn answer_line(&mut self, mode: Mode, runner: &mut Runner, len: usize) -> Result<(), Fault>
+    /// newline.
+    fn answer_line(&mut self, mode: Mode, runner: &mut Runner, len: usize) -> Result<(), AllocError>
         requires within { len ≤ length (held self.old.input) }
         requires room { self.old.counts.lines < most_lines }
         ensures ok { OnOk result (TakesLine (answering mode) (Keeps mode) len self.old self.new runner.old runner.new) }
-        ensures fault { OnErr result (IsErrOf result Fault.Memory) }
     {
         let is_refused = answer_part(
             &mut self.reader,
@@ -88,8 +85,8 @@ impl Session {
         Ok(())
     }
 
-    /// Answers the lines that are held whole, up to `MOST_LINES` in all. `Memory` comes as from
-    /// `answer_line`, and `WriteFault` as from `write_if_full`.
+    /// Answers the lines that are held whole, up to `MOST_LINES` in all. `Memory` comes where
+    /// there is no room for a reply, and `WriteFault` as from `write_if_full`.
     fn answer_held<W: Write>(
         &mut self,
         mode: Mode,
@@ -114,11 +111,10 @@ impl Session {
         Ok(())
     }
 
-    /// Answers a last line with no newline, if there is one. `Memory` comes as from `answer_line`.
-    fn answer_last(&mut self, mode: Mode, runner: &mut Runner) -> Result<(), Fault>
+    /// Answers a last line with no newline, if there is one.
+    fn answer_last(&mut self, mode: Mode, runner: &mut Runner) -> Result<(), AllocError>
         requires { IsAnswered self.old }
         ensures ok { OnOk result (AnswersLast (answering mode) (Keeps mode) self.old self.new runner.old runner.new) }
-        ensures fault { OnErr result (IsErrOf result Fault.Memory) }
     {
         if !self.input.is_in_line() {
             return Ok(());
@@ -127,8 +123,8 @@ impl Session {
         self.answer_line(mode, runner, len)
     }
 
-    /// Answers a last line with no newline, and delivers what is left. `Memory` and `WriteFault`
-    /// come as from `answer_last` and `deliver`.
+    /// Answers a last line with no newline, and delivers what is left. `Memory` comes where there is
+    /// no room for the reply, and `WriteFault` as from `deliver`.
     fn finish<W: Write>(
         &mut self,
         mode: Mode,

@@ -5,7 +5,6 @@ use Rattle.inst_command.specs.declared.reply.Reply.TheVariants.{Refused}
 use Rattle.inst_command.specs.declared.reply.Answer.{Answer}
 use Rattle.inst_command.specs.declared.reply.Answer.TheVariants.{Reply}
 use Rattle.inst_json.specs.Replies.{answer_can_be_written}
-use Rattle.inst_model.specs.Trace.{answer}
 use Rattle.inst_lines.specs.declared.mode.Mode.{Mode}
 use Rattle.inst_agenda.specs.declared.runner.Runner.{Runner}
 use Rattle.inst_lines.specs.Answers.{is_too_long, IsFront}

@@ -1,10 +1,11 @@
-use Rattle.std.proofs.Common.{ap, sym, ◌∙◌, Some}
+use Rattle.std.proofs.Common.{ap, ◌∙◌, rules}
 use Rattle.serde_json.specs.Read.{read}
-use Rattle.inst_json.specs.Replies.{answer_data}
-use Rattle.inst_json.proofs.Reading.{new_reads_back}
+use Rattle.inst_json.proofs.Reading.{answer_reads_back}
 use Rattle.inst_json.proofs.write.write_answer.Goals as goal
 
-pub returns-in_ok-new_text-in-New-clause-reads_back : goal.returns-in_ok-new_text-in-New-clause-reads_back
-returns-in_ok-new_text-in-New-clause-reads_back c =
-    ap read c.in_ok-new_text-in-New.ensures ∙ new_reads_back c.in-New.new
-    ∙ ap (λ answer. Some (answer_data c.args.settings.now answer)) (sym c.in-New.is)
+pub returns-clause-text : goal.returns-clause-text
+returns-clause-text c = search rules
+
+pub returns-clause-reads_back : goal.returns-clause-reads_back
+returns-clause-reads_back c =
+    ap read (returns-clause-text c) ∙ answer_reads_back c.args.settings.now c.args.answer.now c.in_ok-append_answer.ensures.words

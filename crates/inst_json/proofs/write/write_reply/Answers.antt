@@ -8,4 +8,4 @@ returns-clause-text c = search rules
 
 pub returns-clause-reads_back : goal.returns-clause-reads_back
 returns-clause-reads_back c =
-    ap read (returns-clause-text c) ∙ words_read_back c.args.settings.now c.args.reply.now c.in_ok-append_text.ensures.words
+    ap read (returns-clause-text c) ∙ words_read_back c.args.settings.now c.args.reply.now c.in_ok-append_reply.ensures.words

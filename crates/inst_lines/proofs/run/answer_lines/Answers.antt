@@ -1,26 +1,15 @@
-use Rattle.std.proofs.Common.{◌≡◌, sym, subst}
 use Rattle.std.proofs.lemmas.Bool.{MatchBool-at_true, MatchBool-at_false}
 use Rattle.std.proofs.lemmas.Result.{err_from_is_err_and}
-use Rattle.inst_base.specs.declared.fault.Fault.TheVariants.{Memory}
 use Rattle.inst_lines.specs.Answering.{Keeps, answering}
 use Rattle.inst_lines.specs.Session.{FailsAfter}
 use Rattle.inst_lines.proofs.SessionLemmas.{err_passed}
-use Rattle.inst_lines.proofs.RunLemmas.{runs-start, runs-turn, runs-end, runs-fail, fails-at_once}
+use Rattle.inst_lines.proofs.RunLemmas.{runs-start, runs-turn, runs-end, runs-fail}
 use Rattle.inst_lines.proofs.run.answer_lines.Goals as goal
 
 pub loop-session-init : goal.loop-session-init
 loop-session-init g c =
     let made = c.in_ok-session.ensures in
     (made.ready, λ past is. runs-start (answering c.args.mode) (Keeps c.args.mode) _ _ _ c.in_ok-session.session _ is made.ready made.input made.is_long made.taken made.lines made.refused)
-
-pub returns-in_err-session-clause-err : goal.returns-in_err-session-clause-err
-returns-in_err-session-clause-err g c = λ past of.
-    let written = g.W.Write.contents c.args.writer.now in
-    let left = g.R.Read.remaining c.args.reader.now in
-    let is : c.in_err-session.field-0.0 ≡ Memory = cc (c.in_err-session.ensures.fault) in
-    err_passed (FailsAfter (answering c.args.mode) past written written left left) c.from_residual.result _
-    (err_from_is_err_and c.from_residual.result c.from_residual.ensures.1)
-    (subst (FailsAfter (answering c.args.mode) past written written left left) (sym is) (fails-at_once (answering c.args.mode) (Keeps c.args.mode) _ _ _))
 
 pub returns-in_err-turn-clause-err : goal.returns-in_err-turn-clause-err
 returns-in_err-turn-clause-err g c = λ past of.

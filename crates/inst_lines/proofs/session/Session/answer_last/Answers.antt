@@ -4,5 +4,7 @@ use Rattle.inst_lines.specs.Answering.{answering, Keeps}
 use Rattle.inst_lines.proofs.SessionLemmas.{answers-last}
 use Rattle.inst_lines.proofs.session.Session.answer_last.Goals as goal
 
-pub returns-clause-ok : goal.returns-clause-ok
-returns-clause-ok c = on_ok_weaker _ (λ t. answers-last (answering c.args.mode) (Keeps c.args.mode) _ _ _ _ _ (sym c.is_in_line.ensures ∙ c.if-not-is_in_line.false) c.requires c.len-len.ensures t) c.answer_line.ensures.ok
+pub returns : goal.returns
+returns c = record {
+  ok = on_ok_weaker _ (λ t. answers-last (answering c.args.mode) (Keeps c.args.mode) _ _ _ _ _ (sym c.is_in_line.ensures ∙ c.if-not-is_in_line.false) c.requires c.len-len.ensures t) c.answer_line.ensures.ok;
+}
