@@ -1,6 +1,7 @@
 //! Whether both sides of each transfer agree.
 ghost use Rattle.std.specs.Prelude.{◌≡◌, ◌↔◌, ◌≤◌, ℕ, IsTrue, length};
 ghost use Rattle.std.specs.List.{All};
+ghost use Rattle.inst_base.specs.TimeLimit.{deadline_of};
 ghost use Rattle.inst_journal.specs.Booked.{first_some, booked};
 ghost use Rattle.inst_ledger.specs.Kept.{sending_of, forwarding_of};
 ghost use Rattle.inst_audit.specs.inner.Agreeing.{IsReleased, IsReceived, IsSent, Agrees, histories_of};
@@ -24,21 +25,31 @@ fn is_same(one: &Option<Outcome>, other: &Option<Outcome>) -> bool
     one == other
 }
 
-/// Whether what came to the beneficiary agrees with what was submitted, and what was booked `there` with what its
-/// originator has booked `here`. The deadline is in milliseconds past the base.
+/// Whether a transfer with this time stamp has this deadline.
+fn is_deadline(stamp: Moment, limit: u32, deadline: Moment) -> bool
+    ensures { IsTrue result ↔ (deadline_of limit stamp ≡ deadline) }
+{
+    // No effect: that the deadline is a moment is known where it is read.
+    let _ = deadline.past_base();
+    stamp.has_deadline(limit) && stamp.deadline(limit) == deadline
+}
+
+/// Whether what came to the beneficiary agrees with what was submitted at `stamp`, and what was booked `there` with what
+/// its originator has booked `here`.
 fn is_received(
     came: &Option<Forwarding>,
     cents: Cents,
-    deadline: u64,
+    stamp: Moment,
+    limit: u32,
     here: &Option<Outcome>,
     there: &Option<Outcome>,
 ) -> bool
-    ensures { IsTrue result ↔ IsReceived cents deadline here.now there.now came.now }
+    ensures { IsTrue result ↔ IsReceived cents (deadline_of limit stamp) here.now there.now came.now }
 {
     match came {
         Some(forwarding) => {
             forwarding.cents == cents
-                && forwarding.deadline.past_base() == deadline
+                && is_deadline(stamp, limit, forwarding.deadline)
                 && is_same(there, here)
         }
         None => is_released(here),
@@ -53,7 +64,7 @@ fn is_sent(sent: &Option<Sending>, limit: u32, to: u8, cents: Cents, deadline: M
         Some(sending) => {
             sending.to == to
                 && sending.cents == cents
-                && sending.stamp.past_base() + u64::from(limit) == deadline.past_base()
+                && is_deadline(sending.stamp, limit, deadline)
         }
         None => false,
     }
@@ -94,7 +105,8 @@ fn agrees(ledgers: &[Ledger], limit: u32, who: u8, event: &Event) -> bool
         } => is_received(
             &forwarding(ledgers, *to, who, id),
             *cents,
-            stamp.past_base() + u64::from(limit),
+            *stamp,
+            limit,
             &booked(ledgers, who, who, id),
             &booked(ledgers, *to, who, id),
         ),

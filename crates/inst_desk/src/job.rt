@@ -1,7 +1,7 @@
 use inst_command::Ask;
 
 /// An ask that is to be put to a hub.
-#[derive(Clone, Copy, Debug, PartialEq, Eq)]
+#[derive(Clone, Copy, Debug)]
 pub struct Job {
     /// What who put it calls it by. The desk doesn't read it.
     pub number: u32,

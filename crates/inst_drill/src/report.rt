@@ -4,7 +4,7 @@ ghost use Rattle.inst_drill.specs.Report.{calls_text, outcomes_text, money_text,
 use std::alloc::{AllocError, Global};
 
 /// What was done in an opening.
-#[derive(Clone, Copy, Debug, PartialEq, Eq)]
+#[derive(Clone, Copy)]
 pub struct Report {
     /// How many jobs were put on the desk.
     pub jobs: u64,

@@ -87,7 +87,7 @@ pub(crate) fn own_booked(events: &[Event], id: &Ident) -> Option<Outcome>
 }
 
 /// Whether the event takes a transfer that these events haven't booked.
-pub(crate) fn takes_live(event: &Event, who: u8, booking: &[Event]) -> bool
+fn takes_live(event: &Event, who: u8, booking: &[Event]) -> bool
     ensures { result ≡ takes_live who booking.now event.now }
 {
     match event {

@@ -38,7 +38,7 @@ impl Model for Slots {
 }
 
 impl Slots {
-    /// The slots of two participants, opened for the first time. `Memory` is the only fault of a margin below the limit.
+    /// The slots of three participants with two places each, opened for the first time. `Memory` is the only fault of a margin below the limit.
     pub fn open(alloc: Global, margin: u32) -> Result<Slots, Fault> {
         let settings = settings_with(alloc, 2, margin)?;
         let board = PlainBoard::new(alloc, &settings)?;

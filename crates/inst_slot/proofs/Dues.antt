@@ -124,23 +124,6 @@ pub books_another : (who : ℕ) (event : Event) (from : ℕ) (id : List ℕ) (ou
 books_another who event from id outcome ids old is other d k =
     and_true (has old d k) (books_own who event (slice_get ids k)) (ap (λ (e : Event). books_own who e (slice_get ids k)) is ∙ other_own who from id outcome (slice_get ids k) other)
 
-absent_own : (who from : ℕ) (id : List ℕ) (outcome : Outcome) (o : Option (List ℕ)) → (o ≡ Some id → ⊥) → books_own who (Booked from id outcome) o ≡ false
-absent_own who from id outcome None absent = refl
-absent_own who from id outcome (Some other) absent = ⊎_elim
-    (λ yes. absurd (absent (ap (λ (l : List ℕ). Some l) (sym (text_same id other (sym yes))))))
-    (λ no. ap (λ (b : Bool). (from == who) && b) no ∙ and_no (from == who))
-    (cases_Bool (same_text id other))
-  where
-    and_no : (b : Bool) → (b && false) ≡ false
-    and_no true = refl
-    and_no false = refl
-
--- a booking of one that isn't among them
-pub books_absent : (who : ℕ) (event : Event) (from : ℕ) (id : List ℕ) (outcome : Outcome) (ids : List (List ℕ)) (old : List (ℕ × ℕ)) → event ≡ Booked from id outcome → ((k : ℕ) → slice_get ids k ≡ Some id → ⊥)
-    → (d k : ℕ) → has old d k ≡ (has old d k && not (books_own who event (slice_get ids k)))
-books_absent who event from id outcome ids old is absent d k =
-    and_true (has old d k) (books_own who event (slice_get ids k)) (ap (λ (e : Event). books_own who e (slice_get ids k)) is ∙ absent_own who from id outcome (slice_get ids k) (absent k))
-
 -- the end of a list
 pub and_true_is : (b : Bool) → b ≡ (b && true)
 and_true_is true = refl

@@ -43,7 +43,7 @@ use Rattle.inst_slot.specs.Book.{Book, place_at, terms_to}
 use Rattle.inst_slot.specs.LawfulBoard.{IsLawfulBoard}
 use Rattle.inst_slot.specs.Asking.{handle_ask, Opens, Enters}
 use Rattle.inst_slot.specs.inner.Entering.{EntersAlone}
-use Rattle.inst_slot.specs.inner.Waiting.{moves_none}
+use Rattle.inst_slot.specs.inner.Waiting.{is_apart, moves_none}
 use Rattle.inst_ledger.specs.Book.{submitted, taken}
 use Rattle.inst_slot.proofs.Growing.{live_inbox_still, live_push, still_booked, booked_cases}
 use Rattle.inst_slot.proofs.Keeping.{kept_opening, with_events, same_after, moved, learnt_truly, learnt_answer, lies_after_taking}
@@ -107,7 +107,11 @@ keeps_only p funded defunded fetched s who J (Statement skip count) at new = ref
 all_enter : (s : HubSettings) (who : ℕ) (J : List Event) (command : Command) (at : ℕ) → KeepsOnly enters (handle s who J command at None)
 all_enter s who J command at = keeps_only enters (λ reference cents. refl) (λ reference cents. refl) (λ count. refl) s who J command at (λ x is. refl)
 
--- a command that is no submission and decides nothing moves no transfer of the participant's own
+-- a command that is no submission and decides nothing keeps no event of a transfer
+others_apart : (s : HubSettings) (who : ℕ) (J : List Event) (command : Command) (at : ℕ) → ((x : Submission) → command ≡ Submit x → ⊥) → list_all is_apart (kept_events (handle s who J command at None)) ≡ true
+others_apart s who J command at other = keeps_only is_apart (λ reference cents. refl) (λ reference cents. refl) (λ count. refl) s who J command at (λ x is. absurd (other x is))
+
+-- and so it moves no transfer of the participant's own
 pub others_move_none : (s : HubSettings) (who : ℕ) (J : List Event) (command : Command) (at : ℕ) → ((x : Submission) → command ≡ Submit x → ⊥) → list_all moves_none (kept_events (handle s who J command at None)) ≡ true
 others_move_none s who J command at other = keeps_only moves_none (λ reference cents. refl) (λ reference cents. refl) (λ count. refl) s who J command at (λ x is. absurd (other x is))
 
@@ -292,12 +296,12 @@ pub handled_as : (book : Book) (ask : Ask) (handled : Handled) → IsUnlessMemor
 handled_as book ask handled is = ⊎_elim (λ refused. let none : ⊥ = cc in absurd none) (λ same. sym same) is
 
 module _ (book : Book) (ask : Ask) (handled : Handled) (other : (x : Submission) → ask.command ≡ Submit x → ⊥) (is : handle_ask book ask None ≡ Ok handled) where
-  -- an event that is kept of a command that is no submission moves no transfer of the participant's own
-  pub kept_moves_none : (e : Event) → handled.kept ≡ Some e → moves_none e ≡ true
-  kept_moves_none e kept =
-      (and_parts (moves_none e) true
-      (subst (λ (o : Option Event). list_all moves_none (kept_event o) ≡ true) kept
-      (subst (λ (r : Result Handled Fault). list_all moves_none (kept_events r) ≡ true) is (others_move_none book.settings book.who book.events ask.command ask.at other)))).0
+  -- an event that is kept of a command that is no submission is of money or of the inbox alone
+  pub kept_apart : (e : Event) → handled.kept ≡ Some e → is_apart e ≡ true
+  kept_apart e kept =
+      (and_parts (is_apart e) true
+      (subst (λ (o : Option Event). list_all is_apart (kept_event o) ≡ true) kept
+      (subst (λ (r : Result Handled Fault). list_all is_apart (kept_events r) ≡ true) is (others_apart book.settings book.who book.events ask.command ask.at other)))).0
 
   -- such a command is answered as it was handled, and what is to be kept is kept
   pub alone_as : (new : Book) → new ≡ with_events book (book.events ++ kept_event handled.kept) → EntersAlone book ask (Ok handled.reply) new

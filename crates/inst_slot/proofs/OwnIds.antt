@@ -5,7 +5,7 @@ use Rattle.std.specs.List.{filter}
 use Rattle.std.specs.Cmp.Lexicographic.{same_text as text_same}
 use Rattle.std.proofs.lemmas.List.{map-append, length-map}
 use Rattle.std.proofs.lemmas.Option.{same_Some}
-use Rattle.std.proofs.lemmas.Bool.{true≢false}
+use Rattle.std.proofs.lemmas.Bool.{false≢true, true≢false}
 use Rattle.inst_base.specs.TimeLimit.{deadline_of}
 use Rattle.inst_due.specs.Due.{is_of, has, comes_after, Adds, IsLeast}
 use Rattle.inst_settings.specs.Settings.{HubSettings, same_text}
@@ -27,7 +27,7 @@ use Rattle.inst_ledger.specs.Right.{id_of, own_ids}
 use Rattle.inst_slot.specs.inner.Indexed.{is_id}
 use Rattle.inst_slot.specs.OwnState.{booked_state, state_of, own_state}
 use Rattle.inst_slot.specs.Waiting.{Deadlines, IsRight, IsWaiting, GivesNextDue, waits, takes_waiting, deadline_in}
-use Rattle.inst_slot.specs.inner.Waiting.{moves_none, books_own}
+use Rattle.inst_slot.specs.inner.Waiting.{is_apart, moves_none, books_own}
 use Rattle.inst_slot.proofs.Dues.{waiting_after, and_true_is, taken_books_none, at_end}
 use Rattle.inst_slot.proofs.Entering.{takes_the_next}
 use Rattle.inst_slot.proofs.Growing.{live_taken_still}
@@ -121,6 +121,19 @@ used_there who J ids i id same there =
     of (Some (Booked from other o)) h = cc
     of (Some (Fetched n)) h = cc
     of (Some Opened) h = cc
+
+-- an event of money or of the inbox moves and books no transfer
+pub apart_moves_none : (e : Event) → is_apart e ≡ true → moves_none e ≡ true
+apart_moves_none (Funded reference cents) apart = refl
+apart_moves_none (Defunded reference cents) apart = refl
+apart_moves_none (Fetched count) apart = refl
+apart_moves_none (Taken id to cents stamp) apart = absurd (false≢true apart)
+apart_moves_none (Forwarded from id cents d) apart = refl
+apart_moves_none (Booked from id outcome) apart = refl
+apart_moves_none Opened apart = absurd (false≢true apart)
+
+pub apart_books_none : (e : Event) → is_apart e ≡ true → (from : ℕ) (id : List ℕ) (outcome : Outcome) → e ≡ Booked from id outcome → ⊥
+apart_books_none e apart from id outcome is = false≢true (sym (ap is_apart is) ∙ apart)
 
 pub still_taken : (who : ℕ) (J : List Event) (e : Event) → moves_none e ≡ true → live_taken who (J ++ e ∷ []) ≡ live_taken who J
 still_taken who J e still = live_taken_still who J e (kinds e still).0 (kinds e still).1

@@ -1,10 +1,8 @@
 //! The own live transfers with nothing booked, in the order in which they are due.
-ghost use Rattle.std.specs.Prelude.{◌≡◌, ℕ, ◌<◌, ◌^◌, ◌++◌, ◌∷◌, [], ◌+◌, ◌&&◌, nat_eq, not, length, take, slice_get, IfOk, OnOk, OnErr};
+ghost use Rattle.std.specs.Prelude.{◌≡◌, ℕ, ◌<◌, ◌^◌, ◌++◌, ◌∷◌, [], ◌+◌, ◌&&◌, nat_eq, not, length, IfOk, OnOk, OnErr};
 ghost use Rattle.inst_due.specs.Due.{has, Adds, IsLeast, comes_after};
 ghost use Rattle.inst_journal.specs.Opened.{carried};
-ghost use Rattle.inst_ledger.specs.Right.{own_ids};
 ghost use Rattle.inst_slot.specs.Waiting.{IsWaiting};
-ghost use Rattle.inst_slot.specs.inner.Waiting.{books_own};
 
 use inst_base::{Moment, mention};
 use inst_command::Outcome;
@@ -56,21 +54,6 @@ impl Waiting {
         self.due.add(deadline, index)?;
         self.deadlines.push_reserved(deadline);
         Ok(())
-    }
-
-    /// Takes out the pair of an own transfer that the event books.
-    pub(crate) fn book(&mut self, ledger: &Ledger, who: u8, event: &Event)
-        ensures deadlines { self.new.deadlines ≡ self.old.deadlines }
-        ensures pairs { (d k : ℕ) → has self.new.pairs d k ≡ (has self.old.pairs d k && not (books_own who event.now (slice_get (own_ids ledger.now.book.who ledger.now.book.events) k))) }
-    {
-        mention::<Outcome>();
-        if let Event::Booked { from, id, .. } = event {
-            if *from == who {
-                if let Some(index) = ledger.own_index(id) {
-                    self.take_out(index);
-                }
-            }
-        }
     }
 
     /// Takes out the pair at this index.

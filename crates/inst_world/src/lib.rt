@@ -8,4 +8,4 @@ mod world;
 
 pub use trace::{Answers, Trace};
 pub use two_runs::run_both;
-pub use world::{World, may_open};
+pub use world::World;

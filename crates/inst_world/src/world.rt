@@ -18,7 +18,6 @@ mod next_opening;
 mod stepping;
 
 use crate::trace::Trace;
-pub use closing::may_open;
 use inst_base::{Ident, Moment};
 use inst_board::{Board, Look, Place, PlainBoard};
 use inst_command::{Answer, Items, Step};

@@ -11,27 +11,28 @@ ghost use Rattle.inst_slot.specs.LawfulBoard.{IsLawfulBoard, KeepsOthers, AllAre
 ghost use Rattle.inst_slot.specs.Asking.{request, decides, AsksAdopted, handle_ask, Opens, Enters, Applies};
 ghost use Rattle.inst_slot.specs.Telling.{with_event};
 ghost use Rattle.inst_slot.specs.inner.Entering.{EntersAlone};
+ghost use Rattle.inst_slot.specs.inner.Waiting.{is_apart};
 ghost use Rattle.inst_command.specs.declared.submission.Submission.{Submission};
 
 use super::Slot;
 use crate::answering::{request_of, settle};
 use inst_base::Fault;
 use inst_board::Board;
-use inst_command::{Ask, Command, Outcome, Reply, Submission};
-use inst_journal::Handled;
+use inst_command::{Ask, Command, Reply, Submission};
+use inst_journal::{Event, Handled};
 use inst_ledger::Sending;
 use inst_terms::Terms;
 use std::alloc::AllocError;
 
 impl Slot {
-    /// What an ask is answered where its transfer is found so, and what is to be kept of it.
-    fn handle(&self, ask: &Ask, found: Option<Outcome>) -> Result<Handled, Fault>
+    /// What an ask that decides no transfer is answered, and what is to be kept of it.
+    fn handle(&self, ask: &Ask) -> Result<Handled, Fault>
         requires fits { ask_fits self.now.settings ask.now ≡ true }
-        ensures reply { IsUnlessMemory result (handle_ask self.now ask.now found) }
-        ensures no_memory { copies self.now.events ask.now.command ≡ false → result ≡ handle_ask self.now ask.now found }
+        ensures reply { IsUnlessMemory result (handle_ask self.now ask.now None) }
+        ensures no_memory { copies self.now.events ask.now.command ≡ false → result ≡ handle_ask self.now ask.now None }
         ensures kept { IfOk result (λ handled. FitAfter self.now.settings self.now.who self.now.events (kept_event handled.kept)) }
     {
-        self.ledger.handle(self.alloc, &ask.command, ask.at, found)
+        self.ledger.handle(self.alloc, &ask.command, ask.at, None)
     }
 
     /// Keeps a submission, and opens the next place for it.
@@ -84,6 +85,17 @@ impl Slot {
         Ok(Reply::Taken { id, deadline })
     }
 
+    /// Keeps an event of money or of the inbox.
+    fn keep(&mut self, event: Event) -> Result<(), AllocError>
+        requires fits { Fits self.old.settings self.old.who self.old.events event }
+        requires apart { is_apart event ≡ true }
+        ensures ok { OnOk result (self.new ≡ with_event self.old (Some event)) }
+        ensures err { OnErr result (self.new ≡ self.old) }
+    {
+        self.ledger.keep(event)?;
+        Ok(())
+    }
+
     /// Answers a command that is no submission and decides no transfer: the board has no part in it.
     fn enter_alone(&mut self, ask: &Ask) -> Result<Reply, Fault>
         requires own { ask.now.who ≡ self.old.who }
@@ -91,9 +103,9 @@ impl Slot {
         requires other { (submission : Submission) → ask.now.command ≢ Command.Submit submission }
         ensures { EntersAlone self.old ask.now result self.new }
     {
-        let Handled { reply, kept } = self.handle(ask, None)?;
+        let Handled { reply, kept } = self.handle(ask)?;
         if let Some(event) = kept {
-            self.book(event)?;
+            self.keep(event)?;
         }
         Ok(reply)
     }

@@ -4,8 +4,7 @@ ghost use Rattle.inst_board.specs.declared.look.Look.{Look};
 ghost use Rattle.inst_board.specs.Learning.{Looks};
 ghost use Rattle.inst_journal.specs.Sound.{IsSound, Fits};
 ghost use Rattle.inst_slot.specs.LawfulBoard.{IsLawfulBoard, KeepsOthers, AllAreAdopted};
-ghost use Rattle.inst_slot.specs.Telling.{delivery, with_delivery, with_event, Keeps};
-ghost use Rattle.inst_slot.specs.inner.Waiting.{moves_none};
+ghost use Rattle.inst_slot.specs.Telling.{delivery, with_delivery, Keeps};
 
 use super::Slot;
 use crate::arrivals::Spot;
@@ -87,18 +86,5 @@ impl Slot {
                 Ok(true)
             }
         }
-    }
-
-    /// Keeps an event that leaves the own live transfers as they are.
-    pub(super) fn book(&mut self, event: Event) -> Result<(), AllocError>
-        requires fits { Fits self.old.settings self.old.who self.old.events event }
-        requires moves { moves_none event ≡ true }
-        ensures ok { OnOk result (self.new ≡ with_event self.old (Some event)) }
-        ensures err { OnErr result (self.new ≡ self.old) }
-    {
-        self.ledger.keep(event)?;
-        let who = self.ledger.who();
-        self.waiting.book(&self.ledger, who, &event);
-        Ok(())
     }
 }

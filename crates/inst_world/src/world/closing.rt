@@ -15,7 +15,7 @@ use inst_journal::Journal;
 use std::alloc::{AllocError, Global};
 
 /// Whether each journal can be opened from once more. It walks over the events of each.
-pub fn may_open(journals: &[Journal]) -> bool
+fn may_open(journals: &[Journal]) -> bool
     ensures few { result ≡ true → (p : ℕ) → HasOpeningsLeft (books_of journals.now p) }
     ensures many { result ≡ false → ¬ ((p : ℕ) → HasOpeningsLeft (books_of journals.now p)) }
 {
@@ -73,7 +73,7 @@ impl World {
     }
 
     /// Copies of all journals, in the order of the participants.
-    pub fn journals(&self, alloc: Global) -> Result<Vec<Journal>, AllocError>
+    fn journals(&self, alloc: Global) -> Result<Vec<Journal>, AllocError>
         ensures ok { IfOk result (λ journals. (O : Opening) (L : List Step) → HasRun O L self.now →
             AreJournalsOf self.now.board.settings (history self.now.board.settings O L) journals.items) }
     {

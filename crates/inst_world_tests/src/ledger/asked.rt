@@ -19,7 +19,7 @@ pub(crate) enum Asks {
     Statement(u64, u32),
 }
 
-pub(crate) fn submit(id: &str, to: u8, cents: u64, stamp: u64) -> Result<Command, Fault> {
+fn submit(id: &str, to: u8, cents: u64, stamp: u64) -> Result<Command, Fault> {
     Ok(Command::Submit(Submission {
         id: Ident::new(id)?,
         to,

@@ -1,10 +1,10 @@
 //! What is done, one act after another, what is answered, and what is kept.
-use crate::ledger::asked::submit;
+use crate::ledger::asked::{Asks, command};
 use crate::slot::answers::{Told, tells};
 use crate::slot::histories::{Kept, are_copied, copied, keeps};
-use inst_base::{Cents, Fault, Ident, Moment, Reason, mention};
+use inst_base::{Fault, Ident, Moment, mention};
 use inst_board::Place;
-use inst_command::{Answer, Command};
+use inst_command::Answer;
 use inst_rows::{Act, Slots};
 use std::alloc::Global;
 use std::process::Abort;
@@ -60,43 +60,38 @@ pub(crate) struct Case {
     pub(crate) histories: [&'static [Kept]; 3],
 }
 
-/// The command, or none for a step or a question.
-fn command(does: &Does) -> Result<Option<Command>, Fault> {
-    Ok(Some(match *does {
-        Does::Fund(reference, cents) => Command::Fund {
-            reference: Ident::new(reference)?,
-            cents: Cents::new(cents)?,
-        },
-        Does::Submit(id, to, cents, stamp) => submit(id, to, cents, stamp)?,
-        Does::Confirm(from, id) => Command::Confirm {
-            from,
-            id: Ident::new(id)?,
-        },
-        Does::Reject(from, id, reason) => Command::Reject {
-            from,
-            id: Ident::new(id)?,
-            reason: Reason::new(reason)?,
-        },
-        Does::Investigate(id) => Command::Investigate {
-            id: Ident::new(id)?,
-        },
-        Does::Fetch(max) => Command::Fetch { max },
-        Does::Position => Command::Position,
-        Does::Statement => Command::Statement { skip: 0, count: 10 },
-        _ => return Ok(None),
-    }))
+/// What is asked, or none for a step or a question.
+fn asks(does: &Does) -> Option<Asks> {
+    Some(match *does {
+        Does::Fund(reference, cents) => Asks::Fund(reference, cents),
+        Does::Submit(id, to, cents, stamp) => Asks::Submit(id, to, cents, stamp),
+        Does::Confirm(from, id) => Asks::Confirm(from, id),
+        Does::Reject(from, id, reason) => Asks::Reject(from, id, reason),
+        Does::Investigate(id) => Asks::Investigate(id),
+        Does::Fetch(max) => Asks::Fetch(max),
+        Does::Position => Asks::Position,
+        Does::Statement => Asks::Statement(0, 10),
+        _ => return None,
+    })
+}
+
+/// The step, or none for a question.
+fn step(does: &Does) -> Option<Act> {
+    match *does {
+        Does::Deliver(owner, index) => Some(Act::Deliver(Place { owner, index })),
+        Does::Learn(owner, index) => Some(Act::Learn(Place { owner, index })),
+        Does::Adopt(owner, index) => Some(Act::Adopt(Place { owner, index })),
+        Does::Expire(index) => Some(Act::Expire(index)),
+        _ => None,
+    }
 }
 
 /// The act, or none for a question.
 fn act(does: &Does) -> Result<Option<Act>, Fault> {
-    let act = match *does {
-        Does::Deliver(owner, index) => Act::Deliver(Place { owner, index }),
-        Does::Learn(owner, index) => Act::Learn(Place { owner, index }),
-        Does::Adopt(owner, index) => Act::Adopt(Place { owner, index }),
-        Does::Expire(index) => Act::Expire(index),
-        _ => return Ok(command(does)?.map(Act::Ask)),
-    };
-    Ok(Some(act))
+    match asks(does) {
+        Some(asks) => Ok(Some(Act::Ask(command(&asks)?))),
+        None => Ok(step(does)),
+    }
 }
 
 /// The pair of a deadline and an index.

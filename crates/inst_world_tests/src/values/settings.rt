@@ -1,7 +1,7 @@
 //! Settings to their bounds, and how participants are found by their codes.
 use crate::comparing::{same, same_at};
 use inst_base::{Code, Fault};
-use inst_settings::{Numbers, Settings};
+use inst_settings::{Numbers, Settings, parse_codes};
 use std::alloc::{AllocError, Global};
 use std::process::Abort;
 use std::test::Fail;
@@ -199,9 +199,13 @@ fn refuses_a_code_twice(rt: &(impl Abort + AllocGlobal), codes: &[Code; 3]) -> R
     Ok(())
 }
 
-/// Settings of these codes number them.
-fn takes_codes(rt: &(impl Abort + AllocGlobal), codes: &[Code; 3]) -> Result<(), Fail> {
-    let settings = Settings::check(codes.to_vec(rt.alloc())?, LEAST)?;
+/// Settings of the codes of this text number them.
+fn takes_codes(
+    rt: &(impl Abort + AllocGlobal),
+    text: &[u8],
+    codes: &[Code; 3],
+) -> Result<(), Fail> {
+    let settings = Settings::check(parse_codes(rt.alloc(), text)?, LEAST)?;
     copies_codes(rt, &settings, codes)
 }
 
@@ -213,7 +217,7 @@ fn codes_are_numbered_as_given(rt: HostRuntime) -> Result<(), Fail> {
         Code::new("AAAADEFF123")?,
     ];
     refuses_a_code_twice(&rt, &codes)?;
-    takes_codes(&rt, &codes)
+    takes_codes(&rt, b"CCCCITMM,AAAADEFF,AAAADEFF123", &codes)
 }
 
 const COUNTRIES: [&str; 8] = ["DE", "FR", "IT", "ES", "NL", "BE", "AT", "IE"];
