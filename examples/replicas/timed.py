@@ -16,13 +16,14 @@ import time
 def main():
     waiting, command = int(sys.argv[1]), sys.argv[2:]
     # The first line goes alone, since it waits for the command's start, and isn't counted.
-    places, sent = threading.Semaphore(1), queue.SimpleQueue()
+    places, sent, handed = threading.Semaphore(1), queue.SimpleQueue(), [0]
     process = subprocess.Popen(command, stdin=subprocess.PIPE, stdout=subprocess.PIPE, bufsize=0)
 
     def write():
         for line in sys.stdin.buffer:
             places.acquire()
             sent.put(time.monotonic())
+            handed[0] += 1
             process.stdin.write(line)
         process.stdin.close()
 
@@ -39,7 +40,8 @@ def main():
                 waits.append(end - began)
                 accepted += b'"state":"accepted"' in reply
             sys.stdout.buffer.write(reply)
-    process.wait()
+    if process.wait() or len(waits) + 1 != handed[0]:
+        sys.exit(f"status {process.returncode}, and {len(waits) + 1} replies to {handed[0]} lines")
     waits.sort()
     half, most = (waits[len(waits) * part // 100] * 1000 for part in (50, 99))
     seconds = end - first
