@@ -18,9 +18,9 @@ use std::sync::Arc;
 
 type Words = Table<(), View, Snapshot<Settings>, Law, Global>;
 
-/// One holder's board over the words that all boards and sights of a hub share. Only how it is opened and
-/// dealt out takes memory, and no call waits. A look costs one load, and five more where the place is opened; a glance one
-/// load; a decision one load and at most one exchange, which is never tried again.
+/// One holder's board over the words that all boards and sights of a hub share. Only opening and dealing
+/// out take memory, and no call waits. A look costs one load, and five more where the place is opened; a
+/// glance one load; a decision one load and at most one exchange, which is never tried again.
 ///
 /// ```text
 /// let (boards, sights) = SharedBoard::open(alloc, &settings, 2)?;

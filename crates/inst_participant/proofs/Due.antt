@@ -24,8 +24,7 @@ use Rattle.inst_slot.specs.Asking.{Finds}
 use Rattle.inst_slot.specs.Book.{Book, place_at}
 use Rattle.inst_slot.specs.Telling.{booking, with_event, taken_by, if_unbooked, unbooked_at, ExpiresFor}
 use Rattle.inst_slot.specs.Waiting.{waits, takes_waiting, IsNextDue}
-use Rattle.inst_slot.specs.inner.Waiting.{books_own}
-use Rattle.inst_slot.proofs.Dues.{waiting_after}
+use Rattle.inst_slot.proofs.Dues.{books_own, waiting_after}
 use Rattle.inst_slot.proofs.Growing.{live_taken_still}
 use Rattle.inst_cell.specs.Held.{settings_of, knows, has_role, stood, Stays}
 use Rattle.inst_participant.specs.declared.participant.Participant.{Participant}

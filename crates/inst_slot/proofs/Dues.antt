@@ -17,8 +17,12 @@ use Rattle.inst_journal.specs.Opened.{takes_live}
 use Rattle.inst_journal.proofs.Pushing.{first_some_push}
 use Rattle.inst_slot.specs.Telling.{taken_by}
 use Rattle.inst_slot.specs.Waiting.{takes_waiting, deadline_in}
-use Rattle.inst_slot.specs.inner.Waiting.{books_own}
 use Rattle.inst_journal.proofs.OwnBookings.{and-false}
+
+-- whether the event books the own transfer with this identifier
+abbrev pub books_own : ℕ → Event → Option (List ℕ) → Bool
+books_own who (Booked from id outcome) (Some other) = (from == who) && same_text id other
+books_own who event other = false
 
 -- what one more event leaves of what waits
 none_or : (a b : Option Outcome) → is_none (or_else a b) ≡ (is_none a && is_none b)

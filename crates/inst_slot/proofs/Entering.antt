@@ -43,7 +43,7 @@ use Rattle.inst_slot.specs.Book.{Book, place_at, terms_to}
 use Rattle.inst_slot.specs.LawfulBoard.{IsLawfulBoard}
 use Rattle.inst_slot.specs.Asking.{handle_ask, Opens, Enters}
 use Rattle.inst_slot.specs.inner.Entering.{EntersAlone}
-use Rattle.inst_slot.specs.inner.Waiting.{is_apart, moves_none}
+use Rattle.inst_slot.specs.inner.Waiting.{is_apart}
 use Rattle.inst_ledger.specs.Book.{submitted, taken}
 use Rattle.inst_slot.proofs.Growing.{live_inbox_still, live_push, still_booked, booked_cases}
 use Rattle.inst_slot.proofs.Keeping.{kept_opening, with_events, same_after, moved, learnt_truly, learnt_answer, lies_after_taking}
@@ -111,23 +111,19 @@ all_enter s who J command at = keeps_only enters (λ reference cents. refl) (λ 
 others_apart : (s : HubSettings) (who : ℕ) (J : List Event) (command : Command) (at : ℕ) → ((x : Submission) → command ≡ Submit x → ⊥) → list_all is_apart (kept_events (handle s who J command at None)) ≡ true
 others_apart s who J command at other = keeps_only is_apart (λ reference cents. refl) (λ reference cents. refl) (λ count. refl) s who J command at (λ x is. absurd (other x is))
 
--- and so it moves no transfer of the participant's own
-pub others_move_none : (s : HubSettings) (who : ℕ) (J : List Event) (command : Command) (at : ℕ) → ((x : Submission) → command ≡ Submit x → ⊥) → list_all moves_none (kept_events (handle s who J command at None)) ≡ true
-others_move_none s who J command at other = keeps_only moves_none (λ reference cents. refl) (λ reference cents. refl) (λ count. refl) s who J command at (λ x is. absurd (other x is))
-
--- where no own transfer is moved, no place is opened
-pub opens_none : {B : Type 0} (margin : ℕ) (knows : B → Fact → Type 0) (book : Book) (b : B) (r : Result Handled Fault) → list_all moves_none (kept_events r) ≡ true → Opens margin knows book (kept_events r) b b
+-- such an event opens no place
+pub opens_none : {B : Type 0} (margin : ℕ) (knows : B → Fact → Type 0) (book : Book) (b : B) (r : Result Handled Fault) → list_all is_apart (kept_events r) ≡ true → Opens margin knows book (kept_events r) b b
 opens_none margin knows book b (Err fault) none = refl
 opens_none margin knows book b (Ok handled) none = of handled.kept none
   where
-    of : (kept : Option Event) → list_all moves_none (kept_event kept) ≡ true → Opens margin knows book (kept_event kept) b b
+    of : (kept : Option Event) → list_all is_apart (kept_event kept) ≡ true → Opens margin knows book (kept_event kept) b b
     of None none' = refl
     of (Some (Funded reference cents)) none' = refl
     of (Some (Defunded reference cents)) none' = refl
-    of (Some (Forwarded from id cents deadline)) none' = refl
-    of (Some (Booked from id outcome)) none' = refl
+    of (Some (Forwarded from id cents deadline)) none' = absurd (false≢true none')
+    of (Some (Booked from id outcome)) none' = absurd (false≢true none')
     of (Some (Fetched count)) none' = refl
-    of (Some OpenedEvent) none' = refl
+    of (Some OpenedEvent) none' = absurd (false≢true none')
     of (Some (Taken id to cents stamp)) none' = absurd (false≢true none')
 
 or_true : (a : Bool) → (a || true) ≡ true
@@ -308,7 +304,7 @@ module _ (book : Book) (ask : Ask) (handled : Handled) (other : (x : Submission)
   alone_as new kept = inl (
     ap told (sym is),
     kept ∙ ap (λ (r : Result Handled Fault). with_events book (book.events ++ kept_events r)) (sym is),
-    others_move_none book.settings book.who book.events ask.command ask.at other,
+    others_apart book.settings book.who book.events ask.command ask.at other,
   )
 
 -- a position is told, and nothing is kept

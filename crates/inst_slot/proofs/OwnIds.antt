@@ -27,8 +27,8 @@ use Rattle.inst_ledger.specs.Right.{id_of, own_ids}
 use Rattle.inst_slot.specs.inner.Indexed.{is_id}
 use Rattle.inst_slot.specs.OwnState.{booked_state, state_of, own_state}
 use Rattle.inst_slot.specs.Waiting.{Deadlines, IsRight, IsWaiting, GivesNextDue, waits, takes_waiting, deadline_in}
-use Rattle.inst_slot.specs.inner.Waiting.{is_apart, moves_none, books_own}
-use Rattle.inst_slot.proofs.Dues.{waiting_after, and_true_is, taken_books_none, at_end}
+use Rattle.inst_slot.specs.inner.Waiting.{is_apart}
+use Rattle.inst_slot.proofs.Dues.{books_own, waiting_after, and_true_is, taken_books_none, at_end}
 use Rattle.inst_slot.proofs.Entering.{takes_the_next}
 use Rattle.inst_slot.proofs.Growing.{live_taken_still}
 use Rattle.inst_slot.proofs.Indexed.{is_found}
@@ -121,6 +121,12 @@ used_there who J ids i id same there =
     of (Some (Booked from other o)) h = cc
     of (Some (Fetched n)) h = cc
     of (Some Opened) h = cc
+
+-- whether the event leaves the own live transfers as they are
+abbrev pub moves_none : Event → Bool
+moves_none (Taken id to cents stamp) = false
+moves_none Opened = false
+moves_none _ = true
 
 -- an event of money or of the inbox moves and books no transfer
 pub apart_moves_none : (e : Event) → is_apart e ≡ true → moves_none e ≡ true
