@@ -14,6 +14,9 @@ pub(crate) struct HostLogs<'a> {
 impl<'a> Logs for HostLogs<'a> {
     type Log = FileFrom<Unknown>;
 
+    // That the file which is opened is the one of that name is the machine's to say.
+    ghost is_named = { λ _ _ _. Unit {0} };
+
     fn open(&self, path: &str) -> Result<FileFrom<Unknown>, LogFault> {
         match sqlite_std_file::open(self.rt, path, Unknown) {
             Ok(Files { log, db }) => {

@@ -6,8 +6,7 @@ use Rattle.clap.specs.Words.{ReadsOne, Row, first_of, first_value, one_text, row
 use Rattle.clap.specs.declared.parser.matches.Found.{Found}
 use Rattle.clap.proofs.WalkLemmas.{first_value-rows, one_text-rows}
 use Rattle.inst_base.specs.declared.fault.Fault.{Fault}
-use Rattle.inst_options.specs.Options.{Gives, IsText}
-use Rattle.inst_options.specs.inner.Options.{GivesNoneBelow}
+use Rattle.inst_options.specs.Options.{Gives, GivesNoneBelow, IsText}
 use Rattle.clap.specs.Words.{HasKind, IsAmong, kind_of, subcommand_of}
 use Rattle.inst_options.specs.CommandLine.{command_line}
 use Rattle.clap.specs.declared.error.Error.{Error}

@@ -10,11 +10,11 @@ use Rattle.inst_base.specs.declared.fault.Fault.TheVariants.{BadSettings}
 use Rattle.inst_settings.specs.Settings.{HubSettings, same_text}
 use Rattle.inst_settings.specs.Lawful.{IsSettings, are_different}
 use Rattle.inst_options.specs.CommandLine.{command_line}
-use Rattle.inst_options.specs.Options.{Chooses, Gives, HasAHub, IsTask, SpeaksOfALog, Task}
+use Rattle.inst_options.specs.Options.{Chooses, Gives, GivesNoneBelow, HasAHub, IsTask, SpeaksOfALog, Task}
 use Rattle.inst_options.specs.inner.Asking.{IsAsked, IsUnasked}
-use Rattle.inst_options.specs.inner.Options.{AskForNone, ChooseNone, FitNoTask, GivesLog, GivesNoneBelow, IsWish}
+use Rattle.inst_options.specs.inner.Options.{AskForNone, ChooseNone, FitNoTask, GivesLog, IsWish}
 use Rattle.inst_options.specs.Options.Task.{Run, Play, Drill, Check}
-use Rattle.inst_options.specs.Asking.{AreChosen, AreUnfit, AreWhole, IsNoWish, IsRefusal, IsWished, NameTheLog}
+use Rattle.inst_options.specs.Asking.{AreChosen, AreUnfit, AreWhole, IsNoWish, IsRefusal, IsWished, GiveTheLog}
 use Rattle.inst_options.specs.declared.error.WordsError.{WordsError}
 use Rattle.inst_options.specs.declared.error.WordsError.TheVariants as error
 use Rattle.inst_options.specs.declared.wish.LogOptions.{LogOptions}
@@ -185,23 +185,23 @@ unsettled words name rows fault whole at (inl memory) = inl memory
 unsettled words name rows fault whole at (inr bad) =
     inr (bad.0, ⊎_elim (λ none. inl (unfit words name rows whole at none)) (λ speaks. inr (whole, (name, rows, at, speaks))) bad.1)
 
--- the log of a run or a play is named by the words
-names_it : (words : List (List ℕ)) (name : List ℕ) (rows : List Row) (log : Option LogOptions) → AreWhole words → subcommand_of command_line words ≡ Some (name, rows) →
-    GivesLog rows log → NameTheLog words log
-names_it words name rows None whole at gives = tt
-names_it words name rows (Some log) whole at gives = (whole, (name, rows, at, inr (inl (log.path.now, gives.0))))
+-- the log of a run or a play
+names_it : (words : List (List ℕ)) (name : List ℕ) (rows : List Row) (log : Option LogOptions) → subcommand_of command_line words ≡ Some (name, rows) →
+    GivesLog rows log → GiveTheLog words log
+names_it words name rows None at gives = (name, rows, at, gives)
+names_it words name rows (Some log) at gives = (name, rows, at, gives)
 
 -- what the subcommand and its options ask for is what the words do
 pub wished_of : (words : List (List ℕ)) (name : List ℕ) (rows : List Row) (wish : Wish) → AreWhole words → subcommand_of command_line words ≡ Some (name, rows) →
     IsWish name rows wish → IsWished words wish
 wished_of words name rows (wish.Run s log sums) whole at is =
-    (is.0, whole, (name, rows, at, is.1, is.2), names_it words name rows log whole at is.3, (name, rows, at, is.4))
+    (is.0, whole, (name, rows, at, is.1, is.2), names_it words name rows log at is.3, (name, rows, at, is.4))
 wished_of words name rows (wish.Play s log sums) whole at is =
-    (is.0, whole, (name, rows, at, is.1, is.2), names_it words name rows log whole at is.3, (name, rows, at, is.4))
+    (is.0, whole, (name, rows, at, is.1, is.2), names_it words name rows log at is.3, (name, rows, at, is.4))
 wished_of words name rows (wish.Drill s transfers openings) whole at is = (is.0, whole, (name, rows, at, is.1, is.2))
 wished_of words name rows (wish.Check s) whole at is = (is.0, whole, (name, rows, at, is.1, is.2))
-wished_of words name rows (wish.Log path) whole at is = (whole, (name, rows, at, inl is.0))
-wished_of words name rows (wish.Next from to) whole at is = (whole, (name, rows, at, inr is.0))
+wished_of words name rows (wish.Log path) whole at is = (whole, (name, rows, at, is.0, is.1))
+wished_of words name rows (wish.Next from to) whole at is = (whole, (name, rows, at, is.0, is.1, is.2))
 wished_of words name rows (wish.Explain word) whole at is = (whole, (name, rows, at, is.0, is.1))
 
 pub wished_from : (words : List (List ℕ)) (found : Option (Text × List Row)) → AreWhole words → found ≡ subcommand_of command_line words →

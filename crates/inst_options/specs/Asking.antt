@@ -8,7 +8,7 @@ use Rattle.inst_base.specs.declared.fault.Fault.TheVariants.{BadSettings, Memory
 use Rattle.inst_settings.specs.Settings.{HubSettings, same_text}
 use Rattle.inst_settings.specs.Lawful.{AreOfAHub, IsSettings}
 use Rattle.inst_options.specs.CommandLine.{command_line}
-use Rattle.inst_options.specs.Options.{Chooses, HasAHub, HasSmallNumbers, IsAboutLogs, IsFlag, IsTask, IsText, SpeaksOfALog, Task}
+use Rattle.inst_options.specs.Options.{Chooses, HasAHub, HasSmallNumbers, IsFlag, IsTask, IsText, NamesNoLog, NamesTheLog, SpeaksOfALog, Task}
 use Rattle.inst_options.specs.Options.Task.{Run, Play, Drill, Check}
 use Rattle.inst_options.specs.declared.bad_option.BadOption.{BadOption}
 use Rattle.inst_options.specs.declared.error.WordsError.{WordsError}
@@ -47,15 +47,31 @@ abbrev pub NameALog : List (List ℕ) → Type 0
 NameALog words = AreWhole words
     × ((name : List ℕ) × (rows : List Row) × (subcommand_of command_line words ≡ Some (name, rows)) × SpeaksOfALog name rows)
 
--- they name the subcommand `log` or `next`
-abbrev pub AskAboutLogs : List (List ℕ) → Type 0
-AskAboutLogs words = AreWhole words
-    × ((name : List ℕ) × (rows : List Row) × (subcommand_of command_line words ≡ Some (name, rows)) × IsAboutLogs name)
+-- they name it by this file, and say that so many of its replies are there already, or not how many
+abbrev pub NameTheLog : List (List ℕ) → List ℕ → Option ℕ → Type 0
+NameTheLog words path told =
+    (name : List ℕ) × (rows : List Row) × (subcommand_of command_line words ≡ Some (name, rows)) × NamesTheLog rows path told
 
--- they speak of one, where a log is given
-abbrev pub NameTheLog : List (List ℕ) → Option LogOptions → Type 0
-NameTheLog words None = Unit {0}
-NameTheLog words (Some log) = NameALog words
+-- no option of theirs names a log
+abbrev pub NameNoLog : List (List ℕ) → Type 0
+NameNoLog words = (name : List ℕ) × (rows : List Row) × (subcommand_of command_line words ≡ Some (name, rows)) × NamesNoLog rows
+
+-- they name this log, or none
+abbrev pub GiveTheLog : List (List ℕ) → Option LogOptions → Type 0
+GiveTheLog words None = NameNoLog words
+GiveTheLog words (Some log) = NameTheLog words log.path.now log.told
+
+-- the words are a whole command line, and ask what the log of this file has
+abbrev pub AskForTheLog : List (List ℕ) → List ℕ → Type 0
+AskForTheLog words path = AreWhole words
+    × ((name : List ℕ) × (rows : List Row) × (subcommand_of command_line words ≡ Some (name, rows))
+    × (same_text name (codes "log") ≡ true) × IsText (codes "file") rows path)
+
+-- the words are a whole command line, and ask for the log of the second file, which begins with the books of the first's
+abbrev pub AskForTheNext : List (List ℕ) → List ℕ → List ℕ → Type 0
+AskForTheNext words from to = AreWhole words
+    × ((name : List ℕ) × (rows : List Row) × (subcommand_of command_line words ≡ Some (name, rows))
+    × (same_text name (codes "next") ≡ true) × IsText (codes "log") rows from × IsText (codes "to") rows to)
 
 -- the words ask for a summary, or they don't
 abbrev pub AskForASummary : List (List ℕ) → Bool → Type 0
@@ -71,14 +87,14 @@ AskToExplain words word = AreWhole words
 -- the words ask for this
 abbrev pub IsWished : List (List ℕ) → Wish → Type 0
 IsWished words (wish.Run s log sums) =
-    IsSettings s × AreWhole words × AreChosen words Run s × NameTheLog words log × AskForASummary words sums
+    IsSettings s × AreWhole words × AreChosen words Run s × GiveTheLog words log × AskForASummary words sums
 IsWished words (wish.Play s log sums) =
-    IsSettings s × AreWhole words × AreChosen words Play s × NameTheLog words log × AskForASummary words sums
+    IsSettings s × AreWhole words × AreChosen words Play s × GiveTheLog words log × AskForASummary words sums
 IsWished words (wish.Drill s transfers openings) =
     IsSettings s × AreWhole words × AreChosen words (Drill transfers openings) s
 IsWished words (wish.Check s) = IsSettings s × AreWhole words × AreChosen words Check s
-IsWished words (wish.Log path) = AskAboutLogs words
-IsWished words (wish.Next from to) = AskAboutLogs words
+IsWished words (wish.Log path) = AskForTheLog words path.now
+IsWished words (wish.Next from to) = AskForTheNext words from.now to.now
 IsWished words (wish.Explain word) = AskToExplain words word.now
 
 -- the words are a whole command line for a hub, and choose no settings that one can have, or no task that fits

@@ -1,5 +1,5 @@
 -- The options of a subcommand, and the settings that their values choose. They are this hub's own choice.
-use Rattle.std.specs.Prelude.{◌⊎◌, ◌≡◌, ◌<◌, ◌^◌, ℕ, Bool, true, false, List, Some, None, codes}
+use Rattle.std.specs.Prelude.{◌⊎◌, ◌≡◌, ◌<◌, ◌≤◌, ◌^◌, ℕ, Bool, true, false, List, Option, Some, None, codes}
 use Rattle.std.specs.Str.Parse.{IsNumeral, digits_value, without_leading_plus}
 use Rattle.clap.specs.Words.{Row, Text, first_of, one_of}
 use Rattle.inst_settings.specs.Parts.{parts_of}
@@ -19,6 +19,10 @@ abbrev pub Gives : List Row → List ℕ → ℕ → Type 0
 Gives rows name n =
     (text : Text) × (one_of name rows ≡ Some text) × IsNumeral 10 (without_leading_plus text)
     × (n ≡ digits_value 10 (without_leading_plus text))
+
+-- the option has no text that is a number below this one
+abbrev pub GivesNoneBelow : ℕ → List Row → List ℕ → Type 0
+GivesNoneBelow bound rows name = (n : ℕ) → Gives rows name n → bound ≤ n
 
 -- the option has a text
 abbrev pub IsGiven : List ℕ → List Row → Type 0
@@ -46,6 +50,19 @@ HasAHub name =
 -- it is `log` or `next`, or an option is of a log
 abbrev pub SpeaksOfALog : List ℕ → List Row → Type 0
 SpeaksOfALog name rows = IsAboutLogs name ⊎ (IsGiven (codes "log") rows ⊎ IsGiven (codes "told") rows)
+
+-- the options say that so many replies are there already, or no number that a word can have
+abbrev pub GivesTold : List Row → Option ℕ → Type 0
+GivesTold rows None = GivesNoneBelow (2 ^ 64) rows (codes "told")
+GivesTold rows (Some n) = Gives rows (codes "told") n
+
+-- the options name a log by its file, with how many of its replies are there already
+abbrev pub NamesTheLog : List Row → List ℕ → Option ℕ → Type 0
+NamesTheLog rows path told = (first_of (codes "log") rows ≡ Some path) × GivesTold rows told
+
+-- they name none
+abbrev pub NamesNoLog : List Row → Type 0
+NamesNoLog rows = first_of (codes "log") rows ≡ None
 
 -- the options give a drill's numbers
 abbrev pub IsDrill : List Row → ℕ → ℕ → Type 0

@@ -1,9 +1,9 @@
 -- Worked command lines, computed from the definitions. This hub's own choice.
-use Rattle.std.specs.Prelude.{◌≡◌, ℕ, List, [], ◌∷◌, codes}
+use Rattle.std.specs.Prelude.{◌≡◌, ℕ, List, [], ◌∷◌, ◌++◌, Some, None, codes}
 use Rattle.clap.specs.declared.error.kind.ErrorKind.TheVariants.{DisplayHelp, DisplayVersion, MissingRequiredArgument, MissingSubcommand}
 use Rattle.inst_settings.specs.Settings.{HubSettings}
 use Rattle.inst_settings.specs.Lawful.{AreOfAHub, settings_with}
-use Rattle.inst_options.specs.Asking.{AreChosen, AreWhole, AskToExplain, faults_of}
+use Rattle.inst_options.specs.Asking.{AreChosen, AreWhole, AskForTheLog, AskForTheNext, AskToExplain, NameNoLog, NameTheLog, faults_of}
 use Rattle.inst_options.specs.Options.Task.{Run, Play, Drill}
 
 -- `inst_main run --participants AAAADEFF,BBBBFRPP --places 2`
@@ -32,6 +32,16 @@ pub record SmallHub : Type 0 where
   pub drill_whole : AreWhole small_drill
   pub drill_chosen : AreChosen small_drill (Drill 2 1) small_settings
   pub good : AreOfAHub small_settings
+
+-- the words of a run or a play with `--log hub.log`, with `--told 3` behind it and without; and those that speak of logs
+-- alone, `inst_main log hub.log` and `inst_main next --log hub.log --to next.log`
+pub record KeptHub : Type 0 where
+  pub whole : AreWhole (small_hub ++ codes "--log" ∷ codes "hub.log" ∷ [])
+  pub all_told : NameTheLog (small_hub ++ codes "--log" ∷ codes "hub.log" ∷ []) (codes "hub.log") None
+  pub some_told : NameTheLog (small_script ++ codes "--told" ∷ codes "3" ∷ codes "--log" ∷ codes "hub.log" ∷ []) (codes "hub.log") (Some 3)
+  pub none : NameNoLog small_hub
+  pub shown : AskForTheLog (codes "inst_main" ∷ codes "log" ∷ codes "hub.log" ∷ []) (codes "hub.log")
+  pub carried : AskForTheNext (codes "inst_main" ∷ codes "next" ∷ codes "--log" ∷ codes "hub.log" ∷ codes "--to" ∷ codes "next.log" ∷ []) (codes "hub.log") (codes "next.log")
 
 -- words that are no whole command line: `inst_main run`, `inst_main play`, `inst_main drill`, `inst_main`,
 -- `inst_main --help` and `inst_main --version`

@@ -3,9 +3,9 @@ ghost use Rattle.std.specs.Prelude.{◌≡◌, ◌^◌, ◌⊎◌, IfOk, IfErr, 
 ghost use Rattle.std.specs.Prelude.{codes};
 ghost use Rattle.clap.specs.Words.{first_of, found_of, rows_of};
 ghost use Rattle.inst_options.specs.Options.{HasAHub, SpeaksOfALog, IsText};
-ghost use Rattle.inst_options.specs.Options.{IsFlag, Gives, Chooses, IsDrill};
+ghost use Rattle.inst_options.specs.Options.{IsFlag, Gives, GivesNoneBelow, Chooses, IsDrill};
 ghost use Rattle.inst_options.specs.inner.Options.{GivesLog, TellsOfNoLog, IsWish};
-ghost use Rattle.inst_options.specs.inner.Options.{GivesNoneBelow, ChooseNone, AskForNone};
+ghost use Rattle.inst_options.specs.inner.Options.{ChooseNone, AskForNone};
 ghost use Rattle.inst_options.specs.Asking.{IsRefusal};
 ghost use Rattle.inst_settings.specs.Lawful.{IsSettings};
 

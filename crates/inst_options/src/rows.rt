@@ -1,10 +1,15 @@
 //! Worked command lines, computed from the definitions. Each is a function without a body whose
 //! contract is the row, so that the check computes it.
-ghost use Rattle.inst_options.specs.Rows.{SmallHub, NoHub, Explained};
+ghost use Rattle.inst_options.specs.Rows.{SmallHub, KeptHub, NoHub, Explained};
 
 /// Options that are given and options that aren't, and the settings that they choose.
 pub fn small_hub()
     ensures { SmallHub }
+{}
+
+/// Words that name logs, with what is told of them.
+pub fn kept_hub()
+    ensures { KeptHub }
 {}
 
 /// Words that are no whole command line, and what is wrong with them.

@@ -1,107 +1,142 @@
 -- What is left where the words' task is done, and where it ends otherwise.
-use Rattle.std.proofs.Common.{◌≡◌, inl, inr, ℕ, List, Option, Some, None, Result, Ok, Err, IfErr, IsErrAnd, sym, subst}
+use Rattle.std.proofs.Common.{◌≡◌, ◌⊎◌, inl, inr, ℕ, List, Option, Some, None, Result, Ok, Err, OnOk, IfErr, IsErrAnd, sym, subst}
+use Rattle.sqlite_disk.specs.declared.Disk.{Ghosts}
 use Rattle.inst_base.specs.declared.fault.Fault.{Fault}
 use Rattle.inst_settings.specs.Settings.{HubSettings}
 use Rattle.inst_settings.specs.Lawful.{IsSettings}
 use Rattle.inst_lines.specs.declared.mode.Mode.{Mode}
 use Rattle.inst_options.specs.Options.Task.{Drill, Check}
-use Rattle.inst_options.specs.Asking.{AreChosen, AreWhole, AskAboutLogs, AskToExplain, NameALog, NameTheLog}
+use Rattle.inst_options.specs.Asking.{AreChosen, AreWhole, AskForTheLog, AskForTheNext, AskToExplain, GiveTheLog, NameALog, NameTheLog}
 use Rattle.inst_options.specs.declared.wish.LogOptions.{LogOptions}
-use Rattle.inst_program.specs.Program.{AskForADrill, Checks, Drills, FailsAtLines, task_of}
-use Rattle.inst_program.specs.inner.Ending.{IsAnswered, IsEnding, IsServed, IsUnanswered, IsUnchecked, IsUndrilled, IsUnexplained, IsUnkept}
+use Rattle.inst_program.specs.Keeping.{KeepsAFront, KeepsLines}
+use Rattle.inst_program.specs.Program.{AskForADrill, Checks, Drills, FailsAtLines, FailsToKeep, HasKept, task_of}
+use Rattle.inst_program.specs.inner.Ending.{FailsWithALog, IsAnswered, IsEnding, IsServed, IsUnanswered, IsUnchecked, IsUndrilled, IsUnexplained, IsUnkept}
 use Rattle.inst_program.specs.declared.ending.Ending.{Ending}
 use Rattle.inst_program.specs.declared.ending.Ending.TheVariants as ending
 use Rattle.inst_program.proofs.Refusing.{undrillable}
 
+-- what is so anyhow
+pub on_ok : {A E : Type 0} (r : Result A E) (P : Type 0) → P → OnOk r P
+on_ok (Ok x) P p = p
+on_ok (Err e) P p = tt
+
 -- lines were answered, with a log or without
-pub answered : (words : List (List ℕ)) (mode : Mode) (s : HubSettings) (log : Option LogOptions) (unread : Type 0)
-    (left left' held held' : Option (List ℕ)) → IsSettings s → AreWhole words → AreChosen words (task_of mode) s → NameTheLog words log →
-    IsAnswered mode s log left left' held held' → IsServed words unread left left' held held'
-answered words mode s None unread left left' held held' lawful whole chosen named answers =
-    inl (record { mode = mode; settings = s; lawful = lawful; whole = whole; chosen = chosen; answers = answers })
-answered words mode s (Some log) unread left left' held held' lawful whole chosen named end =
-    inr (inl (record { mode = mode; settings = s; lawful = lawful; chosen = chosen; log = named; at_end = end }))
+pub answered : {D : Type 0} (disks : Ghosts D) (is_named : List ℕ → D → Type 0) (words : List (List ℕ)) (mode : Mode) (s : HubSettings) (log : Option LogOptions)
+    (unread shown : Type 0) (left left' held held' : Option (List ℕ)) → IsSettings s → AreWhole words → AreChosen words (task_of mode) s → GiveTheLog words log →
+    IsAnswered mode s (λ name told. KeepsLines disks is_named mode s name told left left' held held') log left left' held held' →
+    IsServed words unread (HasKept disks is_named words left left' held held') shown left left' held held'
+answered disks is_named words mode s None unread shown left left' held held' lawful whole chosen given answers =
+    inl (record { mode = mode; settings = s; lawful = lawful; whole = whole; chosen = chosen; unkept = given; answers = answers })
+answered disks is_named words mode s (Some log) unread shown left left' held held' lawful whole chosen given keeps =
+    inr (inl (record { mode = mode; settings = s; lawful = lawful; whole = whole; chosen = chosen; name = log.path.now; told = log.told; log = given; keeps = keeps }))
 
 -- a drill is done
-pub drilled : (words : List (List ℕ)) (s : HubSettings) (transfers openings : ℕ) (unread : Type 0)
+pub drilled : (words : List (List ℕ)) (s : HubSettings) (transfers openings : ℕ) (unread kept shown : Type 0)
     (left left' held held' : Option (List ℕ)) → IsSettings s → AreWhole words → AreChosen words (Drill transfers openings) s →
-    unread → Drills openings held held' → IsServed words unread left left' held held'
-drilled words s transfers openings unread left left' held held' lawful whole chosen still told =
+    unread → Drills openings held held' → IsServed words unread kept shown left left' held held'
+drilled words s transfers openings unread kept shown left left' held held' lawful whole chosen still told =
     let asks : AskForADrill words = record { settings = s; lawful = lawful; whole = whole; transfers = transfers; openings = openings; chosen = chosen } in
     inr (inr (inr (still, inl (asks, told))))
 
 -- a log wasn't taken, or its disk failed
-unkept : (words : List (List ℕ)) (unread unwritten untouched : Type 0) (fails : Fault → Type 0) (e : Ending) → NameALog words →
-    (untouched → unread × unwritten) → IsUnkept untouched e → IsEnding words unread unwritten fails e
-unkept words unread unwritten untouched fails (ending.Fault fault) named both is = inr (inr (inr (is, named)))
-unkept words unread unwritten untouched fails (ending.Log fault) named both is = (named, λ refused. both (is refused))
-unkept words unread unwritten untouched fails ending.Unexplained named both is = absurd is
+unkept : (words : List (List ℕ)) (unread unwritten untouched : Type 0) (fails : Fault → Type 0) (front : Type 0) (e : Ending) → NameALog words →
+    (untouched → unread × unwritten) → FailsWithALog words unread unwritten front → IsUnkept untouched e → IsEnding words unread unwritten fails front e
+unkept words unread unwritten untouched fails front (ending.Fault fault) named both how is = inr (inr (inr (is, how)))
+unkept words unread unwritten untouched fails front (ending.Log fault) named both how is = (named, (λ refused. both (is refused)), how)
+unkept words unread unwritten untouched fails front ending.Unexplained named both how is = absurd is
 
--- words about logs speak of one
-names_a_log : (words : List (List ℕ)) → AskAboutLogs words → NameALog words
-names_a_log words (whole, (name, rows, at, is)) = (whole, (name, rows, at, inl is))
+-- words with a log name one, and so do those that are of logs alone
+named_by : (words : List (List ℕ)) (name : List ℕ) (told : Option ℕ) → AreWhole words → NameTheLog words name told → NameALog words
+named_by words name told whole (sub, rows, at, named) = (whole, (sub, rows, at, inr (inl (name, named.0))))
 
--- what they ask about logs wasn't done
-pub unlogged_err : {A : Type 0} (words : List (List ℕ)) (unread unwritten untouched : Type 0) (fails : Fault → Type 0) (r : Result A Ending) → AskAboutLogs words →
-    (untouched → unread × unwritten) → IfErr r (IsUnkept untouched) → IfErr r (IsEnding words unread unwritten fails)
-unlogged_err words unread unwritten untouched fails (Ok x) asked both is = tt
-unlogged_err words unread unwritten untouched fails (Err e) asked both is = unkept words unread unwritten untouched fails e (names_a_log words asked) both is
+named_to_show : (words : List (List ℕ)) (name : List ℕ) → AskForTheLog words name → NameALog words
+named_to_show words name (whole, (sub, rows, at, is, text)) = (whole, (sub, rows, at, inl (inl is)))
+
+named_to_carry : (words : List (List ℕ)) (from to : List ℕ) → AskForTheNext words from to → NameALog words
+named_to_carry words from to (whole, (sub, rows, at, is, first, second)) = (whole, (sub, rows, at, inl (inr is)))
+
+-- it wasn't told what a log has
+pub unshown_err : {A : Type 0} (words : List (List ℕ)) (name : List ℕ) (unread unwritten : Type 0) (fails : Fault → Type 0) (front : Type 0) (r : Result A Ending) →
+    AskForTheLog words name → unread → IfErr r (IsUnkept unwritten) → IfErr r (IsEnding words unread unwritten fails front)
+unshown_err words name unread unwritten fails front (Ok x) asked still is = tt
+unshown_err words name unread unwritten fails front (Err e) asked still is =
+    unkept words unread unwritten unwritten fails front e (named_to_show words name asked) (λ same. (still, same)) (inr (inr (still, (name, asked)))) is
+
+-- the books of a log weren't carried over
+pub uncarried_err : {A : Type 0} (words : List (List ℕ)) (from to : List ℕ) (unread unwritten : Type 0) (fails : Fault → Type 0) (front : Type 0) (r : Result A Ending) →
+    AskForTheNext words from to → unread → unwritten → IfErr r (IsUnkept (Unit {0})) → IfErr r (IsEnding words unread unwritten fails front)
+uncarried_err words from to unread unwritten fails front (Ok x) asked still same is = tt
+uncarried_err words from to unread unwritten fails front (Err e) asked still same is =
+    unkept words unread unwritten (Unit {0}) fails front e (named_to_carry words from to asked) (λ any. (still, same)) (inl (still, same)) is
 
 -- lines weren't answered
-unanswered : (words : List (List ℕ)) (mode : Mode) (s : HubSettings) (log : Option LogOptions) (unread unwritten : Type 0)
-    (left left' held held' : Option (List ℕ)) (e : Ending) → IsSettings s → AreWhole words → AreChosen words (task_of mode) s → NameTheLog words log →
-    IsUnanswered mode s log (unread × unwritten) left left' held held' e → IsEnding words unread unwritten (FailsAtLines words left left' held held') e
-unanswered words mode s None unread unwritten left left' held held' (ending.Fault fault) lawful whole chosen named after =
-    inr (inl (inl (record { mode = mode; settings = s; lawful = lawful; whole = whole; chosen = chosen; after = after })))
-unanswered words mode s None unread unwritten left left' held held' (ending.Log fault) lawful whole chosen named is = absurd is
-unanswered words mode s None unread unwritten left left' held held' ending.Unexplained lawful whole chosen named is = absurd is
-unanswered words mode s (Some log) unread unwritten left left' held held' e lawful whole chosen named is =
-    unkept words unread unwritten (unread × unwritten) (FailsAtLines words left left' held held') e named (λ both. both) is
+module _ {D : Type 0} (disks : Ghosts D) (is_named : List ℕ → D → Type 0) where
+  front_of : (words : List (List ℕ)) (mode : Mode) (s : HubSettings) (log : LogOptions) (unread unwritten : Type 0) (left left' held held' : Option (List ℕ)) →
+      IsSettings s → AreWhole words → AreChosen words (task_of mode) s → NameTheLog words log.path.now log.told →
+      (unread × unwritten) ⊎ KeepsAFront disks is_named mode s log.path.now log.told left left' held held' →
+      FailsWithALog words unread unwritten (FailsToKeep disks is_named words left left' held held')
+  front_of words mode s log unread unwritten left left' held held' lawful whole chosen named (inl untouched) = inl untouched
+  front_of words mode s log unread unwritten left left' held held' lawful whole chosen named (inr front) =
+      inr (inl (record { mode = mode; settings = s; lawful = lawful; whole = whole; chosen = chosen; name = log.path.now; told = log.told; log = named; keeps = front }))
 
-pub unanswered_err : {A : Type 0} (words : List (List ℕ)) (mode : Mode) (s : HubSettings) (log : Option LogOptions) (unread unwritten : Type 0)
-    (left left' held held' : Option (List ℕ)) (r : Result A Ending) → IsSettings s → AreWhole words → AreChosen words (task_of mode) s → NameTheLog words log →
-    IfErr r (IsUnanswered mode s log (unread × unwritten) left left' held held') → IfErr r (IsEnding words unread unwritten (FailsAtLines words left left' held held'))
-unanswered_err words mode s log unread unwritten left left' held held' (Ok x) lawful whole chosen named is = tt
-unanswered_err words mode s log unread unwritten left left' held held' (Err e) lawful whole chosen named is =
-    unanswered words mode s log unread unwritten left left' held held' e lawful whole chosen named is
+  unanswered : (words : List (List ℕ)) (mode : Mode) (s : HubSettings) (log : Option LogOptions) (unread unwritten : Type 0)
+      (left left' held held' : Option (List ℕ)) (e : Ending) → IsSettings s → AreWhole words → AreChosen words (task_of mode) s → GiveTheLog words log →
+      IsUnanswered mode s (unread × unwritten) (λ name told. KeepsAFront disks is_named mode s name told left left' held held') log left left' held held' e →
+      IsEnding words unread unwritten (FailsAtLines words left left' held held') (FailsToKeep disks is_named words left left' held held') e
+  unanswered words mode s None unread unwritten left left' held held' (ending.Fault fault) lawful whole chosen given after =
+      inr (inl (inl (record { mode = mode; settings = s; lawful = lawful; whole = whole; chosen = chosen; unkept = given; after = after })))
+  unanswered words mode s None unread unwritten left left' held held' (ending.Log fault) lawful whole chosen given is = absurd is
+  unanswered words mode s None unread unwritten left left' held held' ending.Unexplained lawful whole chosen given is = absurd is
+  unanswered words mode s (Some log) unread unwritten left left' held held' e lawful whole chosen named is =
+      unkept words unread unwritten (unread × unwritten) (FailsAtLines words left left' held held') (FailsToKeep disks is_named words left left' held held') e
+      (named_by words log.path.now log.told whole named) (λ both. both)
+      (front_of words mode s log unread unwritten left left' held held' lawful whole chosen named is.1) is.0
+
+  pub unanswered_err : {A : Type 0} (words : List (List ℕ)) (mode : Mode) (s : HubSettings) (log : Option LogOptions) (unread unwritten : Type 0)
+      (left left' held held' : Option (List ℕ)) (r : Result A Ending) → IsSettings s → AreWhole words → AreChosen words (task_of mode) s → GiveTheLog words log →
+      IfErr r (IsUnanswered mode s (unread × unwritten) (λ name told. KeepsAFront disks is_named mode s name told left left' held held') log left left' held held') →
+      IfErr r (IsEnding words unread unwritten (FailsAtLines words left left' held held') (FailsToKeep disks is_named words left left' held held'))
+  unanswered_err words mode s log unread unwritten left left' held held' (Ok x) lawful whole chosen given is = tt
+  unanswered_err words mode s log unread unwritten left left' held held' (Err e) lawful whole chosen given is =
+      unanswered words mode s log unread unwritten left left' held held' e lawful whole chosen given is
 
 -- a drill that no hub of these settings can do, or that failed
-undrilled : (words : List (List ℕ)) (s : HubSettings) (transfers openings : ℕ) (unread unwritten : Type 0) (fails : Fault → Type 0) (fault : Fault) →
+undrilled : (words : List (List ℕ)) (s : HubSettings) (transfers openings : ℕ) (unread unwritten : Type 0) (fails : Fault → Type 0) (front : Type 0) (fault : Fault) →
     IsSettings s → AreWhole words → AreChosen words (Drill transfers openings) s → unread → IsUndrilled s transfers openings unwritten fault →
-    IsEnding words unread unwritten fails (ending.Fault fault)
-undrilled words s transfers openings unread unwritten fails fault lawful whole chosen still (inl bad) =
+    IsEnding words unread unwritten fails front (ending.Fault fault)
+undrilled words s transfers openings unread unwritten fails front fault lawful whole chosen still (inl bad) =
     inl (bad.0, still, bad.1, undrillable words s transfers openings whole chosen bad.2)
-undrilled words s transfers openings unread unwritten fails fault lawful whole chosen still (inr failed) =
+undrilled words s transfers openings unread unwritten fails front fault lawful whole chosen still (inr failed) =
     let asks : AskForADrill words = record { settings = s; lawful = lawful; whole = whole; transfers = transfers; openings = openings; chosen = chosen } in
     inr (inr (inl (failed, still, inl asks)))
 
-pub undrilled_err : {A : Type 0} (words : List (List ℕ)) (s : HubSettings) (transfers openings : ℕ) (unread unwritten : Type 0) (fails : Fault → Type 0)
+pub undrilled_err : {A : Type 0} (words : List (List ℕ)) (s : HubSettings) (transfers openings : ℕ) (unread unwritten : Type 0) (fails : Fault → Type 0) (front : Type 0)
     (r : Result A Ending) (fault : Fault) → IsErrAnd r (λ e. e ≡ ending.Fault fault) → IsSettings s → AreWhole words → AreChosen words (Drill transfers openings) s →
-    unread → IsUndrilled s transfers openings unwritten fault → IfErr r (IsEnding words unread unwritten fails)
-undrilled_err words s transfers openings unread unwritten fails (Ok x) fault is lawful whole chosen still after = tt
-undrilled_err words s transfers openings unread unwritten fails (Err e) fault is lawful whole chosen still after =
-    subst (IsEnding words unread unwritten fails) (sym is) (undrilled words s transfers openings unread unwritten fails fault lawful whole chosen still after)
+    unread → IsUndrilled s transfers openings unwritten fault → IfErr r (IsEnding words unread unwritten fails front)
+undrilled_err words s transfers openings unread unwritten fails front (Ok x) fault is lawful whole chosen still after = tt
+undrilled_err words s transfers openings unread unwritten fails front (Err e) fault is lawful whole chosen still after =
+    subst (IsEnding words unread unwritten fails front) (sym is) (undrilled words s transfers openings unread unwritten fails front fault lawful whole chosen still after)
 
 -- a fault wasn't explained
-pub unexplained_err : {A : Type 0} (words : List (List ℕ)) (word : List ℕ) (unread unwritten : Type 0) (fails : Fault → Type 0) (r : Result A Ending) →
-    AskToExplain words word → unread → IfErr r (IsUnexplained word unwritten) → IfErr r (IsEnding words unread unwritten fails)
-unexplained_err words word unread unwritten fails (Ok x) asked still is = tt
-unexplained_err words word unread unwritten fails (Err (ending.Fault fault)) asked still is = inr (inr (inl (inr is, still, inr (word, asked))))
-unexplained_err words word unread unwritten fails (Err (ending.Log fault)) asked still is = absurd is
-unexplained_err words word unread unwritten fails (Err ending.Unexplained) asked still is = (still, is.0, (word, asked, is.1))
+pub unexplained_err : {A : Type 0} (words : List (List ℕ)) (word : List ℕ) (unread unwritten : Type 0) (fails : Fault → Type 0) (front : Type 0) (r : Result A Ending) →
+    AskToExplain words word → unread → IfErr r (IsUnexplained word unwritten) → IfErr r (IsEnding words unread unwritten fails front)
+unexplained_err words word unread unwritten fails front (Ok x) asked still is = tt
+unexplained_err words word unread unwritten fails front (Err (ending.Fault fault)) asked still is = inr (inr (inl (inr is.0, still, inr (word, asked, is.1))))
+unexplained_err words word unread unwritten fails front (Err (ending.Log fault)) asked still is = absurd is
+unexplained_err words word unread unwritten fails front (Err ending.Unexplained) asked still is = (still, is.0, (word, asked, is.1))
 
 -- lines were checked
-pub checked : (words : List (List ℕ)) (s : HubSettings) (unread : Type 0) (left left' held held' : Option (List ℕ)) →
-    IsSettings s → AreWhole words → AreChosen words Check s → Checks s left left' held held' → IsServed words unread left left' held held'
-checked words s unread left left' held held' lawful whole chosen checks =
+pub checked : (words : List (List ℕ)) (s : HubSettings) (unread kept shown : Type 0) (left left' held held' : Option (List ℕ)) →
+    IsSettings s → AreWhole words → AreChosen words Check s → Checks s left left' held held' → IsServed words unread kept shown left left' held held'
+checked words s unread kept shown left left' held held' lawful whole chosen checks =
     inr (inr (inl (record { settings = s; lawful = lawful; whole = whole; chosen = chosen; checks = checks })))
 
 -- they weren't
-pub unchecked_err : {A : Type 0} (words : List (List ℕ)) (s : HubSettings) (unread unwritten : Type 0) (left left' held held' : Option (List ℕ)) (r : Result A Ending) →
+pub unchecked_err : {A : Type 0} (words : List (List ℕ)) (s : HubSettings) (unread unwritten front : Type 0) (left left' held held' : Option (List ℕ)) (r : Result A Ending) →
     IsSettings s → AreWhole words → AreChosen words Check s → IfErr r (IsUnchecked s left held held') →
-    IfErr r (IsEnding words unread unwritten (FailsAtLines words left left' held held'))
-unchecked_err words s unread unwritten left left' held held' (Ok x) lawful whole chosen is = tt
-unchecked_err words s unread unwritten left left' held held' (Err (ending.Fault fault)) lawful whole chosen is =
+    IfErr r (IsEnding words unread unwritten (FailsAtLines words left left' held held') front)
+unchecked_err words s unread unwritten front left left' held held' (Ok x) lawful whole chosen is = tt
+unchecked_err words s unread unwritten front left left' held held' (Err (ending.Fault fault)) lawful whole chosen is =
     inr (inl (inr (is.0, record { settings = s; lawful = lawful; whole = whole; chosen = chosen; part = is.1 })))
-unchecked_err words s unread unwritten left left' held held' (Err (ending.Log fault)) lawful whole chosen is = absurd is
-unchecked_err words s unread unwritten left left' held held' (Err ending.Unexplained) lawful whole chosen is = absurd is
+unchecked_err words s unread unwritten front left left' held held' (Err (ending.Log fault)) lawful whole chosen is = absurd is
+unchecked_err words s unread unwritten front left left' held held' (Err ending.Unexplained) lawful whole chosen is = absurd is

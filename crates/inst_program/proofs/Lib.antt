@@ -1,3 +1,4 @@
+pub mod Behind
 pub mod Refusing
 pub mod Doing
 pub mod Serving

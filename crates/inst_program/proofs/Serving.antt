@@ -10,8 +10,8 @@ use Rattle.clap.specs.declared.error.kind.ErrorKind.TheVariants.{DisplayHelp, Di
 use Rattle.inst_options.specs.Asking.{AreUnfit, AreWrong, AskForHelp, IsNoWish, IsRefusal, NameALog, faults_of}
 use Rattle.inst_options.specs.declared.error.WordsError.{WordsError}
 use Rattle.inst_options.specs.declared.error.WordsError.TheVariants as error
-use Rattle.inst_program.specs.Program.{status_of, AreRefused, AskForADrill, AskForAnExplanation, NameNoFault, FailsAtLines}
-use Rattle.inst_program.specs.inner.Ending.{status_of_ending, status_of_error, status_of_kind, IsEnding}
+use Rattle.inst_program.specs.Program.{status_of, AreRefused, AskForADrill, AskForALog, AskForAnExplanation, NameNoFault, FailsAtLines}
+use Rattle.inst_program.specs.inner.Ending.{status_of_ending, status_of_error, status_of_kind, FailsWithALog, IsEnding}
 use Rattle.inst_program.specs.declared.ending.Ending.{Ending}
 use Rattle.inst_program.specs.declared.ending.Ending.TheVariants as ending
 use Rattle.inst_program.proofs.Refusing.{refused}
@@ -34,10 +34,10 @@ no_settings a start before now bytes fault is h = subst (Leaves a start before b
 abbrev Refused : List (List ℕ) → Type 0
 Refused words = AreWrong words ⊎ (AreRefused words ⊎ (NameALog words ⊎ NameNoFault words))
 
-abbrev Failed : List (List ℕ) → Type 0 → Type 0 → Option (List ℕ) → Option (List ℕ) → Option (List ℕ) → Option (List ℕ) → Type 0
-Failed words unread unwritten left left' held held' =
+abbrev Failed : List (List ℕ) → Type 0 → Type 0 → Type 0 → Option (List ℕ) → Option (List ℕ) → Option (List ℕ) → Option (List ℕ) → Type 0
+Failed words unread unwritten front left left' held held' =
     (unread × unwritten) ⊎ (((fault : Fault) × FailsAtLines words left left' held held' fault)
-    ⊎ ((unread × (AskForADrill words ⊎ AskForAnExplanation words)) ⊎ NameALog words))
+    ⊎ (front ⊎ (unread × (AskForADrill words ⊎ (AskForAnExplanation words ⊎ AskForALog words)))))
 
 pub two_is_not_zero : ◌≡◌ {A = ℕ} 2 0 → ⊥
 two_is_not_zero is = omega (arith, is)
@@ -49,13 +49,17 @@ no_fault_is_zero : (fault : Fault) → status_of fault ≡ 0 → ⊥
 no_fault_is_zero BadSettings is = two_is_not_zero is
 no_fault_is_zero _ is = three_is_not_zero is
 
+or_more : (A B C : Type 0) → A ⊎ B → A ⊎ (B ⊎ C)
+or_more A B C (inl a) = inl a
+or_more A B C (inr b) = inr (inl b)
+
 -- words whose task wasn't done
-module _ (words : List (List ℕ)) (unread unwritten : Type 0) (left left' held held' : Option (List ℕ)) where
+module _ (words : List (List ℕ)) (unread unwritten front : Type 0) (left left' held held' : Option (List ℕ)) where
   of_failed : (fault : Fault) → fault ≡ BadSettings → (fault ≡ Memory) ⊎ (fault ≡ WriteFault) → ⊥
   of_failed fault bad (inl memory) = cc (memory, bad)
   of_failed fault bad (inr write) = cc (write, bad)
 
-  of_fault : (fault : Fault) → fault ≡ BadSettings → IsEnding words unread unwritten (FailsAtLines words left left' held held') (ending.Fault fault)
+  of_fault : (fault : Fault) → fault ≡ BadSettings → IsEnding words unread unwritten (FailsAtLines words left left' held held') front (ending.Fault fault)
       → unread × unwritten × Refused words
   of_fault fault bad (inl h) = (h.1, h.2, inr (inl h.3))
   of_fault fault bad (inr (inl (inl f))) = absurd (no_settings _ _ _ _ f.after.bytes fault bad f.after.leaves)
@@ -63,19 +67,24 @@ module _ (words : List (List ℕ)) (unread unwritten : Type 0) (left left' held 
   of_fault fault bad (inr (inr (inl h))) = absurd (of_failed fault bad h.0)
   of_fault fault bad (inr (inr (inr h))) = absurd (h.0 bad)
 
-  pub refused_ending : (e : Ending) → status_of_ending e ≡ 2 → IsEnding words unread unwritten (FailsAtLines words left left' held held') e
+  pub refused_ending : (e : Ending) → status_of_ending e ≡ 2 → IsEnding words unread unwritten (FailsAtLines words left left' held held') front e
       → unread × unwritten × Refused words
   refused_ending (ending.Fault fault) is h = of_fault fault (only_settings fault is) h
   refused_ending (ending.Log fault) is h = let both = h.1 is in (both.0, both.1, inr (inr (inl h.0)))
   refused_ending ending.Unexplained is h = (h.0, h.1, inr (inr (inr h.2)))
 
-  pub failed_ending : (e : Ending) → IsEnding words unread unwritten (FailsAtLines words left left' held held') e
-      → Failed words unread unwritten left left' held held'
+  of_log : FailsWithALog words unread unwritten front → Failed words unread unwritten front left left' held held'
+  of_log (inl untouched) = inl untouched
+  of_log (inr (inl part)) = inr (inr (inl part))
+  of_log (inr (inr (still, asks))) = inr (inr (inr (still, inr (inr asks))))
+
+  pub failed_ending : (e : Ending) → IsEnding words unread unwritten (FailsAtLines words left left' held held') front e
+      → Failed words unread unwritten front left left' held held'
   failed_ending (ending.Fault fault) (inl h) = inl (h.1, h.2)
   failed_ending (ending.Fault fault) (inr (inl f)) = inr (inl (fault, f))
-  failed_ending (ending.Fault fault) (inr (inr (inl h))) = inr (inr (inl (h.1, h.2)))
-  failed_ending (ending.Fault fault) (inr (inr (inr h))) = inr (inr (inr h.1))
-  failed_ending (ending.Log fault) h = inr (inr (inr h.0))
+  failed_ending (ending.Fault fault) (inr (inr (inl h))) = inr (inr (inr (h.1, or_more (AskForADrill words) (AskForAnExplanation words) (AskForALog words) h.2)))
+  failed_ending (ending.Fault fault) (inr (inr (inr h))) = of_log h.1
+  failed_ending (ending.Log fault) h = of_log h.2
   failed_ending ending.Unexplained h = inl (h.0, h.1)
 
 -- words that ask for nothing that can be done

@@ -3,6 +3,7 @@ use Rattle.std.specs.Prelude.{◌≡◌, ◌≢◌, ◌⊎◌, ◌++◌, ◌∷�
 use Rattle.std.specs.Fmt.{decimal}
 use Rattle.std.specs.Io.KnownBytes.{Appends, IsAtEnd}
 use Rattle.clap.specs.Words.{Row, subcommand_of}
+use Rattle.sqlite_disk.specs.declared.Disk.{Ghosts}
 use Rattle.inst_base.specs.declared.fault.Fault.{Fault}
 use Rattle.inst_base.specs.declared.fault.Fault.TheVariants.{BadSettings}
 use Rattle.inst_settings.specs.Settings.{HubSettings}
@@ -23,7 +24,8 @@ use Rattle.inst_faults.specs.declared.any_fault.AnyFault.{AnyFault}
 use Rattle.inst_options.specs.CommandLine.{command_line}
 use Rattle.inst_options.specs.Options.{HasAHub, Task}
 use Rattle.inst_options.specs.Options.Task.{Run, Play, Drill, Check}
-use Rattle.inst_options.specs.Asking.{AreChosen, AreWhole, AskToExplain, NameALog}
+use Rattle.inst_options.specs.Asking.{AreChosen, AreWhole, AskForTheLog, AskForTheNext, AskToExplain, NameNoLog, NameTheLog}
+use Rattle.inst_program.specs.Keeping.{KeepsAFront, KeepsLines, TellsOfTheLog}
 
 -- the exit status for a fault
 abbrev pub status_of : Fault → ℕ
@@ -65,13 +67,14 @@ pub record Answers (mode : Mode) (settings : HubSettings) (left left' held held'
   pub headline : IfSome left (λ bytes. LinesKeepTheHeadline (answering mode) settings (lines_of bytes))
 
 -- a hub of the settings that the words choose answered, as the words ask for, all that the reader had left, and wrote
--- the replies alone
+-- the replies alone; they name no log
 pub record Serves (words : List (List ℕ)) (left left' held held' : Option (List ℕ)) : Type 0 where
   pub mode : Mode
   pub settings : HubSettings
   pub lawful : IsSettings settings
   pub whole : AreWhole words
   pub chosen : AreChosen words (task_of mode) settings
+  pub unkept : NameNoLog words
   pub answers : Answers mode settings left left' held held'
 
 -- a hub of the settings that the words choose was ended by this fault, as it answered lines
@@ -81,6 +84,7 @@ pub record Fails (words : List (List ℕ)) (left left' held held' : Option (List
   pub lawful : IsSettings settings
   pub whole : AreWhole words
   pub chosen : AreChosen words (task_of mode) settings
+  pub unkept : NameNoLog words
   pub after : FailsAfter (answering mode) (opened settings) held held' left left' fault
 
 -- all that the reader had left was read, and told of each of its lines that no hub of these settings takes, and that alone
@@ -119,13 +123,42 @@ abbrev pub HasDrilled : List (List ℕ) → Option (List ℕ) → Option (List �
 HasDrilled words held held' = (asked : AskForADrill words) × Drills asked.openings held held'
 
 -- a hub of the settings that the words choose, with the log that they name, answered all that the reader had left
-pub record HasKept (words : List (List ℕ)) (left' : Option (List ℕ)) : Type 0 where
+pub record HasKept {D : Type 0} (disks : Ghosts D) (is_named : List ℕ → D → Type 0)
+    (words : List (List ℕ)) (left left' held held' : Option (List ℕ)) : Type 0 where
   pub mode : Mode
   pub settings : HubSettings
   pub lawful : IsSettings settings
+  pub whole : AreWhole words
   pub chosen : AreChosen words (task_of mode) settings
-  pub log : NameALog words
-  pub at_end : IsAtEnd left'
+  pub name : List ℕ
+  pub told : Option ℕ
+  pub log : NameTheLog words name told
+  pub keeps : KeepsLines disks is_named mode settings name told left left' held held'
+
+-- or some of it
+pub record FailsToKeep {D : Type 0} (disks : Ghosts D) (is_named : List ℕ → D → Type 0)
+    (words : List (List ℕ)) (left left' held held' : Option (List ℕ)) : Type 0 where
+  pub mode : Mode
+  pub settings : HubSettings
+  pub lawful : IsSettings settings
+  pub whole : AreWhole words
+  pub chosen : AreChosen words (task_of mode) settings
+  pub name : List ℕ
+  pub told : Option ℕ
+  pub log : NameTheLog words name told
+  pub keeps : KeepsAFront disks is_named mode settings name told left left' held held'
+
+-- the words ask what a log has
+abbrev pub AskForALog : List (List ℕ) → Type 0
+AskForALog words = (name : List ℕ) × AskForTheLog words name
+
+-- and it was told
+abbrev pub HasShown : {D : Type 0} → Ghosts D → (List ℕ → D → Type 0) → List (List ℕ) → Option (List ℕ) → Option (List ℕ) → Type 0
+HasShown disks is_named words held held' = (name : List ℕ) × AskForTheLog words name × TellsOfTheLog disks is_named name held held'
+
+-- they ask for a log that begins with the books of another
+abbrev pub AskForANext : List (List ℕ) → Type 0
+AskForANext words = (from : List ℕ) × (to : List ℕ) × AskForTheNext words from to
 
 -- a fault's number and name, what it usually means, and what to do
 abbrev pub explanation_text : ℕ → List ℕ → List ℕ → List ℕ → List ℕ
@@ -139,11 +172,11 @@ Explains word held held' =
     (fault : AnyFault) × (meaning : List ℕ) × (advice : List ℕ) × IsNamed word fault
     × Appends held held' (explanation_text (number_of fault) (name_of fault) meaning advice)
 
--- the words ask for an explanation
+-- the words ask for the explanation of a fault that there is
 abbrev pub AskForAnExplanation : List (List ℕ) → Type 0
-AskForAnExplanation words = (word : List ℕ) × AskToExplain words word
+AskForAnExplanation words = (word : List ℕ) × AskToExplain words word × ((fault : AnyFault) × IsNamed word fault)
 
--- and the writer got it
+-- they ask for one, and the writer got it
 abbrev pub HasExplained : List (List ℕ) → Option (List ℕ) → Option (List ℕ) → Type 0
 HasExplained words held held' = (word : List ℕ) × AskToExplain words word × Explains word held held'
 

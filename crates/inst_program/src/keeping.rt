@@ -1,6 +1,6 @@
 //! Runs with a log.
-ghost use Rattle.std.specs.Prelude.{◌≡◌, OnOk, IfErr};
-ghost use Rattle.std.specs.Io.KnownBytes.{IsAtEnd};
+ghost use Rattle.std.specs.Prelude.{◌≡◌, ◌⊎◌, OnOk, OnErr, IfErr};
+ghost use Rattle.inst_program.specs.Keeping.{KeepsAFront, KeepsLines};
 ghost use Rattle.inst_program.specs.inner.Ending.{IsUnkept};
 
 use crate::ending::{Ending, ending_of};
@@ -28,8 +28,14 @@ pub(crate) fn keep<L: Logs, R: Read, W: Write, E: Write>(
     writer: &mut W,
     errors: &mut E,
 ) -> Result<(), Ending>
-    ensures end { OnOk result (IsAtEnd (R.remaining reader.new)) }
+    ensures ok { OnOk result (KeepsLines L.Log.Disk (L.is_named logs.now)
+        mode settings.now log.entry.path.now log.entry.told
+        (R.remaining reader.old) (R.remaining reader.new) (W.contents writer.old) (W.contents writer.new)) }
     ensures err { IfErr result (IsUnkept ((reader.new ≡ reader.old) × (writer.new ≡ writer.old))) }
+    ensures front { OnErr result (((reader.new ≡ reader.old) × (writer.new ≡ writer.old))
+        ⊎ KeepsAFront L.Log.Disk (L.is_named logs.now)
+        mode settings.now log.entry.path.now log.entry.told
+        (R.remaining reader.old) (R.remaining reader.new) (W.contents writer.old) (W.contents writer.new)) }
 {
     let disk = logs.open(log.path)?;
     let mut hub = LoggedHub::of_log(alloc, mode, settings, disk).map_err(ending_of)?;

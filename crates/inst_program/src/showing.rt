@@ -1,5 +1,6 @@
 //! What a log has.
-ghost use Rattle.std.specs.Prelude.{◌≡◌, IfErr};
+ghost use Rattle.std.specs.Prelude.{◌≡◌, OnOk, IfErr};
+ghost use Rattle.inst_program.specs.Keeping.{TellsOfTheLog};
 ghost use Rattle.inst_program.specs.inner.Ending.{IsUnkept};
 
 use crate::ending::{Ending, ending_of};
@@ -18,6 +19,7 @@ pub(crate) fn show<L: Logs, W: Write>(
     path: &str,
     writer: &mut W,
 ) -> Result<(), Ending>
+    ensures ok { OnOk result (TellsOfTheLog L.Log.Disk (L.is_named logs.now) path.now (W.contents writer.old) (W.contents writer.new)) }
     ensures err { IfErr result (IsUnkept (writer.new ≡ writer.old)) }
 {
     if !logs.has(path)? {

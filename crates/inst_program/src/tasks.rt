@@ -4,12 +4,14 @@ ghost use Rattle.std.specs.IoError.{error_kind};
 ghost use Rattle.inst_base.specs.declared.fault.Fault.{Fault as SomeFault};
 ghost use Rattle.inst_lines.specs.Answering.{answering, opened};
 ghost use Rattle.inst_lines.specs.Session.{FailsAfter};
-ghost use Rattle.inst_options.specs.Asking.{AskAboutLogs, AskForHelp, AreWrong, IsWished, NameALog};
+ghost use Rattle.inst_options.specs.Asking.{AskForHelp, AreWrong, IsWished, NameALog};
+ghost use Rattle.inst_program.specs.Keeping.{KeepsAFront, KeepsLines};
 ghost use Rattle.inst_program.specs.Program.{status_of};
 ghost use Rattle.inst_program.specs.inner.Ending.{status_of_error, status_of_ending};
 ghost use Rattle.inst_program.specs.Program.{Answers, Serves, Checks, HasKept, HasChecked, HasDrilled, HasExplained};
-ghost use Rattle.inst_program.specs.Program.{FailsAtLines};
+ghost use Rattle.inst_program.specs.Program.{FailsAtLines, FailsToKeep};
 ghost use Rattle.inst_program.specs.Program.{AreRefused, AskForADrill, AskForAnExplanation, NameNoFault};
+ghost use Rattle.inst_program.specs.Program.{AskForALog, AskForANext, HasShown};
 ghost use Rattle.inst_program.specs.inner.Ending.{IsServed, IsEnding};
 ghost use Rattle.inst_program.specs.Program.{Drills, Explains};
 ghost use Rattle.inst_program.specs.inner.Ending.{IsAnswered, IsUnanswered, IsUndrilled, IsUnchecked, IsUnexplained};
@@ -60,13 +62,16 @@ pub fn program<H: Threads + Wait + Sync, L: Logs, R: Read, W: Write, E: Write>(
     // a drill, for what a log has or the next one, or for an explanation, and it is done.
     ensures served { result ≡ 0 → Serves (map string_bytes words.items)
         (R.remaining reader.old) (R.remaining reader.new) (W.contents writer.old) (W.contents writer.new)
-        ⊎ (HasKept (map string_bytes words.items) (R.remaining reader.new)
+        ⊎ (HasKept L.Log.Disk (L.is_named logs.now)
+        (map string_bytes words.items)
+        (R.remaining reader.old) (R.remaining reader.new) (W.contents writer.old) (W.contents writer.new)
         ⊎ (HasChecked (map string_bytes words.items)
         (R.remaining reader.old) (R.remaining reader.new) (W.contents writer.old) (W.contents writer.new)
         ⊎ ((reader.new ≡ reader.old) × (AskForHelp (map string_bytes words.items)
         ⊎ (HasDrilled (map string_bytes words.items) (W.contents writer.old) (W.contents writer.new)
-        ⊎ (AskAboutLogs (map string_bytes words.items)
-        ⊎ HasExplained (map string_bytes words.items) (W.contents writer.old) (W.contents writer.new))))))) }
+        ⊎ (HasShown L.Log.Disk (L.is_named logs.now) (map string_bytes words.items) (W.contents writer.old) (W.contents writer.new)
+        ⊎ (AskForANext (map string_bytes words.items)
+        ⊎ HasExplained (map string_bytes words.items) (W.contents writer.old) (W.contents writer.new)))))))) }
 
     // The words are wrong, or they are whole and choose no settings that a hub can have and do the task with, or they
     // name a log that isn't taken, or a fault that there isn't.
@@ -74,13 +79,16 @@ pub fn program<H: Threads + Wait + Sync, L: Logs, R: Read, W: Write, E: Write>(
         × (AreWrong (map string_bytes words.items) ⊎ (AreRefused (map string_bytes words.items)
         ⊎ (NameALog (map string_bytes words.items) ⊎ NameNoFault (map string_bytes words.items)))) }
 
-    // Memory was wanting before a run, or a run has failed, or what reads nothing: a drill, a log, or an explanation.
+    // Nothing was read or written, or a run has failed, without a log or with one, or what reads nothing: a drill, an
+    // explanation, or the telling of what a log has.
     ensures failed { result ≡ 3 → ((reader.new ≡ reader.old) × (writer.new ≡ writer.old))
         ⊎ (((fault : SomeFault) × FailsAtLines (map string_bytes words.items)
         (R.remaining reader.old) (R.remaining reader.new) (W.contents writer.old) (W.contents writer.new) fault)
-        ⊎ (((reader.new ≡ reader.old) × (AskForADrill (map string_bytes words.items)
-        ⊎ AskForAnExplanation (map string_bytes words.items)))
-        ⊎ NameALog (map string_bytes words.items))) }
+        ⊎ (FailsToKeep L.Log.Disk (L.is_named logs.now)
+        (map string_bytes words.items)
+        (R.remaining reader.old) (R.remaining reader.new) (W.contents writer.old) (W.contents writer.new)
+        ⊎ ((reader.new ≡ reader.old) × (AskForADrill (map string_bytes words.items)
+        ⊎ (AskForAnExplanation (map string_bytes words.items) ⊎ AskForALog (map string_bytes words.items)))))) }
 {
     match wished(alloc, &words) {
         Ok(wish) => match serve(rt, logs, alloc, wish, reader, writer, errors, is_watched) {
@@ -187,10 +195,15 @@ fn serve<H: Threads + Wait + Sync, L: Logs, R: Read, W: Write, E: Write>(
     is_watched: bool,
 ) -> Result<(), Ending>
     ensures ok { (words : List (List ℕ)) → IsWished words wish.entry → OnOk result (IsServed words (reader.new ≡ reader.old)
+        (HasKept L.Log.Disk (L.is_named logs.now) words
+        (R.remaining reader.old) (R.remaining reader.new) (W.contents writer.old) (W.contents writer.new))
+        (HasShown L.Log.Disk (L.is_named logs.now) words (W.contents writer.old) (W.contents writer.new))
         (R.remaining reader.old) (R.remaining reader.new) (W.contents writer.old) (W.contents writer.new)) }
     ensures err { (words : List (List ℕ)) → IsWished words wish.entry → IfErr result (IsEnding words
         (reader.new ≡ reader.old) (writer.new ≡ writer.old)
-        (FailsAtLines words (R.remaining reader.old) (R.remaining reader.new) (W.contents writer.old) (W.contents writer.new))) }
+        (FailsAtLines words (R.remaining reader.old) (R.remaining reader.new) (W.contents writer.old) (W.contents writer.new))
+        (FailsToKeep L.Log.Disk (L.is_named logs.now) words
+        (R.remaining reader.old) (R.remaining reader.new) (W.contents writer.old) (W.contents writer.new))) }
 {
     match wish {
         Wish::Run(settings, log, sums) => answer(
@@ -240,10 +253,13 @@ fn answer<L: Logs, R: Read, W: Write, E: Write>(
     writer: &mut W,
     errors: &mut E,
 ) -> Result<(), Ending>
-    ensures ok { OnOk result (IsAnswered mode settings.now log.entry
+    ensures ok { OnOk result (IsAnswered mode settings.now
+        (λ name told. KeepsLines L.Log.Disk (L.is_named logs.now) mode settings.now name told
+        (R.remaining reader.old) (R.remaining reader.new) (W.contents writer.old) (W.contents writer.new)) log.entry
         (R.remaining reader.old) (R.remaining reader.new) (W.contents writer.old) (W.contents writer.new)) }
-    ensures err { IfErr result (IsUnanswered mode settings.now log.entry
-        ((reader.new ≡ reader.old) × (writer.new ≡ writer.old))
+    ensures err { IfErr result (IsUnanswered mode settings.now ((reader.new ≡ reader.old) × (writer.new ≡ writer.old))
+        (λ name told. KeepsAFront L.Log.Disk (L.is_named logs.now) mode settings.now name told
+        (R.remaining reader.old) (R.remaining reader.new) (W.contents writer.old) (W.contents writer.new)) log.entry
         (R.remaining reader.old) (R.remaining reader.new) (W.contents writer.old) (W.contents writer.new)) }
 {
     match log {

@@ -1,27 +1,22 @@
 -- What the options of a subcommand give, and when they choose nothing.
-use Rattle.std.specs.Prelude.{◌≡◌, ◌≤◌, ℕ, true, List, Option, Some, None, codes}
-use Rattle.clap.specs.Words.{Row, first_of}
+use Rattle.std.specs.Prelude.{◌≡◌, ℕ, true, List, Option, Some, None, codes}
+use Rattle.clap.specs.Words.{Row}
 use Rattle.inst_settings.specs.Settings.{HubSettings, same_text}
 use Rattle.inst_settings.specs.Lawful.{AreOfAHub, IsSettings}
 use Rattle.inst_options.specs.declared.wish.LogOptions.{LogOptions}
 use Rattle.inst_options.specs.declared.wish.Wish.{Wish}
 use Rattle.inst_options.specs.declared.wish.Wish.TheVariants as wish
-use Rattle.inst_options.specs.Options.{Task, Gives, HasAHub, IsGiven, IsText, IsFlag, IsTask, Chooses, HasSmallNumbers}
+use Rattle.inst_options.specs.Options.{Task, HasAHub, NamesNoLog, NamesTheLog, IsGiven, IsText, IsFlag, IsTask, Chooses, HasSmallNumbers}
 use Rattle.inst_options.specs.Options.Task.{Run, Play, Drill, Check}
 
--- the option of this name has no text that is a number below this one
-abbrev pub GivesNoneBelow : ℕ → List Row → List ℕ → Type 0
-GivesNoneBelow bound rows name = (n : ℕ) → Gives rows name n → bound ≤ n
-
--- the options name this log and say so much of what was told, or name none
+-- the options name this log, or none
 abbrev pub GivesLog : List Row → Option LogOptions → Type 0
-GivesLog rows None = first_of (codes "log") rows ≡ None
-GivesLog rows (Some log) =
-    (first_of (codes "log") rows ≡ Some log.path.now) × ((n : ℕ) → log.told ≡ Some n → Gives rows (codes "told") n)
+GivesLog rows None = NamesNoLog rows
+GivesLog rows (Some log) = NamesTheLog rows log.path.now log.told
 
 -- the options say what was told, and name no log
 abbrev pub TellsOfNoLog : List Row → Type 0
-TellsOfNoLog rows = (first_of (codes "log") rows ≡ None) × IsGiven (codes "told") rows
+TellsOfNoLog rows = NamesNoLog rows × IsGiven (codes "told") rows
 
 -- the options choose no settings that a hub can have
 abbrev pub ChooseNone : List Row → Type 0

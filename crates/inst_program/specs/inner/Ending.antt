@@ -1,7 +1,6 @@
 -- How what the words ask for is done, or ends, in each of the parts that the program's run has. Exit statuses are this
 -- hub's own choice.
 use Rattle.std.specs.Prelude.{◌≡◌, ◌≢◌, ◌⊎◌, ℕ, List, Option, Some, None, IfSome}
-use Rattle.std.specs.Io.KnownBytes.{IsAtEnd}
 use Rattle.clap.specs.Words.{kind_of}
 use Rattle.clap.specs.declared.error.kind.ErrorKind.{ErrorKind}
 use Rattle.clap.specs.declared.error.kind.ErrorKind.TheVariants.{DisplayHelp, DisplayVersion}
@@ -16,13 +15,13 @@ use Rattle.inst_drill.specs.Plan.{MayDrill}
 use Rattle.inst_faults.specs.AnyFault.{IsNamed}
 use Rattle.inst_faults.specs.LogFault.{status_of_log}
 use Rattle.inst_faults.specs.declared.any_fault.AnyFault.{AnyFault}
-use Rattle.inst_options.specs.Asking.{AskAboutLogs, NameALog}
+use Rattle.inst_options.specs.Asking.{NameALog}
 use Rattle.inst_options.specs.declared.error.WordsError.{WordsError}
 use Rattle.inst_options.specs.declared.error.WordsError.TheVariants as error
 use Rattle.inst_options.specs.declared.wish.LogOptions.{LogOptions}
 use Rattle.inst_program.specs.declared.ending.Ending.{Ending}
 use Rattle.inst_program.specs.declared.ending.Ending.TheVariants as ending
-use Rattle.inst_program.specs.Program.{status_of, AskForADrill, AreRefused, Answers, Serves, HasChecked, HasDrilled, HasKept, AskForAnExplanation, HasExplained, NameNoFault}
+use Rattle.inst_program.specs.Program.{status_of, AskForADrill, AskForALog, AskForANext, AreRefused, Answers, Serves, HasChecked, HasDrilled, AskForAnExplanation, HasExplained, NameNoFault}
 
 -- for words that ask for nothing that can be done: 0 where they ask for a text
 abbrev pub status_of_kind : ErrorKind → ℕ
@@ -41,9 +40,9 @@ status_of_ending (ending.Fault fault) = status_of fault
 status_of_ending (ending.Log fault) = status_of_log fault
 status_of_ending ending.Unexplained = 2
 
--- how an explanation ends: no fault is named so, and nothing is written, or the writer failed
+-- how an explanation ends: no fault is named so, and nothing is written, or one is, and the writer failed
 abbrev pub IsUnexplained : List ℕ → Type 0 → Ending → Type 0
-IsUnexplained word unwritten (ending.Fault fault) = fault ≡ WriteFault
+IsUnexplained word unwritten (ending.Fault fault) = (fault ≡ WriteFault) × ((named : AnyFault) × IsNamed word named)
 IsUnexplained word unwritten (ending.Log fault) = ⊥
 IsUnexplained word unwritten ending.Unexplained = unwritten × ((fault : AnyFault) → ¬ (IsNamed word fault))
 
@@ -54,19 +53,22 @@ IsUnkept untouched (ending.Log fault) = status_of_log fault ≡ 2 → untouched
 IsUnkept untouched ending.Unexplained = ⊥
 
 -- the lines of the reader are answered at a hub of these settings, with this log
-abbrev pub IsAnswered : Mode → HubSettings → Option LogOptions →
+-- keeps: so it is with the log of a name, of whose lines so many were told
+abbrev pub IsAnswered : Mode → HubSettings → (List ℕ → Option ℕ → Type 0) → Option LogOptions →
     Option (List ℕ) → Option (List ℕ) → Option (List ℕ) → Option (List ℕ) → Type 0
-IsAnswered mode s None left left' held held' = Answers mode s left left' held held'
-IsAnswered mode s (Some log) left left' held held' = IsAtEnd left'
+IsAnswered mode s keeps None left left' held held' = Answers mode s left left' held held'
+IsAnswered mode s keeps (Some log) left left' held held' = keeps log.path.now log.told
 
 -- they are not, and the program ends so
-abbrev pub IsUnanswered : Mode → HubSettings → Option LogOptions → Type 0 →
+-- front: so it is where some of them are
+abbrev pub IsUnanswered : Mode → HubSettings → Type 0 → (List ℕ → Option ℕ → Type 0) → Option LogOptions →
     Option (List ℕ) → Option (List ℕ) → Option (List ℕ) → Option (List ℕ) → Ending → Type 0
-IsUnanswered mode s None untouched left left' held held' (ending.Fault fault) =
+IsUnanswered mode s untouched front None left left' held held' (ending.Fault fault) =
     FailsAfter (answering mode) (opened s) held held' left left' fault
-IsUnanswered mode s None untouched left left' held held' (ending.Log fault) = ⊥
-IsUnanswered mode s None untouched left left' held held' ending.Unexplained = ⊥
-IsUnanswered mode s (Some log) untouched left left' held held' e = IsUnkept untouched e
+IsUnanswered mode s untouched front None left left' held held' (ending.Log fault) = ⊥
+IsUnanswered mode s untouched front None left left' held held' ending.Unexplained = ⊥
+IsUnanswered mode s untouched front (Some log) left left' held held' e =
+    IsUnkept untouched e × (untouched ⊎ front log.path.now log.told)
 
 -- a check is ended by this fault, when no more than a front was told
 abbrev pub IsUnchecked : HubSettings → Option (List ℕ) → Option (List ℕ) → Option (List ℕ) → Ending → Type 0
@@ -82,21 +84,26 @@ IsUndrilled s transfers openings unwritten fault =
 
 -- what the words ask for is done
 -- unread: the reader is as it was
-abbrev pub IsServed : List (List ℕ) → Type 0 →
+-- kept, shown: so it is with a log
+abbrev pub IsServed : List (List ℕ) → Type 0 → Type 0 → Type 0 →
     Option (List ℕ) → Option (List ℕ) → Option (List ℕ) → Option (List ℕ) → Type 0
-IsServed words unread left left' held held' =
+IsServed words unread kept shown left left' held held' =
     Serves words left left' held held'
-    ⊎ (HasKept words left'
+    ⊎ (kept
     ⊎ (HasChecked words left left' held held'
-    ⊎ (unread × (HasDrilled words held held' ⊎ (AskAboutLogs words ⊎ HasExplained words held held')))))
+    ⊎ (unread × (HasDrilled words held held' ⊎ (shown ⊎ (AskForANext words ⊎ HasExplained words held held'))))))
+
+-- something with a log failed: nothing was read or written, or some lines were answered, or it tells what a log has
+abbrev pub FailsWithALog : List (List ℕ) → Type 0 → Type 0 → Type 0 → Type 0
+FailsWithALog words unread unwritten front = (unread × unwritten) ⊎ (front ⊎ (unread × AskForALog words))
 
 -- a hub can't do the drill and all is untouched, or a run has failed, or what reads nothing
-abbrev pub IsEnding : List (List ℕ) → Type 0 → Type 0 → (Fault → Type 0) → Ending → Type 0
-IsEnding words unread unwritten fails (ending.Fault fault) =
+abbrev pub IsEnding : List (List ℕ) → Type 0 → Type 0 → (Fault → Type 0) → Type 0 → Ending → Type 0
+IsEnding words unread unwritten fails front (ending.Fault fault) =
     ((fault ≡ BadSettings) × unread × unwritten × AreRefused words)
     ⊎ (fails fault
     ⊎ ((((fault ≡ Memory) ⊎ (fault ≡ WriteFault)) × unread × (AskForADrill words ⊎ AskForAnExplanation words))
-    ⊎ ((fault ≢ BadSettings) × NameALog words)))
-IsEnding words unread unwritten fails (ending.Log fault) =
-    NameALog words × (status_of_log fault ≡ 2 → unread × unwritten)
-IsEnding words unread unwritten fails ending.Unexplained = unread × unwritten × NameNoFault words
+    ⊎ ((fault ≢ BadSettings) × FailsWithALog words unread unwritten front)))
+IsEnding words unread unwritten fails front (ending.Log fault) =
+    NameALog words × (status_of_log fault ≡ 2 → unread × unwritten) × FailsWithALog words unread unwritten front
+IsEnding words unread unwritten fails front ending.Unexplained = unread × unwritten × NameNoFault words

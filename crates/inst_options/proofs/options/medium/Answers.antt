@@ -1,6 +1,6 @@
 use Rattle.std.proofs.Common.{◌^◌, arith}
 use Rattle.clap.specs.Words.{found_of, rows_of}
-use Rattle.inst_options.specs.inner.Options.{GivesNoneBelow}
+use Rattle.inst_options.specs.Options.{GivesNoneBelow}
 use Rattle.inst_options.proofs.Given.{none_lower, on_err}
 use Rattle.inst_options.proofs.Refused.{none_narrow}
 use Rattle.inst_options.proofs.options.medium.Goals as goal

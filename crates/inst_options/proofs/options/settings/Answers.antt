@@ -1,8 +1,8 @@
 use Rattle.std.proofs.Common.{◌≡◌, ◌^◌, ◌∙◌, Some, ap, codes, sym, subst}
 use Rattle.std.proofs.lemmas.Result.{IfOk-weaker}
 use Rattle.clap.specs.Words.{first_of, found_of, rows_of}
-use Rattle.inst_options.specs.Options.{Gives, Chooses}
-use Rattle.inst_options.specs.inner.Options.{GivesNoneBelow, ChooseNone}
+use Rattle.inst_options.specs.Options.{Gives, GivesNoneBelow, Chooses}
+use Rattle.inst_options.specs.inner.Options.{ChooseNone}
 use Rattle.inst_settings.specs.Parts.{parts_of}
 use Rattle.inst_settings.specs.Settings.{HubSettings}
 use Rattle.inst_settings.specs.Lawful.{IsSettings, settings_with}

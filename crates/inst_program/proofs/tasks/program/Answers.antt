@@ -13,14 +13,14 @@ pub returns-in-Ok-clause-refused : goal.returns-in-Ok-clause-refused
 returns-in-Ok-clause-refused g c is =
     let words = map string_bytes c.args.words.items in
     let wished : IsWished words c.in-Ok.wish = rw c.deref.ensures.value at c.in-Ok.ensures.ok in
-    refused_ending words (c.serve.new.reader ≡ c.args.reader.now) (c.serve.new.writer ≡ c.args.writer.now) _ _ _ _ c.in-Err-serve.ending
+    refused_ending words (c.serve.new.reader ≡ c.args.reader.now) (c.serve.new.writer ≡ c.args.writer.now) _ _ _ _ _ c.in-Err-serve.ending
     (sym c.tell_ending.ensures ∙ is) (c.in-Err-serve.ensures.err words wished)
 
 pub returns-in-Ok-clause-failed : goal.returns-in-Ok-clause-failed
 returns-in-Ok-clause-failed g c is =
     let words = map string_bytes c.args.words.items in
     let wished : IsWished words c.in-Ok.wish = rw c.deref.ensures.value at c.in-Ok.ensures.ok in
-    failed_ending words (c.serve.new.reader ≡ c.args.reader.now) (c.serve.new.writer ≡ c.args.writer.now) _ _ _ _ c.in-Err-serve.ending
+    failed_ending words (c.serve.new.reader ≡ c.args.reader.now) (c.serve.new.writer ≡ c.args.writer.now) _ _ _ _ _ c.in-Err-serve.ending
     (c.in-Err-serve.ensures.err words wished)
 
 pub returns-clause-served : goal.returns-clause-served
