@@ -3,6 +3,7 @@ use Rattle.std.specs.Prelude.{◌≡◌, ℕ, List, [], ◌∷◌, ◌++◌, Som
 use Rattle.clap.specs.declared.error.kind.ErrorKind.TheVariants.{DisplayHelp, DisplayVersion, MissingRequiredArgument, MissingSubcommand}
 use Rattle.inst_settings.specs.Settings.{HubSettings}
 use Rattle.inst_settings.specs.Lawful.{AreOfAHub, settings_with}
+use Rattle.inst_settings.specs.declared.numbers.TheConstants.Numbers.{DEFAULT}
 use Rattle.inst_options.specs.Asking.{AreChosen, AreWhole, AskForTheLog, AskForTheNext, AskToExplain, NameNoLog, NameTheLog, faults_of}
 use Rattle.inst_options.specs.Options.Task.{Run, Play, Drill}
 
@@ -32,6 +33,12 @@ pub record SmallHub : Type 0 where
   pub drill_whole : AreWhole small_drill
   pub drill_chosen : AreChosen small_drill (Drill 2 1) small_settings
   pub good : AreOfAHub small_settings
+
+-- `inst_main run --participants AAAADEFF,BBBBFRPP`: what isn't given is as the library's own default has it
+pub record DefaultHub : Type 0 where
+  pub chosen : AreChosen (codes "inst_main" ∷ codes "run" ∷ codes "--participants" ∷ codes "AAAADEFF,BBBBFRPP" ∷ []) Run
+      (settings_with (codes "AAAADEFF" ∷ codes "BBBBFRPP" ∷ []) DEFAULT.places DEFAULT.fundings DEFAULT.limit DEFAULT.margin
+      DEFAULT.ahead DEFAULT.ceiling DEFAULT.base)
 
 -- the words of a run or a play with `--log hub.log`, with `--told 3` behind it and without; and those that speak of logs
 -- alone, `inst_main log hub.log` and `inst_main next --log hub.log --to next.log`

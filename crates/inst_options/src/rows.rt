@@ -1,10 +1,15 @@
 //! Worked command lines, computed from the definitions. Each is a function without a body whose
 //! contract is the row, so that the check computes it.
-ghost use Rattle.inst_options.specs.Rows.{SmallHub, KeptHub, NoHub, Explained};
+ghost use Rattle.inst_options.specs.Rows.{SmallHub, DefaultHub, KeptHub, NoHub, Explained};
 
 /// Options that are given and options that aren't, and the settings that they choose.
 pub fn small_hub()
     ensures { SmallHub }
+{}
+
+/// Options of which none is given but the participants.
+pub fn default_hub()
+    ensures { DefaultHub }
 {}
 
 /// Words that name logs, with what is told of them.

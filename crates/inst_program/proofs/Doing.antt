@@ -1,5 +1,5 @@
 -- What is left where the words' task is done, and where it ends otherwise.
-use Rattle.std.proofs.Common.{◌≡◌, ◌⊎◌, inl, inr, ℕ, List, Option, Some, None, Result, Ok, Err, OnOk, IfErr, IsErrAnd, sym, subst}
+use Rattle.std.proofs.Common.{◌≡◌, ◌⊎◌, inl, inr, ℕ, List, Option, Some, None, Result, Ok, Err, IfErr, IsErrAnd, sym, subst}
 use Rattle.sqlite_disk.specs.declared.Disk.{Ghosts}
 use Rattle.inst_base.specs.declared.fault.Fault.{Fault}
 use Rattle.inst_settings.specs.Settings.{HubSettings}
@@ -15,26 +15,21 @@ use Rattle.inst_program.specs.declared.ending.Ending.{Ending}
 use Rattle.inst_program.specs.declared.ending.Ending.TheVariants as ending
 use Rattle.inst_program.proofs.Refusing.{undrillable}
 
--- what is so anyhow
-pub on_ok : {A E : Type 0} (r : Result A E) (P : Type 0) → P → OnOk r P
-on_ok (Ok x) P p = p
-on_ok (Err e) P p = tt
-
 -- lines were answered, with a log or without
 pub answered : {D : Type 0} (disks : Ghosts D) (is_named : List ℕ → D → Type 0) (words : List (List ℕ)) (mode : Mode) (s : HubSettings) (log : Option LogOptions)
-    (unread shown : Type 0) (left left' held held' : Option (List ℕ)) → IsSettings s → AreWhole words → AreChosen words (task_of mode) s → GiveTheLog words log →
+    (unread shown carried : Type 0) (left left' held held' : Option (List ℕ)) → IsSettings s → AreWhole words → AreChosen words (task_of mode) s → GiveTheLog words log →
     IsAnswered mode s (λ name told. KeepsLines disks is_named mode s name told left left' held held') log left left' held held' →
-    IsServed words unread (HasKept disks is_named words left left' held held') shown left left' held held'
-answered disks is_named words mode s None unread shown left left' held held' lawful whole chosen given answers =
+    IsServed words unread (HasKept disks is_named words left left' held held') shown carried left left' held held'
+answered disks is_named words mode s None unread shown carried left left' held held' lawful whole chosen given answers =
     inl (record { mode = mode; settings = s; lawful = lawful; whole = whole; chosen = chosen; unkept = given; answers = answers })
-answered disks is_named words mode s (Some log) unread shown left left' held held' lawful whole chosen given keeps =
+answered disks is_named words mode s (Some log) unread shown carried left left' held held' lawful whole chosen given keeps =
     inr (inl (record { mode = mode; settings = s; lawful = lawful; whole = whole; chosen = chosen; name = log.path.now; told = log.told; log = given; keeps = keeps }))
 
 -- a drill is done
-pub drilled : (words : List (List ℕ)) (s : HubSettings) (transfers openings : ℕ) (unread kept shown : Type 0)
+pub drilled : (words : List (List ℕ)) (s : HubSettings) (transfers openings : ℕ) (unread kept shown carried : Type 0)
     (left left' held held' : Option (List ℕ)) → IsSettings s → AreWhole words → AreChosen words (Drill transfers openings) s →
-    unread → Drills openings held held' → IsServed words unread kept shown left left' held held'
-drilled words s transfers openings unread kept shown left left' held held' lawful whole chosen still told =
+    unread → Drills openings held held' → IsServed words unread kept shown carried left left' held held'
+drilled words s transfers openings unread kept shown carried left left' held held' lawful whole chosen still told =
     let asks : AskForADrill words = record { settings = s; lawful = lawful; whole = whole; transfers = transfers; openings = openings; chosen = chosen } in
     inr (inr (inr (still, inl (asks, told))))
 
@@ -126,9 +121,9 @@ unexplained_err words word unread unwritten fails front (Err (ending.Log fault))
 unexplained_err words word unread unwritten fails front (Err ending.Unexplained) asked still is = (still, is.0, (word, asked, is.1))
 
 -- lines were checked
-pub checked : (words : List (List ℕ)) (s : HubSettings) (unread kept shown : Type 0) (left left' held held' : Option (List ℕ)) →
-    IsSettings s → AreWhole words → AreChosen words Check s → Checks s left left' held held' → IsServed words unread kept shown left left' held held'
-checked words s unread kept shown left left' held held' lawful whole chosen checks =
+pub checked : (words : List (List ℕ)) (s : HubSettings) (unread kept shown carried : Type 0) (left left' held held' : Option (List ℕ)) →
+    IsSettings s → AreWhole words → AreChosen words Check s → Checks s left left' held held' → IsServed words unread kept shown carried left left' held held'
+checked words s unread kept shown carried left left' held held' lawful whole chosen checks =
     inr (inr (inl (record { settings = s; lawful = lawful; whole = whole; chosen = chosen; checks = checks })))
 
 -- they weren't

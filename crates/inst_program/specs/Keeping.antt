@@ -12,8 +12,8 @@ use Rattle.inst_world.specs.NextOpening.{CanOpenFrom}
 use Rattle.inst_lines.specs.Answering.{Past, opened}
 use Rattle.inst_lines.specs.declared.mode.Mode.{Mode}
 use Rattle.inst_log.specs.Layout.{recovered}
-use Rattle.inst_log.specs.Opening.{BeginsBy}
-use Rattle.inst_logged.specs.Answering.{opened_from}
+use Rattle.inst_log.specs.Opening.{kept, BeginsBy, Opens}
+use Rattle.inst_logged.specs.Answering.{opened_from, past_after, AreBooksAfter}
 use Rattle.inst_logged.specs.Header.{header, header_from}
 use Rattle.inst_logged.specs.Logged.{HasLogged, SurvivesACrash}
 use Rattle.inst_logged.specs.Refused.{IsTaken}
@@ -30,7 +30,8 @@ IsBeginning mode s past first =
     ⊎ ((journals : List History) × CanOpenFrom s journals × (past ≡ opened_from s journals) × (first ≡ header_from mode s journals))
 
 -- such a hub took the log of this file, answered all that the reader had left, and made the file into this one
-pub record AnswersBehind (mode : Mode) (s : HubSettings) (told : Option ℕ) (file file' : List ℕ) (left left' held held' : Option (List ℕ)) : Type 0 where
+pub record AnswersBehind (mode : Mode) (s : HubSettings) (told : Option ℕ) (file file' : List ℕ)
+    (left left' held held' : Option (List ℕ)) : Type 0 where
   pub past : Past
   pub first : List ℕ
   pub begins : IsBeginning mode s past first
@@ -38,7 +39,8 @@ pub record AnswersBehind (mode : Mode) (s : HubSettings) (told : Option ℕ) (fi
   pub logged : HasLogged mode past first told file file' left left' held held'
 
 -- it answered some of it, and these are the files that a crash may leave
-pub record AnswersAFront (mode : Mode) (s : HubSettings) (told : Option ℕ) (file : List ℕ) (may_leave : List ℕ → Type 0) (left left' held held' : Option (List ℕ)) : Type 0 where
+pub record AnswersAFront (mode : Mode) (s : HubSettings) (told : Option ℕ) (file : List ℕ) (may_leave : List ℕ → Type 0)
+    (left left' held held' : Option (List ℕ)) : Type 0 where
   pub past : Past
   pub first : List ℕ
   pub begins : IsBeginning mode s past first
@@ -67,7 +69,8 @@ abbrev pub log_text : List ℕ → ℕ → List ℕ
 log_text first lines = codes "settings " ++ (utf8_lossy first ++ (10 ∷ codes "lines " ++ (decimal lines ++ 10 ∷ [])))
 
 -- so it was told of the log of this name: of the lines behind its first one some are books
-pub record TellsOfTheLog {D : Type 0} (disks : Ghosts D) (is_named : List ℕ → D → Type 0) (name : List ℕ) (held held' : Option (List ℕ)) : Type 0 where
+pub record TellsOfTheLog {D : Type 0} (disks : Ghosts D) (is_named : List ℕ → D → Type 0) (name : List ℕ)
+    (held held' : Option (List ℕ)) : Type 0 where
   pub disk : D
   pub named : is_named name disk
   pub first : List ℕ
@@ -75,3 +78,40 @@ pub record TellsOfTheLog {D : Type 0} (disks : Ghosts D) (is_named : List ℕ �
   pub begins : NoneLies disks → BeginsBy first behind (recovered (disks.seen disk))
   pub books : ℕ
   pub told : Appends held held' (log_text first (behind - books))
+
+-- the log of this file begins with these lines, or is new, and was made into the file that has them in front
+abbrev pub IsBegun : List ℕ → List ℕ → List ℕ → Type 0
+IsBegun first file file' = Opens first file × (recovered file' ≡ recovered first ++ kept first file)
+
+-- so it is with the log on this disk, and what was synced is what is read
+pub record BeginsLog {D : Type 0} (disks : Ghosts D) (first : List ℕ) (disk : D) : Type 0 where
+  pub disk' : D
+  pub begun : NoneLies disks → IsBegun first (disks.seen disk) (disks.seen disk')
+  pub durable : NoneLies disks → Only (disks.seen disk') (disks.may_leave disk')
+
+-- these are the journals of a hub whose log was this file, once it was closed behind all lines of it, and its log would
+-- begin with them so
+pub record CarriesBooks (file next : List ℕ) : Type 0 where
+  pub mode : Mode
+  pub settings : HubSettings
+  pub past : Past
+  pub first : List ℕ
+  pub begins : IsBeginning mode settings past first
+  pub opens : Opens first file
+  pub journals : List History
+  pub books : AreBooksAfter mode past (kept first file) journals
+  pub next_is : next ≡ header_from mode (past_after mode past (kept first file)).settings journals
+
+-- the log of this name begins with the books of a hub whose log was this file
+pub record BeginsNext {D : Type 0} (disks : Ghosts D) (is_named : List ℕ → D → Type 0) (file name : List ℕ) : Type 0 where
+  pub disk : D
+  pub named : is_named name disk
+  pub first : List ℕ
+  pub carries : NoneLies disks → CarriesBooks file first
+  pub begins : BeginsLog disks first disk
+
+-- the log of the second name begins with the books of the hub of the log of the first name
+pub record Carries {D : Type 0} (disks : Ghosts D) (is_named : List ℕ → D → Type 0) (from to : List ℕ) : Type 0 where
+  pub disk : D
+  pub named : is_named from disk
+  pub next : BeginsNext disks is_named (disks.seen disk) to

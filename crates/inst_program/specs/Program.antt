@@ -25,7 +25,7 @@ use Rattle.inst_options.specs.CommandLine.{command_line}
 use Rattle.inst_options.specs.Options.{HasAHub, Task}
 use Rattle.inst_options.specs.Options.Task.{Run, Play, Drill, Check}
 use Rattle.inst_options.specs.Asking.{AreChosen, AreWhole, AskForTheLog, AskForTheNext, AskToExplain, NameNoLog, NameTheLog}
-use Rattle.inst_program.specs.Keeping.{KeepsAFront, KeepsLines, TellsOfTheLog}
+use Rattle.inst_program.specs.Keeping.{Carries, KeepsAFront, KeepsLines, TellsOfTheLog}
 
 -- the exit status for a fault
 abbrev pub status_of : Fault → ℕ
@@ -156,9 +156,9 @@ AskForALog words = (name : List ℕ) × AskForTheLog words name
 abbrev pub HasShown : {D : Type 0} → Ghosts D → (List ℕ → D → Type 0) → List (List ℕ) → Option (List ℕ) → Option (List ℕ) → Type 0
 HasShown disks is_named words held held' = (name : List ℕ) × AskForTheLog words name × TellsOfTheLog disks is_named name held held'
 
--- they ask for a log that begins with the books of another
-abbrev pub AskForANext : List (List ℕ) → Type 0
-AskForANext words = (from : List ℕ) × (to : List ℕ) × AskForTheNext words from to
+-- they ask for a log that begins with the books of another, and it does
+abbrev pub HasCarried : {D : Type 0} → Ghosts D → (List ℕ → D → Type 0) → List (List ℕ) → Type 0
+HasCarried disks is_named words = (from : List ℕ) × (to : List ℕ) × AskForTheNext words from to × Carries disks is_named from to
 
 -- a fault's number and name, what it usually means, and what to do
 abbrev pub explanation_text : ℕ → List ℕ → List ℕ → List ℕ → List ℕ

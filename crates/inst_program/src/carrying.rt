@@ -1,9 +1,10 @@
 //! The next opening: the log that begins with the books of another one.
-ghost use Rattle.std.specs.Prelude.{◌≡◌, List, ℕ, IsTrue, IfErr};
+ghost use Rattle.std.specs.Prelude.{◌≡◌, List, ℕ, IsTrue, OnOk, IfErr};
 ghost use Rattle.sqlite_disk.specs.Disk.{Only};
 ghost use Rattle.inst_world.specs.NextOpening.{CanOpenFrom};
+ghost use Rattle.inst_logged.specs.Header.{header_from};
+ghost use Rattle.inst_program.specs.Keeping.{BeginsLog, BeginsNext, Carries};
 ghost use Rattle.inst_program.specs.inner.Ending.{IsUnkept};
-ghost use Rattle.inst_logged.specs.Logged.{IsUnbegun};
 
 use crate::ending::{Ending, ending_of};
 use crate::logs::Logs;
@@ -19,6 +20,7 @@ use std::alloc::Global;
 /// Closes the hub of the log of the first name, and makes the log of the second name, which begins with its books. One
 /// that begins so already is left as it is.
 pub(crate) fn next<L: Logs>(logs: &L, alloc: Global, from: &str, to: &str) -> Result<(), Ending>
+    ensures ok { OnOk result (Carries L.Log.Disk (L.is_named logs.now) from.now to.now) }
     ensures err { IfErr result (IsUnkept (Unit {0})) }
 {
     if !logs.has(from)? {
@@ -32,43 +34,27 @@ pub(crate) fn next<L: Logs>(logs: &L, alloc: Global, from: &str, to: &str) -> Re
 }
 
 /// Closes the hub of the log on this disk, and makes the log of this name with its books.
-fn carry<L: Logs, D: Disk + Drop>(
+fn carry<L: Logs>(
     logs: &L,
     alloc: Global,
     mode: Mode,
     settings: &Settings,
-    disk: D,
+    disk: L::Log,
     to: &str,
 ) -> Result<(), Ending>
-    requires usable { IsTrue (D.Disk.is_usable disk) }
-    requires known { IsTrue (D.Disk.is_clean disk) → Only (D.Disk.seen disk) (D.Disk.may_leave disk) }
+    requires usable { IsTrue (L.Log.Disk.is_usable disk) }
+    requires known { IsTrue (L.Log.Disk.is_clean disk) → Only (L.Log.Disk.seen disk) (L.Log.Disk.may_leave disk) }
+    ensures ok { OnOk result (BeginsNext L.Log.Disk (L.is_named logs.now) (L.Log.Disk.seen disk) to.now) }
     ensures err { IfErr result (IsUnkept (Unit {0})) }
 {
     let mut hub = LoggedHub::of_log(alloc, mode, settings, disk).map_err(ending_of)?;
-    close(logs, alloc, mode, &mut hub, to)
-}
-
-/// Closes the hub, and makes the log of this name with its books.
-fn close<L: Logs, D: Disk + Drop>(
-    logs: &L,
-    alloc: Global,
-    mode: Mode,
-    hub: &mut LoggedHub<D>,
-    to: &str,
-) -> Result<(), Ending>
-    requires unbegun { IsUnbegun hub.old.header.items hub.old.intake }
-    requires usable { IsTrue (D.Disk.is_usable hub.old.recorder.log.disk) }
-    requires known { IsTrue (D.Disk.is_clean hub.old.recorder.log.disk)
-        → Only (D.Disk.seen hub.old.recorder.log.disk) (D.Disk.may_leave hub.old.recorder.log.disk) }
-    ensures err { IfErr result (IsUnkept (Unit {0})) }
-{
     match hub.close(alloc).map_err(ending_of)? {
         Some(books) => begin(alloc, mode, hub.settings(), &books, logs.open(to)?),
         None => Err(Ending::Log(LogFault::LastOpening)),
     }
 }
 
-/// Makes the log of a hub that opens from these journals on this disk.
+/// Makes the log of a hub that opens from these journals on this disk: a run of no lines writes its beginning.
 fn begin<D: Disk + Drop>(
     alloc: Global,
     mode: Mode,
@@ -79,20 +65,10 @@ fn begin<D: Disk + Drop>(
     requires journals { CanOpenFrom settings.now journals.now }
     requires usable { IsTrue (D.Disk.is_usable disk) }
     requires known { IsTrue (D.Disk.is_clean disk) → Only (D.Disk.seen disk) (D.Disk.may_leave disk) }
+    ensures ok { OnOk result (BeginsLog D.Disk (header_from mode settings.now journals.now) disk) }
     ensures err { IfErr result (IsUnkept (Unit {0})) }
 {
     let mut hub = LoggedHub::new_from(alloc, mode, settings, journals, disk)?;
-    run_nothing(alloc, &mut hub)
-}
-
-/// A run of no lines: it writes the beginning of the hub's log.
-fn run_nothing<D: Disk + Drop>(alloc: Global, hub: &mut LoggedHub<D>) -> Result<(), Ending>
-    requires unbegun { IsUnbegun hub.old.header.items hub.old.intake }
-    requires usable { IsTrue (D.Disk.is_usable hub.old.recorder.log.disk) }
-    requires known { IsTrue (D.Disk.is_clean hub.old.recorder.log.disk)
-        → Only (D.Disk.seen hub.old.recorder.log.disk) (D.Disk.may_leave hub.old.recorder.log.disk) }
-    ensures err { IfErr result (IsUnkept (Unit {0})) }
-{
     let mut nothing: &[u8] = b"";
     hub.run(alloc, None, &mut nothing, &mut Vec::new(alloc))
         .map_err(ending_of)

@@ -19,7 +19,8 @@ pub(crate) fn show<L: Logs, W: Write>(
     path: &str,
     writer: &mut W,
 ) -> Result<(), Ending>
-    ensures ok { OnOk result (TellsOfTheLog L.Log.Disk (L.is_named logs.now) path.now (W.contents writer.old) (W.contents writer.new)) }
+    ensures ok { OnOk result (TellsOfTheLog L.Log.Disk (L.is_named logs.now) path.now
+        (W.contents writer.old) (W.contents writer.new)) }
     ensures err { IfErr result (IsUnkept (writer.new ≡ writer.old)) }
 {
     if !logs.has(path)? {

@@ -11,7 +11,7 @@ ghost use Rattle.inst_program.specs.inner.Ending.{status_of_error, status_of_end
 ghost use Rattle.inst_program.specs.Program.{Answers, Serves, Checks, HasKept, HasChecked, HasDrilled, HasExplained};
 ghost use Rattle.inst_program.specs.Program.{FailsAtLines, FailsToKeep};
 ghost use Rattle.inst_program.specs.Program.{AreRefused, AskForADrill, AskForAnExplanation, NameNoFault};
-ghost use Rattle.inst_program.specs.Program.{AskForALog, AskForANext, HasShown};
+ghost use Rattle.inst_program.specs.Program.{AskForALog, HasCarried, HasShown};
 ghost use Rattle.inst_program.specs.inner.Ending.{IsServed, IsEnding};
 ghost use Rattle.inst_program.specs.Program.{Drills, Explains};
 ghost use Rattle.inst_program.specs.inner.Ending.{IsAnswered, IsUnanswered, IsUndrilled, IsUnchecked, IsUnexplained};
@@ -69,8 +69,9 @@ pub fn program<H: Threads + Wait + Sync, L: Logs, R: Read, W: Write, E: Write>(
         (R.remaining reader.old) (R.remaining reader.new) (W.contents writer.old) (W.contents writer.new)
         ⊎ ((reader.new ≡ reader.old) × (AskForHelp (map string_bytes words.items)
         ⊎ (HasDrilled (map string_bytes words.items) (W.contents writer.old) (W.contents writer.new)
-        ⊎ (HasShown L.Log.Disk (L.is_named logs.now) (map string_bytes words.items) (W.contents writer.old) (W.contents writer.new)
-        ⊎ (AskForANext (map string_bytes words.items)
+        ⊎ (HasShown L.Log.Disk (L.is_named logs.now) (map string_bytes words.items)
+        (W.contents writer.old) (W.contents writer.new)
+        ⊎ (HasCarried L.Log.Disk (L.is_named logs.now) (map string_bytes words.items)
         ⊎ HasExplained (map string_bytes words.items) (W.contents writer.old) (W.contents writer.new)))))))) }
 
     // The words are wrong, or they are whole and choose no settings that a hub can have and do the task with, or they
@@ -198,6 +199,7 @@ fn serve<H: Threads + Wait + Sync, L: Logs, R: Read, W: Write, E: Write>(
         (HasKept L.Log.Disk (L.is_named logs.now) words
         (R.remaining reader.old) (R.remaining reader.new) (W.contents writer.old) (W.contents writer.new))
         (HasShown L.Log.Disk (L.is_named logs.now) words (W.contents writer.old) (W.contents writer.new))
+        (HasCarried L.Log.Disk (L.is_named logs.now) words)
         (R.remaining reader.old) (R.remaining reader.new) (W.contents writer.old) (W.contents writer.new)) }
     ensures err { (words : List (List ℕ)) → IsWished words wish.entry → IfErr result (IsEnding words
         (reader.new ≡ reader.old) (writer.new ≡ writer.old)

@@ -30,6 +30,10 @@ impl<D: Disk + Drop> LoggedHub<D> {
             (kept self.old.header.items (D.Disk.seen self.old.recorder.log.disk)) journals.items)) }
         ensures can { IfOk result (λ books. IfSome books
             (λ journals. CanOpenFrom (settings_of self.new.recorder.answers.runner.world) journals.items)) }
+        ensures settings { OnOk result (IsTrue (D.Disk.is_clean self.new.recorder.log.disk)
+            → (past : Past) → Keeps self.old.recorder.answers.mode past self.old.recorder.answers.runner
+            → settings_of self.new.recorder.answers.runner.world ≡ (past_after self.old.recorder.answers.mode past
+            (kept self.old.header.items (D.Disk.seen self.old.recorder.log.disk))).settings) }
         ensures log { OnOk result (IsTrue (D.Disk.is_clean self.new.recorder.log.disk)
             → recovered (D.Disk.seen self.new.recorder.log.disk)
             ≡ recovered self.old.header.items ++ kept self.old.header.items (D.Disk.seen self.old.recorder.log.disk)) }

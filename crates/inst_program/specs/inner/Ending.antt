@@ -21,7 +21,7 @@ use Rattle.inst_options.specs.declared.error.WordsError.TheVariants as error
 use Rattle.inst_options.specs.declared.wish.LogOptions.{LogOptions}
 use Rattle.inst_program.specs.declared.ending.Ending.{Ending}
 use Rattle.inst_program.specs.declared.ending.Ending.TheVariants as ending
-use Rattle.inst_program.specs.Program.{status_of, AskForADrill, AskForALog, AskForANext, AreRefused, Answers, Serves, HasChecked, HasDrilled, AskForAnExplanation, HasExplained, NameNoFault}
+use Rattle.inst_program.specs.Program.{status_of, AskForADrill, AskForALog, AreRefused, Answers, Serves, HasChecked, HasDrilled, AskForAnExplanation, HasExplained, NameNoFault}
 
 -- for words that ask for nothing that can be done: 0 where they ask for a text
 abbrev pub status_of_kind : ErrorKind → ℕ
@@ -84,14 +84,14 @@ IsUndrilled s transfers openings unwritten fault =
 
 -- what the words ask for is done
 -- unread: the reader is as it was
--- kept, shown: so it is with a log
-abbrev pub IsServed : List (List ℕ) → Type 0 → Type 0 → Type 0 →
+-- kept, shown, carried: so it is with a log
+abbrev pub IsServed : List (List ℕ) → Type 0 → Type 0 → Type 0 → Type 0 →
     Option (List ℕ) → Option (List ℕ) → Option (List ℕ) → Option (List ℕ) → Type 0
-IsServed words unread kept shown left left' held held' =
+IsServed words unread kept shown carried left left' held held' =
     Serves words left left' held held'
     ⊎ (kept
     ⊎ (HasChecked words left left' held held'
-    ⊎ (unread × (HasDrilled words held held' ⊎ (shown ⊎ (AskForANext words ⊎ HasExplained words held held'))))))
+    ⊎ (unread × (HasDrilled words held held' ⊎ (shown ⊎ (carried ⊎ HasExplained words held held'))))))
 
 -- something with a log failed: nothing was read or written, or some lines were answered, or it tells what a log has
 abbrev pub FailsWithALog : List (List ℕ) → Type 0 → Type 0 → Type 0 → Type 0

@@ -34,7 +34,7 @@ returns-in-Ok-clause-ok g c =
       disk' = after;
       answers = λ honest.
           subst (λ file. AnswersBehind mode s told file (seen after) left left' held held') same
-          (answers_behind mode s hub.header.items hub.recorder.answers told (seen hub.recorder.log.disk) left left' held held' begun (seen after)
+          (answers_behind mode s hub.header.items hub.recorder.answers begun told (seen hub.recorder.log.disk) (seen after) left left' held held'
           (done.taken (honest after)) (done.logged (honest after)));
       durable = λ honest. (done.settled (honest after)).durable;
     }
@@ -62,6 +62,6 @@ returns-in-Err-clause-front g c =
       disk' = after;
       answers = λ honest.
           subst (λ file. AnswersAFront mode s told file (g.L.Log.Disk.may_leave after) left left' held held') same
-          (answers_a_front mode s hub.header.items hub.recorder.answers told (seen hub.recorder.log.disk) left left' held held' begun
-          (g.L.Log.Disk.may_leave after) (c.in-Err.ensures.any_moment (honest after)));
+          (answers_a_front mode s hub.header.items hub.recorder.answers begun told (seen hub.recorder.log.disk) (g.L.Log.Disk.may_leave after) left left' held held'
+          (c.in-Err.ensures.any_moment (honest after)));
     })

@@ -1,13 +1,13 @@
 use Rattle.std.proofs.Common.{◌≡◌, inl, inr, refl}
 use Rattle.std.proofs.lemmas.Result.{on_ok_weaker}
 use Rattle.inst_options.specs.Asking.{AskForTheNext}
-use Rattle.inst_program.proofs.Doing.{answered, checked, drilled, unanswered_err, uncarried_err, unchecked_err, undrilled_err, unexplained_err, unshown_err, on_ok}
+use Rattle.inst_program.proofs.Doing.{answered, checked, drilled, unanswered_err, uncarried_err, unchecked_err, undrilled_err, unexplained_err, unshown_err}
 use Rattle.inst_program.proofs.tasks.serve.Goals as goal
 
 pub returns-in-Run-clause-ok : goal.returns-in-Run-clause-ok
 returns-in-Run-clause-ok g c words wished =
     let is = rw c.in-Run.is at wished in
-    on_ok_weaker c.answer.result (λ done. answered g.L.Log.Disk (g.L.Logs.is_named c.args.logs.now) words _ c.in-Run.settings c.in-Run.log (c.answer.new.reader ≡ c.args.reader.now) _ _ _ _ _ is.0 is.1 is.2 is.3 done) c.answer.ensures.ok
+    on_ok_weaker c.answer.result (λ done. answered g.L.Log.Disk (g.L.Logs.is_named c.args.logs.now) words _ c.in-Run.settings c.in-Run.log (c.answer.new.reader ≡ c.args.reader.now) _ _ _ _ _ _ is.0 is.1 is.2 is.3 done) c.answer.ensures.ok
 
 pub returns-in-Run-clause-err : goal.returns-in-Run-clause-err
 returns-in-Run-clause-err g c words wished =
@@ -18,7 +18,7 @@ returns-in-Run-clause-err g c words wished =
 pub returns-in-Play-clause-ok : goal.returns-in-Play-clause-ok
 returns-in-Play-clause-ok g c words wished =
     let is = rw c.in-Play.is at wished in
-    on_ok_weaker c.answer-in-Play.result (λ done. answered g.L.Log.Disk (g.L.Logs.is_named c.args.logs.now) words _ c.in-Play.settings c.in-Play.log (c.answer-in-Play.new.reader ≡ c.args.reader.now) _ _ _ _ _ is.0 is.1 is.2 is.3 done) c.answer-in-Play.ensures.ok
+    on_ok_weaker c.answer-in-Play.result (λ done. answered g.L.Log.Disk (g.L.Logs.is_named c.args.logs.now) words _ c.in-Play.settings c.in-Play.log (c.answer-in-Play.new.reader ≡ c.args.reader.now) _ _ _ _ _ _ is.0 is.1 is.2 is.3 done) c.answer-in-Play.ensures.ok
 
 pub returns-in-Play-clause-err : goal.returns-in-Play-clause-err
 returns-in-Play-clause-err g c words wished =
@@ -29,7 +29,7 @@ returns-in-Play-clause-err g c words wished =
 pub returns-in_ok-drill_hub-in-Drill-clause-ok : goal.returns-in_ok-drill_hub-in-Drill-clause-ok
 returns-in_ok-drill_hub-in-Drill-clause-ok g c words wished =
     let is = rw c.in-Drill.is at wished in
-    drilled words c.in-Drill.settings c.in-Drill.transfers c.in-Drill.openings (c.args.reader.now ≡ c.args.reader.now) _ _ _ _ _ _ is.0 is.1 is.2 refl
+    drilled words c.in-Drill.settings c.in-Drill.transfers c.in-Drill.openings (c.args.reader.now ≡ c.args.reader.now) _ _ _ _ _ _ _ is.0 is.1 is.2 refl
     c.in_ok-drill_hub-in-Drill.ensures.ok
 
 pub returns-in_err-drill_hub-in-Drill-clause-err : goal.returns-in_err-drill_hub-in-Drill-clause-err
@@ -51,7 +51,7 @@ returns-in-Log-clause-err g c words wished =
 pub returns-in-Next-clause-ok : goal.returns-in-Next-clause-ok
 returns-in-Next-clause-ok g c words wished =
     let is : AskForTheNext words c.in-Next.from.now c.in-Next.to.now = rw c.in-Next.is at wished in
-    on_ok c.next.result _ (inr (inr (inr (refl, inr (inr (inl (c.in-Next.from.now, c.in-Next.to.now, is)))))))
+    on_ok_weaker c.next.result (λ done. inr (inr (inr (refl, inr (inr (inl (c.in-Next.from.now, c.in-Next.to.now, is, done))))))) c.next.ensures.ok
 
 pub returns-in-Next-clause-err : goal.returns-in-Next-clause-err
 returns-in-Next-clause-err g c words wished =
@@ -66,7 +66,7 @@ returns-in-Explain-clause-err g c words wished =
 pub returns-in-Check-clause-ok : goal.returns-in-Check-clause-ok
 returns-in-Check-clause-ok g c words wished =
     let is = rw c.in-Check.is at wished in
-    on_ok_weaker c.check.result (λ done. checked words c.in-Check.settings (c.check.new.reader ≡ c.args.reader.now) _ _ _ _ _ _ is.0 is.1 is.2 done) c.check.ensures.ok
+    on_ok_weaker c.check.result (λ done. checked words c.in-Check.settings (c.check.new.reader ≡ c.args.reader.now) _ _ _ _ _ _ _ is.0 is.1 is.2 done) c.check.ensures.ok
 
 pub returns-in-Check-clause-err : goal.returns-in-Check-clause-err
 returns-in-Check-clause-err g c words wished =
