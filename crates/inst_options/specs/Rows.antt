@@ -40,8 +40,8 @@ pub record DefaultHub : Type 0 where
       (settings_with (codes "AAAADEFF" ∷ codes "BBBBFRPP" ∷ []) DEFAULT.places DEFAULT.fundings DEFAULT.limit DEFAULT.margin
       DEFAULT.ahead DEFAULT.ceiling DEFAULT.base)
 
--- the words of a run or a play with `--log hub.log`, with `--told 3` behind it and without; and those that speak of logs
--- alone, `inst_main log hub.log` and `inst_main next --log hub.log --to next.log`
+-- the words of a run with `--log hub.log`, of a play with `--told 3 --log hub.log`, and of a run with neither; and those
+-- that are of logs alone, `inst_main log hub.log` and `inst_main next --log hub.log --to next.log`
 pub record KeptHub : Type 0 where
   pub whole : AreWhole (small_hub ++ codes "--log" ∷ codes "hub.log" ∷ [])
   pub all_told : NameTheLog (small_hub ++ codes "--log" ∷ codes "hub.log" ∷ []) (codes "hub.log") None

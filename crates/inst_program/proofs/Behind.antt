@@ -9,7 +9,7 @@ use Rattle.inst_log.specs.Layout.{recovered}
 use Rattle.inst_log.specs.Opening.{kept, Opens}
 use Rattle.inst_journal.specs.History.{History}
 use Rattle.inst_logged.specs.Answering.{opened_from, past_after, AreBooksAfter}
-use Rattle.inst_logged.specs.Header.{header_from}
+use Rattle.inst_logged.specs.Header.{header, header_from}
 use Rattle.inst_logged.specs.Input.{logged}
 use Rattle.inst_logged.specs.LineAnswers.{HasOpened}
 use Rattle.inst_logged.specs.Logged.{HasBegun, HasLogged, SurvivesACrash}
@@ -69,13 +69,14 @@ module _ (mode : Mode) (s : HubSettings) (first : List ℕ) (answers : LineAnswe
   keeps = subst (λ (m : Mode). Keeps m went answers.runner) (sym of_mode) (begun mode s first answers has).2.keeps
 
   -- all lines
-  pub answers_behind : (told : Option ℕ) (file file' : List ℕ) (left left' held held' : Option (List ℕ)) → IsTaken first told file
+  pub answers_behind : (told : Option ℕ) (file file' : List ℕ) (left left' held held' : Option (List ℕ)) → (recovered file ≡ [] → first ≡ header mode s) → IsTaken first told file
       → ((past : Past) → Keeps answers.mode past answers.runner → HasLogged answers.mode past first told file file' left left' held held')
       → AnswersBehind mode s told file file' left left' held held'
-  answers_behind told file file' left left' held held' taken has_logged = record {
+  answers_behind told file file' left left' held held' fresh taken has_logged = record {
     past = went;
     first = first;
     begins = (begun mode s first answers has).1;
+    fresh = fresh;
     taken = taken;
     logged = subst (λ (m : Mode). HasLogged m went first told file file' left left' held held') of_mode (has_logged went keeps);
   }
@@ -92,17 +93,18 @@ module _ (mode : Mode) (s : HubSettings) (first : List ℕ) (answers : LineAnswe
   }
 
   -- the books behind its lines
-  pub carries_books : (file : List ℕ) (journals : List History) (t : HubSettings) → Opens first file
+  pub carries_books : (file file' : List ℕ) (journals : List History) (t : HubSettings) → Opens first file → recovered file' ≡ recovered first ++ kept first file
       → ((past : Past) → Keeps answers.mode past answers.runner → AreBooksAfter answers.mode past (kept first file) journals)
       → ((past : Past) → Keeps answers.mode past answers.runner → t ≡ (past_after answers.mode past (kept first file)).settings)
-      → CarriesBooks file (header_from mode t journals)
-  carries_books file journals t opens books settings = record {
+      → CarriesBooks file file' (header_from mode t journals)
+  carries_books file file' journals t opens stays books settings = record {
     mode = mode;
     settings = s;
     past = went;
     first = first;
     begins = (begun mode s first answers has).1;
     opens = opens;
+    stays = stays;
     journals = journals;
     books = subst (λ (m : Mode). AreBooksAfter m went (kept first file) journals) of_mode (books went keeps);
     next_is = ap (λ (u : HubSettings). header_from mode u journals)

@@ -1,5 +1,6 @@
--- What runs with logs leave, whatever disks the logs are on. What is said of a log's bytes is said where no disk lies: what
--- is read is what it has, and what it synced it keeps. This hub's own choice.
+-- What runs with logs leave, whatever disks the logs are on. A disk that a name opened is `disk`, and what it has become
+-- is `disk'`; what is said of its bytes is said where no wrong answer of it was taken as true by then (`is_clean`). This
+-- hub's own choice.
 use Rattle.std.specs.Prelude.{◌≡◌, ◌⊎◌, ◌-◌, ◌++◌, ◌∷◌, [], ℕ, List, Option, IsTrue, codes}
 use Rattle.std.specs.Fmt.{decimal}
 use Rattle.std.specs.Str.Lossy.{utf8_lossy}
@@ -18,10 +19,6 @@ use Rattle.inst_logged.specs.Header.{header, header_from}
 use Rattle.inst_logged.specs.Logged.{HasLogged, SurvivesACrash}
 use Rattle.inst_logged.specs.Refused.{IsTaken}
 
--- no such disk lies
-abbrev pub NoneLies : {D : Type 0} → Ghosts D → Type 0
-NoneLies {D} disks = (disk : D) → IsTrue (disks.is_clean disk)
-
 -- a hub of these settings had gone through this before the first line of its log, which begins with these lines: it opened
 -- for the first time, or from books
 abbrev pub IsBeginning : Mode → HubSettings → Past → List ℕ → Type 0
@@ -29,12 +26,14 @@ IsBeginning mode s past first =
     ((past ≡ opened s) × (first ≡ header mode s))
     ⊎ ((journals : List History) × CanOpenFrom s journals × (past ≡ opened_from s journals) × (first ≡ header_from mode s journals))
 
--- such a hub took the log of this file, answered all that the reader had left, and made the file into this one
+-- such a hub took the log of this file, answered all that the reader had left, and made the file into this one; where the
+-- file has no line it has no books either
 pub record AnswersBehind (mode : Mode) (s : HubSettings) (told : Option ℕ) (file file' : List ℕ)
     (left left' held held' : Option (List ℕ)) : Type 0 where
   pub past : Past
   pub first : List ℕ
   pub begins : IsBeginning mode s past first
+  pub fresh : recovered file ≡ [] → first ≡ header mode s
   pub taken : IsTaken first told file
   pub logged : HasLogged mode past first told file file' left left' held held'
 
@@ -53,8 +52,8 @@ pub record KeepsLines {D : Type 0} (disks : Ghosts D) (is_named : List ℕ → D
   pub disk : D
   pub named : is_named name disk
   pub disk' : D
-  pub answers : NoneLies disks → AnswersBehind mode s told (disks.seen disk) (disks.seen disk') left left' held held'
-  pub durable : NoneLies disks → Only (disks.seen disk') (disks.may_leave disk')
+  pub answers : IsTrue (disks.is_clean disk') → AnswersBehind mode s told (disks.seen disk) (disks.seen disk') left left' held held'
+  pub durable : IsTrue (disks.is_clean disk') → Only (disks.seen disk') (disks.may_leave disk')
 
 -- or some of it
 pub record KeepsAFront {D : Type 0} (disks : Ghosts D) (is_named : List ℕ → D → Type 0)
@@ -62,20 +61,22 @@ pub record KeepsAFront {D : Type 0} (disks : Ghosts D) (is_named : List ℕ → 
   pub disk : D
   pub named : is_named name disk
   pub disk' : D
-  pub answers : NoneLies disks → AnswersAFront mode s told (disks.seen disk) (disks.may_leave disk') left left' held held'
+  pub answers : IsTrue (disks.is_clean disk') → AnswersAFront mode s told (disks.seen disk) (disks.may_leave disk') left left' held held'
 
 -- how a log is told: its first line, where what is no text in UTF-8 is told as U+FFFD, and how many lines it has
 abbrev pub log_text : List ℕ → ℕ → List ℕ
 log_text first lines = codes "settings " ++ (utf8_lossy first ++ (10 ∷ codes "lines " ++ (decimal lines ++ 10 ∷ [])))
 
--- so it was told of the log of this name: of the lines behind its first one some are books
+-- so it was told of the log of this name, which stays as it is; of the lines behind its first one so many aren't told
 pub record TellsOfTheLog {D : Type 0} (disks : Ghosts D) (is_named : List ℕ → D → Type 0) (name : List ℕ)
     (held held' : Option (List ℕ)) : Type 0 where
   pub disk : D
   pub named : is_named name disk
+  pub disk' : D
+  pub stays : disks.seen disk' ≡ disks.seen disk
   pub first : List ℕ
   pub behind : ℕ
-  pub begins : NoneLies disks → BeginsBy first behind (recovered (disks.seen disk))
+  pub begins : IsTrue (disks.is_clean disk') → BeginsBy first behind (recovered (disks.seen disk))
   pub books : ℕ
   pub told : Appends held held' (log_text first (behind - books))
 
@@ -86,29 +87,31 @@ IsBegun first file file' = Opens first file × (recovered file' ≡ recovered fi
 -- so it is with the log on this disk, and what was synced is what is read
 pub record BeginsLog {D : Type 0} (disks : Ghosts D) (first : List ℕ) (disk : D) : Type 0 where
   pub disk' : D
-  pub begun : NoneLies disks → IsBegun first (disks.seen disk) (disks.seen disk')
-  pub durable : NoneLies disks → Only (disks.seen disk') (disks.may_leave disk')
+  pub begun : IsTrue (disks.is_clean disk') → IsBegun first (disks.seen disk) (disks.seen disk')
+  pub durable : IsTrue (disks.is_clean disk') → Only (disks.seen disk') (disks.may_leave disk')
 
--- these are the journals of a hub whose log was this file, once it was closed behind all lines of it, and its log would
--- begin with them so
-pub record CarriesBooks (file next : List ℕ) : Type 0 where
+-- a hub whose log was this file, and is that one with the same lines, was closed behind all of them, and a log that begins
+-- with its books begins so
+pub record CarriesBooks (file file' next : List ℕ) : Type 0 where
   pub mode : Mode
   pub settings : HubSettings
   pub past : Past
   pub first : List ℕ
   pub begins : IsBeginning mode settings past first
   pub opens : Opens first file
+  pub stays : recovered file' ≡ recovered first ++ kept first file
   pub journals : List History
   pub books : AreBooksAfter mode past (kept first file) journals
   pub next_is : next ≡ header_from mode (past_after mode past (kept first file)).settings journals
 
--- the log of this name begins with the books of a hub whose log was this file
+-- the log of this name begins with the books of the hub whose log was this file
 pub record BeginsNext {D : Type 0} (disks : Ghosts D) (is_named : List ℕ → D → Type 0) (file name : List ℕ) : Type 0 where
-  pub disk : D
-  pub named : is_named name disk
+  pub disk' : D
+  pub next : D
+  pub named : is_named name next
   pub first : List ℕ
-  pub carries : NoneLies disks → CarriesBooks file first
-  pub begins : BeginsLog disks first disk
+  pub carries : IsTrue (disks.is_clean disk') → CarriesBooks file (disks.seen disk') first
+  pub begins : BeginsLog disks first next
 
 -- the log of the second name begins with the books of the hub of the log of the first name
 pub record Carries {D : Type 0} (disks : Ghosts D) (is_named : List ℕ → D → Type 0) (from to : List ℕ) : Type 0 where

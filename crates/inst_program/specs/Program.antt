@@ -77,7 +77,7 @@ pub record Serves (words : List (List ℕ)) (left left' held held' : Option (Lis
   pub unkept : NameNoLog words
   pub answers : Answers mode settings left left' held held'
 
--- a hub of the settings that the words choose was ended by this fault, as it answered lines
+-- a hub of the settings that the words choose was ended by this fault, as it answered lines; they name no log
 pub record Fails (words : List (List ℕ)) (left left' held held' : Option (List ℕ)) (fault : Fault) : Type 0 where
   pub mode : Mode
   pub settings : HubSettings

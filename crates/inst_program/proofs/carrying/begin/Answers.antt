@@ -22,10 +22,9 @@ returns-clause-ok g c =
     on_ok_through c.run.result c.map_err.result _ c.map_err.ensures.variant
     (on_ok_weaker c.run.result (λ done. record {
       disk' = after;
-      begun = λ honest.
+      begun = λ clean.
           subst (λ disk. IsBegun first (seen disk) (seen after)) made.disk
           (subst (λ (head : List ℕ). IsBegun head (seen hub.recorder.log.disk) (seen after)) made.header
-          (begun_alone answers.mode past hub.header.items (seen hub.recorder.log.disk) (seen after) _ _ _ (done.0.0 (honest after))
-          (done.0.1 (honest after) past keeps)));
-      durable = λ honest. (done.1 (honest after)).durable;
+          (begun_alone answers.mode past hub.header.items (seen hub.recorder.log.disk) (seen after) _ _ _ (done.0.0 clean) (done.0.1 clean past keeps)));
+      durable = λ clean. (done.1 clean).durable;
     }) all)

@@ -24,17 +24,19 @@ returns-in-Some-clause-ok g c =
     let books = rw c.in-Some.is at (ok_through Ending c.close.result c.in_ok-books.field-0 _ _ closed c.in_ok-books.ensures.cases c.close.ensures.books) in
     let opens = on_through c.close.result _ closed c.close.ensures.began in
     let settings = on_through c.close.result _ closed c.close.ensures.settings in
+    let stays = on_through c.close.result _ closed c.close.ensures.log in
     let after = c.close.new.self.recorder.log.disk in
     let left = settings_of c.close.new.self.recorder.answers.runner.world in
     on_ok_weaker c.begin.result (λ done. record {
-      disk = c.in_ok-open-in-Some.field-0;
+      disk' = after;
+      next = c.in_ok-open-in-Some.field-0;
       named = c.in_ok-open-in-Some.ensures.named;
       first = header_from mode c.settings.result.now c.deref.result.now;
-      carries = λ honest.
-          subst (λ (journals : List History). CarriesBooks (seen c.args.disk) (header_from mode c.settings.result.now journals)) (sym c.deref.ensures.value)
-          (subst (λ (t : HubSettings). CarriesBooks (seen c.args.disk) (header_from mode t c.in-Some.books.items)) (sym c.settings.ensures)
-          (subst (λ (file : List ℕ). CarriesBooks file (header_from mode left c.in-Some.books.items)) same
-          (carries_books mode s hub.header.items hub.recorder.answers begun (seen hub.recorder.log.disk) c.in-Some.books.items left
-          (opens (honest after)) (books (honest after)) (settings (honest after)))));
+      carries = λ clean.
+          subst (λ (journals : List History). CarriesBooks (seen c.args.disk) (seen after) (header_from mode c.settings.result.now journals)) (sym c.deref.ensures.value)
+          (subst (λ (t : HubSettings). CarriesBooks (seen c.args.disk) (seen after) (header_from mode t c.in-Some.books.items)) (sym c.settings.ensures)
+          (subst (λ (file : List ℕ). CarriesBooks file (seen after) (header_from mode left c.in-Some.books.items)) same
+          (carries_books mode s hub.header.items hub.recorder.answers begun (seen hub.recorder.log.disk) (seen after) c.in-Some.books.items left
+          (opens clean) (stays clean) (books clean) (settings clean))));
       begins = done;
     }) c.begin.ensures.ok

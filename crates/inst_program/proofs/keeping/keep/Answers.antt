@@ -1,5 +1,7 @@
-use Rattle.std.proofs.Common.{◌≡◌, inr, subst, arith}
+use Rattle.std.proofs.Common.{◌≡◌, [], ℕ, List, IsTrue, inr, subst, arith}
 use Rattle.std.proofs.lemmas.Grind.{common_steps}
+use Rattle.inst_log.specs.Layout.{recovered}
+use Rattle.inst_logged.specs.Header.{header}
 use Rattle.inst_logged.specs.Logged.{HasBegun}
 use Rattle.inst_program.specs.Keeping.{AnswersAFront, AnswersBehind}
 use Rattle.inst_program.specs.declared.ending.Ending.{Ending}
@@ -25,6 +27,8 @@ returns-in-Ok-clause-ok g c =
     let cases = c.in_ok-hub.ensures.cases in
     let begun = ok_through Ending c.of_log.result hub _ (λ h. HasBegun mode s h.header.items h.recorder.answers) variant cases c.of_log.ensures.begun in
     let same = ok_through Ending c.of_log.result hub _ (λ h. seen h.recorder.log.disk ≡ seen disk) variant cases c.of_log.ensures.seen in
+    let fresh = ok_through Ending c.of_log.result hub _
+    (λ h. IsTrue (g.L.Log.Disk.is_clean h.recorder.log.disk) → recovered (seen disk) ≡ [] → h.header.items ≡ header mode s) variant cases c.of_log.ensures.first in
     let done = c.in-Ok.ensures in
     let after = c.run.new.self.recorder.log.disk in
     record {
@@ -32,11 +36,11 @@ returns-in-Ok-clause-ok g c =
       disk = disk;
       named = c.in_ok-disk.ensures.named;
       disk' = after;
-      answers = λ honest.
+      answers = λ clean.
           subst (λ file. AnswersBehind mode s told file (seen after) left left' held held') same
           (answers_behind mode s hub.header.items hub.recorder.answers begun told (seen hub.recorder.log.disk) (seen after) left left' held held'
-          (done.taken (honest after)) (done.logged (honest after)));
-      durable = λ honest. (done.settled (honest after)).durable;
+          (λ none. fresh (done.clean clean) (subst (λ (file : List ℕ). recovered file ≡ []) same none)) (done.taken clean) (done.logged clean));
+      durable = λ clean. (done.settled clean).durable;
     }
 
 pub returns-in-Err-clause-front : goal.returns-in-Err-clause-front
@@ -60,8 +64,8 @@ returns-in-Err-clause-front g c =
       disk = disk;
       named = c.in_ok-disk.ensures.named;
       disk' = after;
-      answers = λ honest.
+      answers = λ clean.
           subst (λ file. AnswersAFront mode s told file (g.L.Log.Disk.may_leave after) left left' held held') same
           (answers_a_front mode s hub.header.items hub.recorder.answers begun told (seen hub.recorder.log.disk) (g.L.Log.Disk.may_leave after) left left' held held'
-          (c.in-Err.ensures.any_moment (honest after)));
+          (c.in-Err.ensures.any_moment clean));
     })

@@ -22,12 +22,14 @@ returns-in-Ok-clause-ok g c =
     record {
       disk = disk;
       named = c.in_ok-disk.ensures.named;
+      disk' = c.read.new.disk;
+      stays = c.read.ensures.seen;
       first = reading.first.items;
       behind = reading.behind;
-      begins = λ honest.
+      begins =
           ok_through Ending c.read.result reading _
           (λ r. IsTrue (g.L.Log.Disk.is_clean c.read.new.disk) → BeginsBy r.first.items r.behind (recovered (g.L.Log.Disk.seen disk)))
-          c.in_ok-reading.ensures.variant c.in_ok-reading.ensures.cases c.read.ensures.lines (honest c.read.new.disk);
+          c.in_ok-reading.ensures.variant c.in_ok-reading.ensures.cases c.read.ensures.lines;
       books = c.in_ok-books_of.field-0;
       told = subst (λ (n : ℕ). Appends held held' (log_text reading.first.items n)) c.saturating_sub-lines.ensures told;
     }
