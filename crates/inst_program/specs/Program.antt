@@ -122,9 +122,8 @@ Drills openings held held' =
 abbrev pub HasDrilled : List (List ℕ) → Option (List ℕ) → Option (List ℕ) → Type 0
 HasDrilled words held held' = (asked : AskForADrill words) × Drills asked.openings held held'
 
--- a hub of the settings that the words choose, with the log that they name, answered all that the reader had left
-pub record HasKept {D : Type 0} (disks : Ghosts D) (is_named : List ℕ → D → Type 0)
-    (words : List (List ℕ)) (left left' held held' : Option (List ℕ)) : Type 0 where
+-- a hub of the settings that the words choose, with the log that they name, kept the lines of the reader in this way
+pub record WithTheLog (words : List (List ℕ)) (way : Mode → HubSettings → List ℕ → Option ℕ → Type 0) : Type 0 where
   pub mode : Mode
   pub settings : HubSettings
   pub lawful : IsSettings settings
@@ -133,20 +132,19 @@ pub record HasKept {D : Type 0} (disks : Ghosts D) (is_named : List ℕ → D �
   pub name : List ℕ
   pub told : Option ℕ
   pub log : NameTheLog words name told
-  pub keeps : KeepsLines disks is_named mode settings name told left left' held held'
+  pub keeps : way mode settings name told
+
+-- all that the reader had left
+abbrev pub HasKept : {D : Type 0} → Ghosts D → (List ℕ → D → Type 0) → List (List ℕ) →
+    Option (List ℕ) → Option (List ℕ) → Option (List ℕ) → Option (List ℕ) → Type 0
+HasKept disks is_named words left left' held held' =
+    WithTheLog words (λ mode s name told. KeepsLines disks is_named mode s name told left left' held held')
 
 -- or some of it
-pub record FailsToKeep {D : Type 0} (disks : Ghosts D) (is_named : List ℕ → D → Type 0)
-    (words : List (List ℕ)) (left left' held held' : Option (List ℕ)) : Type 0 where
-  pub mode : Mode
-  pub settings : HubSettings
-  pub lawful : IsSettings settings
-  pub whole : AreWhole words
-  pub chosen : AreChosen words (task_of mode) settings
-  pub name : List ℕ
-  pub told : Option ℕ
-  pub log : NameTheLog words name told
-  pub keeps : KeepsAFront disks is_named mode settings name told left left' held held'
+abbrev pub FailsToKeep : {D : Type 0} → Ghosts D → (List ℕ → D → Type 0) → List (List ℕ) →
+    Option (List ℕ) → Option (List ℕ) → Option (List ℕ) → Option (List ℕ) → Type 0
+FailsToKeep disks is_named words left left' held held' =
+    WithTheLog words (λ mode s name told. KeepsAFront disks is_named mode s name told left left' held held')
 
 -- the words ask what a log has
 abbrev pub AskForALog : List (List ℕ) → Type 0

@@ -75,7 +75,7 @@ pub fn program<H: Threads + Wait + Sync, L: Logs, R: Read, W: Write, E: Write>(
         ⊎ HasExplained (map string_bytes words.items) (W.contents writer.old) (W.contents writer.new)))))))) }
 
     // The words are wrong, or they are whole and choose no settings that a hub can have and do the task with, or they
-    // name a log that isn't taken, or a fault that there isn't.
+    // speak of a log, or name a fault that there isn't.
     ensures refused { result ≡ 2 → (reader.new ≡ reader.old) × (writer.new ≡ writer.old)
         × (AreWrong (map string_bytes words.items) ⊎ (AreRefused (map string_bytes words.items)
         ⊎ (NameALog (map string_bytes words.items) ⊎ NameNoFault (map string_bytes words.items)))) }

@@ -46,7 +46,7 @@ IsUnexplained word unwritten (ending.Fault fault) = (fault ≡ WriteFault) × ((
 IsUnexplained word unwritten (ending.Log fault) = ⊥
 IsUnexplained word unwritten ending.Unexplained = unwritten × ((fault : AnyFault) → ¬ (IsNamed word fault))
 
--- how a run with a log ends by itself, or the showing of one: where the log isn't taken, all is untouched
+-- how a run with a log ends by itself, the telling of one or the making of the next: where it isn't taken, all is untouched
 abbrev pub IsUnkept : Type 0 → Ending → Type 0
 IsUnkept untouched (ending.Fault fault) = fault ≢ BadSettings
 IsUnkept untouched (ending.Log fault) = status_of_log fault ≡ 2 → untouched
