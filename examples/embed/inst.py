@@ -1,7 +1,8 @@
-"""The hub of libinst.so, by ctypes. `INST_LIBRARY` names the file, else it is where `bin/lib_inst` puts it."""
+"""The hub of libinst.so, by ctypes. `INST_LIBRARY` names the file; without it `bin/lib_inst` does."""
 import ctypes
 import os
 import pathlib
+import subprocess
 
 DONE, MEMORY, BAD_SETTINGS, CLOSED, STILL_OPEN, SHORT = 0, 14, 15, 100, 101, 102
 NAMES = {
@@ -11,7 +12,7 @@ NAMES = {
     STILL_OPEN: "a hub is open already",
     SHORT: "the buffer is too short",
 }
-BUILT = pathlib.Path(__file__).resolve().parent.parent.parent / "crates" / "inst_c" / "out" / "library" / "libinst.so"
+TOP = pathlib.Path(__file__).resolve().parent.parent.parent
 
 
 class _Hub(ctypes.Structure):
@@ -34,8 +35,16 @@ class _Told(ctypes.Structure):
     _fields_ = [("length", ctypes.c_size_t), ("is_refused", ctypes.c_bool)]
 
 
+def _path():
+    """Returns the library's file: the released one, or one that was built from the sources here."""
+    if "INST_LIBRARY" in os.environ:
+        return os.environ["INST_LIBRARY"]
+    folder = subprocess.run([TOP / "bin" / "lib_inst"], stdin=subprocess.DEVNULL, stdout=subprocess.PIPE, check=True)
+    return f"{folder.stdout.decode().rstrip()}/libinst.so"
+
+
 def _library():
-    library = ctypes.CDLL(os.environ.get("INST_LIBRARY", BUILT))
+    library = ctypes.CDLL(_path())
     hub = ctypes.POINTER(_Hub)
     calls = {
         "inst_open": [hub, ctypes.c_char_p, ctypes.c_size_t, ctypes.POINTER(_Settings), ctypes.c_bool],

@@ -11,7 +11,7 @@ use clap::{Arg, Command};
 use std::alloc::{AllocError, Global};
 
 /// What `--version` says: the first number changes where lines, replies, faults, options or exit statuses do.
-const VERSION: &str = "1.0.0";
+const VERSION: &str = "1.1.0";
 
 /// The command line of the program.
 pub(crate) fn command_line<'a>(alloc: Global) -> Result<Command<'a>, AllocError>
