@@ -1,5 +1,5 @@
 -- What an error of a call says of an error of its caller.
-use Rattle.std.proofs.Common.{◌≡◌, ℕ, List, Result, Err, sym, subst, IfErr}
+use Rattle.std.proofs.Common.{◌≡◌, ◌⊎◌, inl, inr, ℕ, List, Result, Ok, Err, sym, subst, IfErr}
 use Rattle.std.specs.Bool.{⊤}
 use Rattle.inst_log.specs.Log.{HasCause}
 use Rattle.inst_log.specs.Opening.{Unopened}
@@ -18,6 +18,26 @@ unopened settings file clean untouched failed fails Write so cause = absurd caus
 unopened settings file clean untouched failed fails Told so cause = absurd cause
 unopened settings file clean untouched failed fails OtherSettings so cause = absurd cause
 unopened settings file clean untouched failed fails NoLog so cause = absurd cause
+
+-- a file that isn't a log of these settings and isn't new
+pub unopened_as : (settings file : List ℕ) (clean untouched failed : Type 0) (error : LogError) → untouched → (clean → Unopened settings file (Unit {0}) (Unit {0}) ⊥ error)
+    → (error ≡ OtherSettings) ⊎ (error ≡ NoLog) → Unopened settings file clean untouched failed error
+unopened_as settings file clean untouched failed OtherSettings same why only = (same, λ is. (why is).1 tt)
+unopened_as settings file clean untouched failed NoLog same why only = (same, λ is. (why is).1 tt)
+unopened_as settings file clean untouched failed (Disk error) same why (inl only) = absurd (cc only)
+unopened_as settings file clean untouched failed (Disk error) same why (inr only) = absurd (cc only)
+unopened_as settings file clean untouched failed Memory same why only = tt
+unopened_as settings file clean untouched failed Full same why (inl only) = absurd (cc only)
+unopened_as settings file clean untouched failed Full same why (inr only) = absurd (cc only)
+unopened_as settings file clean untouched failed Write same why (inl only) = absurd (cc only)
+unopened_as settings file clean untouched failed Write same why (inr only) = absurd (cc only)
+unopened_as settings file clean untouched failed Told same why (inl only) = absurd (cc only)
+unopened_as settings file clean untouched failed Told same why (inr only) = absurd (cc only)
+
+pub unopened_at : {T : Type 0} (settings file : List ℕ) (clean untouched failed : Type 0) (r : Result T LogError) → untouched
+    → (clean → IfErr r (Unopened settings file (Unit {0}) (Unit {0}) ⊥)) → IfErr r (λ error. (error ≡ OtherSettings) ⊎ (error ≡ NoLog)) → IfErr r (Unopened settings file clean untouched failed)
+unopened_at settings file clean untouched failed (Ok v) same why only = tt
+unopened_at settings file clean untouched failed (Err error) same why only = unopened_as settings file clean untouched failed error same why only
 
 pub unanswered_so : (fails fails' : LogError → Type 0) (no_room no_room' too_few too_few' at_rest at_rest' : Type 0) (error : LogError) → ((e : LogError) → fails e → fails' e) → (no_room → no_room') → (too_few → too_few') → (at_rest → at_rest')
     → Unanswered fails no_room too_few at_rest error → Unanswered fails' no_room' too_few' at_rest' error

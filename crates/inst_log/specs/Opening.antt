@@ -22,6 +22,10 @@ IsNew settings file = (length file ≤ 1) ⊎ (((take 1 file ≡ 0 ∷ []) × (l
 abbrev pub Opens : List ℕ → List ℕ → Type 0
 Opens settings file = Begins settings file ⊎ IsNew settings file
 
+-- the same lines, or a file that had none has the settings
+abbrev pub IsSameOrBegun : List ℕ → List ℕ → List ℕ → Type 0
+IsSameOrBegun settings old new = (recovered new ≡ recovered old) ⊎ ((recovered old ≡ []) × (recovered new ≡ recovered settings))
+
 -- the same lines behind the settings, in a file that opens with them if the other does
 pub record OpensAlike (settings old new : List ℕ) : Type 0 where
   pub lines : kept settings new ≡ kept settings old

@@ -1,7 +1,7 @@
 //! Whole lines and a closed byte. It is closed on the disk before anything is written behind it.
 ghost use Rattle.std.specs.Prelude.{◌≡◌, ◌≤◌, ◌+◌, ◌^◌, ◌++◌, List, ℕ, length, IsTrue, IfErr, OnOk};
 ghost use Rattle.sqlite_disk.specs.Disk.{MoreFaults};
-ghost use Rattle.inst_log.specs.Layout.{recovered, blocks, IsBatch};
+ghost use Rattle.inst_log.specs.Layout.{recovered, blocks, IsBatch, IsShut};
 ghost use Rattle.inst_log.specs.Log.{IsSettled, IsBeforeOrAfter, IsAtStage, HasCause};
 
 use crate::LogError;
@@ -34,6 +34,12 @@ impl<D: Disk> Log<D> {
             → IsBeforeOrAfter (recovered (D.Disk.seen self.old.disk)) (recovered batch.now) c }
         ensures stages { IsTrue (D.Disk.is_clean self.new.disk) → (c : List ℕ) → D.Disk.may_leave self.new.disk c
             → IsAtStage (D.Disk.seen self.old.disk) self.old.end batch.now c }
+
+        // Where the disk leaves each byte of a write old or new, a file that ends by the closed byte 0 does so at any moment.
+        ensures shut { ((d : D) → IsTrue (D.Disk.is_mixing d)) → IsTrue (D.Disk.is_clean self.new.disk)
+            → IsShut (D.Disk.seen self.old.disk) → (c : List ℕ) → D.Disk.may_leave self.new.disk c → IsShut c }
+
+        ensures shut_now { OnOk result (IsTrue (D.Disk.is_clean self.new.disk) → IsShut (D.Disk.seen self.new.disk)) }
 
         ensures usable { OnOk result (IsTrue (D.Disk.is_usable self.new.disk)) }
         ensures clean { D.Disk.is_clean self.new.disk ≡ D.Disk.is_clean self.old.disk }

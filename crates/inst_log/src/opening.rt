@@ -1,17 +1,21 @@
 //! A log is opened with the settings that it begins with, or made with them. Any other file is left as it is.
-ghost use Rattle.std.specs.Prelude.{◌≡◌, ◌≢◌, ◌≤◌, ◌+◌, ◌++◌, [], ◌∷◌, List, ℕ, length, take, IsTrue, IfOk, IfErr, OnOk, MatchBool, ⊤};
+ghost use Rattle.std.specs.Prelude.{◌≡◌, ◌≢◌, ◌⊎◌, ◌≤◌, ◌+◌, ◌++◌, [], ◌∷◌, List, ℕ, length, take, IsTrue, IfOk, IfErr, OnOk, MatchBool, ⊤};
 ghost use Rattle.sqlite_disk.specs.Disk.{Only, MoreFaults, CountsFault};
-ghost use Rattle.inst_log.specs.Layout.{recovered, blocks, IsBatch};
+ghost use Rattle.inst_log.specs.Layout.{recovered, blocks, IsBatch, IsShut, EndsWell};
 ghost use Rattle.inst_log.specs.Log.{IsSettled, HasCause};
-ghost use Rattle.inst_log.specs.Opening.{kept, Begins, IsNew, Opens, OpensAlike, Unopened};
+ghost use Rattle.inst_log.specs.Opening.{kept, Begins, IsNew, Opens, OpensAlike, IsSameOrBegun, Unopened};
+ghost use Rattle.inst_log.specs.Pieces.{IsExtent, IsFrontFor, Starts};
+ghost use Rattle.inst_log.specs.declared.start.Start.TheVariants as start;
+ghost use Rattle.inst_log.specs.declared.error.LogError.TheVariants.{OtherSettings, NoLog};
 ghost use Rattle.inst_log.specs.inner.Opening.{IsBlanked, IsBlanking};
 
-use crate::front::first_line;
+use crate::extent::Extent;
 use crate::repair::repair;
+use crate::start::Start;
 use crate::synced::write_synced;
 use crate::{Log, LogError};
 use sqlite_disk::Disk;
-use std::alloc::Global;
+use std::alloc::{AllocError, Global};
 use std::io;
 
 impl<D: Disk> Log<D> {
@@ -35,6 +39,14 @@ impl<D: Disk> Log<D> {
         // A crash at any moment of the call leaves the same lines, in a file that opens again.
         ensures any_moment { IsTrue (D.Disk.is_clean self.new.disk) → (c : List ℕ) → D.Disk.may_leave self.new.disk c
             → OpensAlike settings.now (D.Disk.seen self.old.disk) c }
+        ensures stands { IsTrue (D.Disk.is_clean self.new.disk) → (c : List ℕ) → D.Disk.may_leave self.new.disk c
+            → IsSameOrBegun settings.now (D.Disk.seen self.old.disk) c }
+
+        ensures shut_now { OnOk result (IsTrue (D.Disk.is_clean self.new.disk)
+            → EndsWell (D.Disk.seen self.old.disk) → IsShut (D.Disk.seen self.new.disk)) }
+        // Where the disk leaves each byte of a write old or new, lines end by the closed byte 0 if they did.
+        ensures shut { ((d : D) → IsTrue (D.Disk.is_mixing d)) → IsTrue (D.Disk.is_clean self.new.disk)
+            → EndsWell (D.Disk.seen self.old.disk) → (c : List ℕ) → D.Disk.may_leave self.new.disk c → EndsWell c }
 
         ensures cause { IfErr result (λ error. Unopened settings.now (D.Disk.seen self.old.disk) (IsTrue (D.Disk.is_clean self.new.disk))
             (D.Disk.seen self.new.disk ≡ D.Disk.seen self.old.disk)
@@ -43,69 +55,133 @@ impl<D: Disk> Log<D> {
         ensures usable { OnOk result (IsTrue (D.Disk.is_usable self.new.disk)) }
         ensures clean { IsTrue (D.Disk.is_clean self.new.disk) → IsTrue (D.Disk.is_clean self.old.disk) }
     {
-        let bytes = read_file(alloc, &mut self.disk)?;
-        if begins(&bytes, settings) {
-            return self.go_on(bytes);
-        }
-        if first_line(&bytes).is_some() {
-            return Err(LogError::OtherSettings);
-        }
-        if !is_new(&bytes, settings) {
-            return Err(LogError::NoLog);
-        }
-        self.begin(bytes, settings)
+        let text = read_file(alloc, &mut self.disk)?;
+        let extent = Extent::of(&text);
+        let front = text.len().min(settings.len() + 1);
+        let start = start_of(&text[..front], settings, &extent)?;
+        self.open_at(settings, &extent, start)?;
+        Ok(lines_of(text, settings, &extent, start)?)
     }
 
-    /// Opens a log that has these bytes.
-    fn go_on(&mut self, mut bytes: Vec<u8>) -> Result<Vec<u8>, LogError>
+    /// Tells whether the file, whose lines go so far, is a log of these settings or a new file. Changes nothing.
+    ///
+    /// # Errors
+    ///
+    /// `OtherSettings` if it begins with other lines, `NoLog` if it has no line and isn't new.
+    pub fn inspect(
+        &mut self,
+        alloc: Global,
+        settings: &[u8],
+        extent: &Extent,
+    ) -> Result<Start, LogError>
         requires usable { IsTrue (D.Disk.is_usable self.old.disk) }
-        requires bytes { IsTrue (D.Disk.is_clean self.old.disk) → bytes.items ≡ D.Disk.seen self.old.disk }
+        requires settings { IsBatch settings.now }
+        requires extent { IsTrue (D.Disk.is_clean self.old.disk) → IsExtent (D.Disk.seen self.old.disk) extent.now }
+        ensures start { IfOk result (λ start. IsTrue (D.Disk.is_clean self.new.disk)
+            → Starts settings.now (D.Disk.seen self.old.disk) start) }
+        ensures same { (D.Disk.seen self.new.disk ≡ D.Disk.seen self.old.disk) × (self.new.end ≡ self.old.end) }
+        ensures crash { (c : List ℕ) → D.Disk.may_leave self.new.disk c → D.Disk.may_leave self.old.disk c }
+        ensures cause { IfErr result (λ error. Unopened settings.now (D.Disk.seen self.old.disk) (IsTrue (D.Disk.is_clean self.new.disk))
+            (D.Disk.seen self.new.disk ≡ D.Disk.seen self.old.disk)
+            (IsTrue (D.Disk.is_clean self.new.disk) → MoreFaults (D.Disk.faults self.old.disk) (D.Disk.faults self.new.disk)) error) }
+        ensures calm { OnOk result (D.Disk.faults self.new.disk ≡ D.Disk.faults self.old.disk) }
+        ensures usable { IsTrue (D.Disk.is_usable self.new.disk) }
+        ensures clean { IsTrue (D.Disk.is_clean self.new.disk) → IsTrue (D.Disk.is_clean self.old.disk) }
+    {
+        let front = read_front(alloc, &mut self.disk, extent.len.min(settings.len() + 1))?;
+        start_of(&front, settings, extent)
+    }
+
+    /// Opens the file, whose lines go so far, as what it was found to be: repairs the end of a log, or writes the
+    /// settings to a new file. At `Err`, open it again.
+    pub fn open_at(
+        &mut self,
+        settings: &[u8],
+        extent: &Extent,
+        start: Start,
+    ) -> Result<(), LogError>
+        requires usable { IsTrue (D.Disk.is_usable self.old.disk) }
         requires known { IsTrue (D.Disk.is_clean self.old.disk) → Only (D.Disk.seen self.old.disk) (D.Disk.may_leave self.old.disk) }
+        requires settings { IsBatch settings.now }
+        requires extent { IsTrue (D.Disk.is_clean self.old.disk) → IsExtent (D.Disk.seen self.old.disk) extent.now }
+        requires start { IsTrue (D.Disk.is_clean self.old.disk) → Starts settings.now (D.Disk.seen self.old.disk) start }
         ensures settled { OnOk result (IsTrue (D.Disk.is_clean self.new.disk) → IsSettled D.Disk.seen D.Disk.may_leave self.new
-            × (recovered (D.Disk.seen self.new.disk) ≡ recovered (D.Disk.seen self.old.disk))) }
-        ensures text { IfOk result (λ text. text.items ≡ blocks (recovered bytes.items)) }
+            × (recovered (D.Disk.seen self.new.disk) ≡ recovered settings.now ++ kept settings.now (D.Disk.seen self.old.disk))) }
+        // A crash at any moment of the call leaves the same lines, in a file that opens again.
         ensures any_moment { IsTrue (D.Disk.is_clean self.new.disk) → (c : List ℕ) → D.Disk.may_leave self.new.disk c
-            → recovered c ≡ recovered (D.Disk.seen self.old.disk) }
-        ensures cause { IfErr result (HasCause (MoreFaults (D.Disk.faults self.old.disk) (D.Disk.faults self.new.disk)) ⊤ ⊥) }
+            → OpensAlike settings.now (D.Disk.seen self.old.disk) c }
+        ensures stands { IsTrue (D.Disk.is_clean self.new.disk) → (c : List ℕ) → D.Disk.may_leave self.new.disk c
+            → IsSameOrBegun settings.now (D.Disk.seen self.old.disk) c }
+        ensures shut_now { OnOk result (IsTrue (D.Disk.is_clean self.new.disk)
+            → EndsWell (D.Disk.seen self.old.disk) → IsShut (D.Disk.seen self.new.disk)) }
+        // Where the disk leaves each byte of a write old or new, lines end by the closed byte 0 if they did.
+        ensures shut { ((d : D) → IsTrue (D.Disk.is_mixing d)) → IsTrue (D.Disk.is_clean self.new.disk)
+            → EndsWell (D.Disk.seen self.old.disk) → (c : List ℕ) → D.Disk.may_leave self.new.disk c → EndsWell c }
+        ensures cause { IfErr result (HasCause (MoreFaults (D.Disk.faults self.old.disk) (D.Disk.faults self.new.disk)) ⊥ ⊥) }
         ensures calm { OnOk result (D.Disk.faults self.new.disk ≡ D.Disk.faults self.old.disk) }
         ensures usable { OnOk result (IsTrue (D.Disk.is_usable self.new.disk)) }
         ensures clean { IsTrue (D.Disk.is_clean self.new.disk) → IsTrue (D.Disk.is_clean self.old.disk) }
     {
-        self.end = repair(&mut self.disk, &bytes)?;
-        bytes.truncate(self.end);
-        Ok(bytes)
+        match start {
+            Start::Log => self.go_on(extent),
+            Start::New(is_blank) => self.begin(is_blank, settings),
+        }
     }
 
-    /// Makes a log of a new file that has these bytes.
-    fn begin(&mut self, mut bytes: Vec<u8>, settings: &[u8]) -> Result<Vec<u8>, LogError>
+    /// Opens a log whose lines go so far.
+    fn go_on(&mut self, extent: &Extent) -> Result<(), LogError>
         requires usable { IsTrue (D.Disk.is_usable self.old.disk) }
-        requires bytes { IsTrue (D.Disk.is_clean self.old.disk) → bytes.items ≡ D.Disk.seen self.old.disk }
+        requires extent { IsTrue (D.Disk.is_clean self.old.disk) → IsExtent (D.Disk.seen self.old.disk) extent.now }
+        requires known { IsTrue (D.Disk.is_clean self.old.disk) → Only (D.Disk.seen self.old.disk) (D.Disk.may_leave self.old.disk) }
+        ensures settled { OnOk result (IsTrue (D.Disk.is_clean self.new.disk) → IsSettled D.Disk.seen D.Disk.may_leave self.new
+            × (recovered (D.Disk.seen self.new.disk) ≡ recovered (D.Disk.seen self.old.disk))) }
+        ensures any_moment { IsTrue (D.Disk.is_clean self.new.disk) → (c : List ℕ) → D.Disk.may_leave self.new.disk c
+            → recovered c ≡ recovered (D.Disk.seen self.old.disk) }
+        ensures shut_now { OnOk result (IsTrue (D.Disk.is_clean self.new.disk)
+            → IsShut (D.Disk.seen self.old.disk) → IsShut (D.Disk.seen self.new.disk)) }
+        ensures shut { IsTrue (D.Disk.is_clean self.new.disk) → IsShut (D.Disk.seen self.old.disk)
+            → (c : List ℕ) → D.Disk.may_leave self.new.disk c → IsShut c }
+        ensures cause { IfErr result (HasCause (MoreFaults (D.Disk.faults self.old.disk) (D.Disk.faults self.new.disk)) ⊥ ⊥) }
+        ensures calm { OnOk result (D.Disk.faults self.new.disk ≡ D.Disk.faults self.old.disk) }
+        ensures usable { OnOk result (IsTrue (D.Disk.is_usable self.new.disk)) }
+        ensures clean { IsTrue (D.Disk.is_clean self.new.disk) → IsTrue (D.Disk.is_clean self.old.disk) }
+    {
+        repair(&mut self.disk, extent)?;
+        self.end = extent.end;
+        Ok(())
+    }
+
+    /// Makes a log of a new file.
+    fn begin(&mut self, is_blank: bool, settings: &[u8]) -> Result<(), LogError>
+        requires usable { IsTrue (D.Disk.is_usable self.old.disk) }
         requires known { IsTrue (D.Disk.is_clean self.old.disk) → Only (D.Disk.seen self.old.disk) (D.Disk.may_leave self.old.disk) }
         requires settings { IsBatch settings.now }
-        requires new { IsNew settings.now bytes.items }
+        requires new { IsTrue (D.Disk.is_clean self.old.disk) → Starts settings.now (D.Disk.seen self.old.disk) (start.New is_blank) }
         ensures settled { OnOk result (IsTrue (D.Disk.is_clean self.new.disk) → IsSettled D.Disk.seen D.Disk.may_leave self.new
             × (recovered (D.Disk.seen self.new.disk) ≡ recovered settings.now)) }
-        ensures text { IfOk result (λ text. text.items ≡ blocks (recovered settings.now)) }
         ensures any_moment { IsTrue (D.Disk.is_clean self.new.disk) → (c : List ℕ) → D.Disk.may_leave self.new.disk c
             → Opens settings.now c × (kept settings.now c ≡ []) }
-        ensures cause { IfErr result (HasCause (MoreFaults (D.Disk.faults self.old.disk) (D.Disk.faults self.new.disk)) ⊤ ⊥) }
+        ensures stands { IsTrue (D.Disk.is_clean self.new.disk) → (c : List ℕ) → D.Disk.may_leave self.new.disk c
+            → (recovered c ≡ []) ⊎ (recovered c ≡ recovered settings.now) }
+        ensures shut_now { OnOk result (IsTrue (D.Disk.is_clean self.new.disk) → IsShut (D.Disk.seen self.new.disk)) }
+        ensures shut { ((d : D) → IsTrue (D.Disk.is_mixing d)) → IsTrue (D.Disk.is_clean self.new.disk)
+            → (c : List ℕ) → D.Disk.may_leave self.new.disk c → EndsWell c }
+        ensures cause { IfErr result (HasCause (MoreFaults (D.Disk.faults self.old.disk) (D.Disk.faults self.new.disk)) ⊥ ⊥) }
         ensures calm { OnOk result (D.Disk.faults self.new.disk ≡ D.Disk.faults self.old.disk) }
         ensures usable { OnOk result (IsTrue (D.Disk.is_usable self.new.disk)) }
         ensures clean { D.Disk.is_clean self.new.disk ≡ D.Disk.is_clean self.old.disk }
     {
-        blank(&mut self.disk, &bytes)?;
+        blank(&mut self.disk, is_blank)?;
         self.end = 0;
-        self.append(settings)?;
-        bytes.clear();
-        bytes.extend_from_slice(&settings[..settings.len() - 1])?;
-        Ok(bytes)
+        self.append(settings)
     }
 }
 
-/// Writes the closed byte to the beginning of a file that has these bytes, unless it stands there.
-fn blank<D: Disk>(disk: &mut D, bytes: &[u8]) -> io::Result<()>
+/// Writes the closed byte to the beginning of a file, unless it is there.
+fn blank<D: Disk>(disk: &mut D, is_blank: bool) -> io::Result<()>
     requires usable { IsTrue (D.Disk.is_usable disk.old) }
-    requires bytes { IsTrue (D.Disk.is_clean disk.old) → bytes.now ≡ D.Disk.seen disk.old }
+    requires is_blank { IsTrue (D.Disk.is_clean disk.old)
+        → MatchBool is_blank (take 1 (D.Disk.seen disk.old) ≡ 0 ∷ []) (take 1 (D.Disk.seen disk.old) ≢ 0 ∷ []) }
     requires known { IsTrue (D.Disk.is_clean disk.old) → Only (D.Disk.seen disk.old) (D.Disk.may_leave disk.old) }
     ensures written { OnOk result (IsTrue (D.Disk.is_clean disk.new) → IsBlanked (D.Disk.seen disk.old) (D.Disk.seen disk.new)) }
     ensures durable { OnOk result (IsTrue (D.Disk.is_clean disk.new) → Only (D.Disk.seen disk.new) (D.Disk.may_leave disk.new)) }
@@ -115,7 +191,7 @@ fn blank<D: Disk>(disk: &mut D, bytes: &[u8]) -> io::Result<()>
     ensures clean { D.Disk.is_clean disk.new ≡ D.Disk.is_clean disk.old }
     ensures cause { CountsFault result (D.Disk.faults disk.old) (D.Disk.faults disk.new) }
 {
-    if is_blank(bytes) {
+    if is_blank {
         return Ok(());
     }
     write_synced(disk, 0, &[0])
@@ -137,6 +213,67 @@ pub fn read_file<D: Disk>(alloc: Global, disk: &mut D) -> Result<Vec<u8>, LogErr
     let mut bytes = vec![in alloc; 0; len]?;
     disk.read_at(0, &mut bytes)?;
     Ok(bytes)
+}
+
+/// The lines of a log once it is opened that had these bytes before.
+fn lines_of(
+    mut bytes: Vec<u8>,
+    settings: &[u8],
+    extent: &Extent,
+    start: Start,
+) -> Result<Vec<u8>, AllocError>
+    requires settings { IsBatch settings.now }
+    requires extent { IsExtent bytes.items extent.now }
+    requires start { Starts settings.now bytes.items start }
+    ensures { IfOk result (λ text. text.items ≡ blocks (recovered settings.now ++ kept settings.now bytes.items)) }
+{
+    match start {
+        Start::Log => bytes.truncate(extent.end),
+        Start::New(_) => {
+            bytes.clear();
+            bytes.extend_from_slice(&settings[..settings.len() - 1])?;
+        }
+    }
+    Ok(bytes)
+}
+
+/// The first bytes of a file, so many.
+fn read_front<D: Disk>(alloc: Global, disk: &mut D, len: usize) -> Result<Vec<u8>, LogError>
+    requires usable { IsTrue (D.Disk.is_usable disk.old) }
+    requires within { IsTrue (D.Disk.is_clean disk.old) → len ≤ length (D.Disk.seen disk.old) }
+    ensures front { IfOk result (λ front. IsTrue (D.Disk.is_clean disk.new) → front.items ≡ take len (D.Disk.seen disk.old)) }
+    ensures seen { D.Disk.seen disk.new ≡ D.Disk.seen disk.old }
+    ensures crash { (c : List ℕ) → D.Disk.may_leave disk.new c → D.Disk.may_leave disk.old c }
+    ensures cause { IfErr result (HasCause (IsTrue (D.Disk.is_clean disk.new)
+        → MoreFaults (D.Disk.faults disk.old) (D.Disk.faults disk.new)) ⊤ ⊥) }
+    ensures calm { OnOk result (D.Disk.faults disk.new ≡ D.Disk.faults disk.old) }
+    ensures usable { IsTrue (D.Disk.is_usable disk.new) }
+    ensures clean { IsTrue (D.Disk.is_clean disk.new) → IsTrue (D.Disk.is_clean disk.old) }
+{
+    let mut bytes = vec![in alloc; 0; len]?;
+    disk.read_at(0, &mut bytes)?;
+    Ok(bytes)
+}
+
+/// What a file with this beginning is by these settings, where its lines go so far.
+fn start_of(front: &[u8], settings: &[u8], extent: &Extent) -> Result<Start, LogError>
+    requires settings { IsBatch settings.now }
+    ensures start { IfOk result (λ start. (file : List ℕ) → IsExtent file extent.now → IsFrontFor settings.now front.now file
+        → Starts settings.now file start) }
+    ensures cause { IfErr result (λ error. (file : List ℕ) → IsExtent file extent.now → IsFrontFor settings.now front.now file
+        → Unopened settings.now file ⊤ ⊤ ⊥ error) }
+    ensures only { IfErr result (λ error. (error ≡ OtherSettings) ⊎ (error ≡ NoLog)) }
+{
+    if begins(front, settings) {
+        return Ok(Start::Log);
+    }
+    if extent.end > 0 {
+        return Err(LogError::OtherSettings);
+    }
+    if !is_new(front, settings) {
+        return Err(LogError::NoLog);
+    }
+    Ok(Start::New(is_blank(front)))
 }
 
 /// The first lines are the settings.

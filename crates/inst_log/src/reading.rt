@@ -1,10 +1,12 @@
 //! What a log has is read, and nothing of it is changed.
-ghost use Rattle.std.specs.Prelude.{◌≡◌, List, ℕ, length, IsTrue, IfOk, IfErr};
+ghost use Rattle.std.specs.Prelude.{◌≡◌, ◌≤◌, List, ℕ, length, take, IsTrue, IfOk, IfErr, ⊤};
 ghost use Rattle.sqlite_disk.specs.Disk.{MoreFaults};
-ghost use Rattle.inst_log.specs.Layout.{recovered};
+ghost use Rattle.inst_log.specs.Layout.{recovered, blocks};
+ghost use Rattle.inst_log.specs.Log.{HasCause};
 ghost use Rattle.inst_log.specs.Opening.{BeginsBy, Unread};
 
 use crate::LogError;
+use crate::file_lines::FileLines;
 use crate::front::first_line;
 use crate::opening::read_file;
 use sqlite_disk::Disk;
@@ -44,9 +46,49 @@ pub fn read<D: Disk>(alloc: Global, disk: &mut D) -> Result<Reading, LogError>
     }
 }
 
-/// How many lines the bytes begin with.
+/// Returns the first lines of the disk's file, each with its newline: so many, or all if the file has fewer. Reads no
+/// further than the piece of 64 KiB in which they end.
+pub fn read_lines<D: Disk>(alloc: Global, disk: &mut D, count: u64) -> Result<Vec<u8>, LogError>
+    requires usable { IsTrue (D.Disk.is_usable disk.old) }
+    ensures lines { IfOk result (λ text. IsTrue (D.Disk.is_clean disk.new)
+        → text.items ≡ blocks (take count (recovered (D.Disk.seen disk.old)))) }
+    ensures seen { D.Disk.seen disk.new ≡ D.Disk.seen disk.old }
+    ensures crash { (c : List ℕ) → D.Disk.may_leave disk.new c → D.Disk.may_leave disk.old c }
+    ensures cause { IfErr result (HasCause ⊤ ⊤ ⊥) }
+    ensures usable { IsTrue (D.Disk.is_usable disk.new) }
+    ensures clean { IsTrue (D.Disk.is_clean disk.new) → IsTrue (D.Disk.is_clean disk.old) }
+{
+    let mut lines = FileLines::new(alloc, disk, 0)?;
+    let mut text = Vec::new(alloc);
+    let mut found = 0;
+    while found < count && lines.has_more() {
+        let piece = lines.next(disk)?;
+        found += count_lines(&piece) as u64;
+        text.extend_from_slice(&piece)?;
+    }
+    text.truncate(lines_len(&text, count));
+    Ok(text)
+}
+
+/// Returns how many bytes the first lines have, so many, or all if there are fewer.
+pub fn lines_len(bytes: &[u8], count: u64) -> usize
+    ensures len { result ≡ length (blocks (take count (recovered bytes.now))) }
+    ensures within { result ≤ length bytes.now }
+{
+    let mut rest = bytes;
+    for _ in 0..count {
+        match first_line(rest) {
+            Some(len) => rest = &rest[len..],
+            None => return bytes.len() - rest.len(),
+        }
+    }
+    bytes.len() - rest.len()
+}
+
+/// Returns how many lines the bytes begin with.
 pub fn count_lines(bytes: &[u8]) -> usize
-    ensures { result ≡ length (recovered bytes.now) }
+    ensures count { result ≡ length (recovered bytes.now) }
+    ensures within { result ≤ length bytes.now }
 {
     let mut rest = bytes;
     let mut count = 0;

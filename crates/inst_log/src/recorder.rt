@@ -1,8 +1,8 @@
 //! Lines are answered into memory, kept on the disk, and only then is a byte of a reply handed out.
 ghost use Rattle.std.specs.Prelude.{◌≡◌, ◌≤◌, ◌+◌, ◌^◌, ◌++◌, [], List, ℕ, length, IsTrue, IfErr, OnOk, ⊤};
 ghost use Rattle.sqlite_disk.specs.Disk.{Only, MoreFaults};
-ghost use Rattle.inst_log.specs.Layout.{recovered, blocks, IsBatch, IsWhole};
-ghost use Rattle.inst_log.specs.Log.{IsSettled, HasCause};
+ghost use Rattle.inst_log.specs.Layout.{recovered, blocks, IsBatch, IsWhole, IsShut};
+ghost use Rattle.inst_log.specs.Log.{IsSettled, IsBeforeOrAfter, HasCause};
 ghost use Rattle.inst_log.specs.Opening.{kept, Opens, OpensAlike, Unopened};
 ghost use Rattle.inst_log.specs.Serving.{Replies, TellsKept, Tells, SaysOn, AllBatches, lines_of, Owing};
 ghost use Rattle.inst_log.specs.Serving.{HasFewer, Unanswered};
@@ -156,6 +156,15 @@ impl<D: Disk, A: Answers + Drop> Recorder<D, A> {
             (A.Answers.says self.old.answers) (recovered (D.Disk.seen self.old.log.disk)) (recovered batch.now)
             (W.Write.contents writer.old) (W.Write.contents writer.new) }
 
+        // The batch is in each file that a crash may leave whole, or not at all.
+        ensures stands { IsTrue (D.Disk.is_clean self.new.log.disk) → (c : List ℕ) → D.Disk.may_leave self.new.log.disk c
+            → IsBeforeOrAfter (recovered (D.Disk.seen self.old.log.disk)) (recovered batch.now) c }
+        // Where the disk leaves each byte of a write old or new, a file that ends by the closed byte 0 does so at any moment.
+        ensures shut { ((d : D) → IsTrue (D.Disk.is_mixing d)) → IsTrue (D.Disk.is_clean self.new.log.disk)
+            → IsShut (D.Disk.seen self.old.log.disk) → (c : List ℕ) → D.Disk.may_leave self.new.log.disk c → IsShut c }
+        ensures shut_now { OnOk result (IsTrue (D.Disk.is_clean self.new.log.disk)
+            → IsShut (D.Disk.seen self.old.log.disk) → IsShut (D.Disk.seen self.new.log.disk)) }
+
         ensures usable { OnOk result (IsTrue (D.Disk.is_usable self.new.log.disk)) }
         ensures cause { IfErr result (Unanswered (HasCause (MoreFaults (D.Disk.faults self.old.log.disk)
             (D.Disk.faults self.new.log.disk)) ⊤ ⊥)
@@ -192,6 +201,15 @@ impl<D: Disk, A: Answers + Drop> Recorder<D, A> {
         ensures any_moment { IsTrue (D.Disk.is_clean self.new.log.disk) → TellsKept recovered (D.Disk.may_leave self.new.log.disk)
             (A.Answers.says self.old.answers) (recovered (D.Disk.seen self.old.log.disk)) (recovered batch.old.items)
             (W.Write.contents writer.old) (W.Write.contents writer.new) }
+
+        // The batch is in each file that a crash may leave whole, or not at all.
+        ensures stands { IsTrue (D.Disk.is_clean self.new.log.disk) → (c : List ℕ) → D.Disk.may_leave self.new.log.disk c
+            → IsBeforeOrAfter (recovered (D.Disk.seen self.old.log.disk)) (recovered batch.old.items) c }
+        // Where the disk leaves each byte of a write old or new, a file that ends by the closed byte 0 does so at any moment.
+        ensures shut { ((d : D) → IsTrue (D.Disk.is_mixing d)) → IsTrue (D.Disk.is_clean self.new.log.disk)
+            → IsShut (D.Disk.seen self.old.log.disk) → (c : List ℕ) → D.Disk.may_leave self.new.log.disk c → IsShut c }
+        ensures shut_now { OnOk result (IsTrue (D.Disk.is_clean self.new.log.disk)
+            → IsShut (D.Disk.seen self.old.log.disk) → IsShut (D.Disk.seen self.new.log.disk)) }
 
         ensures usable { OnOk result (IsTrue (D.Disk.is_usable self.new.log.disk)) }
         ensures cause { IfErr result (Unanswered (HasCause (MoreFaults (D.Disk.faults self.old.log.disk)

@@ -1,59 +1,61 @@
 //! The end of a file is repaired: closed, and nothing behind it. What the file stands for stays the same.
-ghost use Rattle.std.specs.Prelude.{◌≡◌, ◌<◌, ◌≤◌, ◌+◌, ◌^◌, length, IsTrue, IfOk, OnOk};
+ghost use Rattle.std.specs.Prelude.{◌≡◌, List, ℕ, ◌<◌, ◌≤◌, ◌+◌, ◌^◌, length, IsTrue, IfOk, OnOk};
 ghost use Rattle.sqlite_disk.specs.Disk.{Only, CountsFault};
-ghost use Rattle.inst_log.specs.Layout.{recovered, blocks, IsClosed};
+ghost use Rattle.inst_log.specs.Layout.{IsClosed, IsShut};
 ghost use Rattle.inst_log.specs.inner.Layout.{IsUnclosed};
+ghost use Rattle.inst_log.specs.Pieces.{IsExtent};
 ghost use Rattle.inst_log.specs.inner.Repair.{Repairs};
 
-use crate::front::{is_closed, kept_len};
+use crate::extent::Extent;
 use crate::synced::write_synced;
 use sqlite_disk::Disk;
 use std::io;
 
-/// Repairs the end of a file that has these bytes, and tells where its lines end.
-pub(crate) fn repair<D: Disk>(disk: &mut D, bytes: &[u8]) -> io::Result<usize>
+/// Repairs the end of a file whose lines go so far.
+pub(crate) fn repair<D: Disk>(disk: &mut D, extent: &Extent) -> io::Result<()>
     requires usable { IsTrue (D.Disk.is_usable disk.old) }
-    requires bytes { IsTrue (D.Disk.is_clean disk.old) → bytes.now ≡ D.Disk.seen disk.old }
+    requires extent { IsTrue (D.Disk.is_clean disk.old) → IsExtent (D.Disk.seen disk.old) extent.now }
     requires known { IsTrue (D.Disk.is_clean disk.old) → Only (D.Disk.seen disk.old) (D.Disk.may_leave disk.old) }
-    ensures end { IfOk result (λ end. end ≡ length (blocks (recovered bytes.now))) }
     ensures repaired { Repairs D.Disk.seen D.Disk.may_leave D.Disk.is_clean D.Disk.is_usable
-        disk.old (length (blocks (recovered bytes.now))) result disk.new }
+        disk.old extent.now.end result disk.new }
+    ensures shut { IsTrue (D.Disk.is_clean disk.new) → IsShut (D.Disk.seen disk.old)
+        → (c : List ℕ) → D.Disk.may_leave disk.new c → IsShut c }
     ensures cause { CountsFault result (D.Disk.faults disk.old) (D.Disk.faults disk.new) }
 {
-    let end = kept_len(bytes);
-    close(disk, bytes, end)?;
-    cut(disk, bytes.len(), end)?;
-    Ok(end)
+    close(disk, extent)?;
+    cut(disk, extent)
 }
 
-/// Writes the closed byte, if none stands there.
-fn close<D: Disk>(disk: &mut D, bytes: &[u8], end: usize) -> io::Result<()>
+/// Writes the closed byte, if it isn't there.
+fn close<D: Disk>(disk: &mut D, extent: &Extent) -> io::Result<()>
     requires usable { IsTrue (D.Disk.is_usable disk.old) }
-    requires bytes { IsTrue (D.Disk.is_clean disk.old) → bytes.now ≡ D.Disk.seen disk.old }
-    requires end { end ≡ length (blocks (recovered bytes.now)) }
+    requires extent { IsTrue (D.Disk.is_clean disk.old) → IsExtent (D.Disk.seen disk.old) extent.now }
     requires known { IsTrue (D.Disk.is_clean disk.old) → Only (D.Disk.seen disk.old) (D.Disk.may_leave disk.old) }
-    ensures repaired { Repairs D.Disk.seen D.Disk.may_leave D.Disk.is_clean D.Disk.is_usable disk.old end result disk.new }
+    ensures repaired { Repairs D.Disk.seen D.Disk.may_leave D.Disk.is_clean D.Disk.is_usable disk.old extent.now.end result disk.new }
+    ensures shut { IsTrue (D.Disk.is_clean disk.new) → IsShut (D.Disk.seen disk.old)
+        → (c : List ℕ) → D.Disk.may_leave disk.new c → IsShut c }
     ensures cause { CountsFault result (D.Disk.faults disk.old) (D.Disk.faults disk.new) }
 {
-    if is_closed(bytes, end) {
+    if extent.is_closed {
         return Ok(());
     }
-    close_at(disk, end)
+    close_at(disk, extent.end)
 }
 
-/// Cuts what stands behind the closed byte, if anything does.
-fn cut<D: Disk>(disk: &mut D, len: usize, end: usize) -> io::Result<()>
+/// Cuts what follows the closed byte, if anything does.
+fn cut<D: Disk>(disk: &mut D, extent: &Extent) -> io::Result<()>
     requires usable { IsTrue (D.Disk.is_usable disk.old) }
-    requires within { end ≤ len }
-    requires closed { IsTrue (D.Disk.is_clean disk.old) → IsClosed (D.Disk.seen disk.old) end }
+    requires closed { IsTrue (D.Disk.is_clean disk.old) → IsClosed (D.Disk.seen disk.old) extent.now.end }
     requires known { IsTrue (D.Disk.is_clean disk.old) → Only (D.Disk.seen disk.old) (D.Disk.may_leave disk.old) }
-    ensures repaired { Repairs D.Disk.seen D.Disk.may_leave D.Disk.is_clean D.Disk.is_usable disk.old end result disk.new }
+    ensures repaired { Repairs D.Disk.seen D.Disk.may_leave D.Disk.is_clean D.Disk.is_usable disk.old extent.now.end result disk.new }
+    ensures shut { IsTrue (D.Disk.is_clean disk.new) → IsShut (D.Disk.seen disk.old)
+        → (c : List ℕ) → D.Disk.may_leave disk.new c → IsShut c }
     ensures cause { CountsFault result (D.Disk.faults disk.old) (D.Disk.faults disk.new) }
 {
-    if len - end <= 1 {
+    if extent.len <= 1 || extent.len - 1 <= extent.end {
         return Ok(());
     }
-    cut_behind(disk, end)
+    cut_behind(disk, extent.end)
 }
 
 /// Writes the closed byte.
@@ -76,6 +78,8 @@ fn cut_behind<D: Disk>(disk: &mut D, end: usize) -> io::Result<()>
     requires known { IsTrue (D.Disk.is_clean disk.old) → Only (D.Disk.seen disk.old) (D.Disk.may_leave disk.old) }
     ensures durable { OnOk result (Only (D.Disk.seen disk.new) (D.Disk.may_leave disk.new)) }
     ensures repaired { Repairs D.Disk.seen D.Disk.may_leave D.Disk.is_clean D.Disk.is_usable disk.old end result disk.new }
+    ensures shut { IsTrue (D.Disk.is_clean disk.new) → IsShut (D.Disk.seen disk.old)
+        → (c : List ℕ) → D.Disk.may_leave disk.new c → IsShut c }
     ensures cause { CountsFault result (D.Disk.faults disk.old) (D.Disk.faults disk.new) }
 {
     disk.set_len(end + 1)?;

@@ -1,6 +1,6 @@
 //! A write that is on the disk before anything else is done.
-ghost use Rattle.std.specs.Prelude.{◌≡◌, ◌<◌, length, IsTrue, OnOk};
-ghost use Rattle.sqlite_disk.specs.Disk.{Holds, Torn, Follows, Only, CountsFault};
+ghost use Rattle.std.specs.Prelude.{◌≡◌, ◌<◌, ◌+◌, ◌^◌, length, IsTrue, OnOk};
+ghost use Rattle.sqlite_disk.specs.Disk.{Holds, Torn, Mixed, Follows, Only, CountsFault};
 
 use sqlite_disk::Disk;
 use std::io;
@@ -13,6 +13,9 @@ pub(crate) fn write_synced<D: Disk>(disk: &mut D, at: usize, bytes: &[u8]) -> io
     ensures others { Torn at (length bytes.now) (D.Disk.seen disk.old) (D.Disk.seen disk.new) }
     ensures durable { OnOk result (Only (D.Disk.seen disk.new) (D.Disk.may_leave disk.new)) }
     ensures crash { Follows (Torn at (length bytes.now)) (D.Disk.may_leave disk.old) (D.Disk.may_leave disk.new) }
+    // Where the disk leaves each byte old or new.
+    ensures mixed { ((d : D) → IsTrue (D.Disk.is_mixing d)) → at + length bytes.now < 2 ^ 64
+        → Follows (Mixed at bytes.now) (D.Disk.may_leave disk.old) (D.Disk.may_leave disk.new) }
     ensures usable { OnOk result (IsTrue (D.Disk.is_usable disk.new)) }
     ensures clean { D.Disk.is_clean disk.new ≡ D.Disk.is_clean disk.old }
     ensures cause { CountsFault result (D.Disk.faults disk.old) (D.Disk.faults disk.new) }

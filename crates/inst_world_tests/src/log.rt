@@ -4,6 +4,7 @@ mod batches;
 mod errors;
 mod escapes;
 mod openings;
+mod pieces;
 mod readings;
 mod runs;
 mod stops;

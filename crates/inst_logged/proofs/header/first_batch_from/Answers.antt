@@ -28,7 +28,7 @@ returns-clause-items c =
     let text : List ℕ = books_text s (all_events c.args.journals.now) in
     let line = raw_of (header_line mode s (Some c.count_lines.result)) in
     let written : c.append_books.new.out.items ≡ text = c.in_ok-append_books.ensures.text ∙ ap (λ (l : List ℕ). l ++ text) c.new-books.ensures.items in
-    let counted : c.count_lines.result ≡ length (recovered text) = c.count_lines.ensures ∙ ap (λ (l : List ℕ). length (recovered l)) (c.deref.ensures.value ∙ written) in
+    let counted : c.count_lines.result ≡ length (recovered text) = c.count_lines.ensures.count ∙ ap (λ (l : List ℕ). length (recovered l)) (c.deref.ensures.value ∙ written) in
     let lines : recovered c.extend_from_slice.new.self.items ≡ line ∷ recovered c.deref-2.result.now =
     behind_lines c.in_ok-batch.batch.items _ c.deref-2.result.now c.extend_from_slice.new.self.items c.in_ok-batch.ensures.whole c.in_ok-batch.ensures.lines
     (c.in_ok-extend_from_slice.ensures.items ∙ ap (λ (l : List ℕ). c.in_ok-batch.batch.items ++ l) c.whole_lines.ensures) in

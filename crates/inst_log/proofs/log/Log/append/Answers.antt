@@ -1,8 +1,9 @@
-use Rattle.std.proofs.Common.{length, inl, ◌∙◌, ap, subst, arith, IsTrue}
+use Rattle.std.proofs.Common.{length, take, inl, ◌∙◌, ap, subst, arith, IsTrue, ◌+◌, ◌<◌, ◌^◌}
 use Rattle.std.proofs.lemmas.List.{length-drop}
 use Rattle.inst_log.proofs.Lines.{all_lines, AllLines-append}
 use Rattle.inst_log.proofs.Crash.{stage_crash, stage_at, gate_at, staged_is, gate_crash, opened_is, new_end, closed_at, tail_is, head_is, long_batch}
 use Rattle.inst_log.proofs.Beginning.{batch_length}
+use Rattle.inst_log.proofs.Shutting.{as_closed, stage_shut, gate_shut, shut_at}
 use Rattle.inst_log.proofs.log.Log.append.Goals as goal
 
 -- neither part of a batch is empty
@@ -62,3 +63,33 @@ returns-clause-acknowledged g c clean =
     let is = opened_is _ _ s.closed _ c.requires.batch _ _ mid c.write_synced-2.ensures.others (λ _. c.in_ok-write_synced-2.ensures.written) in
     let at = closed_at _ _ _ 0 _ (AllLines-append _ _ (all_lines old) (all_lines c.args.batch.now)) is (omega arith) (new_end _ _ s.closed _ c.requires.batch) in
     (record { closed = at.0; durable = c.in_ok-write_synced-2.ensures.durable }, at.1)
+
+-- the closed byte 0 stays at the end of the lines
+pub returns-in_err-write_synced-clause-shut : goal.returns-in_err-write_synced-clause-shut
+returns-in_err-write_synced-clause-shut g c mixes clean shut left may =
+    let s = c.requires.settled (subst IsTrue c.write_synced.ensures.clean clean) in
+    stage_shut _ c.args.self.now.end shut s.closed.ends _ _ _ s.durable c.write_synced.ensures.crash left may
+
+pub returns-in_err-write_synced-2-clause-shut : goal.returns-in_err-write_synced-2-clause-shut
+returns-in_err-write_synced-2-clause-shut g c mixes clean shut left may =
+    let s = c.requires.settled (subst IsTrue (c.write_synced-2.ensures.clean ∙ c.write_synced.ensures.clean) clean) in
+    let at = as_closed _ c.args.self.now.end shut s.closed.ends in
+    let mid = staged_is _ _ at _ c.requires.batch _ c.write_synced.ensures.others (λ _. c.in_ok-write_synced.ensures.written) in
+    let fits : c.args.self.now.end + length (take 1 c.args.batch.now) < 2 ^ 64 = omega (arith, c.if-self-ge-MOST_BYTES.false, ap length (head_is c.args.batch.now c.requires.batch)) in
+    gate_shut _ c.args.self.now.end shut s.closed.ends c.args.batch.now _ c.requires.batch _ _ _ mid c.in_ok-write_synced.ensures.durable (c.write_synced-2.ensures.mixed mixes fits) left may
+
+pub returns-clause-shut : goal.returns-clause-shut
+returns-clause-shut g c mixes clean shut left may =
+    let s = c.requires.settled (subst IsTrue (c.write_synced-2.ensures.clean ∙ c.write_synced.ensures.clean) clean) in
+    let at = as_closed _ c.args.self.now.end shut s.closed.ends in
+    let mid = staged_is _ _ at _ c.requires.batch _ c.write_synced.ensures.others (λ _. c.in_ok-write_synced.ensures.written) in
+    let fits : c.args.self.now.end + length (take 1 c.args.batch.now) < 2 ^ 64 = omega (arith, c.if-self-ge-MOST_BYTES.false, ap length (head_is c.args.batch.now c.requires.batch)) in
+    gate_shut _ c.args.self.now.end shut s.closed.ends c.args.batch.now _ c.requires.batch _ _ _ mid c.in_ok-write_synced.ensures.durable (c.write_synced-2.ensures.mixed mixes fits) left may
+
+pub returns-clause-shut_now : goal.returns-clause-shut_now
+returns-clause-shut_now g c clean =
+    let s = c.requires.settled (subst IsTrue (c.write_synced-2.ensures.clean ∙ c.write_synced.ensures.clean) clean) in
+    let old = g.D.Disk.seen c.args.self.now.disk in
+    let mid = staged_is _ _ s.closed _ c.requires.batch _ c.write_synced.ensures.others (λ _. c.in_ok-write_synced.ensures.written) in
+    let is = opened_is _ _ s.closed _ c.requires.batch _ _ mid c.write_synced-2.ensures.others (λ _. c.in_ok-write_synced-2.ensures.written) in
+    shut_at _ _ _ (AllLines-append _ _ (all_lines old) (all_lines c.args.batch.now)) is

@@ -1,69 +1,61 @@
-use Rattle.std.proofs.Common.{◌≡◌, ◌≤◌, ◌+◌, ◌∙◌, ℕ, List, length, ap, sym, subst, arith, IsTrue}
-use Rattle.std.proofs.lemmas.Result.{on_ok_weaker, IfOk-weaker, IfErr-weaker, err_from_is_err_and}
+use Rattle.std.proofs.Common.{◌≡◌, ◌+◌, ◌∙◌, ℕ, List, length, take, ap, sym, subst, IsTrue, rules}
+use Rattle.std.proofs.lemmas.Result.{err_from_is_err_and}
 use Rattle.sqlite_disk.specs.Disk.{MoreFaults}
-use Rattle.inst_log.specs.Layout.{blocks}
-use Rattle.inst_log.specs.Opening.{Begins, IsNew, Unopened}
-use Rattle.inst_log.proofs.Beginning.{new_lines, new_alike, batch_length, front_length}
-use Rattle.inst_log.proofs.Causes.{err_passed, unopened}
+use Rattle.inst_log.specs.Layout.{EndsWell}
+use Rattle.inst_log.specs.Opening.{Opens, Unopened}
+use Rattle.inst_log.specs.Pieces.{IsExtent, IsFrontFor, Starts}
+use Rattle.inst_log.proofs.Causes.{err_passed, unopened_as}
+use Rattle.inst_log.proofs.Pieces.{take_min, starts_opens, text_length}
 use Rattle.inst_log.proofs.log.Log.open.Goals as goal
 
-pub returns-in_err-bytes-clause-cause : goal.returns-in_err-bytes-clause-cause
-returns-in_err-bytes-clause-cause g c =
+pub returns-in_err-start-clause-cause : goal.returns-in_err-start-clause-cause
+returns-in_err-start-clause-cause g c =
     let settings = c.args.settings.now in
-    let old = c.args.self.now.disk in
+    let file = g.D.Disk.seen c.args.self.now.disk in
     let new = c.read_file.new.disk in
-    let file = g.D.Disk.seen old in
-    let same = g.D.Disk.seen new ≡ file in
-    let failed = IsTrue (g.D.Disk.is_clean new) → MoreFaults (g.D.Disk.faults old) (g.D.Disk.faults new) in
-    err_passed (Unopened settings file (IsTrue (g.D.Disk.is_clean new)) same failed) c.from_residual.result _
-    (err_from_is_err_and c.from_residual.result c.from_residual.ensures.1)
-    (unopened settings file (IsTrue (g.D.Disk.is_clean new)) same failed failed c.in_err-bytes.field-0.0 (λ f. f) c.in_err-bytes.ensures.cause)
+    let text = c.in_ok-text.text.items in
+    let extent = subst (λ (b : List ℕ). IsExtent b c.of-extent.result) c.deref.ensures.value c.of-extent.ensures in
+    let front : IsFrontFor settings (take c.min-front.result c.deref-2.result.now) text =
+    ap (take c.min-front.result) c.deref-2.ensures.value ∙ take_min c.min-front.result (length settings + 1) text (search rules) in
+    err_passed (Unopened settings file (IsTrue (g.D.Disk.is_clean new)) (g.D.Disk.seen new ≡ file)
+    (IsTrue (g.D.Disk.is_clean new) → MoreFaults (g.D.Disk.faults c.args.self.now.disk) (g.D.Disk.faults new))) c.from_residual-in_err-start.result _
+    (err_from_is_err_and c.from_residual-in_err-start.result c.from_residual-in_err-start.ensures.1)
+    (unopened_as settings file _ _ _ c.in_err-start.field-0.0 c.in_ok-text.ensures.seen (λ clean.
+    let same = c.in_ok-text.ensures.bytes clean in
+    c.in_err-start.ensures.cause file (subst (λ (b : List ℕ). IsExtent b c.of-extent.result) same extent)
+    (subst (IsFrontFor settings (take c.min-front.result c.deref-2.result.now)) same front)) c.in_err-start.ensures.only)
 
-pub returns-then-begins-clause-cause : goal.returns-then-begins-clause-cause
-returns-then-begins-clause-cause g c =
-    let old = c.args.self.now.disk in
-    let new = c.go_on.new.self.disk in
-    IfErr-weaker c.go_on.result _ _ (λ error cause.
-    unopened c.args.settings.now (g.D.Disk.seen old) (IsTrue (g.D.Disk.is_clean new)) (g.D.Disk.seen new ≡ g.D.Disk.seen old) _ _ error
-    (λ fault clean. subst (λ n. MoreFaults n (g.D.Disk.faults new)) c.in_ok-bytes.ensures.calm fault) cause) c.go_on.ensures.cause
+pub open_at-requires-clause-start : goal.open_at-requires-clause-start
+open_at-requires-clause-start g c clean =
+    let settings = c.args.settings.now in
+    let text = c.in_ok-text.text.items in
+    let extent = subst (λ (b : List ℕ). IsExtent b c.of-extent.result) c.deref.ensures.value c.of-extent.ensures in
+    let front : IsFrontFor settings (take c.min-front.result c.deref-2.result.now) text =
+    ap (take c.min-front.result) c.deref-2.ensures.value ∙ take_min c.min-front.result (length settings + 1) text (search rules) in
+    subst (λ (f : List ℕ). Starts settings f c.in_ok-start.start) (c.in_ok-text.ensures.bytes clean ∙ sym c.in_ok-text.ensures.seen)
+    (c.in_ok-start.ensures.start text extent front)
 
-pub returns-clause-cause : goal.returns-clause-cause
-returns-clause-cause g c =
-    let old = c.args.self.now.disk in
-    let new = c.begin.new.self.disk in
-    IfErr-weaker c.begin.result _ _ (λ error cause.
-    unopened c.args.settings.now (g.D.Disk.seen old) (IsTrue (g.D.Disk.is_clean new)) (g.D.Disk.seen new ≡ g.D.Disk.seen old) _ _ error
-    (λ fault clean. subst (λ n. MoreFaults n (g.D.Disk.faults new)) c.in_ok-bytes.ensures.calm fault) cause) c.begin.ensures.cause
+pub lines_of-requires-clause-start : goal.lines_of-requires-clause-start
+lines_of-requires-clause-start g c =
+    let settings = c.args.settings.now in
+    let text = c.in_ok-text.text.items in
+    let extent = subst (λ (b : List ℕ). IsExtent b c.of-extent.result) c.deref.ensures.value c.of-extent.ensures in
+    let front : IsFrontFor settings (take c.min-front.result c.deref-2.result.now) text =
+    ap (take c.min-front.result) c.deref-2.ensures.value ∙ take_min c.min-front.result (length settings + 1) text (search rules) in
+    c.in_ok-start.ensures.start text extent front
 
 -- the settings are there, whatever was read
-pub returns-then-begins-clause-front : goal.returns-then-begins-clause-front
-returns-then-begins-clause-front g c =
-    let settings = c.args.settings.now in
-    let begins = subst (Begins settings) c.deref.ensures.value c.if-begins.ensures in
-    let long = front_length settings c.in_ok-bytes.bytes.items c.requires.settings begins in
-    IfOk-weaker c.go_on.result _ _ (λ text is. subst (λ (t : List ℕ). length settings ≤ length t + 1) (sym is) long) c.go_on.ensures.text
-
 pub returns-clause-front : goal.returns-clause-front
-returns-clause-front g c =
-    IfOk-weaker c.begin.result _ _ (λ text is. omega (arith, ap length is, batch_length c.args.settings.now c.requires.settings)) c.begin.ensures.text
+returns-clause-front g c = text_length c.args.settings.now c.in_ok-text.text.items c.in_ok-lines_of.field-0.items c.requires.settings c.in_ok-lines_of.ensures
 
--- a new file
-pub returns-clause-settled : goal.returns-clause-settled
-returns-clause-settled g c =
-    on_ok_weaker c.begin.result (λ settled clean.
-    let mid = subst IsTrue c.begin.ensures.clean clean in
-    let new = subst (IsNew c.args.settings.now) (c.deref-3.ensures.value ∙ c.in_ok-bytes.ensures.bytes mid) c.if-not-is_new.ensures in
-    ((settled clean).0, (settled clean).1 ∙ new_lines c.args.settings.now (g.D.Disk.seen c.args.self.now.disk) c.requires.settings new)) c.begin.ensures.settled
+pub returns-clause-opens : goal.returns-clause-opens
+returns-clause-opens g c clean =
+    let settings = c.args.settings.now in
+    let text = c.in_ok-text.text.items in
+    let extent = subst (λ (b : List ℕ). IsExtent b c.of-extent.result) c.deref.ensures.value c.of-extent.ensures in
+    let front : IsFrontFor settings (take c.min-front.result c.deref-2.result.now) text =
+    ap (take c.min-front.result) c.deref-2.ensures.value ∙ take_min c.min-front.result (length settings + 1) text (search rules) in
+    subst (Opens settings) (c.in_ok-text.ensures.bytes (c.open_at.ensures.clean clean)) (starts_opens settings text c.in_ok-start.start (c.in_ok-start.ensures.start text extent front))
 
-pub returns-clause-text : goal.returns-clause-text
-returns-clause-text g c =
-    IfOk-weaker c.begin.result _ _ (λ text is clean.
-    let mid = subst IsTrue c.begin.ensures.clean clean in
-    let new = subst (IsNew c.args.settings.now) (c.deref-3.ensures.value ∙ c.in_ok-bytes.ensures.bytes mid) c.if-not-is_new.ensures in
-    is ∙ ap blocks (new_lines c.args.settings.now (g.D.Disk.seen c.args.self.now.disk) c.requires.settings new)) c.begin.ensures.text
-
-pub returns-clause-any_moment : goal.returns-clause-any_moment
-returns-clause-any_moment g c clean left may =
-    let mid = subst IsTrue c.begin.ensures.clean clean in
-    let new = subst (IsNew c.args.settings.now) (c.deref-3.ensures.value ∙ c.in_ok-bytes.ensures.bytes mid) c.if-not-is_new.ensures in
-    new_alike c.args.settings.now (g.D.Disk.seen c.args.self.now.disk) left c.requires.settings new (c.begin.ensures.any_moment clean left may)
+pub returns-clause-shut_now : goal.returns-clause-shut_now
+returns-clause-shut_now g c clean well = c.in_ok-open_at.ensures.shut_now clean (subst EndsWell (sym c.in_ok-text.ensures.seen) well)

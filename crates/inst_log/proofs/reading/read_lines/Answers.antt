@@ -1,0 +1,72 @@
+use Rattle.std.proofs.Common.{◌≡◌, ◌++◌, [], List, ℕ, length, take, refl, ◌∙◌, sym, ap, subst, arith, length-append, rules}
+use Rattle.inst_log.specs.Layout.{recovered, blocks, IsWhole}
+use Rattle.inst_log.specs.Pieces.{IsReading}
+use Rattle.inst_log.proofs.Pieces.{lines_short, lines_more, whole_more, first_of, enough_lines, all_cut, through}
+use Rattle.inst_log.proofs.reading.read_lines.Goals.{then-loop-found-test+else-has_more, else-loop-found-test}
+use Rattle.inst_log.proofs.reading.read_lines.Goals as goal
+
+pub loop-found-init : goal.loop-found-init
+loop-found-init g c =
+    let file = g.D.Disk.seen c.args.disk.now in
+    let none : c.new-text.result.items ≡ [] = c.new-text.ensures.items in
+    record {
+      reading = λ clean.
+          subst (λ (l : List ℕ). IsReading file c.in_ok-lines.lines (recovered l)) (sym none) (c.in_ok-lines.ensures.reading clean [] file refl refl refl);
+      whole = subst IsWhole (sym none) refl;
+      found = ap (λ (l : List ℕ). length (recovered l)) (sym none);
+      seen = c.new.ensures.seen;
+      crash = c.new.ensures.crash;
+      usable = c.new.ensures.usable;
+      clean = c.new.ensures.clean;
+    }
+
+pub overflow_add-found : goal.overflow_add-found
+overflow_add-found g c =
+    omega (
+      arith,
+      c.loop-found.invariant.found,
+      lines_short c.loop-found.text.items,
+      c.loop-found.text.small,
+      c.in_ok-piece.piece.small,
+      c.count_lines.ensures.within,
+      ap length c.deref.ensures.value,
+    )
+
+pub loop-found-preserved : goal.loop-found-preserved
+loop-found-preserved g c =
+    let i = c.loop-found.invariant in
+    let text = c.loop-found.text.items in
+    let piece = c.in_ok-piece.piece.items in
+    let file = g.D.Disk.seen c.args.disk.now in
+    let both : c.extend_from_slice.new.self.items ≡ text ++ piece = search rules in
+    let lines : recovered c.extend_from_slice.new.self.items ≡ recovered text ++ recovered piece = ap recovered both ∙ lines_more text piece i.whole in
+    let counted : c.count_lines.result ≡ length (recovered piece) = c.count_lines.ensures.count ∙ ap (λ (l : List ℕ). length (recovered l)) c.deref.ensures.value in
+    record {
+      reading = λ clean.
+          let was = subst (λ (f : List ℕ). IsReading f c.loop-found.lines (recovered text)) (sym i.seen) (i.reading (c.next.ensures.clean clean)) in
+          let now = subst (λ (f : List ℕ). IsReading f c.next.new.self (recovered text ++ recovered piece)) i.seen (c.in_ok-piece.ensures.reading clean (recovered text) was) in
+          subst (IsReading file c.next.new.self) (sym lines) now;
+      whole = subst IsWhole (sym both) (whole_more text piece i.whole c.in_ok-piece.ensures.whole);
+      found = omega (arith, i.found, counted, ap length lines, length-append (recovered text) (recovered piece));
+      seen = c.next.ensures.seen ∙ i.seen;
+      crash = λ left may. i.crash left (c.next.ensures.crash left may);
+      usable = c.next.ensures.usable;
+      clean = λ clean. i.clean (c.next.ensures.clean clean);
+    }
+
+pub returns-clause-lines : goal.returns-clause-lines
+returns-clause-lines g c clean =
+    let i = c.loop-found.invariant in
+    let text = c.loop-found.text.items in
+    let file = g.D.Disk.seen c.args.disk.now in
+    let reading = i.reading clean in
+    let size : c.lines_len.result ≡ length (blocks (take c.args.count (recovered text))) =
+    c.lines_len.ensures.len ∙ ap (λ (l : List ℕ). length (blocks (take c.args.count (recovered l)))) c.deref-2.ensures.value in
+    let cut : c.truncate.new.self.items ≡ take c.lines_len.result text = search rules in
+    let enough : take c.args.count (recovered file) ≡ take c.args.count (recovered text) = elim c.loop-found-test.branch [
+      | then-loop-found-test+else-has_more w ↦
+          ap (take c.args.count) (all_cut file c.loop-found.lines.cutter (recovered text) reading.cut (through file c.loop-found.lines (recovered text) reading (sym w.has_more.ensures ∙ w.if-has_more.false)))
+      | else-loop-found-test w ↦
+          enough_lines file c.loop-found.lines.cutter (recovered text) c.args.count reading.cut (omega (arith, w.loop-found-test.false, i.found))
+    ] in
+    cut ∙ first_of text c.args.count c.lines_len.result i.whole size ∙ ap blocks (sym enough)

@@ -1,0 +1,124 @@
+//! A file is read piece by piece, and nothing of it is changed.
+ghost use Rattle.std.specs.Prelude.{◌≡◌, ◌≤◌, ◌<◌, ◌+◌, ◌^◌, ◌++◌, [], List, ℕ, length, take, drop, true, false, IsTrue, MatchBool, IfOk, IfErr, OnOk, ⊤};
+ghost use Rattle.sqlite_disk.specs.Disk.{Holds, MoreFaults};
+ghost use Rattle.inst_log.specs.Layout.{recovered, blocks, IsWhole, IsShut};
+ghost use Rattle.inst_log.specs.Log.{HasCause};
+ghost use Rattle.inst_log.specs.Pieces.{IsReading, IsExtent, has_more};
+
+use crate::LogError;
+use crate::extent::Extent;
+use crate::line_cutter::LineCutter;
+use sqlite_disk::Disk;
+use std::alloc::Global;
+
+/// How many bytes are read at a time.
+const PIECE: usize = 65_536;
+
+/// Reads the lines of a file, some at a time. It takes the memory of a piece of 64 KiB and of the longest line.
+#[derive(Drop)]
+pub struct FileLines {
+    alloc: Global,
+    cutter: LineCutter,
+    /// How many bytes the file has.
+    len: usize,
+}
+
+impl FileLines {
+    /// Begins at this byte of the disk's file, at which a line begins.
+    pub fn new<D: Disk>(alloc: Global, disk: &mut D, at: usize) -> Result<FileLines, LogError>
+        requires usable { IsTrue (D.Disk.is_usable disk.old) }
+        ensures reading { IfOk result (λ lines. IsTrue (D.Disk.is_clean disk.new) → (done : List (List ℕ)) (rest : List ℕ)
+            → D.Disk.seen disk.old ≡ blocks done ++ rest → recovered (blocks done) ≡ done → at ≡ length (blocks done)
+            → IsReading (D.Disk.seen disk.old) lines done) }
+        ensures fits { IfOk result (λ lines. lines.len < 2 ^ 64) }
+        ensures seen { D.Disk.seen disk.new ≡ D.Disk.seen disk.old }
+        ensures crash { (c : List ℕ) → D.Disk.may_leave disk.new c → D.Disk.may_leave disk.old c }
+        ensures cause { IfErr result (HasCause (MoreFaults (D.Disk.faults disk.old) (D.Disk.faults disk.new)) ⊤ ⊥) }
+        ensures calm { OnOk result (D.Disk.faults disk.new ≡ D.Disk.faults disk.old) }
+        ensures usable { IsTrue (D.Disk.is_usable disk.new) }
+        ensures clean { IsTrue (D.Disk.is_clean disk.new) → IsTrue (D.Disk.is_clean disk.old) }
+    {
+        let len = disk.len()?;
+        Ok(FileLines {
+            alloc,
+            cutter: LineCutter::new(alloc, at),
+            len,
+        })
+    }
+
+    /// Returns `true` if the file may have more lines.
+    pub fn has_more(&self) -> bool
+        ensures { result ≡ has_more self.now }
+    {
+        self.cutter.at() < self.len && !self.cutter.stops()
+    }
+
+    /// Reads the next piece of the file, and returns the lines that end in it.
+    pub fn next<D: Disk>(&mut self, disk: &mut D) -> Result<Vec<u8>, LogError>
+        requires more { has_more self.old ≡ true }
+        requires usable { IsTrue (D.Disk.is_usable disk.old) }
+        ensures whole { IfOk result (λ lines. IsWhole lines.items) }
+        ensures reading { IfOk result (λ lines. IsTrue (D.Disk.is_clean disk.new) → (done : List (List ℕ))
+            → IsReading (D.Disk.seen disk.old) self.old done
+            → IsReading (D.Disk.seen disk.old) self.new (done ++ recovered lines.items)) }
+        ensures on { OnOk result (self.old.cutter.at < self.new.cutter.at) }
+        ensures within { OnOk result (self.new.cutter.at ≤ self.new.len) }
+        ensures len { OnOk result (self.new.len ≡ self.old.len) }
+        ensures seen { D.Disk.seen disk.new ≡ D.Disk.seen disk.old }
+        ensures crash { (c : List ℕ) → D.Disk.may_leave disk.new c → D.Disk.may_leave disk.old c }
+        ensures cause { IfErr result (HasCause (IsTrue (D.Disk.is_clean disk.new)
+            → (done : List (List ℕ)) → IsReading (D.Disk.seen disk.old) self.old done
+            → MoreFaults (D.Disk.faults disk.old) (D.Disk.faults disk.new)) ⊤ ⊥) }
+        ensures calm { OnOk result (D.Disk.faults disk.new ≡ D.Disk.faults disk.old) }
+        ensures usable { IsTrue (D.Disk.is_usable disk.new) }
+        ensures clean { IsTrue (D.Disk.is_clean disk.new) → IsTrue (D.Disk.is_clean disk.old) }
+    {
+        let at = self.cutter.at();
+        let piece = read_piece(self.alloc, disk, at, (self.len - at).min(PIECE))?;
+        Ok(self.cutter.take(&piece)?)
+    }
+
+    /// Returns `true` if the lines of a file that has no more end by the closed byte 0.
+    pub fn is_shut(&self) -> bool
+        ensures { (file : List ℕ) (done : List (List ℕ)) → IsReading file self.now done → has_more self.now ≡ false
+            → MatchBool result (IsShut file) (IsShut file → ⊥) }
+    {
+        self.cutter.is_shut()
+    }
+
+    /// Returns how far the lines go of a file that has no more.
+    pub fn extent(&self) -> Extent
+        ensures { (file : List ℕ) (done : List (List ℕ)) → IsReading file self.now done → has_more self.now ≡ false
+            → (recovered file ≡ done) × IsExtent file result }
+    {
+        Extent {
+            len: self.len,
+            end: self.cutter.end(),
+            is_closed: self.cutter.stops(),
+        }
+    }
+}
+
+/// The bytes of a file from this one on, so many.
+fn read_piece<D: Disk>(
+    alloc: Global,
+    disk: &mut D,
+    at: usize,
+    len: usize,
+) -> Result<Vec<u8>, LogError>
+    requires usable { IsTrue (D.Disk.is_usable disk.old) }
+    requires some { 0 < len }
+    ensures len { IfOk result (λ piece. length piece.items ≡ len) }
+    ensures piece { IfOk result (λ piece. IsTrue (D.Disk.is_clean disk.new) → Holds (D.Disk.seen disk.old) at piece.items) }
+    ensures seen { D.Disk.seen disk.new ≡ D.Disk.seen disk.old }
+    ensures crash { (c : List ℕ) → D.Disk.may_leave disk.new c → D.Disk.may_leave disk.old c }
+    ensures cause { IfErr result (HasCause (IsTrue (D.Disk.is_clean disk.new) → at + len ≤ length (D.Disk.seen disk.old)
+        → MoreFaults (D.Disk.faults disk.old) (D.Disk.faults disk.new)) ⊤ ⊥) }
+    ensures calm { OnOk result (D.Disk.faults disk.new ≡ D.Disk.faults disk.old) }
+    ensures usable { IsTrue (D.Disk.is_usable disk.new) }
+    ensures clean { IsTrue (D.Disk.is_clean disk.new) → IsTrue (D.Disk.is_clean disk.old) }
+{
+    let mut bytes = vec![in alloc; 0; len]?;
+    disk.read_at(at, &mut bytes)?;
+    Ok(bytes)
+}

@@ -1,0 +1,73 @@
+//! Bytes that come in pieces are cut into whole lines.
+ghost use Rattle.std.specs.Prelude.{◌≡◌, ◌≤◌, ◌<◌, ◌+◌, ◌-◌, ◌^◌, ◌++◌, [], List, ℕ, length, take, drop, IfOk, OnOk};
+ghost use Rattle.inst_log.specs.Layout.{recovered, IsWhole};
+ghost use Rattle.inst_log.specs.Pieces.{HasCut, is_shut, stops};
+
+use crate::front::kept_len;
+use std::alloc::{AllocError, Global};
+use std::mem;
+
+/// Cuts a file that comes in pieces into whole lines.
+#[derive(Drop)]
+pub struct LineCutter {
+    /// The beginning of a line that hasn't ended yet.
+    held: Vec<u8>,
+    /// How many bytes of the file came before what comes next.
+    at: usize,
+}
+
+impl LineCutter {
+    /// Begins at this byte of a file.
+    pub fn new(alloc: Global, at: usize) -> LineCutter
+        ensures at { result.at ≡ at }
+        ensures held { result.held.items ≡ [] }
+    {
+        LineCutter {
+            held: Vec::new(alloc),
+            at,
+        }
+    }
+
+    /// Returns how many bytes of the file came before what comes next.
+    pub fn at(&self) -> usize
+        ensures { result ≡ self.now.at }
+    {
+        self.at
+    }
+
+    /// Returns the position after the last line that was cut.
+    pub fn end(&self) -> usize
+        ensures { result ≡ self.now.at - length self.now.held.items }
+    {
+        self.at.saturating_sub(self.held.len())
+    }
+
+    /// Returns `true` if no line begins after those that were cut, whatever comes.
+    pub fn stops(&self) -> bool
+        ensures { result ≡ stops self.now }
+    {
+        !self.held.is_empty() && self.held[0] != b'{'
+    }
+
+    /// Returns `true` if the closed byte 0 follows the lines that were cut.
+    pub fn is_shut(&self) -> bool
+        ensures { result ≡ is_shut self.now.held.items }
+    {
+        !self.held.is_empty() && self.held[0] == 0
+    }
+
+    /// Takes the bytes that come next, and returns the lines that end in them.
+    pub fn take(&mut self, piece: &[u8]) -> Result<Vec<u8>, AllocError>
+        requires { self.old.at + length piece.now < 2 ^ 64 }
+        ensures at { OnOk result (self.new.at ≡ self.old.at + length piece.now) }
+        ensures whole { IfOk result (λ lines. IsWhole lines.items) }
+        ensures cut { IfOk result (λ lines. (file : List ℕ) (done : List (List ℕ)) → HasCut file self.old done
+            → piece.now ≡ take (length piece.now) (drop self.old.at file)
+            → self.old.at + length piece.now ≤ length file → HasCut file self.new (done ++ recovered lines.items)) }
+    {
+        self.held.extend_from_slice(piece)?;
+        let rest = self.held.split_off(kept_len(&self.held))?;
+        self.at += piece.len();
+        Ok(mem::replace(&mut self.held, rest))
+    }
+}

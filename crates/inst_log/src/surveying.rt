@@ -1,0 +1,28 @@
+//! How far the lines of a disk's file go.
+ghost use Rattle.std.specs.Prelude.{◌≡◌, List, ℕ, IsTrue, IfOk, IfErr, ⊤};
+ghost use Rattle.inst_log.specs.Log.{HasCause};
+ghost use Rattle.inst_log.specs.Pieces.{IsExtent};
+
+use crate::LogError;
+use crate::extent::Extent;
+use crate::file_lines::FileLines;
+use sqlite_disk::Disk;
+use std::alloc::Global;
+
+/// Reads the disk's file, whatever a crash left of it, and returns how far its lines go. It takes the memory of a piece of
+/// 64 KiB and of the longest line.
+pub fn survey<D: Disk>(alloc: Global, disk: &mut D) -> Result<Extent, LogError>
+    requires usable { IsTrue (D.Disk.is_usable disk.old) }
+    ensures extent { IfOk result (λ extent. IsTrue (D.Disk.is_clean disk.new) → IsExtent (D.Disk.seen disk.old) extent) }
+    ensures seen { D.Disk.seen disk.new ≡ D.Disk.seen disk.old }
+    ensures crash { (c : List ℕ) → D.Disk.may_leave disk.new c → D.Disk.may_leave disk.old c }
+    ensures cause { IfErr result (HasCause ⊤ ⊤ ⊥) }
+    ensures usable { IsTrue (D.Disk.is_usable disk.new) }
+    ensures clean { IsTrue (D.Disk.is_clean disk.new) → IsTrue (D.Disk.is_clean disk.old) }
+{
+    let mut lines = FileLines::new(alloc, disk, 0)?;
+    while lines.has_more() {
+        lines.next(disk)?;
+    }
+    Ok(lines.extent())
+}
