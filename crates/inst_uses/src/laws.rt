@@ -1,8 +1,12 @@
-//! Laws of the model and of the books of all participants: a call of a law is a proof of what it says.
+//! Laws of the model, of the books of all participants and of chains of marks: a call of a law is a proof of what it says.
+ghost use Rattle.std.specs.Prelude.{◌≡◌, ◌⊎◌, ◌++◌, ◌∷◌, List, ℕ, true};
+ghost use Rattle.inst_log.specs.Layout.{recovered};
+ghost use Rattle.inst_chain.specs.Chain.{is_mark, IsSealed, Collision};
 ghost use Rattle.inst_model.specs.OneOutcome.{OutcomeStays};
 ghost use Rattle.inst_together.specs.Together.{TogetherTheyFit};
 
 use inst_board::Board;
+use inst_chain::one_digest_one_log;
 use inst_model::laws::a_transfer_has_one_outcome;
 use inst_together::laws::together_books_fit;
 
@@ -18,4 +22,14 @@ pub fn together<B: Board>()
     ensures { TogetherTheyFit B.settings B.knows B.has_role }
 {
     together_books_fit::<B>();
+}
+
+/// Two logs that share a mark have the same lines before it, or two different texts with one digest.
+pub fn chain()
+    ensures { (a b : List ℕ) (mark : List ℕ) (old new : List (List ℕ)) (late later : List (List ℕ))
+        → IsSealed a → IsSealed b → is_mark mark ≡ true
+        → recovered a ≡ old ++ mark ∷ late → recovered b ≡ new ++ mark ∷ later
+        → (old ≡ new) ⊎ Collision a b }
+{
+    one_digest_one_log(); // `Collision` has the two texts, parts of the two files
 }

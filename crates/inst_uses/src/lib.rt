@@ -3,6 +3,7 @@
 
 pub mod boards;
 pub mod books;
+pub mod chains;
 pub mod laws;
 pub mod lines;
 pub mod logs;

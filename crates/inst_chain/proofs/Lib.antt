@@ -1,0 +1,6 @@
+pub mod Chains
+mod Checks
+mod Digests
+pub mod Next
+pub mod Said
+mod Wrong

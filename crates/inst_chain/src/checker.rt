@@ -1,0 +1,100 @@
+//! The lines of a log are checked one after the other.
+ghost use Rattle.std.specs.Prelude.{◌≡◌, ◌++◌, [], ◌∷◌, List, ℕ, true, false, IfErr, OnOk};
+ghost use Rattle.inst_chain.specs.Chain.{is_mark, mark_of, front_of};
+ghost use Rattle.inst_log.specs.Layout.{recovered, blocks};
+
+use crate::marker::{Marker, is_mark};
+use crate::prefix::Prefix;
+use inst_log::first_line;
+
+/// Checks lines as they come.
+#[derive(Drop)]
+pub struct Checker {
+    marker: Marker,
+    /// Whether the last line that came is a mark.
+    sealed: bool,
+    came: Prefix,
+    /// The lines up to the last mark.
+    right: Prefix,
+}
+
+impl Checker {
+    ghost use Rattle.inst_chain.specs.Checking.{Stands, IsWrongAt};
+
+    /// No line has come.
+    pub fn new() -> Checker
+        ensures { Stands result [] }
+    {
+        Checker {
+            marker: Marker::new(),
+            sealed: false,
+            came: Prefix::new(),
+            right: Prefix::new(),
+        }
+    }
+
+    /// Takes the next line, without its newline. Returns `false` if it is a mark that is wrong; then drop the checker.
+    fn check(&mut self, line: &[u8]) -> bool
+        ensures right { result ≡ true → (lines : List (List ℕ)) → Stands self.old lines → Stands self.new (lines ++ line.now ∷ []) }
+        ensures mark { result ≡ false → is_mark line.now ≡ true }
+        ensures wrong { result ≡ false → (lines : List (List ℕ)) → (s : Stands self.old lines)
+            → line.now ≡ mark_of (front_of s.older ++ blocks s.part) → ⊥ }
+    {
+        self.came.add(line);
+        if !is_mark(line) {
+            self.marker.add(line);
+            self.marker.add(b"\n");
+            self.sealed = false;
+            return true;
+        }
+        let is_right = self.marker.mark().as_slice() == line;
+        if !is_right {
+            return false;
+        }
+        self.sealed = true;
+        self.right = self.came;
+        true
+    }
+
+    /// Takes the whole lines with which bytes begin.
+    ///
+    /// # Errors
+    ///
+    /// A mark among them is wrong: the lines up to the mark before it. Then drop the checker.
+    pub fn check_lines(&mut self, bytes: &[u8]) -> Result<(), Prefix>
+        ensures right { OnOk result ((lines : List (List ℕ)) → Stands self.old lines
+            → Stands self.new (lines ++ recovered bytes.now)) }
+        ensures wrong { IfErr result (λ right. IsWrongAt self.old bytes.now right) }
+    {
+        let mut rest = bytes;
+        while let Some(len) = first_line(rest) {
+            let right = self.right;
+            if !self.check(&rest[..len - 1]) {
+                return Err(right);
+            }
+            rest = &rest[len..];
+        }
+        Ok(())
+    }
+
+    /// Returns `true` if the last line that came is a mark.
+    pub fn is_sealed(&self) -> bool
+        ensures { result ≡ self.now.sealed }
+    {
+        self.sealed
+    }
+
+    /// Returns the lines up to the last mark.
+    pub fn right(&self) -> Prefix
+        ensures { result ≡ self.now.right }
+    {
+        self.right
+    }
+
+    /// Returns what makes the next mark.
+    pub fn into_marker(self) -> Marker
+        ensures { result ≡ self.marker }
+    {
+        self.marker
+    }
+}

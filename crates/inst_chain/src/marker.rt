@@ -1,0 +1,129 @@
+//! The digest of what was written since the last mark.
+ghost use Rattle.std.specs.Prelude.{◌≡◌, ◌<◌, ◌++◌, [], ◌∷◌, List, ℕ, slice_index, bytes_eq, true, false, OnOk};
+ghost use Rattle.inst_bytes.specs.Newline.{newline};
+ghost use Rattle.inst_log.specs.Layout.{recovered, IsWhole};
+ghost use Rattle.inst_chain.specs.Chain.{is_mark, mark_of, mark_with, has_digest, said, HasNoMark};
+ghost use Rattle.inst_chain.specs.Checking.{Digests};
+ghost use Rattle.hex.specs.Hex.{encode_lower};
+
+use crate::digest::{DIGEST_LEN, Digest};
+use hex::encode_to_slice;
+use inst_log::first_line;
+use sha2::{Digest as _, Sha256};
+use std::alloc::AllocError;
+
+/// How many bytes a mark has, without its newline.
+pub const MARK_LEN: usize = DIGEST_LEN + 3;
+
+/// Makes the marks of a log.
+#[derive(Drop)]
+pub struct Marker {
+    hasher: Sha256,
+}
+
+impl Marker {
+    /// Begins a log.
+    pub fn new() -> Marker
+        ensures { Digests result [] }
+    {
+        Marker {
+            hasher: Sha256::new(),
+        }
+    }
+
+    /// Adds bytes of the log.
+    pub fn add(&mut self, bytes: &[u8])
+        ensures { (text : List ℕ) → Digests self.old text → Digests self.new (text ++ bytes.now) }
+    {
+        self.hasher.update(bytes);
+    }
+
+    /// Returns the mark of what was added, and adds it, with its newline: the next mark covers it too.
+    pub fn mark(&mut self) -> [u8; MARK_LEN]
+        ensures line { recovered (result ++ newline ∷ []) ≡ result ∷ [] }
+        ensures is { is_mark result ≡ true }
+        ensures mark { (text : List ℕ) → Digests self.old text → result ≡ mark_of text }
+        ensures next { (text : List ℕ) → Digests self.old text → Digests self.new (mark_of text ++ newline ∷ []) }
+    {
+        let mark = mark_by(&self.hasher.finalize_reset());
+        self.hasher.update(&mark);
+        self.hasher.update(b"\n");
+        mark
+    }
+}
+
+/// The mark with this digest.
+fn mark_by(digest: &[u8; 32]) -> [u8; MARK_LEN]
+    ensures mark { result ≡ 123 ∷ 1 ∷ 123 ∷ encode_lower digest.now }
+    ensures bytes { (i : ℕ) → slice_index digest.now i < 256 }
+{
+    let mut mark = [b'{'; MARK_LEN];
+    mark[1] = 1;
+    let _ = encode_to_slice(digest, &mut mark[3..]);
+    mark
+}
+
+/// The line is a mark.
+pub fn is_mark(line: &[u8]) -> bool
+    ensures { result ≡ is_mark line.now }
+{
+    match line {
+        [a, b, c, d, ..] => *a == b'{' && *b == 1 && *c == b'{' && *d != 1,
+        _ => false,
+    }
+}
+
+/// Adds their mark to the lines of a batch that isn't closed. At `Err`, drop both.
+pub fn mark_lines(marker: &mut Marker, batch: &mut Vec<u8>) -> Result<(), AllocError>
+    requires { IsWhole batch.old.items }
+    ensures whole { OnOk result (IsWhole batch.new.items) }
+    ensures lines { OnOk result ((text : List ℕ) → Digests marker.old text
+        → recovered batch.new.items ≡ recovered batch.old.items ++ mark_of (text ++ batch.old.items) ∷ []) }
+    ensures digests { OnOk result ((text : List ℕ) → Digests marker.old text
+        → Digests marker.new (mark_of (text ++ batch.old.items) ++ newline ∷ [])) }
+    ensures said { OnOk result (said (recovered batch.new.items) ≡ said (recovered batch.old.items)) }
+{
+    marker.add(batch);
+    let mark = marker.mark();
+    batch.extend_from_slice(&mark)?;
+    batch.push(b'\n')?;
+    Ok(())
+}
+
+/// Returns `true` if one of the lines with which bytes begin is a mark.
+pub fn has_mark(bytes: &[u8]) -> bool
+    ensures { result ≡ false → HasNoMark (recovered bytes.now) }
+{
+    let mut rest = bytes;
+    while let Some(len) = first_line(rest) {
+        if is_mark(&rest[..len - 1]) {
+            return true;
+        }
+        rest = &rest[len..];
+    }
+    false
+}
+
+/// Returns `true` if one of the lines with which bytes begin is the mark with this digest.
+pub fn has_digest(bytes: &[u8], digest: &Digest) -> bool
+    ensures { result ≡ has_digest digest.now (recovered bytes.now) }
+{
+    let mut rest = bytes;
+    while let Some(len) = first_line(rest) {
+        if is_mark_with(&rest[..len - 1], digest) {
+            return true;
+        }
+        rest = &rest[len..];
+    }
+    false
+}
+
+/// The line is the mark with this digest.
+fn is_mark_with(line: &[u8], digest: &Digest) -> bool
+    ensures { result ≡ bytes_eq line.now (mark_with digest.now.text) }
+{
+    let mut mark = [b'{'; MARK_LEN];
+    mark[1] = 1;
+    mark[3..].copy_from_slice(&digest.text);
+    line == mark.as_slice()
+}

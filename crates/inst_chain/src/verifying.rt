@@ -1,0 +1,99 @@
+//! The marks of a file are verified, and nothing of it is changed.
+ghost use Rattle.std.specs.Prelude.{◌≡◌, ◌++◌, List, ℕ, IsTrue, IfOk, IfErr, ⊤};
+ghost use Rattle.inst_log.specs.Layout.{recovered};
+ghost use Rattle.inst_chain.specs.Chain.{has_wanted};
+ghost use Rattle.inst_chain.specs.Verifying.{Finds, Unverified};
+ghost use Rattle.inst_chain.specs.inner.Ends.{IsChecked};
+ghost use Rattle.inst_chain.specs.declared.prefix.Prefix.{Prefix};
+ghost use Rattle.inst_chain.specs.declared.error.ChainError.TheVariants.{Damaged};
+
+use crate::ChainError;
+use crate::checker::Checker;
+use crate::digest::Digest;
+use crate::marker::{Marker, has_digest};
+use inst_log::{Extent, FileLines};
+use sqlite_disk::Disk;
+use std::alloc::Global;
+
+/// What a file was found to have.
+#[derive(Drop)]
+pub struct Verified {
+    /// How far its lines go.
+    pub extent: Extent,
+    /// What makes its next mark, if it has a line.
+    pub marker: Option<Marker>,
+    /// Whether it has the mark that was asked for.
+    pub has_wanted: bool,
+}
+
+/// Reads the file that the disk has, whatever a crash left of it, verifies each mark, and looks for the one with the
+/// wanted digest. It takes the memory of a piece of 64 KiB and of the longest line.
+///
+/// # Errors
+///
+/// `Damaged` if a mark is wrong, or the end is. Nothing is written in any case.
+pub fn verify<D: Disk>(
+    alloc: Global,
+    disk: &mut D,
+    wanted: Option<Digest>,
+) -> Result<Verified, ChainError>
+    requires usable { IsTrue (D.Disk.is_usable disk.old) }
+    ensures found { IfOk result (λ verified. IsTrue (D.Disk.is_clean disk.new) → Finds (D.Disk.seen disk.old) verified) }
+    ensures wanted { IfOk result (λ verified. IsTrue (D.Disk.is_clean disk.new)
+        → verified.has_wanted ≡ has_wanted wanted (recovered (D.Disk.seen disk.old))) }
+    ensures damaged { IfErr result (λ error. Unverified (D.Disk.seen disk.old) (IsTrue (D.Disk.is_clean disk.new)) error) }
+    ensures seen { D.Disk.seen disk.new ≡ D.Disk.seen disk.old }
+    ensures crash { (c : List ℕ) → D.Disk.may_leave disk.new c → D.Disk.may_leave disk.old c }
+    ensures usable { IsTrue (D.Disk.is_usable disk.new) }
+    ensures clean { IsTrue (D.Disk.is_clean disk.new) → IsTrue (D.Disk.is_clean disk.old) }
+{
+    let mut lines = FileLines::new(alloc, disk, 0)?;
+    let mut checker = Checker::new();
+    let mut has_wanted = wanted.is_none();
+    while lines.has_more() {
+        let piece = lines.next(disk)?;
+        if let Err(right) = checker.check_lines(&piece) {
+            return Err(ChainError::Damaged(right));
+        }
+        has_wanted = find_wanted(has_wanted, &piece, wanted);
+    }
+    end(&lines, checker, has_wanted)
+}
+
+/// Whether the mark with the wanted digest was found before these lines or is one of them, or none is wanted.
+fn find_wanted(found: bool, lines: &[u8], wanted: Option<Digest>) -> bool
+    ensures { (done : List (List ℕ)) → found ≡ has_wanted wanted done → result ≡ has_wanted wanted (done ++ recovered lines.now) }
+{
+    match wanted {
+        Some(digest) => found || has_digest(lines, &digest),
+        None => true,
+    }
+}
+
+/// What a file has whose lines were all checked.
+fn end(lines: &FileLines, checker: Checker, has_wanted: bool) -> Result<Verified, ChainError>
+    ensures found { IfOk result (λ verified. (file : List ℕ) → IsChecked file lines.now checker → Finds file verified) }
+    ensures wanted { IfOk result (λ verified. verified.has_wanted ≡ has_wanted) }
+    ensures damaged { IfErr result (λ error. (file : List ℕ) → IsChecked file lines.now checker → Unverified file ⊤ error) }
+    ensures only { IfErr result (λ error. (right : Prefix) × (error ≡ Damaged right)) }
+{
+    let extent = lines.extent();
+    if extent.end == 0 {
+        return Ok(Verified {
+            extent,
+            marker: None,
+            has_wanted,
+        });
+    }
+    if !checker.is_sealed() {
+        return Err(ChainError::Damaged(checker.right()));
+    }
+    if !lines.is_shut() {
+        return Err(ChainError::Damaged(checker.right()));
+    }
+    Ok(Verified {
+        extent,
+        marker: Some(checker.into_marker()),
+        has_wanted,
+    })
+}
