@@ -2,6 +2,7 @@
 ghost use Rattle.std.specs.Prelude.{IsTrue};
 ghost use Rattle.sqlite_disk.specs.Disk.{Only};
 ghost use Rattle.inst_log.specs.Layout.{IsBatch};
+ghost use Rattle.inst_log.specs.Log.{IsSettled};
 
 use crate::comparing::{same, same_at};
 use crate::disks::filled;
@@ -55,6 +56,16 @@ fn acknowledged<D: Disk>(
     if log.open(alloc, settings).is_err() {
         return 0;
     }
+    appended(log, first, second)
+}
+
+/// Adds two batches to a log that is open, and says how much of it and of them is acknowledged.
+fn appended<D: Disk>(log: &mut Log<D>, first: &[u8], second: &[u8]) -> usize
+    requires usable { IsTrue (D.Disk.is_usable log.old.disk) }
+    requires settled { IsTrue (D.Disk.is_clean log.old.disk) → IsSettled D.Disk.seen D.Disk.may_leave log.old }
+    requires first { IsBatch first.now }
+    requires second { IsBatch second.now }
+{
     if log.append(first).is_err() {
         return 1;
     }
