@@ -12,7 +12,7 @@ use Rattle.inst_chain.proofs.Digests.{mark_is_mark}
 use Rattle.inst_chain.proofs.Chains.{Lines, where_it_is, alone}
 use Rattle.inst_chain.proofs.Said.{HasNoMark-append}
 
-last_same : (lines before : Lines) (line m : List ℕ) → lines ++ line ∷ [] ≡ before ++ m ∷ [] → line ≡ m
+pub last_same : (lines before : Lines) (line m : List ℕ) → lines ++ line ∷ [] ≡ before ++ m ∷ [] → line ≡ m
 last_same lines before line m same = elim (where_it_is lines (line ∷ []) before m [] same) [
   | inl found ↦ absurd (omega (arith, ap length found.then, length-append found.more (line ∷ [])))
   | inr found ↦ (alone line found.more m [] found.here).0

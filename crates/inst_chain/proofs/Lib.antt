@@ -3,4 +3,5 @@ mod Checks
 mod Digests
 pub mod Next
 pub mod Said
+mod Summing
 mod Wrong

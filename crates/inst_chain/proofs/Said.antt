@@ -2,7 +2,7 @@
 use Rattle.std.proofs.Common.{◌≡◌, Bool, true, false, ◌||◌, if◌then◌else◌, ℕ, List, [], ◌∷◌, ◌++◌, length, arith, refl, ◌∙◌, ap}
 use Rattle.std.proofs.lemmas.List.{append-nil}
 use Rattle.std.specs.Prelude.{bytes_eq}
-use Rattle.inst_chain.specs.Chain.{is_mark, mark_of, mark_with, HasNoMark, has_digest, said}
+use Rattle.inst_chain.specs.Chain.{is_mark, mark_of, mark_with, HasNoMark, has_mark, has_digest, said}
 use Rattle.inst_chain.specs.declared.digest.Digest.{Digest}
 use Rattle.std.proofs.lemmas.Bool.Decides.{nat_tests}
 use Rattle.inst_log.specs.Escape.{raw_of}
@@ -25,6 +25,18 @@ pub said_plain : (lines : Lines) → HasNoMark lines → said lines ≡ lines
 said_plain [] none = refl
 said_plain (line ∷ lines) none =
     ap (λ (t : Bool). if t then said lines else line ∷ said lines) none.0 ∙ ap (λ (l : Lines). line ∷ l) (said_plain lines none.1)
+
+or_left : (a b : Bool) → (a || b) ≡ false → a ≡ false
+or_left true b none = none
+or_left false b none = refl
+
+or_right : (a b : Bool) → (a || b) ≡ false → b ≡ false
+or_right true b none = absurd (cc none)
+or_right false b none = none
+
+pub no_mark : (lines : Lines) → has_mark lines ≡ false → HasNoMark lines
+no_mark [] none = tt
+no_mark (line ∷ lines) none = (or_left (is_mark line) (has_mark lines) none, no_mark lines (or_right (is_mark line) (has_mark lines) none))
 
 -- a mark behind lines
 pub said_behind : (lines : Lines) (mark : List ℕ) → is_mark mark ≡ true → said (lines ++ mark ∷ []) ≡ said lines

@@ -89,6 +89,11 @@ kept_said settings file = said (kept settings file)
 abbrev pub mark_with : List ℕ → List ℕ
 mark_with text = gate ∷ escape ∷ gate ∷ text
 
+-- one of the lines is a mark
+abbrev pub has_mark : List (List ℕ) → Bool
+has_mark [] = false
+has_mark (line ∷ lines) = is_mark line || has_mark lines
+
 -- one of the lines is the mark with this digest
 abbrev pub has_digest : Digest → List (List ℕ) → Bool
 has_digest digest [] = false

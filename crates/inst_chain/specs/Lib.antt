@@ -2,5 +2,6 @@
 pub mod Chain
 pub mod Checking
 pub mod Verifying
+pub mod Summing
 -- Only inner functions and proofs cite these.
 pub mod inner

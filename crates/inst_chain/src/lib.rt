@@ -7,6 +7,7 @@ mod error;
 mod laws;
 mod marker;
 mod prefix;
+mod summary;
 mod verifying;
 
 pub use checker::Checker;
@@ -15,4 +16,5 @@ pub use error::ChainError;
 pub use laws::{no_line_is_a_mark, one_digest_one_log};
 pub use marker::{MARK_LEN, Marker, has_digest, has_mark, is_mark, mark_lines};
 pub use prefix::Prefix;
+pub use summary::{Summary, summarize};
 pub use verifying::{Verified, verify};

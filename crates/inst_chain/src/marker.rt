@@ -2,7 +2,7 @@
 ghost use Rattle.std.specs.Prelude.{◌≡◌, ◌<◌, ◌++◌, [], ◌∷◌, List, ℕ, slice_index, bytes_eq, true, false, OnOk};
 ghost use Rattle.inst_bytes.specs.Newline.{newline};
 ghost use Rattle.inst_log.specs.Layout.{recovered, IsWhole};
-ghost use Rattle.inst_chain.specs.Chain.{is_mark, mark_of, mark_with, has_digest, said, HasNoMark};
+ghost use Rattle.inst_chain.specs.Chain.{is_mark, mark_of, mark_with, has_mark, has_digest, said, HasNoMark};
 ghost use Rattle.inst_chain.specs.Checking.{Digests};
 ghost use Rattle.hex.specs.Hex.{encode_lower};
 
@@ -92,7 +92,7 @@ pub fn mark_lines(marker: &mut Marker, batch: &mut Vec<u8>) -> Result<(), AllocE
 
 /// Returns `true` if one of the lines with which bytes begin is a mark.
 pub fn has_mark(bytes: &[u8]) -> bool
-    ensures { result ≡ false → HasNoMark (recovered bytes.now) }
+    ensures { result ≡ has_mark (recovered bytes.now) }
 {
     let mut rest = bytes;
     while let Some(len) = first_line(rest) {
