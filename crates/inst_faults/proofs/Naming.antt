@@ -20,7 +20,7 @@ one_more word all n before here i f below at = by_case (cases_lt i n) where
   by_case (inr more) = let same : i ≡ n = omega (arith, below, more) in here f (subst (λ (j : ℕ). slice_get all j ≡ Some f) same at)
 
 -- each fault stands there
-stands : (f : AnyFault) → (i : ℕ) × (i < 25) × (slice_get ALL.now i ≡ Some f)
+stands : (f : AnyFault) → (i : ℕ) × (i < 28) × (slice_get ALL.now i ≡ Some f)
 stands (Hub fault.NotJson) = (0, omega arith, refl)
 stands (Hub fault.BadField) = (1, omega arith, refl)
 stands (Hub fault.BadIdentifier) = (2, omega arith, refl)
@@ -46,7 +46,10 @@ stands (Log log.ToldAhead) = (21, omega arith, refl)
 stands (Log log.LogInUse) = (22, omega arith, refl)
 stands (Log log.BadBooks) = (23, omega arith, refl)
 stands (Log log.LastOpening) = (24, omega arith, refl)
+stands (Log log.DamagedLog) = (25, omega arith, refl)
+stands (Log log.OtherDigest) = (26, omega arith, refl)
+stands (Log log.ChangedLog) = (27, omega arith, refl)
 
-pub none_of_all : (word : List ℕ) (n : ℕ) → 25 ≤ n → ((i : ℕ) (f : AnyFault) → i < n → slice_get ALL.now i ≡ Some f → ¬ (IsNamed word f)) →
+pub none_of_all : (word : List ℕ) (n : ℕ) → 28 ≤ n → ((i : ℕ) (f : AnyFault) → i < n → slice_get ALL.now i ≡ Some f → ¬ (IsNamed word f)) →
     (f : AnyFault) → ¬ (IsNamed word f)
 none_of_all word n whole none f = let at = stands f in none at.0 f (omega (arith, at.1, whole)) at.2

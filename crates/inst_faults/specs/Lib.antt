@@ -1,2 +1,3 @@
 pub mod LogFault
 pub mod AnyFault
+pub mod Excerpt

@@ -10,7 +10,7 @@ use inst_base::Fault;
 pub enum AnyFault {
     /// Of a line, a command or a run, from 1 to 18.
     Hub(Fault),
-    /// Of the log of a run, from 19 to 25.
+    /// Of the log of a run, from 19 to 28.
     Log(LogFault),
 }
 
@@ -41,6 +41,9 @@ const ALL: &'static [AnyFault] = &[
     AnyFault::Log(LogFault::LogInUse),
     AnyFault::Log(LogFault::BadBooks),
     AnyFault::Log(LogFault::LastOpening),
+    AnyFault::Log(LogFault::DamagedLog),
+    AnyFault::Log(LogFault::OtherDigest),
+    AnyFault::Log(LogFault::ChangedLog),
 ];
 
 impl AnyFault {
@@ -70,7 +73,7 @@ impl AnyFault {
 /// ```text
 /// fault_of("13")       // Some(AnyFault::Hub(Fault::Shortage))
 /// fault_of("Shortage") // the same
-/// fault_of("26")       // None
+/// fault_of("29")       // None
 /// ```
 pub fn fault_of(word: &str) -> Option<AnyFault>
     ensures named { IfSome result (λ fault. IsNamed word.now fault) }

@@ -9,7 +9,7 @@ pub enum LogFault {
     /// The log begins with other settings than the options give, or with books in another form, or fewer lines of them
     /// than it says.
     OtherSettings,
-    /// The file is no log.
+    /// The file is no log, or there is none where one must be.
     NoLog,
     /// More replies are said to be there than the log has lines.
     ToldAhead,
@@ -19,10 +19,16 @@ pub enum LogFault {
     BadBooks,
     /// The books were opened from 500 times, so there is no next opening.
     LastOpening,
+    /// The bytes of the log aren't those that the hub wrote.
+    DamagedLog,
+    /// The log doesn't contain the digest that the options give.
+    OtherDigest,
+    /// The log was truncated or written to by another program while the hub ran.
+    ChangedLog,
 }
 
 impl LogFault {
-    /// The number that the program's fault line shows, from 19 to 25.
+    /// The number that the program's fault line shows, from 19 to 28.
     pub fn number(self) -> u8
         ensures { result ≡ number_of self }
     {
@@ -41,13 +47,20 @@ impl LogFault {
             LogFault::LogInUse => "LogInUse",
             LogFault::BadBooks => "BadBooks",
             LogFault::LastOpening => "LastOpening",
+            LogFault::DamagedLog => "DamagedLog",
+            LogFault::OtherDigest => "OtherDigest",
+            LogFault::ChangedLog => "ChangedLog",
         }
     }
 
-    /// The exit status: 3 where the disk failed, and else 2, since the log wasn't taken.
+    /// Returns the exit status: 3 if the disk failed or the log changed during a run, or else 2, since the log was
+    /// refused.
     pub fn status(self) -> u8
         ensures { result ≡ status_of_log self }
     {
-        if self == LogFault::DiskFault { 3 } else { 2 }
+        match self {
+            LogFault::DiskFault | LogFault::ChangedLog => 3,
+            _ => 2,
+        }
     }
 }

@@ -108,7 +108,11 @@ fn meaning_of_log(fault: LogFault) -> &'static str {
             log's settings and those of the options; where only `books` differs, lines of books are gone \
             or have another form"
         }
-        LogFault::NoLog => { "`--log` names some other file" }
+        LogFault::NoLog => {
+            "\
+            `--log` names some other file, or no file where `--resume`, `--digest` or `--told` says that there \
+            is a log"
+        }
         LogFault::ToldAhead => {
             "replies of another log were counted too, or the log is an old copy"
         }
@@ -119,6 +123,19 @@ fn meaning_of_log(fault: LogFault) -> &'static str {
             place"
         }
         LogFault::LastOpening => { "`next` was run on the five hundredth log after another" }
+        LogFault::DamagedLog => {
+            "\
+            bytes of the log were changed by something other than the hub, as an editor, a disk or a bad \
+            copy; nothing was read or written, and the file is unchanged"
+        }
+        LogFault::OtherDigest => {
+            "\
+            the log doesn't contain the digest that `--digest` gives: it is an older copy, or another log, \
+            or was rolled back"
+        }
+        LogFault::ChangedLog => {
+            "another program truncated or wrote to the log while the hub ran"
+        }
     }
 }
 
@@ -183,12 +200,18 @@ fn advice_of_log(fault: LogFault) -> &'static str {
             give the options that the log began with; other settings want a new log; for the books, as for \
             24"
         }
-        LogFault::NoLog => { "name another file; this one was left as it is" }
+        LogFault::NoLog => { "name another file; this one was left as it is, and none was made" }
         LogFault::ToldAhead => {
             "count whole lines, over the runs of this log alone; go on with the latest log"
         }
         LogFault::LogInUse => { "end that one first, or give this one another log" }
         LogFault::BadBooks => { "go on with a copy of the log as `next` made it" }
         LogFault::LastOpening => { "begin with a new hub, whose positions are funded anew" }
+        LogFault::DamagedLog => {
+            "\
+            restore the log from a copy, and compare its digest; or take the log of another replica"
+        }
+        LogFault::OtherDigest => { "use the latest log" }
+        LogFault::ChangedLog => { "stop whatever writes to it, and resume by `--told`" }
     }
 }

@@ -1,5 +1,5 @@
 -- The options of a log.
-use Rattle.std.proofs.Common.{◌≡◌, ℕ, true, is_some, List, Option, Some, None, Result, option_map, Bor, codes, sym, ap, ◌∙◌}
+use Rattle.std.proofs.Common.{◌≡◌, ℕ, true, is_some, List, Option, Some, None, Result, option_map, Bor, codes, refl, sym, ap, ◌∙◌}
 use Rattle.std.specs.Str.Parse.{ParsesUnsigned}
 use Rattle.clap.specs.Words.{ReadsOne, first_of, first_value, one_text, rows_of}
 use Rattle.clap.specs.declared.parser.matches.Found.{Found}
@@ -17,6 +17,13 @@ given_none f name r is none = sym (first_value-rows f name) ∙ sym is ∙ ap (o
 pub given_some : (f : Found) (name : List ℕ) (r : Option (Bor (List ℕ))) → option_map (λ s. s.now) r ≡ first_value f name → is_some r ≡ true → IsGiven name (rows_of f)
 given_some f name None is some = absurd (cc)
 given_some f name (Some text) is some = (text.now, sym (first_value-rows f name) ∙ sym is)
+
+none_is_some : (text : List ℕ) → None ≡ Some text → ⊥
+none_is_some text e = cc
+
+pub some_given : (f : Found) (name : List ℕ) (r : Option (Bor (List ℕ))) → option_map (λ s. s.now) r ≡ first_value f name → IsGiven name (rows_of f) → is_some r ≡ true
+some_given f name None is given = absurd (none_is_some given.0 (is ∙ first_value-rows f name ∙ given.1))
+some_given f name (Some text) is given = refl
 
 pub given_told : {E : Type 0} (reads : List ℕ → Result ℕ E → Type 0) (f : Found) (r : Option ℕ) →
     (one_text f (codes "told") ≡ None → r ≡ None) → ((text : List ℕ) → one_text f (codes "told") ≡ Some text → ReadsOne reads text r) →

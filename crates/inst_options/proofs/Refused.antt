@@ -10,9 +10,9 @@ use Rattle.inst_base.specs.declared.fault.Fault.TheVariants.{BadSettings}
 use Rattle.inst_settings.specs.Settings.{HubSettings, same_text}
 use Rattle.inst_settings.specs.Lawful.{IsSettings, are_different}
 use Rattle.inst_options.specs.CommandLine.{command_line}
-use Rattle.inst_options.specs.Options.{Chooses, Gives, GivesNoneBelow, HasAHub, IsTask, SpeaksOfALog, Task}
+use Rattle.inst_options.specs.Options.{Chooses, DescribesALog, Gives, GivesNoneBelow, HasAHub, IsTask, SpeaksOfALog, Task}
 use Rattle.inst_options.specs.inner.Asking.{IsAsked, IsUnasked}
-use Rattle.inst_options.specs.inner.Options.{AskForNone, ChooseNone, FitNoTask, GivesLog, IsWish}
+use Rattle.inst_options.specs.inner.Options.{AreOfNoLog, AskForNone, ChooseNone, FitNoTask, GivesLog, IsWish}
 use Rattle.inst_options.specs.Options.Task.{Run, Play, Drill, Check}
 use Rattle.inst_options.specs.Asking.{AreChosen, AreUnfit, AreWhole, IsNoWish, IsRefusal, IsWished, GiveTheLog}
 use Rattle.inst_options.specs.declared.error.WordsError.{WordsError}
@@ -116,6 +116,11 @@ passed_more P Q (Ok x) fault is weaker q = tt
 passed_more P Q (Err e) fault is weaker (inl memory) = inl (is ∙ memory)
 passed_more P Q (Err e) fault is weaker (inr bad) = inr (is ∙ bad.0, weaker bad.1)
 
+-- options that are of no log describe one
+pub of_a_log : (rows : List Row) → AreOfNoLog rows → DescribesALog rows
+of_a_log rows (inl bad) = inr (inl (bad.0, bad.1))
+of_a_log rows (inr none) = none.1
+
 -- options that choose no settings do so for each task
 pub none_of_all : (name : List ℕ) (rows : List Row) → HasAHub name → ChooseNone rows → AskForNone name rows
 none_of_all name rows hub none = (hub, λ task s is chosen good. none s chosen good.0)
@@ -201,7 +206,7 @@ wished_of words name rows (wish.Play s log sums) whole at is =
 wished_of words name rows (wish.Drill s transfers openings) whole at is = (is.0, whole, (name, rows, at, is.1, is.2))
 wished_of words name rows (wish.Check s) whole at is = (is.0, whole, (name, rows, at, is.1, is.2))
 wished_of words name rows (wish.Log path) whole at is = (whole, (name, rows, at, is.0, is.1))
-wished_of words name rows (wish.Next from to) whole at is = (whole, (name, rows, at, is.0, is.1, is.2))
+wished_of words name rows (wish.Next from to digest) whole at is = (whole, (name, rows, at, is.0, is.1, is.2, is.3))
 wished_of words name rows (wish.Explain word) whole at is = (whole, (name, rows, at, is.0, is.1))
 
 pub wished_from : (words : List (List ℕ)) (found : Option (Text × List Row)) → AreWhole words → found ≡ subcommand_of command_line words →

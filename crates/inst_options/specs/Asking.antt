@@ -1,5 +1,5 @@
 -- What the words of a command line ask for, and why nothing.
-use Rattle.std.specs.Prelude.{◌≢◌, ◌⊎◌, ◌≡◌, ℕ, Bool, true, List, [], Option, Some, None, codes}
+use Rattle.std.specs.Prelude.{◌≢◌, ◌⊎◌, ◌≡◌, ℕ, Bool, true, List, [], Option, Some, None, option_map, codes}
 use Rattle.clap.specs.Words.{IsAmong, Kinds, Row, fault_of, first_of, kind_of, subcommand_of}
 use Rattle.clap.specs.declared.error.kind.ErrorKind.{ErrorKind}
 use Rattle.clap.specs.declared.error.kind.ErrorKind.TheVariants.{DisplayHelp, DisplayVersion, OutOfMemory}
@@ -8,7 +8,7 @@ use Rattle.inst_base.specs.declared.fault.Fault.TheVariants.{BadSettings, Memory
 use Rattle.inst_settings.specs.Settings.{HubSettings, same_text}
 use Rattle.inst_settings.specs.Lawful.{AreOfAHub, IsSettings}
 use Rattle.inst_options.specs.CommandLine.{command_line}
-use Rattle.inst_options.specs.Options.{Chooses, HasAHub, HasSmallNumbers, IsFlag, IsTask, IsText, NamesNoLog, NamesTheLog, SpeaksOfALog, Task}
+use Rattle.inst_options.specs.Options.{Chooses, GivesDigest, HasAHub, HasSmallNumbers, IsFlag, IsTask, IsText, NamesNoLog, NamesTheLog, SpeaksOfALog, Task}
 use Rattle.inst_options.specs.Options.Task.{Run, Play, Drill, Check}
 use Rattle.inst_options.specs.declared.bad_option.BadOption.{BadOption}
 use Rattle.inst_options.specs.declared.error.WordsError.{WordsError}
@@ -47,10 +47,11 @@ abbrev pub NameALog : List (List ℕ) → Type 0
 NameALog words = AreWhole words
     × ((name : List ℕ) × (rows : List Row) × (subcommand_of command_line words ≡ Some (name, rows)) × SpeaksOfALog name rows)
 
--- they name it by this file, and say that so many of its replies are there already, or not how many
-abbrev pub NameTheLog : List (List ℕ) → List ℕ → Option ℕ → Type 0
-NameTheLog words path told =
-    (name : List ℕ) × (rows : List Row) × (subcommand_of command_line words ≡ Some (name, rows)) × NamesTheLog rows path told
+-- they name it by this file, and say that so many of its replies are there already, or not how many; whether it must be
+-- there, and which digest it must contain, if any
+abbrev pub NameTheLog : List (List ℕ) → List ℕ → Option ℕ → Bool → Option (List ℕ) → Type 0
+NameTheLog words path told resume digest = (name : List ℕ) × (rows : List Row) × (subcommand_of command_line words ≡ Some (name, rows))
+    × NamesTheLog rows path told resume digest
 
 -- no option of theirs names a log
 abbrev pub NameNoLog : List (List ℕ) → Type 0
@@ -59,7 +60,7 @@ NameNoLog words = (name : List ℕ) × (rows : List Row) × (subcommand_of comma
 -- they name this log, or none
 abbrev pub GiveTheLog : List (List ℕ) → Option LogOptions → Type 0
 GiveTheLog words None = NameNoLog words
-GiveTheLog words (Some log) = NameTheLog words log.path.now log.told
+GiveTheLog words (Some log) = NameTheLog words log.path.now log.told log.resume (option_map (λ d. d.now) log.digest)
 
 -- the words are a whole command line, and ask what the log of this file has
 abbrev pub AskForTheLog : List (List ℕ) → List ℕ → Type 0
@@ -67,11 +68,12 @@ AskForTheLog words path = AreWhole words
     × ((name : List ℕ) × (rows : List Row) × (subcommand_of command_line words ≡ Some (name, rows))
     × (same_text name (codes "log") ≡ true) × IsText (codes "file") rows path)
 
--- the words are a whole command line, and ask for the log of the second file, which begins with the books of the first's
-abbrev pub AskForTheNext : List (List ℕ) → List ℕ → List ℕ → Type 0
-AskForTheNext words from to = AreWhole words
+-- the words are a whole command line, and ask for the log of the second file, which begins with the books of the first's;
+-- that one must contain this digest, if one is given
+abbrev pub AskForTheNext : List (List ℕ) → List ℕ → List ℕ → Option (List ℕ) → Type 0
+AskForTheNext words from to digest = AreWhole words
     × ((name : List ℕ) × (rows : List Row) × (subcommand_of command_line words ≡ Some (name, rows))
-    × (same_text name (codes "next") ≡ true) × IsText (codes "log") rows from × IsText (codes "to") rows to)
+    × (same_text name (codes "next") ≡ true) × IsText (codes "log") rows from × IsText (codes "to") rows to × GivesDigest rows digest)
 
 -- the words ask for a summary, or they don't
 abbrev pub AskForASummary : List (List ℕ) → Bool → Type 0
@@ -94,7 +96,7 @@ IsWished words (wish.Drill s transfers openings) =
     IsSettings s × AreWhole words × AreChosen words (Drill transfers openings) s
 IsWished words (wish.Check s) = IsSettings s × AreWhole words × AreChosen words Check s
 IsWished words (wish.Log path) = AskForTheLog words path.now
-IsWished words (wish.Next from to) = AskForTheNext words from.now to.now
+IsWished words (wish.Next from to digest) = AskForTheNext words from.now to.now (option_map (λ d. d.now) digest)
 IsWished words (wish.Explain word) = AskToExplain words word.now
 
 -- the words are a whole command line for a hub, and choose no settings that one can have, or no task that fits

@@ -29,6 +29,14 @@ named_rule name = record (new_rule name) { long = Some name; required = true; ac
 abbrev pub told_rule : Rule
 told_rule = record (new_rule (codes "told")) { long = Some (codes "told"); action = Some Set; parser = Some (Unsigned 0 (2 ^ 64 - 1)); value_names = 1 }
 
+-- the log must be there already
+abbrev pub resume_rule : Rule
+resume_rule = record (new_rule (codes "resume")) { long = Some (codes "resume"); action = Some SetTrue }
+
+-- a digest that the log must contain
+abbrev pub digest_rule : Rule
+digest_rule = record (new_rule (codes "digest")) { long = Some (codes "digest"); action = Some Set; value_names = 1 }
+
 -- whether the money of each participant is told at the end of a run
 abbrev pub summary_rule : Rule
 summary_rule = record (new_rule (codes "summary")) { long = Some (codes "summary"); action = Some SetTrue }
@@ -52,15 +60,15 @@ hub_rules =
 
 -- what else a run has: its log, and a summary
 abbrev pub run_rules : List Rule
-run_rules = log_rule ∷ told_rule ∷ summary_rule ∷ []
+run_rules = log_rule ∷ told_rule ∷ resume_rule ∷ digest_rule ∷ summary_rule ∷ []
 
 -- what else a drill has: how many transfers and openings
 abbrev pub drill_rules : List Rule
 drill_rules = number_rule (codes "transfers") (codes "200") ∷ number_rule (codes "openings") (codes "1") ∷ []
 
--- the two logs that the subcommand `next` names
+-- the two logs that the subcommand `next` names, and a digest that the first one must contain
 abbrev pub next_rules : List Rule
-next_rules = named_rule (codes "log") ∷ named_rule (codes "to") ∷ []
+next_rules = named_rule (codes "log") ∷ named_rule (codes "to") ∷ digest_rule ∷ []
 
 -- with these options, in their order
 abbrev pub with_rules : App → List Rule → App

@@ -1,5 +1,6 @@
 -- The options of a subcommand, and the settings that their values choose. They are this hub's own choice.
-use Rattle.std.specs.Prelude.{◌⊎◌, ◌≡◌, ◌<◌, ◌≤◌, ◌^◌, ℕ, Bool, true, false, List, Option, Some, None, codes}
+use Rattle.std.specs.Prelude.{◌⊎◌, ◌≡◌, ◌<◌, ◌≤◌, ◌^◌, ◌==◌, ◌&&◌, ◌||◌, ℕ, Bool, true, false, nat_le, nat_lt, List, length, Option, Some, None, IfSome, is_some, unwrap_or, codes}
+use Rattle.std.specs.List.{list_all}
 use Rattle.std.specs.Str.Parse.{IsNumeral, digits_value, without_leading_plus}
 use Rattle.clap.specs.Words.{Row, Text, first_of, one_of}
 use Rattle.inst_settings.specs.Parts.{parts_of}
@@ -47,18 +48,44 @@ abbrev pub HasAHub : List ℕ → Type 0
 HasAHub name =
     (same_text name (codes "log") ≡ false) × (same_text name (codes "next") ≡ false) × (same_text name (codes "explain") ≡ false)
 
+-- an option says something of a log: how many replies are there, which digest it contains, or that it is there
+abbrev pub DescribesALog : List Row → Type 0
+DescribesALog rows = IsGiven (codes "told") rows ⊎ (IsGiven (codes "digest") rows ⊎ IsFlag (codes "resume") rows true)
+
 -- it is `log` or `next`, or an option is of a log
 abbrev pub SpeaksOfALog : List ℕ → List Row → Type 0
-SpeaksOfALog name rows = IsAboutLogs name ⊎ (IsGiven (codes "log") rows ⊎ IsGiven (codes "told") rows)
+SpeaksOfALog name rows = IsAboutLogs name ⊎ (IsGiven (codes "log") rows ⊎ DescribesALog rows)
 
 -- the options say that so many replies are there already, or no number that a word can have
 abbrev pub GivesTold : List Row → Option ℕ → Type 0
 GivesTold rows None = GivesNoneBelow (2 ^ 64) rows (codes "told")
 GivesTold rows (Some n) = Gives rows (codes "told") n
 
--- the options name a log by its file, with how many of its replies are there already
-abbrev pub NamesTheLog : List Row → List ℕ → Option ℕ → Type 0
-NamesTheLog rows path told = (first_of (codes "log") rows ≡ Some path) × GivesTold rows told
+-- `0-9 a-f`
+abbrev pub is_digest_character : ℕ → Bool
+is_digest_character c = (nat_le 48 c && nat_le c 57) || (nat_le 97 c && nat_le c 102)
+
+-- a digest: 64 hexadecimal digits, in lower case
+abbrev pub is_digest : List ℕ → Bool
+is_digest text = length text == 64 && list_all is_digest_character text
+
+-- the options give this digest, or none
+abbrev pub GivesDigest : List Row → Option Text → Type 0
+GivesDigest rows digest = (first_of (codes "digest") rows ≡ digest) × IfSome digest (λ text. is_digest text ≡ true)
+
+-- whether the log must be there already: this is asked for, or a digest is given, or replies are there
+abbrev pub must_resume : Bool → Option ℕ → Option Text → Bool
+must_resume asked told digest = asked || is_some digest || nat_lt 0 (unwrap_or told 0)
+
+-- the options say that the log must be there already, or that it may be new
+abbrev pub GivesResume : List Row → Option ℕ → Option Text → Bool → Type 0
+GivesResume rows told digest resume = (asked : Bool) × IsFlag (codes "resume") rows asked × (resume ≡ must_resume asked told digest)
+
+-- the options name a log by its file, with how many of its replies are there already, whether it must be there, and a
+-- digest that it must contain
+abbrev pub NamesTheLog : List Row → List ℕ → Option ℕ → Bool → Option Text → Type 0
+NamesTheLog rows path told resume digest =
+    (first_of (codes "log") rows ≡ Some path) × GivesTold rows told × GivesResume rows told digest resume × GivesDigest rows digest
 
 -- they name none
 abbrev pub NamesNoLog : List Row → Type 0

@@ -1,5 +1,5 @@
 -- Worked command lines, computed from the definitions. This hub's own choice.
-use Rattle.std.specs.Prelude.{◌≡◌, ℕ, List, [], ◌∷◌, ◌++◌, Some, None, codes}
+use Rattle.std.specs.Prelude.{◌≡◌, ℕ, true, false, List, [], ◌∷◌, ◌++◌, Some, None, codes}
 use Rattle.clap.specs.declared.error.kind.ErrorKind.TheVariants.{DisplayHelp, DisplayVersion, MissingRequiredArgument, MissingSubcommand}
 use Rattle.inst_settings.specs.Settings.{HubSettings}
 use Rattle.inst_settings.specs.Lawful.{AreOfAHub, settings_with}
@@ -40,15 +40,24 @@ pub record DefaultHub : Type 0 where
       (settings_with (codes "AAAADEFF" ∷ codes "BBBBFRPP" ∷ []) DEFAULT.places DEFAULT.fundings DEFAULT.limit DEFAULT.margin
       DEFAULT.ahead DEFAULT.ceiling DEFAULT.base)
 
--- the words of a run with `--log hub.log`, of a play with `--told 3 --log hub.log`, and of a run with neither; and those
--- that are of logs alone, `inst_main log hub.log` and `inst_main next --log hub.log --to next.log`
+-- SHA-256 of no bytes
+abbrev pub empty_digest : List ℕ
+empty_digest = codes "e3b0c44298fc1c149afbf4c8996fb92427ae41e4649b934ca495991b7852b855"
+
+-- the words of a run with `--log hub.log`, of a play with `--told 3 --log hub.log`, which must find a log, of runs with
+-- `--resume` or `--digest` beside it, and of a run with none of these; and those that are of logs alone, `inst_main log
+-- hub.log` and `inst_main next --log hub.log --to next.log`, without and with a digest
 pub record KeptHub : Type 0 where
   pub whole : AreWhole (small_hub ++ codes "--log" ∷ codes "hub.log" ∷ [])
-  pub all_told : NameTheLog (small_hub ++ codes "--log" ∷ codes "hub.log" ∷ []) (codes "hub.log") None
-  pub some_told : NameTheLog (small_script ++ codes "--told" ∷ codes "3" ∷ codes "--log" ∷ codes "hub.log" ∷ []) (codes "hub.log") (Some 3)
+  pub all_told : NameTheLog (small_hub ++ codes "--log" ∷ codes "hub.log" ∷ []) (codes "hub.log") None false None
+  pub some_told : NameTheLog (small_script ++ codes "--told" ∷ codes "3" ∷ codes "--log" ∷ codes "hub.log" ∷ []) (codes "hub.log") (Some 3) true None
+  pub none_told : NameTheLog (small_script ++ codes "--told" ∷ codes "0" ∷ codes "--log" ∷ codes "hub.log" ∷ []) (codes "hub.log") (Some 0) false None
+  pub resumed : NameTheLog (small_hub ++ codes "--resume" ∷ codes "--log" ∷ codes "hub.log" ∷ []) (codes "hub.log") None true None
+  pub known : NameTheLog (small_hub ++ codes "--log" ∷ codes "hub.log" ∷ codes "--digest" ∷ empty_digest ∷ []) (codes "hub.log") None true (Some empty_digest)
   pub none : NameNoLog small_hub
   pub shown : AskForTheLog (codes "inst_main" ∷ codes "log" ∷ codes "hub.log" ∷ []) (codes "hub.log")
-  pub carried : AskForTheNext (codes "inst_main" ∷ codes "next" ∷ codes "--log" ∷ codes "hub.log" ∷ codes "--to" ∷ codes "next.log" ∷ []) (codes "hub.log") (codes "next.log")
+  pub carried : AskForTheNext (codes "inst_main" ∷ codes "next" ∷ codes "--log" ∷ codes "hub.log" ∷ codes "--to" ∷ codes "next.log" ∷ []) (codes "hub.log") (codes "next.log") None
+  pub known_carried : AskForTheNext (codes "inst_main" ∷ codes "next" ∷ codes "--log" ∷ codes "hub.log" ∷ codes "--to" ∷ codes "next.log" ∷ codes "--digest" ∷ empty_digest ∷ []) (codes "hub.log") (codes "next.log") (Some empty_digest)
 
 -- words that are no whole command line: `inst_main run`, `inst_main play`, `inst_main drill`, `inst_main`,
 -- `inst_main --help` and `inst_main --version`

@@ -1,9 +1,10 @@
 //! Which option no hub can have.
-ghost use Rattle.std.specs.Prelude.{◌≡◌, ◌≤◌, ◌<◌, IfSome, Some, None, ℕ, codes};
+ghost use Rattle.std.specs.Prelude.{◌≡◌, ◌≤◌, ◌<◌, IfSome, Some, None, ℕ, codes, false};
 ghost use Rattle.clap.specs.Words.{first_of, found_of, rows_of};
-ghost use Rattle.inst_options.specs.Options.{Gives};
+ghost use Rattle.inst_options.specs.Options.{Gives, is_digest};
 
-use crate::options::{text, whole};
+use crate::digest::is_digest;
+use crate::options::{flag, text, whole};
 use crate::texts;
 use clap::ArgMatches;
 use inst_settings::{MOST_AHEAD, MOST_BASE, MOST_CEILING, MOST_FUNDINGS, MOST_LIMIT, MOST_PLACES};
@@ -98,12 +99,8 @@ pub(crate) fn bad_option<'a>(options: &ArgMatches<'a>) -> Option<BadOption<'a>>
             range: "0 to one less than the limit",
         });
     }
-    if let Some(value) = told_of_no_log(options) {
-        return Some(BadOption {
-            name: "told",
-            value,
-            range: "given beside --log alone",
-        });
+    if let Some(bad) = bad_log_option(options) {
+        return Some(bad);
     }
     let value = text(options, "participants").ok()?;
     Some(BadOption {
@@ -139,13 +136,48 @@ fn margin_of_the_limit<'a>(options: &ArgMatches<'a>) -> Option<&'a str>
     text(options, "margin").ok()
 }
 
-/// What is said to be told, where no log is named.
-fn told_of_no_log<'a>(options: &ArgMatches<'a>) -> Option<&'a str>
-    ensures value { IfSome result (λ value. first_of (codes "told") (rows_of (found_of options.now)) ≡ Some value.now) }
+/// Returns an option of a log that has another form, or that is given without `--log`.
+fn bad_log_option<'a>(options: &ArgMatches<'a>) -> Option<BadOption<'a>>
+    ensures { IfSome result (λ bad. first_of bad.name.now (rows_of (found_of options.now)) ≡ Some bad.value.now) }
+{
+    if let Some(value) = malformed_digest(options) {
+        return Some(BadOption {
+            name: "digest",
+            value,
+            range: texts::DIGEST,
+        });
+    }
+    let name = if flag(options, "resume") {
+        "resume"
+    } else if text(options, "digest").is_ok() {
+        "digest"
+    } else {
+        "told"
+    };
+    let value = given_without_log(options, name)?;
+    Some(BadOption {
+        name,
+        value,
+        range: "given beside --log alone",
+    })
+}
+
+/// Returns the text that is given as a digest, if it is none.
+fn malformed_digest<'a>(options: &ArgMatches<'a>) -> Option<&'a str>
+    ensures value { IfSome result (λ value. first_of (codes "digest") (rows_of (found_of options.now)) ≡ Some value.now) }
+    ensures none { IfSome result (λ value. is_digest value.now ≡ false) }
+{
+    let value = text(options, "digest").ok()?;
+    if is_digest(value) { None } else { Some(value) }
+}
+
+/// Returns the value of this option, if no log is named.
+fn given_without_log<'a>(options: &ArgMatches<'a>, name: &str) -> Option<&'a str>
+    ensures value { IfSome result (λ value. first_of name.now (rows_of (found_of options.now)) ≡ Some value.now) }
     ensures no_log { IfSome result (λ _. first_of (codes "log") (rows_of (found_of options.now)) ≡ None) }
 {
     match text(options, "log") {
         Ok(_) => None,
-        Err(_) => text(options, "told").ok(),
+        Err(_) => text(options, name).ok(),
     }
 }

@@ -4,6 +4,7 @@
 
 mod bad_option;
 mod command_line;
+mod digest;
 mod error;
 mod options;
 pub mod rows;

@@ -1,21 +1,24 @@
 //! What the options of a subcommand ask for.
-ghost use Rattle.std.specs.Prelude.{◌≡◌, ◌^◌, ◌⊎◌, IfOk, IfErr, OnErr, IsOkUnless, Some, None};
-ghost use Rattle.std.specs.Prelude.{codes};
+ghost use Rattle.std.specs.Prelude.{◌≡◌, ◌^◌, ◌⊎◌, ◌↔◌, IfOk, IfErr, OnErr, IsOkUnless, Some, None, true};
+ghost use Rattle.std.specs.Prelude.{codes, option_map};
 ghost use Rattle.clap.specs.Words.{first_of, found_of, rows_of};
 ghost use Rattle.inst_options.specs.Options.{HasAHub, SpeaksOfALog, IsText};
 ghost use Rattle.inst_options.specs.Options.{IsFlag, Gives, GivesNoneBelow, Chooses, IsDrill};
-ghost use Rattle.inst_options.specs.inner.Options.{GivesLog, TellsOfNoLog, IsWish};
+ghost use Rattle.inst_options.specs.Options.{DescribesALog, GivesDigest, IsGiven, must_resume};
+ghost use Rattle.inst_options.specs.inner.Options.{AreOfNoLog, GivesLog, GivesNoDigest, IsWish};
 ghost use Rattle.inst_options.specs.inner.Options.{ChooseNone, AskForNone};
 ghost use Rattle.inst_options.specs.Asking.{IsRefusal};
 ghost use Rattle.inst_settings.specs.Lawful.{IsSettings};
 
+use crate::digest::is_digest;
 use crate::wish::{LogOptions, Wish};
 use clap::ArgMatches;
 use inst_base::Fault;
 use inst_settings::{Numbers, Settings, parse_codes};
 use std::alloc::Global;
 
-/// What the subcommand of this name and its options ask for. `BadSettings` as from `hub_wish`.
+/// What the subcommand of this name and its options ask for. `BadSettings` as from `hub_wish`, and for a digest of
+/// another form.
 pub(crate) fn wish<'a>(
     alloc: Global,
     name: &str,
@@ -29,8 +32,9 @@ pub(crate) fn wish<'a>(
         return Ok(Wish::Log(text_if_any(options, "file")));
     }
     if name == "next" {
+        let digest = digest(options)?;
         let from = text_if_any(options, "log");
-        return Ok(Wish::Next(from, text_if_any(options, "to")));
+        return Ok(Wish::Next(from, text_if_any(options, "to"), digest));
     }
     if name == "explain" {
         return Ok(Wish::Explain(text_if_any(options, "fault")));
@@ -64,24 +68,71 @@ fn hub_wish<'a>(alloc: Global, name: &str, options: &ArgMatches<'a>) -> Result<W
 }
 
 /// Whether an option that has no value is there.
-fn flag(options: &ArgMatches<'_>, name: &str) -> bool
+pub(crate) fn flag(options: &ArgMatches<'_>, name: &str) -> bool
     ensures { IsFlag name.now (rows_of (found_of options.now)) result }
 {
     options.get_flag(name)
 }
 
-/// The log that the options ask for. `BadSettings` where they say what was told and name no log.
+/// Returns the log that the options name, if they name one.
+///
+/// # Errors
+///
+/// `BadSettings` if a digest has another form, or if an option describes a log and none is named.
 fn log_options<'a>(options: &ArgMatches<'a>) -> Result<Option<LogOptions<'a>>, Fault>
     ensures log { IfOk result (GivesLog (rows_of (found_of options.now))) }
-    ensures none { OnErr result (TellsOfNoLog (rows_of (found_of options.now))) }
+    ensures none { OnErr result (AreOfNoLog (rows_of (found_of options.now))) }
     ensures fault { IsOkUnless result Fault.BadSettings }
 {
+    let digest = digest(options)?;
     let told = options.get_one::<u64>("told");
-    let text = options.get_str("told");
+    let resume = must_resume(flag(options, "resume"), told, digest);
     let path = options.get_str("log");
     match path {
-        Some(path) => Ok(Some(LogOptions { path, told })),
-        None if text.is_some() => Err(Fault::BadSettings),
+        Some(path) => Ok(Some(LogOptions {
+            path,
+            told,
+            resume,
+            digest,
+        })),
+        None if describe_a_log(options) => Err(Fault::BadSettings),
+        None => Ok(None),
+    }
+}
+
+/// Returns `true` if an option says something of a log, other than its name.
+fn describe_a_log(options: &ArgMatches<'_>) -> bool
+    ensures { (result ≡ true) → DescribesALog (rows_of (found_of options.now)) }
+{
+    is_given(options, "told") || is_given(options, "digest") || flag(options, "resume")
+}
+
+fn is_given(options: &ArgMatches<'_>, name: &str) -> bool
+    ensures { (result ≡ true) ↔ IsGiven name.now (rows_of (found_of options.now)) }
+{
+    options.get_str(name).is_some()
+}
+
+/// Returns `true` if a log must be there already: it is asked for, or a digest is given, or replies are there.
+fn must_resume(asked: bool, told: Option<u64>, digest: Option<&str>) -> bool
+    ensures { result ≡ must_resume asked told (option_map (λ d. d.now) digest.entry) }
+{
+    asked || digest.is_some() || told.unwrap_or(0) > 0
+}
+
+/// Returns the digest that the options give, if they give one.
+///
+/// # Errors
+///
+/// `BadSettings` if it has another form.
+fn digest<'a>(options: &ArgMatches<'a>) -> Result<Option<&'a str>, Fault>
+    ensures digest { IfOk result (λ r. GivesDigest (rows_of (found_of options.now)) (option_map (λ d. d.now) r)) }
+    ensures none { OnErr result (GivesNoDigest (rows_of (found_of options.now))) }
+    ensures fault { IsOkUnless result Fault.BadSettings }
+{
+    match options.get_str("digest") {
+        Some(text) if is_digest(text) => Ok(Some(text)),
+        Some(_) => Err(Fault::BadSettings),
         None => Ok(None),
     }
 }

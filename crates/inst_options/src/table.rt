@@ -240,6 +240,22 @@ const RUN: &'static [Choice] = &[
         help: "How many replies of the log's lines are there already, if not all; the others are written first",
     },
     Choice {
+        name: "resume",
+        kind: Kind::Flag,
+        required: false,
+        value_names: &[],
+        defaults: &[],
+        help: "Refuses to make a new log; --digest and a --told above 0 imply it",
+    },
+    Choice {
+        name: "digest",
+        kind: Kind::Text,
+        required: false,
+        value_names: &["HEX"],
+        defaults: &[],
+        help: "A digest that the log must contain, 64 hexadecimal digits in lower case",
+    },
+    Choice {
         name: "summary",
         kind: Kind::Flag,
         required: false,
@@ -297,6 +313,14 @@ const NEXT: &'static [Choice] = &[
         defaults: &[],
         help: "The log that begins with its books; the file is made",
     },
+    Choice {
+        name: "digest",
+        kind: Kind::Text,
+        required: false,
+        value_names: &["HEX"],
+        defaults: &[],
+        help: "A digest that the first log must contain, 64 hexadecimal digits in lower case",
+    },
 ];
 
 /// What the subcommand `explain` explains.
@@ -306,5 +330,5 @@ const EXPLAIN: &'static [Choice] = &[Choice {
     required: true,
     value_names: &["FAULT"],
     defaults: &[],
-    help: "Its number, 1 to 25, or its name",
+    help: "Its number, 1 to 28, or its name",
 }];

@@ -4,6 +4,9 @@
 pub(crate) const PARTICIPANTS: &str =
     "1 to 256 different codes of 8 or 11 characters of A-Z 0-9, with commas between them";
 
+/// What a digest may be.
+pub(crate) const DIGEST: &str = "64 hexadecimal digits in lower case";
+
 /// What `run` does, at length.
 pub(crate) const RUN: &str = "\
 Answers each command line of standard input by one line on standard output
@@ -77,7 +80,7 @@ the base and end 2^41 - 1 ms after it. Unix time in milliseconds fits base 0 unt
 past that needs a base near its start, as --base 1767225600000, which is 2026-01-01 00:00 UTC.
 
 Exit status: 0 at the end of the input or of the drill, 2 for wrong words or settings or a log that is refused, 3 where
-fault 14, 17 or 18 ended it, or with a log fault 19.";
+fault 14, 17 or 18 ended it, or with a log fault 19 or 28.";
 
 /// At the end of the program's help.
 pub(crate) const PROGRAM: &str = "\

@@ -7,6 +7,10 @@ pub struct LogOptions<'a> {
     pub path: &'a str,
     /// To how many of its lines the replies are there already, if not to all.
     pub told: Option<u64>,
+    /// Whether the log must be there already: `--resume`, `--digest` or a `--told` above 0 is given.
+    pub resume: bool,
+    /// A digest that the log must contain, 64 hexadecimal digits in lower case.
+    pub digest: Option<&'a str>,
 }
 
 /// What the words of a command line ask for.
@@ -23,8 +27,9 @@ pub enum Wish<'a> {
     Check(Settings),
     /// What the log of this name has.
     Log(&'a str),
-    /// A log of the first name is closed, and one of the second name begins with its books.
-    Next(&'a str, &'a str),
+    /// A log of the first name is closed, and one of the second name begins with its books. The first one must contain
+    /// the digest, if there is one.
+    Next(&'a str, &'a str, Option<&'a str>),
     /// What the fault of this number or name is.
     Explain(&'a str),
 }

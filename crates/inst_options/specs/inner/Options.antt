@@ -1,22 +1,27 @@
 -- What the options of a subcommand give, and when they choose nothing.
-use Rattle.std.specs.Prelude.{◌≡◌, ℕ, true, List, Option, Some, None, codes}
-use Rattle.clap.specs.Words.{Row}
+use Rattle.std.specs.Prelude.{◌≡◌, ◌⊎◌, ℕ, true, false, List, Option, Some, None, option_map, codes}
+use Rattle.clap.specs.Words.{Row, Text, first_of}
 use Rattle.inst_settings.specs.Settings.{HubSettings, same_text}
 use Rattle.inst_settings.specs.Lawful.{AreOfAHub, IsSettings}
 use Rattle.inst_options.specs.declared.wish.LogOptions.{LogOptions}
 use Rattle.inst_options.specs.declared.wish.Wish.{Wish}
 use Rattle.inst_options.specs.declared.wish.Wish.TheVariants as wish
-use Rattle.inst_options.specs.Options.{Task, HasAHub, NamesNoLog, NamesTheLog, IsGiven, IsText, IsFlag, IsTask, Chooses, HasSmallNumbers}
+use Rattle.inst_options.specs.Options.{Task, HasAHub, NamesNoLog, NamesTheLog, IsText, IsFlag, IsTask, Chooses, HasSmallNumbers}
+use Rattle.inst_options.specs.Options.{DescribesALog, GivesDigest, is_digest}
 use Rattle.inst_options.specs.Options.Task.{Run, Play, Drill, Check}
 
 -- the options name this log, or none
 abbrev pub GivesLog : List Row → Option LogOptions → Type 0
 GivesLog rows None = NamesNoLog rows
-GivesLog rows (Some log) = NamesTheLog rows log.path.now log.told
+GivesLog rows (Some log) = NamesTheLog rows log.path.now log.told log.resume (option_map (λ d. d.now) log.digest)
 
--- the options say what was told, and name no log
-abbrev pub TellsOfNoLog : List Row → Type 0
-TellsOfNoLog rows = NamesNoLog rows × IsGiven (codes "told") rows
+-- the text of the option is no digest
+abbrev pub GivesNoDigest : List Row → Type 0
+GivesNoDigest rows = (text : Text) × (first_of (codes "digest") rows ≡ Some text) × (is_digest text ≡ false)
+
+-- the options say something of a log, and name none, or what they give as its digest is none
+abbrev pub AreOfNoLog : List Row → Type 0
+AreOfNoLog rows = GivesNoDigest rows ⊎ (NamesNoLog rows × DescribesALog rows)
 
 -- the options choose no settings that a hub can have
 abbrev pub ChooseNone : List Row → Type 0
@@ -41,6 +46,7 @@ IsWish name rows (wish.Drill s transfers openings) =
     IsSettings s × IsTask name rows (Drill transfers openings) × Chooses rows s
 IsWish name rows (wish.Check s) = IsSettings s × IsTask name rows Check × Chooses rows s
 IsWish name rows (wish.Log path) = (same_text name (codes "log") ≡ true) × IsText (codes "file") rows path.now
-IsWish name rows (wish.Next from to) =
+IsWish name rows (wish.Next from to digest) =
     (same_text name (codes "next") ≡ true) × IsText (codes "log") rows from.now × IsText (codes "to") rows to.now
+    × GivesDigest rows (option_map (λ d. d.now) digest)
 IsWish name rows (wish.Explain word) = (same_text name (codes "explain") ≡ true) × IsText (codes "fault") rows word.now

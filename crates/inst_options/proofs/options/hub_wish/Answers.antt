@@ -3,7 +3,7 @@ use Rattle.clap.specs.Words.{found_of, rows_of}
 use Rattle.inst_settings.specs.Settings.{same_text}
 use Rattle.inst_options.specs.Options.{SpeaksOfALog}
 use Rattle.inst_options.specs.inner.Options.{AskForNone, ChooseNone}
-use Rattle.inst_options.proofs.Refused.{no_other, none_of_all, numberless, passed_more, passed_on}
+use Rattle.inst_options.proofs.Refused.{no_other, none_of_all, numberless, of_a_log, passed_more, passed_on}
 use Rattle.inst_options.proofs.options.hub_wish.Goals as goal
 
 pub returns-in_err-settings-clause-fault : goal.returns-in_err-settings-clause-fault
@@ -21,7 +21,7 @@ returns-in_err-log-clause-fault c =
     let told = c.from_residual-in_err-log in
     let log = c.in_err-log.ensures in
     passed_on (AskForNone name rows ⊎ SpeaksOfALog name rows) told.result c.in_err-log.field-0.0 told.ensures.1
-    log.fault (inr (inr (inr log.none.1)))
+    log.fault (inr (inr (inr (of_a_log rows log.none))))
 
 pub returns-in_err-transfers-clause-fault : goal.returns-in_err-transfers-clause-fault
 returns-in_err-transfers-clause-fault c =

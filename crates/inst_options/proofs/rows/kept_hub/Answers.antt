@@ -1,9 +1,9 @@
-use Rattle.std.proofs.Common.{◌≡◌, ◌++◌, ℕ, List, Some, None, rules, refl, unwrap_or, option_map, codes, [], ◌∷◌}
+use Rattle.std.proofs.Common.{◌≡◌, ◌++◌, ⊎_elim, ℕ, true, false, List, Option, Some, None, rules, refl, sym, ap, get_or, unwrap_or, option_map, codes, [], ◌∷◌, arith}
 use Rattle.clap.specs.Words.{Row, Text, subcommand_of}
 use Rattle.clap.proofs.OnLiterals.{clap_on_literals}
 use Rattle.inst_options.specs.CommandLine.{command_line}
 use Rattle.inst_options.specs.Asking.{AskForTheLog, AskForTheNext, NameNoLog, NameTheLog}
-use Rattle.inst_options.specs.Rows.{KeptHub, small_hub, small_script}
+use Rattle.inst_options.specs.Rows.{KeptHub, empty_digest, small_hub, small_script}
 use Rattle.inst_options.proofs.rows.kept_hub.Goals as goal
 
 none_some : (text : Text) → None ≡ Some text → ⊥
@@ -21,13 +21,67 @@ all_words = small_hub ++ codes "--log" ∷ codes "hub.log" ∷ []
 abbrev some_words : List (List ℕ)
 some_words = small_script ++ codes "--told" ∷ codes "3" ∷ codes "--log" ∷ codes "hub.log" ∷ []
 
-all_told : NameTheLog all_words (codes "hub.log") None
-unfolding clap_on_literals
-all_told = (codes "run", rows_in all_words, refl, (refl, λ n gives. absurd (none_some gives.0 gives.1)))
+abbrev none_words : List (List ℕ)
+none_words = small_script ++ codes "--told" ∷ codes "0" ∷ codes "--log" ∷ codes "hub.log" ∷ []
 
-some_told : NameTheLog some_words (codes "hub.log") (Some 3)
+abbrev resumed_words : List (List ℕ)
+resumed_words = small_hub ++ codes "--resume" ∷ codes "--log" ∷ codes "hub.log" ∷ []
+
+abbrev known_words : List (List ℕ)
+known_words = small_hub ++ codes "--log" ∷ codes "hub.log" ∷ codes "--digest" ∷ empty_digest ∷ []
+
+false_true : Some (codes "false") ≡ Some (codes "true") → ⊥
+false_true e = let first : 102 ≡ 116 = ap (λ (o : Option Text). get_or (unwrap_or o []) 0 0) e in omega (arith, first)
+
+all_told : NameTheLog all_words (codes "hub.log") None false None
 unfolding clap_on_literals
-some_told = (codes "play", rows_in some_words, refl, (refl, (codes "3", refl, search rules, refl)))
+all_told = (
+  codes "run",
+  rows_in all_words,
+  refl,
+  (refl, (λ n gives. absurd (none_some gives.0 gives.1)), (false, ((λ e. absurd (false_true e)), (λ _. refl)), refl), (refl, tt)),
+)
+
+some_told : NameTheLog some_words (codes "hub.log") (Some 3) true None
+unfolding clap_on_literals
+some_told = (
+  codes "play",
+  rows_in some_words,
+  refl,
+  (refl, (codes "3", refl, search rules, refl), (false, ((λ e. absurd (false_true e)), (λ _. refl)), refl), (refl, tt)),
+)
+
+none_told : NameTheLog none_words (codes "hub.log") (Some 0) false None
+unfolding clap_on_literals
+none_told = (
+  codes "play",
+  rows_in none_words,
+  refl,
+  (refl, (codes "0", refl, search rules, refl), (false, ((λ e. absurd (false_true e)), (λ _. refl)), refl), (refl, tt)),
+)
+
+resumed : NameTheLog resumed_words (codes "hub.log") None true None
+unfolding clap_on_literals
+resumed = (
+  codes "run",
+  rows_in resumed_words,
+  refl,
+  (
+    refl,
+    (λ n gives. absurd (none_some gives.0 gives.1)),
+    (true, ((λ _. refl), (λ other. ⊎_elim (λ e. absurd (none_some (codes "true") (sym e))) (λ e. absurd (false_true (sym e))) other)), refl),
+    (refl, tt),
+  ),
+)
+
+known : NameTheLog known_words (codes "hub.log") None true (Some empty_digest)
+unfolding clap_on_literals
+known = (
+  codes "run",
+  rows_in known_words,
+  refl,
+  (refl, (λ n gives. absurd (none_some gives.0 gives.1)), (false, ((λ e. absurd (false_true e)), (λ _. refl)), refl), (refl, refl)),
+)
 
 none : NameNoLog small_hub
 unfolding clap_on_literals
@@ -43,7 +97,7 @@ shown = (refl, (codes "log", rows_in log_words, refl, refl, λ given at. some_on
 abbrev next_words : List (List ℕ)
 next_words = codes "inst_main" ∷ codes "next" ∷ codes "--log" ∷ codes "hub.log" ∷ codes "--to" ∷ codes "next.log" ∷ []
 
-carried : AskForTheNext next_words (codes "hub.log") (codes "next.log")
+carried : AskForTheNext next_words (codes "hub.log") (codes "next.log") None
 unfolding clap_on_literals
 carried = (
   refl,
@@ -54,12 +108,44 @@ carried = (
     refl,
     (λ given at. some_one (codes "hub.log") given at),
     (λ given at. some_one (codes "next.log") given at),
+    (refl, tt),
+  ),
+)
+
+abbrev known_next_words : List (List ℕ)
+known_next_words =
+    codes "inst_main" ∷ codes "next" ∷ codes "--log" ∷ codes "hub.log" ∷ codes "--to" ∷ codes "next.log"
+    ∷ codes "--digest" ∷ empty_digest ∷ []
+
+known_carried : AskForTheNext known_next_words (codes "hub.log") (codes "next.log") (Some empty_digest)
+unfolding clap_on_literals
+known_carried = (
+  refl,
+  (
+    codes "next",
+    rows_in known_next_words,
+    refl,
+    refl,
+    (λ given at. some_one (codes "hub.log") given at),
+    (λ given at. some_one (codes "next.log") given at),
+    (refl, refl),
   ),
 )
 
 row : KeptHub
 unfolding clap_on_literals
-row = record { whole = refl; all_told = all_told; some_told = some_told; none = none; shown = shown; carried = carried }
+row = record {
+  whole = refl;
+  all_told = all_told;
+  some_told = some_told;
+  none_told = none_told;
+  resumed = resumed;
+  known = known;
+  none = none;
+  shown = shown;
+  carried = carried;
+  known_carried = known_carried;
+}
 
 pub returns : goal.returns
 returns c = row

@@ -1,0 +1,26 @@
+//! Digests of logs, as an option gives them.
+ghost use Rattle.std.specs.Prelude.{◌≡◌};
+ghost use Rattle.std.specs.List.{list_all};
+ghost use Rattle.inst_options.specs.Options.{is_digest, is_digest_character};
+
+/// The hexadecimal digits of a SHA-256 digest.
+const DIGEST_LENGTH: usize = 64;
+
+/// Returns `true` if the text is 64 hexadecimal digits in lower case.
+pub(crate) fn is_digest(text: &str) -> bool
+    ensures { result ≡ is_digest text.now }
+{
+    text.len() == DIGEST_LENGTH && are_digest_characters(text.as_bytes())
+}
+
+fn are_digest_characters(text: &[u8]) -> bool
+    ensures { result ≡ list_all is_digest_character text.now }
+{
+    text.iter().all(|&byte| is_digest_character(byte))
+}
+
+fn is_digest_character(byte: u8) -> bool
+    ensures { result ≡ is_digest_character byte }
+{
+    matches!(byte, b'0'..=b'9' | b'a'..=b'f')
+}
