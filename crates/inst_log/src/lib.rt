@@ -29,7 +29,7 @@ pub use front::{first_line, whole_lines};
 pub use line_cutter::LineCutter;
 pub use log::Log;
 pub use opening::read_file;
-pub use reading::{Reading, count_lines, lines_len, read, read_lines};
+pub use reading::{count_lines, lines_len, read_lines};
 pub use recorder::Recorder;
 pub use start::Start;
 pub use surveying::survey;

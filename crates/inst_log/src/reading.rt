@@ -1,50 +1,13 @@
-//! What a log has is read, and nothing of it is changed.
+//! The first lines of a file are read, and nothing of it is changed.
 ghost use Rattle.std.specs.Prelude.{◌≡◌, ◌≤◌, List, ℕ, length, take, IsTrue, IfOk, IfErr, ⊤};
-ghost use Rattle.sqlite_disk.specs.Disk.{MoreFaults};
 ghost use Rattle.inst_log.specs.Layout.{recovered, blocks};
 ghost use Rattle.inst_log.specs.Log.{HasCause};
-ghost use Rattle.inst_log.specs.Opening.{BeginsBy, Unread};
 
 use crate::LogError;
 use crate::file_lines::FileLines;
 use crate::front::first_line;
-use crate::opening::read_file;
 use sqlite_disk::Disk;
 use std::alloc::Global;
-
-/// What a log has.
-#[derive(Drop)]
-pub struct Reading {
-    /// The first line as the file has it, without its newline: the settings, where they are one line.
-    pub first: Vec<u8>,
-    /// How many lines stand behind it.
-    pub behind: usize,
-}
-
-/// Reads the file that the disk has, whatever a crash left of it, and repairs nothing. `NoLog` comes where no line
-/// stands. Reads the whole file into memory.
-pub fn read<D: Disk>(alloc: Global, disk: &mut D) -> Result<Reading, LogError>
-    requires usable { IsTrue (D.Disk.is_usable disk.old) }
-    ensures lines { IfOk result (λ reading. IsTrue (D.Disk.is_clean disk.new)
-        → BeginsBy reading.first.items reading.behind (recovered (D.Disk.seen disk.old))) }
-    // The file is left as it is.
-    ensures seen { D.Disk.seen disk.new ≡ D.Disk.seen disk.old }
-    ensures crash { (c : List ℕ) → D.Disk.may_leave disk.new c → D.Disk.may_leave disk.old c }
-    ensures cause { IfErr result (Unread (D.Disk.seen disk.old) (IsTrue (D.Disk.is_clean disk.new))
-        (MoreFaults (D.Disk.faults disk.old) (D.Disk.faults disk.new))) }
-    ensures usable { IsTrue (D.Disk.is_usable disk.new) }
-    ensures clean { IsTrue (D.Disk.is_clean disk.new) → IsTrue (D.Disk.is_clean disk.old) }
-{
-    let mut first = read_file(alloc, disk)?;
-    match first_line(&first) {
-        Some(len) => {
-            let behind = count_lines(&first[len..]);
-            first.truncate(len - 1);
-            Ok(Reading { first, behind })
-        }
-        None => Err(LogError::NoLog),
-    }
-}
 
 /// Returns the first lines of the disk's file, each with its newline: so many, or all if the file has fewer. Reads no
 /// further than the piece of 64 KiB in which they end.

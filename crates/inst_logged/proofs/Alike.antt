@@ -10,7 +10,9 @@ use Rattle.inst_lines.specs.Answering.{Past, answering}
 use Rattle.inst_log.specs.Escape.{line_of}
 use Rattle.inst_log.proofs.Batching.{comes_back}
 use Rattle.inst_logged.specs.Answering.{replies_at}
+use Rattle.inst_chain.proofs.Said.{said_plain}
 use Rattle.inst_logged.specs.Input.{cut, logged}
+use Rattle.inst_logged.proofs.Turning.{plain_logged}
 
 -- a line that is cut was too long, and still is
 cut_line : (line : List ℕ) → (cut line ≡ line) ⊎ ((is_too_long line ≡ true) × (is_too_long (cut line) ≡ true))
@@ -46,4 +48,5 @@ answers_alike {S} a s (line ∷ lines) =
     ∙ ap (λ (l : List ℕ). (reply_to a s line ++ newline ∷ []) ++ l) (answers_alike a (state_after_line a s line) lines)
 
 pub lines_answer_alike : (mode : Mode) (past : Past) (lines : List (List ℕ)) → replies_at mode past (map logged lines) ≡ output (answering mode) past lines
-lines_answer_alike mode past lines = answers_alike (answering mode) past lines
+lines_answer_alike mode past lines =
+    ap (λ (ls : List (List ℕ)). output (answering mode) past (map line_of ls)) (said_plain (map logged lines) (plain_logged lines)) ∙ answers_alike (answering mode) past lines

@@ -1,23 +1,28 @@
 -- Why a log isn't taken.
-use Rattle.std.proofs.Common.{ℕ, List, Option, Result, Ok, Err, IfErr}
+use Rattle.std.proofs.Common.{◌≡◌, refl, ℕ, List, Option, Result, Ok, Err, IfErr}
 use Rattle.inst_log.specs.declared.error.LogError.TheVariants.{Disk, Memory, Full, Write, Told, OtherSettings, NoLog}
 use Rattle.inst_logged.specs.declared.error.LoggedError.{LoggedError}
-use Rattle.inst_logged.specs.declared.error.LoggedError.TheVariants.{Log, Read, Books}
+use Rattle.inst_logged.specs.declared.error.LoggedError.TheVariants.{Log, Read, Books, Damaged, OtherDigest, Changed}
+use Rattle.inst_chain.specs.declared.digest.Digest.{Digest}
+use Rattle.inst_logged.specs.declared.version.Version.{Version}
 use Rattle.inst_logged.specs.Refused.{IsRefused, IsCause}
 
--- an error that isn't a refusal has none of these causes
-pub cause_of_none : (header : List ℕ) (told : Option ℕ) (file : List ℕ) (e : LoggedError) → (IsRefused e → ⊥) → IsCause header told file e
-cause_of_none header told file (Log OtherSettings) not = absurd (not tt)
-cause_of_none header told file (Log NoLog) not = absurd (not tt)
-cause_of_none header told file (Log Told) not = absurd (not tt)
-cause_of_none header told file (Log (Disk error)) not = tt
-cause_of_none header told file (Log Memory) not = tt
-cause_of_none header told file (Log Full) not = tt
-cause_of_none header told file (Log Write) not = tt
-cause_of_none header told file Read not = tt
-cause_of_none header told file Books not = absurd (not tt)
+-- an error that is neither a refusal nor a change by others has none of these causes
+pub cause_of_none : (version : Version) (header : List ℕ) (told : Option ℕ) (wanted : Option Digest) (file : List ℕ) (e : LoggedError) → (IsRefused e → ⊥) → (e ≡ Changed → ⊥) → IsCause version header told wanted file e
+cause_of_none version header told wanted file (Log OtherSettings) not alone = absurd (not tt)
+cause_of_none version header told wanted file (Log NoLog) not alone = absurd (not tt)
+cause_of_none version header told wanted file (Log Told) not alone = absurd (not tt)
+cause_of_none version header told wanted file (Log (Disk error)) not alone = tt
+cause_of_none version header told wanted file (Log Memory) not alone = tt
+cause_of_none version header told wanted file (Log Full) not alone = tt
+cause_of_none version header told wanted file (Log Write) not alone = tt
+cause_of_none version header told wanted file Read not alone = tt
+cause_of_none version header told wanted file Books not alone = absurd (not tt)
+cause_of_none version header told wanted file (Damaged right) not alone = absurd (not tt)
+cause_of_none version header told wanted file OtherDigest not alone = absurd (not tt)
+cause_of_none version header told wanted file Changed not alone = absurd (alone refl)
 
-pub causes_of_none : {T : Type 0} (header : List ℕ) (told : Option ℕ) (file : List ℕ) (clean : Type 0) (r : Result T LoggedError) → IfErr r (λ e. IsRefused e → ⊥)
-    → IfErr r (λ e. clean → IsCause header told file e)
-causes_of_none header told file clean (Ok v) not = tt
-causes_of_none header told file clean (Err e) not = λ was. cause_of_none header told file e not
+pub causes_of_none : {T : Type 0} (version : Version) (header : List ℕ) (told : Option ℕ) (wanted : Option Digest) (file : List ℕ) (clean : Type 0) (r : Result T LoggedError) → IfErr r (λ e. IsRefused e → ⊥)
+    → IfErr r (λ e. clean → e ≡ Changed → ⊥) → IfErr r (λ e. clean → IsCause version header told wanted file e)
+causes_of_none version header told wanted file clean (Ok v) not alone = tt
+causes_of_none version header told wanted file clean (Err e) not alone = λ was. cause_of_none version header told wanted file e not (alone was)

@@ -10,6 +10,8 @@ use Rattle.inst_log.specs.Log.{IsSettled}
 use Rattle.inst_log.specs.Serving.{Replies, Tells, TellsKept, SaysOn}
 use Rattle.inst_log.specs.declared.recorder.Recorder.{Recorder}
 use Rattle.inst_log.proofs.Serve.{on_more, tells_more, kept_after}
+use Rattle.inst_chain.specs.Chain.{said}
+use Rattle.inst_chain.proofs.Said.{said-append}
 use Rattle.inst_logged.specs.Answering.{SaysLines}
 use Rattle.inst_logged.specs.Intake.{held}
 use Rattle.inst_logged.specs.Input.{cut, logged}
@@ -72,7 +74,7 @@ module _ {D : Type 0} (seen : D → List ℕ) (may_leave : D → List ℕ → Ty
       }
 
   served_more : (clean clean' : Type 0) (came came' both : List (List ℕ) → Type 0) (mid new : Recorder D LineAnswers) (at after : Option (List ℕ)) → (clean' → clean)
-      → (s : ServedOn seen may_leave clean came old mid before at) → (t : ServedOn seen may_leave clean' came' mid new at after) → both (s.lines ++ t.lines)
+      → (s : ServedOn seen may_leave clean came old mid before at) → (t : ServedOn seen may_leave clean' came' mid new at after) → both (said (s.lines ++ t.lines))
       → ServedOn seen may_leave clean' both old new before after
   served_more clean clean' came came' both mid new at after was s t all =
       record {
@@ -99,7 +101,8 @@ module _ {D : Type 0} (seen : D → List ℕ) (may_leave : D → List ℕ → Ty
         consumes = Consumes-append left left' left'' h.bytes read h.consumes t.came.consumes;
         held_is = t.came.held_is ∙ ap cut (sym (rest_append [] h.bytes read));
         served = served_more clean clean' _ _ _ mid new at after was h.served t
-            (ap (λ (ls : List (List ℕ)). ls ++ t.lines) h.served.came
+            (said-append h.served.lines t.lines
+            ∙ ap (λ (ls : List (List ℕ)). ls ++ said t.lines) h.served.came
             ∙ ap (λ (ls : List (List ℕ)). map logged (lines_from [] h.bytes) ++ ls) t.came.lines_are
             ∙ sym (map-append logged (lines_from [] h.bytes) (lines_from (rest_from [] h.bytes) read))
             ∙ ap (λ (ls : List (List ℕ)). map logged ls) (sym (lines_append [] h.bytes read)));
@@ -124,7 +127,7 @@ module _ {D : Type 0} (seen : D → List ℕ) (may_leave : D → List ℕ → Ty
         consumes = subst (λ (b : List ℕ). Consumes left left'' b) (append-nil h.bytes)
             (Consumes-append left left' left'' h.bytes [] h.consumes t.came.consumes);
         at_end = t.came.at_end;
-        lines_are = last_too h.bytes h.served.lines t.lines h.served.came t.came.lines_are;
+        lines_are = said-append h.served.lines t.lines ∙ last_too h.bytes (said h.served.lines) (said t.lines) h.served.came t.came.lines_are;
       })
 
   came_all : (done lines : List (List ℕ)) (bytes : List ℕ) (left' left'' : Option (List ℕ)) → Consumes left left' bytes → done ≡ map logged (lines_from [] bytes)
@@ -159,7 +162,7 @@ module _ {D : Type 0} (seen : D → List ℕ) (may_leave : D → List ℕ → Ty
   come_kept clean mid intake may_leave' left' left'' at after is h k =
       record {
         lines = h.served.lines ++ k.lines;
-        came = came_all h.served.lines k.lines h.bytes left' left'' h.consumes h.served.came k.came;
+        came = subst (CameIn left left'') (sym (said-append h.served.lines k.lines)) (came_all (said h.served.lines) (said k.lines) h.bytes left' left'' h.consumes h.served.came k.came);
         kept = kept_more _ _ (recovered (seen old.log.disk)) h.served.lines k.lines (recovered (seen mid.log.disk)) may_leave' before at after
             h.served.on h.served.tells (h.served.settled is).1 k.kept;
       }
@@ -189,4 +192,4 @@ module _ {D : Type 0} (seen : D → List ℕ) (may_leave : D → List ℕ → Ty
   pub served_as : (clean : Type 0) (came came' : List (List ℕ) → Type 0) (new : Recorder D LineAnswers) (after : Option (List ℕ)) → ((lines : List (List ℕ)) → came lines → came' lines)
       → ServedOn seen may_leave clean came old new before after → ServedOn seen may_leave clean came' old new before after
   served_as clean came came' new after as_so s =
-      record { lines = s.lines; came = as_so s.lines s.came; tells = s.tells; on = s.on; settled = s.settled }
+      record { lines = s.lines; came = as_so (said s.lines) s.came; tells = s.tells; on = s.on; settled = s.settled }

@@ -3,11 +3,13 @@ mod Answering
 mod Causes
 mod Coming
 mod Cutting
-mod Heading
+mod Debt
+mod Examined
+mod Intact
+mod Headings
 mod Opened
 mod Intaking
-mod Owing
-mod Reopening
+mod Measuring
 mod Running
 mod Telling
 mod Turning

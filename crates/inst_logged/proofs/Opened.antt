@@ -1,20 +1,17 @@
 -- A hub with a log that opened from journals, and what it has run.
-use Rattle.std.proofs.Common.{◌≡◌, ◌∙◌, ℕ, [], List, Option, Some, None, IfSome, inr, ap, sym, subst}
+use Rattle.std.proofs.Common.{◌≡◌, ◌∙◌, [], List, Option, Some, None, IfSome, ap, sym, subst}
 use Rattle.inst_settings.specs.Settings.{HubSettings}
 use Rattle.inst_command.specs.declared.step.Step.{Step}
 use Rattle.inst_journal.specs.History.{History}
 use Rattle.inst_model.specs.Opening.{Opening}
 use Rattle.inst_world.specs.HasRun.{World, HasRun, settings_of}
-use Rattle.inst_world.specs.NextOpening.{opening_from, AreCarried, CanOpenFrom}
+use Rattle.inst_world.specs.NextOpening.{opening_from, AreCarried}
 use Rattle.inst_agenda.specs.declared.runner.Runner.{Runner}
 use Rattle.inst_agenda.specs.Watching.{Watches}
 use Rattle.inst_lines.specs.declared.mode.Mode.{Mode}
 use Rattle.inst_lines.specs.declared.mode.Mode.TheVariants.{Run, Play}
 use Rattle.inst_lines.specs.Answering.{Past, Keeps}
 use Rattle.inst_logged.specs.Answering.{opened_from}
-use Rattle.inst_logged.specs.Header.{header_from}
-use Rattle.inst_logged.specs.Logged.{HasBegun}
-use Rattle.inst_logged.specs.declared.line_answers.LineAnswers.{LineAnswers}
 
 pub keeps_again : (mode : Mode) (s : HubSettings) (journals : List History) (world : World) (runner : Runner) → world.board.settings ≡ s → HasRun (opening_from journals) [] world
     → runner.world ≡ world → ((O : Opening) (L : List Step) → HasRun O L world → Watches O L runner.world runner.agenda) → Keeps mode (opened_from s journals) runner
@@ -38,8 +35,3 @@ are_carried mode past runner journals keeps are =
 pub some_weaker : {A : Type 0} (o : Option A) (P Q : A → Type 0) → ((x : A) → P x → Q x) → IfSome o P → IfSome o Q
 some_weaker None P Q more is = tt
 some_weaker (Some x) P Q more is = more x is
-
--- a hub that opened from these journals began so
-pub begun_from : (header : List ℕ) (answers : LineAnswers) (mode : Mode) (s : HubSettings) (journals : List History) → CanOpenFrom s journals
-    → header ≡ header_from mode s journals → answers.mode ≡ mode → Keeps mode (opened_from s journals) answers.runner → HasBegun mode s header answers
-begun_from header answers mode s journals can head of keeps = inr (journals, can, record { mode_is = of; keeps = keeps }, head)

@@ -1,5 +1,6 @@
 -- A whole run of a hub with a log.
-use Rattle.std.proofs.Common.{◌≡◌, inl, ℕ, List, [], ◌++◌, Option, append_assoc, refl, sym, ◌∙◌, ap, subst}
+use Rattle.std.proofs.Common.{◌≡◌, inl, ℕ, List, [], ◌++◌, Option, length, take, drop, append_assoc, length-append, take-append-drop, refl, sym, ◌∙◌, ap, subst, arith}
+use Rattle.std.proofs.lemmas.List.{append-nil, take_at}
 use Rattle.std.specs.Io.KnownBytes.{Appends}
 use Rattle.inst_lines.specs.declared.mode.Mode.{Mode}
 use Rattle.inst_lines.specs.Answering.{Past}
@@ -9,18 +10,32 @@ use Rattle.inst_log.specs.Opening.{kept}
 use Rattle.inst_log.specs.Serving.{Replies, Tells, TellsKept, SaysOn}
 use Rattle.inst_log.specs.inner.Serving.{TellsPart}
 use Rattle.inst_log.specs.declared.recorder.Recorder.{Recorder}
-use Rattle.inst_log.proofs.Serve.{run_kept, reopen_kept}
-use Rattle.inst_logged.specs.Answering.{SaysLines, told_of}
+use Rattle.inst_log.proofs.Serve.{run_kept}
+use Rattle.inst_chain.specs.Chain.{said, kept_said}
+use Rattle.inst_chain.proofs.Said.{said-append}
+use Rattle.inst_logged.specs.Answering.{SaysLines, replies_at, told_of}
 use Rattle.inst_logged.specs.Logged.{Are, owed, HasLogged, SurvivesACrash}
 use Rattle.inst_logged.specs.inner.Logged.{IsInput, CameIn, ServedOn, KeptOn}
 use Rattle.inst_logged.specs.declared.line_answers.LineAnswers.{LineAnswers}
+use Rattle.inst_logged.proofs.Answering.{said_said, replies_said}
+use Rattle.inst_logged.proofs.Debt.{kept_is}
 
 module _ (mode : Mode) (past : Past) (header : List ℕ) (told : Option ℕ) (file : List ℕ) where
+  -- the lines that were in the log, with marks among them and without
   abbrev pub first : List (List ℕ)
   first = kept header file
 
   abbrev pub debt : Replies
-  debt = owed mode past first (told_of told first)
+  debt = owed mode past (kept_said header file) (told_of told (kept_said header file))
+
+  -- marks have no replies
+  debt_said : (lines : List (List ℕ)) → debt (said lines) ≡ debt lines
+  debt_said lines =
+      let n = length (replies_at mode past (take (told_of told (kept_said header file)) (kept_said header file))) in
+      let before = kept_said header file in
+      let same : said (before ++ said lines) ≡ said (before ++ lines) =
+      said-append before (said lines) ∙ ap (λ (ls : List (List ℕ)). said before ++ ls) (said_said lines) ∙ sym (said-append before lines) in
+      ap (drop n) (sym (replies_said mode past (before ++ said lines)) ∙ ap (replies_at mode past) same ∙ replies_said mode past (before ++ lines))
 
   -- nothing was read yet
   pub survives_none : (may_leave : List ℕ → Type 0) (left before now : Option (List ℕ)) → TellsPart (Are debt) [] before now
@@ -30,7 +45,36 @@ module _ (mode : Mode) (past : Past) (header : List ℕ) (told : Option ℕ) (fi
     consumes = Consumes-keeps left left (Keeps-same left);
     lines = [];
     lines_are = inl refl;
-    kept = reopen_kept (Are debt) first header may_leave before now [] part same;
+    kept = record {
+      told = part.told;
+      handed = part.handed;
+      kept = λ c may. record {
+        n = 0;
+        few = omega arith;
+        lines = ap said (same c may) ∙ sym (append-nil (kept_said header file));
+        covers = part.front;
+      };
+    };
+  }
+
+  -- what covers lines with marks covers those without
+  said_kept : (may_leave : List ℕ → Type 0) (lines : List (List ℕ)) (before after : Option (List ℕ)) → TellsKept (kept header) may_leave (Are debt) first lines before after
+      → TellsKept (kept_said header) may_leave (Are debt) (kept_said header file) (said lines) before after
+  said_kept may_leave lines before after t = record {
+    told = t.told;
+    handed = t.handed;
+    kept = λ c may.
+        let k = t.kept c may in
+        let done = said (take k.n lines) in
+        let split : said lines ≡ done ++ said (drop k.n lines) = ap said (sym (take-append-drop k.n lines)) ∙ said-append (take k.n lines) (drop k.n lines) in
+        let front : take (length done) (said lines) ≡ done = ap (take (length done)) split ∙ take_at done (said (drop k.n lines)) (length done) refl in
+        let (rest, covers) = k.covers debt (λ ls. refl) in
+        record {
+          n = length done;
+          few = omega (arith, ap length split, length-append done (said (drop k.n lines)));
+          lines = ap said k.lines ∙ said-append first (take k.n lines) ∙ ap (λ (ls : List (List ℕ)). kept_said header file ++ ls) (sym front);
+          covers = λ f are. (rest, are (take (length done) (said lines)) ∙ ap debt front ∙ debt_said (take k.n lines) ∙ covers);
+        };
   }
 
   -- behind a log that was opened
@@ -42,8 +86,8 @@ module _ (mode : Mode) (past : Past) (header : List ℕ) (told : Option ℕ) (fi
     consumes = k.came.consumes;
     lines = k.came.read;
     lines_are = k.came.read_are;
-    kept = subst (λ (ls : List (List ℕ)). TellsKept (kept header) may_leave (Are debt) first ls before after) k.came.lines_are
-        (run_kept (Are debt) first header may_leave mid before at after here k.lines on tells same k.kept);
+    kept = subst (λ (ls : List (List ℕ)). TellsKept (kept_said header) may_leave (Are debt) (kept_said header file) ls before after) k.came.lines_are
+        (said_kept may_leave k.lines before after (run_kept (Are debt) first header may_leave mid before at after here k.lines on tells same k.kept));
   }
 
   -- all is answered
@@ -51,15 +95,18 @@ module _ (mode : Mode) (past : Past) (header : List ℕ) (told : Option ℕ) (fi
       → SaysOn (Are debt) [] (SaysLines old.answers.mode old.answers.runner) → Tells (Are debt) [] before at → recovered (seen old.log.disk) ≡ recovered header ++ first
       → ServedOn seen may_leave clean (IsInput left left') old new at after → clean → HasLogged mode past header told file (seen new.log.disk) left left' before after
   logs_all seen may_leave clean old new left left' before at after on tells same v is =
-      let (g, said, goes) = on debt (λ lines. refl) in
+      let (g, said_g, goes) = on debt (λ lines. refl) in
       let all : debt v.lines ≡ tells.told ++ v.tells.told =
-      goes v.lines ∙ ap (λ (l : List ℕ). l ++ g v.lines) (tells.whole debt (λ lines. refl)) ∙ ap (λ (l : List ℕ). tells.told ++ l) (v.tells.whole g said) in
+      goes v.lines ∙ ap (λ (l : List ℕ). l ++ g v.lines) (tells.whole debt (λ lines. refl)) ∙ ap (λ (l : List ℕ). tells.told ++ l) (v.tells.whole g said_g) in
+      let now : recovered (seen new.log.disk) ≡ recovered header ++ (first ++ v.lines) =
+      (v.settled is).1 ∙ ap (λ (ls : List (List ℕ)). ls ++ v.lines) same ∙ append_assoc (recovered header) first v.lines in
+      let behind : kept header (seen new.log.disk) ≡ first ++ v.lines = kept_is header (seen new.log.disk) (first ++ v.lines) now in
       record {
         bytes = v.came.bytes;
         consumes = v.came.consumes;
         at_end = v.came.at_end;
-        lines = (v.settled is).1 ∙ ap (λ (ls : List (List ℕ)). ls ++ v.lines) same ∙ append_assoc (recovered header) first v.lines
-            ∙ ap (λ (ls : List (List ℕ)). recovered header ++ (first ++ ls)) v.came.lines_are;
-        replies = subst (λ (l : List ℕ). Appends before after l) (sym all ∙ ap debt v.came.lines_are)
+        begins = now ∙ ap (λ (ls : List (List ℕ)). recovered header ++ ls) (sym behind);
+        lines = ap said behind ∙ said-append first v.lines ∙ ap (λ (ls : List (List ℕ)). kept_said header file ++ ls) v.came.lines_are;
+        replies = subst (λ (l : List ℕ). Appends before after l) (sym all ∙ sym (debt_said v.lines) ∙ ap debt v.came.lines_are)
             (Appends-append before at after tells.told v.tells.told tells.handed v.tells.handed);
       }

@@ -1,17 +1,22 @@
 -- Different settings have different headers.
-use Rattle.std.proofs.Common.{◌≡◌, ◌≢◌, ◌^◌, ℕ, ◌<◌, Bool, true, false, ◌==◌, ◌||◌, None, List, [], ◌∷◌, ◌++◌, length, drop, get_or, codes, decimal, append_assoc, refl, sym, ◌∙◌, ap, ap₂, arith}
+use Rattle.std.proofs.Common.{◌≡◌, ◌≢◌, ◌^◌, ℕ, ◌<◌, Bool, true, false, ◌==◌, ◌||◌, None, List, [], ◌∷◌, ◌++◌, length, length-append, take, drop, get_or, codes, decimal, append_assoc, refl, sym, ◌∙◌, ap, ap₂, arith}
 use Rattle.std.specs.List.{list_all, AllByRecursion}
 use Rattle.std.specs.Str.Parse.{AllDigits}
 use Rattle.std.proofs.lemmas.Bool.{and_parts, false≢true}
 use Rattle.std.proofs.lemmas.Fmt.{decimal_injective, decimal_is_IsNumeral}
 use Rattle.std.proofs.lemmas.Str.Parse.{digit_from_value}
-use Rattle.std.proofs.lemmas.List.{append_cancel_right}
+use Rattle.std.proofs.lemmas.List.{append_cancel_right, take_at}
 use Rattle.inst_base.specs.Text.{is_code, is_code_character}
 use Rattle.inst_settings.specs.Settings.{HubSettings}
 use Rattle.inst_settings.specs.Lawful.{AreOfAHub, settings_with}
 use Rattle.inst_lines.specs.declared.mode.Mode.{Mode}
 use Rattle.inst_lines.specs.declared.mode.Mode.TheVariants.{Run, Play}
-use Rattle.inst_logged.specs.Header.{header, header_line, field, mode_field, participants_field, mode_word, listed, comma_if, quoted}
+use Rattle.inst_log.specs.Layout.{at_rest}
+use Rattle.inst_chain.specs.Chain.{mark_of}
+use Rattle.inst_chain.proofs.Said.{length-mark_of}
+use Rattle.inst_logged.specs.declared.version.Version.{Version}
+use Rattle.inst_logged.specs.declared.version.Version.TheVariants.{One, Two}
+use Rattle.inst_logged.specs.Header.{header, header_line, marked, version_word, field, mode_field, participants_field, mode_word, listed, comma_if, quoted, HeadersTellTheirSettings}
 
 -- no byte is this one
 abbrev Lacks : ℕ → List ℕ → Type 0
@@ -101,80 +106,109 @@ all_same s t codes places fundings limit margin ahead ceiling base =
     ∙ ap (λ x. settings_with t.codes t.places t.fundings t.limit t.margin t.ahead x s.base) ceiling
     ∙ ap (λ x. settings_with t.codes t.places t.fundings t.limit t.margin t.ahead t.ceiling x) base
 
--- what stands behind the comma of each number, the word and the participants
-abbrev after_codes : HubSettings → List ℕ
-after_codes u = codes ",\"places\":" ++ (decimal u.places ++ 44 ∷ codes "\"version\":1}")
+module _ (version : Version) where
+  -- what stands behind the comma of each number, the word and the participants
+  abbrev after_codes : HubSettings → List ℕ
+  after_codes u = codes ",\"places\":" ++ (decimal u.places ++ 44 ∷ version_word version)
 
-abbrev after_margin : HubSettings → List ℕ
-after_margin u = codes "\"participants\":[" ++ ((listed false u.codes ++ 93 ∷ []) ++ after_codes u)
+  abbrev after_margin : HubSettings → List ℕ
+  after_margin u = codes "\"participants\":[" ++ ((listed false u.codes ++ 93 ∷ []) ++ after_codes u)
 
-abbrev after_mode : HubSettings → List ℕ
-after_mode u = codes ",\"margin\":" ++ (decimal u.margin ++ 44 ∷ after_margin u)
+  abbrev after_mode : HubSettings → List ℕ
+  after_mode u = codes ",\"margin\":" ++ (decimal u.margin ++ 44 ∷ after_margin u)
 
-abbrev after_limit : Mode → HubSettings → List ℕ
-after_limit mode u = codes "\"log\":\"" ++ ((mode_word mode ++ 34 ∷ []) ++ after_mode u)
+  abbrev after_limit : Mode → HubSettings → List ℕ
+  after_limit mode u = codes "\"log\":\"" ++ ((mode_word mode ++ 34 ∷ []) ++ after_mode u)
 
-abbrev after_fundings : Mode → HubSettings → List ℕ
-after_fundings mode u = codes "\"limit\":" ++ (decimal u.limit ++ 44 ∷ after_limit mode u)
+  abbrev after_fundings : Mode → HubSettings → List ℕ
+  after_fundings mode u = codes "\"limit\":" ++ (decimal u.limit ++ 44 ∷ after_limit mode u)
 
-abbrev after_ceiling : Mode → HubSettings → List ℕ
-after_ceiling mode u = codes "\"fundings\":" ++ (decimal u.fundings ++ 44 ∷ after_fundings mode u)
+  abbrev after_ceiling : Mode → HubSettings → List ℕ
+  after_ceiling mode u = codes "\"fundings\":" ++ (decimal u.fundings ++ 44 ∷ after_fundings mode u)
 
-abbrev after_base : Mode → HubSettings → List ℕ
-after_base mode u = codes "\"ceiling\":" ++ (decimal u.ceiling ++ 44 ∷ after_ceiling mode u)
+  abbrev after_base : Mode → HubSettings → List ℕ
+  after_base mode u = codes "\"ceiling\":" ++ (decimal u.ceiling ++ 44 ∷ after_ceiling mode u)
 
-abbrev after_ahead : Mode → HubSettings → List ℕ
-after_ahead mode u = codes "\"base\":" ++ (decimal u.base ++ 44 ∷ after_base mode u)
+  abbrev after_ahead : Mode → HubSettings → List ℕ
+  after_ahead mode u = codes "\"base\":" ++ (decimal u.base ++ 44 ∷ after_base mode u)
 
--- eleven pieces, one behind the other
-flat : (a b c d e f g h i j k : List ℕ) → a ++ b ++ c ++ d ++ e ++ f ++ g ++ h ++ i ++ j ++ k ≡ a ++ (b ++ (c ++ (d ++ (e ++ (f ++ (g ++ (h ++ (i ++ (j ++ k)))))))))
-flat a b c d e f g h i j k =
-    let x2 = a ++ b in
-    let x3 = x2 ++ c in
-    let x4 = x3 ++ d in
-    let x5 = x4 ++ e in
-    let x6 = x5 ++ f in
-    let x7 = x6 ++ g in
-    let x8 = x7 ++ h in
-    let x9 = x8 ++ i in
-    let y10 = j ++ k in
-    let y9 = i ++ y10 in
-    let y8 = h ++ y9 in
-    let y7 = g ++ y8 in
-    let y6 = f ++ y7 in
-    let y5 = e ++ y6 in
-    let y4 = d ++ y5 in
-    let y3 = c ++ y4 in
-    append_assoc x9 j k ∙ append_assoc x8 i y10 ∙ append_assoc x7 h y9 ∙ append_assoc x6 g y8 ∙ append_assoc x5 f y7 ∙ append_assoc x4 e y6 ∙ append_assoc x3 d y5
-    ∙ append_assoc x2 c y4 ∙ append_assoc a b y3
+  -- eleven pieces, one behind the other
+  flat : (a b c d e f g h i j k : List ℕ) → a ++ b ++ c ++ d ++ e ++ f ++ g ++ h ++ i ++ j ++ k ≡ a ++ (b ++ (c ++ (d ++ (e ++ (f ++ (g ++ (h ++ (i ++ (j ++ k)))))))))
+  flat a b c d e f g h i j k =
+      let x2 = a ++ b in
+      let x3 = x2 ++ c in
+      let x4 = x3 ++ d in
+      let x5 = x4 ++ e in
+      let x6 = x5 ++ f in
+      let x7 = x6 ++ g in
+      let x8 = x7 ++ h in
+      let x9 = x8 ++ i in
+      let y10 = j ++ k in
+      let y9 = i ++ y10 in
+      let y8 = h ++ y9 in
+      let y7 = g ++ y8 in
+      let y6 = f ++ y7 in
+      let y5 = e ++ y6 in
+      let y4 = d ++ y5 in
+      let y3 = c ++ y4 in
+      append_assoc x9 j k ∙ append_assoc x8 i y10 ∙ append_assoc x7 h y9 ∙ append_assoc x6 g y8 ∙ append_assoc x5 f y7 ∙ append_assoc x4 e y6 ∙ append_assoc x3 d y5
+      ∙ append_assoc x2 c y4 ∙ append_assoc a b y3
 
-line_is : (mode : Mode) (u : HubSettings) → header_line mode u None ≡ codes "{\"ahead\":" ++ (decimal u.ahead ++ 44 ∷ after_ahead mode u)
-line_is mode u =
-    flat (field (codes "{\"ahead\":") u.ahead) (field (codes ",\"base\":") u.base) [] (field (codes ",\"ceiling\":") u.ceiling) (field (codes ",\"fundings\":") u.fundings)
-    (field (codes ",\"limit\":") u.limit) (mode_field mode) (field (codes ",\"margin\":") u.margin) (participants_field u.codes) (field (codes ",\"places\":") u.places) (codes ",\"version\":1}")
+  line_is : (mode : Mode) (u : HubSettings) → header_line version mode u None ≡ codes "{\"ahead\":" ++ (decimal u.ahead ++ 44 ∷ after_ahead mode u)
+  line_is mode u =
+      flat (field (codes "{\"ahead\":") u.ahead) (field (codes ",\"base\":") u.base) [] (field (codes ",\"ceiling\":") u.ceiling) (field (codes ",\"fundings\":") u.fundings)
+      (field (codes ",\"limit\":") u.limit) (mode_field mode) (field (codes ",\"margin\":") u.margin) (participants_field u.codes) (field (codes ",\"places\":") u.places) (44 ∷ version_word version)
 
-module _ (mode other : Mode) (s t : HubSettings) (of : AreOfAHub s) (of' : AreOfAHub t) where
-  codes_tell : after_margin s ≡ after_margin t → (s.codes ≡ t.codes) × (s.places ≡ t.places)
-  codes_tell e =
-      let as_read : (u : HubSettings) → (listed false u.codes ++ 93 ∷ []) ++ after_codes u ≡ listed_then false u.codes (after_codes u) =
-      λ u. append_assoc (listed false u.codes) (93 ∷ []) (after_codes u) ∙ as_listed false u.codes (after_codes u) in
-      let both = listed_same false s.codes t.codes (after_codes s) (after_codes t) (codes_lack s.codes of.codes_formed) (codes_lack t.codes of'.codes_formed)
-      (sym (as_read s) ∙ ap (drop 16) e ∙ as_read t) in
-      (both.0, (number_then s.places t.places _ _ (omega (arith, of.lawful.places_most)) (omega (arith, of'.lawful.places_most)) (ap (drop 10) both.1)).0)
+  module _ (mode other : Mode) (s t : HubSettings) (of : AreOfAHub s) (of' : AreOfAHub t) where
+    codes_tell : after_margin s ≡ after_margin t → (s.codes ≡ t.codes) × (s.places ≡ t.places)
+    codes_tell e =
+        let as_read : (u : HubSettings) → (listed false u.codes ++ 93 ∷ []) ++ after_codes u ≡ listed_then false u.codes (after_codes u) =
+        λ u. append_assoc (listed false u.codes) (93 ∷ []) (after_codes u) ∙ as_listed false u.codes (after_codes u) in
+        let both = listed_same false s.codes t.codes (after_codes s) (after_codes t) (codes_lack s.codes of.codes_formed) (codes_lack t.codes of'.codes_formed)
+        (sym (as_read s) ∙ ap (drop 16) e ∙ as_read t) in
+        (both.0, (number_then s.places t.places _ _ (omega (arith, of.lawful.places_most)) (omega (arith, of'.lawful.places_most)) (ap (drop 10) both.1)).0)
 
-  lines_tell : header_line mode s None ≡ header_line other t None → (mode ≡ other) × (s ≡ t)
-  lines_tell e =
-      let ahead = number_then s.ahead t.ahead (after_ahead mode s) (after_ahead other t) (omega (arith, of.lawful.ahead_most)) (omega (arith, of'.lawful.ahead_most)) (ap (drop 9) (sym (line_is mode s) ∙ e ∙ line_is other t)) in
-      let base = number_then s.base t.base (after_base mode s) (after_base other t) (omega (arith, of.lawful.base_most)) (omega (arith, of'.lawful.base_most)) (ap (drop 7) ahead.1) in
-      let ceiling = number_then s.ceiling t.ceiling (after_ceiling mode s) (after_ceiling other t) (omega (arith, of.lawful.ceiling_most)) (omega (arith, of'.lawful.ceiling_most)) (ap (drop 10) base.1) in
-      let fundings = number_then s.fundings t.fundings (after_fundings mode s) (after_fundings other t) (omega (arith, of.lawful.fundings_most)) (omega (arith, of'.lawful.fundings_most)) (ap (drop 11) ceiling.1) in
-      let limit = number_then s.limit t.limit (after_limit mode s) (after_limit other t) (omega (arith, of.lawful.limit_most)) (omega (arith, of'.lawful.limit_most)) (ap (drop 8) fundings.1) in
-      let modes = mode_then mode other (after_mode s) (after_mode t) (ap (drop 7) limit.1) in
-      let margin = number_then s.margin t.margin (after_margin s) (after_margin t) (omega (arith, of.lawful.limit_most, of.lawful.margin_below)) (omega (arith, of'.lawful.limit_most, of'.lawful.margin_below)) (ap (drop 10) modes.1) in
-      let both = codes_tell margin.1 in
-      (modes.0, all_same s t both.0 both.1 fundings.0 limit.0 margin.0 ahead.0 ceiling.0 base.0)
+    lines_tell : header_line version mode s None ≡ header_line version other t None → (mode ≡ other) × (s ≡ t)
+    lines_tell e =
+        let ahead = number_then s.ahead t.ahead (after_ahead mode s) (after_ahead other t) (omega (arith, of.lawful.ahead_most)) (omega (arith, of'.lawful.ahead_most)) (ap (drop 9) (sym (line_is mode s) ∙ e ∙ line_is other t)) in
+        let base = number_then s.base t.base (after_base mode s) (after_base other t) (omega (arith, of.lawful.base_most)) (omega (arith, of'.lawful.base_most)) (ap (drop 7) ahead.1) in
+        let ceiling = number_then s.ceiling t.ceiling (after_ceiling mode s) (after_ceiling other t) (omega (arith, of.lawful.ceiling_most)) (omega (arith, of'.lawful.ceiling_most)) (ap (drop 10) base.1) in
+        let fundings = number_then s.fundings t.fundings (after_fundings mode s) (after_fundings other t) (omega (arith, of.lawful.fundings_most)) (omega (arith, of'.lawful.fundings_most)) (ap (drop 11) ceiling.1) in
+        let limit = number_then s.limit t.limit (after_limit mode s) (after_limit other t) (omega (arith, of.lawful.limit_most)) (omega (arith, of'.lawful.limit_most)) (ap (drop 8) fundings.1) in
+        let modes = mode_then mode other (after_mode s) (after_mode t) (ap (drop 7) limit.1) in
+        let margin = number_then s.margin t.margin (after_margin s) (after_margin t) (omega (arith, of.lawful.limit_most, of.lawful.margin_below)) (omega (arith, of'.lawful.limit_most, of'.lawful.margin_below)) (ap (drop 10) modes.1) in
+        let both = codes_tell margin.1 in
+        (modes.0, all_same s t both.0 both.1 fundings.0 limit.0 margin.0 ahead.0 ceiling.0 base.0)
 
-pub headers_tell : (mode other : Mode) (s t : HubSettings) → AreOfAHub s → AreOfAHub t → header mode s ≡ header other t → (mode ≡ other) × (s ≡ t)
+-- what comes before tails of one length
+before_tails : (a b x y : List ℕ) → length x ≡ length y → a ++ x ≡ b ++ y → a ≡ b
+before_tails a b x y same e =
+    let size : length a ≡ length b = omega (arith, same, ap length e, length-append a x, length-append b y) in
+    sym (take_at a x (length a) refl) ∙ ap (take (length a)) e ∙ take_at b y (length a) (sym size)
+
+-- the mark behind a line, with the bytes around it
+abbrev mark_tail : List ℕ → List ℕ
+mark_tail line = 10 ∷ ((mark_of (line ++ 10 ∷ []) ++ 10 ∷ []) ++ 0 ∷ [])
+
+tail_length : (line : List ℕ) → length (mark_tail line) ≡ 70
+tail_length line =
+    omega (arith, length-mark_of (line ++ 10 ∷ []), length-append (mark_of (line ++ 10 ∷ [])) (10 ∷ []), length-append (mark_of (line ++ 10 ∷ []) ++ 10 ∷ []) (0 ∷ []))
+
+-- a marked line, up to its end
+marked_split : (line : List ℕ) → at_rest (marked Two (line ∷ [])) ≡ line ++ mark_tail line
+marked_split line = append_assoc line (10 ∷ (mark_of (line ++ 10 ∷ []) ++ 10 ∷ [])) (0 ∷ [])
+
+headers_tell : (version : Version) (mode other : Mode) (s t : HubSettings) → AreOfAHub s → AreOfAHub t → header version mode s ≡ header version other t → (mode ≡ other) × (s ≡ t)
 unfolding header
-headers_tell mode other s t of of' e =
-    lines_tell mode other s t of of' (append_cancel_right (header_line mode s None) (header_line other t None) (10 ∷ []) (append_cancel_right (header_line mode s None ++ 10 ∷ []) (header_line other t None ++ 10 ∷ []) (0 ∷ []) e))
+headers_tell One mode other s t of of' e =
+    let a = header_line One mode s None in
+    let b = header_line One other t None in
+    lines_tell One mode other s t of of' (append_cancel_right a b (10 ∷ []) (append_cancel_right (a ++ 10 ∷ []) (b ++ 10 ∷ []) (0 ∷ []) e))
+headers_tell Two mode other s t of of' e =
+    let a = header_line Two mode s None in
+    let b = header_line Two other t None in
+    lines_tell Two mode other s t of of'
+    (before_tails a b (mark_tail a) (mark_tail b) (tail_length a ∙ sym (tail_length b)) (sym (marked_split a) ∙ e ∙ marked_split b))
+
+pub all_headers_tell : HeadersTellTheirSettings
+all_headers_tell version mode other s t of of' e = headers_tell version mode other s t of of' e

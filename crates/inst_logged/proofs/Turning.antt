@@ -1,7 +1,10 @@
 -- What a read brought, behind a part of a line.
-use Rattle.std.proofs.Common.{◌≡◌, inl, inr, ℕ, Bool, true, false, List, [], ◌++◌, map, Option, refl, ap, ◌∙◌}
+use Rattle.std.proofs.Common.{◌≡◌, inl, inr, ℕ, Bool, true, false, List, [], ◌∷◌, ◌++◌, map, Option, refl, ap, sym, subst, ◌∙◌}
 use Rattle.std.specs.Prelude.{MatchBool}
 use Rattle.inst_log.specs.Layout.{recovered}
+use Rattle.inst_log.specs.Escape.{raw_of}
+use Rattle.inst_chain.specs.Chain.{HasNoMark}
+use Rattle.inst_chain.proofs.Said.{HasNoMark-append, raw_plain}
 use Rattle.inst_logged.specs.Input.{cut, logged}
 use Rattle.inst_logged.specs.inner.Input.{lines_from, last_line}
 use Rattle.inst_logged.specs.Intake.{held}
@@ -29,3 +32,15 @@ pub came_of : (part : List ℕ) (new : Intake) (lines : List (List ℕ)) (left l
     → MatchBool more (Turned part new lines left left') (Ended part lines left left') → Came part lines left left'
 came_of part new lines left left' true t = record { read = t.read; consumes = t.consumes; lines_are = inl t.lines_are }
 came_of part new lines left left' false t = record { read = []; consumes = t.consumes; lines_are = inr (refl, (t.at_end, t.lines_are)) }
+
+-- lines that were read are no marks
+pub plain_logged : (lines : List (List ℕ)) → HasNoMark (map logged lines)
+plain_logged [] = tt
+plain_logged (line ∷ lines) = (raw_plain (cut line), plain_logged lines)
+
+pub plain_raw : (lines : List (List ℕ)) → HasNoMark (map raw_of lines)
+plain_raw [] = tt
+plain_raw (line ∷ lines) = (raw_plain line, plain_raw lines)
+
+pub plain_more : (old new more : List (List ℕ)) → new ≡ old ++ more → HasNoMark more → HasNoMark old → HasNoMark new
+plain_more old new more is plain before = subst HasNoMark (sym is) (HasNoMark-append old more before plain)

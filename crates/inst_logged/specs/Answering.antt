@@ -8,19 +8,20 @@ use Rattle.inst_lines.specs.declared.mode.Mode.{Mode}
 use Rattle.inst_lines.specs.Answers.{output, state_after}
 use Rattle.inst_lines.specs.Answering.{Past, Keeps, answering}
 use Rattle.inst_log.specs.Escape.{line_of}
+use Rattle.inst_chain.specs.Chain.{said}
 use Rattle.inst_log.specs.Serving.{Replies}
 
 -- of a hub that opens again from these journals
 abbrev pub opened_from : HubSettings → List History → Past
 opened_from s journals = record { settings = s; opening = opening_from journals; steps = [] }
 
--- the replies to the lines that come next, at a hub that has gone through this
+-- the replies to the lines that come next, at a hub that has gone through this; marks have none
 abbrev pub replies_at : Mode → Past → Replies
-replies_at mode past lines = output (answering mode) past (map line_of lines)
+replies_at mode past lines = output (answering mode) past (map line_of (said lines))
 
 -- what the hub has gone through behind them
 abbrev pub past_after : Mode → Past → List (List ℕ) → Past
-past_after mode past lines = state_after (answering mode) past (map line_of lines)
+past_after mode past lines = state_after (answering mode) past (map line_of (said lines))
 
 -- these are the replies to the lines that come next, by what the hub has gone through
 pub record SaysLines (mode : Mode) (runner : Runner) (replies : Replies) : Type 0 where
@@ -33,7 +34,7 @@ abbrev pub AreBooksAfter : Mode → Past → List (List ℕ) → List History �
 AreBooksAfter mode past lines journals =
     let after = past_after mode past lines in AreCarried after.settings after.opening after.steps journals
 
--- how many of a log's lines have been told: so many, or all
+-- how many of a log's lines without marks have been told: so many, or all
 abbrev pub told_of : Option ℕ → List (List ℕ) → ℕ
 told_of None lines = length lines
 told_of (Some told) lines = told

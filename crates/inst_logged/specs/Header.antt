@@ -6,8 +6,11 @@ use Rattle.inst_lines.specs.declared.mode.Mode.{Mode}
 use Rattle.inst_lines.specs.declared.mode.Mode.TheVariants.{Run, Play}
 use Rattle.inst_journal.specs.History.{History}
 use Rattle.inst_books.specs.Books.{all_events, books_text}
-use Rattle.inst_log.specs.Layout.{recovered, at_rest}
+use Rattle.inst_log.specs.Layout.{recovered, blocks, at_rest}
 use Rattle.inst_log.specs.Escape.{raw_of}
+use Rattle.inst_chain.specs.Chain.{mark_of}
+use Rattle.inst_logged.specs.declared.version.Version.{Version}
+use Rattle.inst_logged.specs.declared.version.Version.TheVariants.{One, Two}
 
 -- what the lines stand for, as a word
 abbrev pub mode_word : Mode → List ℕ
@@ -44,25 +47,35 @@ abbrev pub books_field : Option ℕ → List ℕ
 books_field None = []
 books_field (Some count) = field (codes ",\"books\":") count
 
+-- the version, with its name and the end of the line
+abbrev pub version_word : Version → List ℕ
+version_word One = codes "\"version\":1}"
+version_word Two = codes "\"version\":2}"
+
 -- the settings and what the lines stand for, as a line of compact JSON, its keys in the order of their bytes
-abbrev pub header_line : Mode → HubSettings → Option ℕ → List ℕ
-header_line mode s books =
+abbrev pub header_line : Version → Mode → HubSettings → Option ℕ → List ℕ
+header_line version mode s books =
     field (codes "{\"ahead\":") s.ahead ++ field (codes ",\"base\":") s.base ++ books_field books ++ field (codes ",\"ceiling\":") s.ceiling
     ++ field (codes ",\"fundings\":") s.fundings ++ field (codes ",\"limit\":") s.limit ++ mode_field mode
     ++ field (codes ",\"margin\":") s.margin ++ participants_field s.codes ++ field (codes ",\"places\":") s.places
-    ++ codes ",\"version\":1}"
+    ++ 44 ∷ version_word version
+
+-- lines, with their mark behind them where the log has marks
+abbrev pub marked : Version → List (List ℕ) → List (List ℕ)
+marked One lines = lines
+marked Two lines = lines ++ mark_of (blocks lines) ∷ []
 
 -- the first batch of a log
-unfoldable pub header : Mode → HubSettings → List ℕ
-header mode s = at_rest (raw_of (header_line mode s None) ∷ [])
+unfoldable pub header : Version → Mode → HubSettings → List ℕ
+header version mode s = at_rest (marked version (raw_of (header_line version mode s None) ∷ []))
 
 -- the first batch of a log of a hub that opened again from these journals: its settings, and a line for each event of its
 -- books
-unfoldable pub header_from : Mode → HubSettings → List History → List ℕ
-header_from mode s journals =
-    let books = recovered (books_text s (all_events journals)) in at_rest (raw_of (header_line mode s (Some (length books))) ∷ books)
+unfoldable pub header_from : Version → Mode → HubSettings → List History → List ℕ
+header_from version mode s journals =
+    let books = recovered (books_text s (all_events journals)) in at_rest (marked version (raw_of (header_line version mode s (Some (length books))) ∷ books))
 
 -- logs that begin alike are of hubs with the same settings, and their lines stand for the same
 abbrev pub HeadersTellTheirSettings : Type 0
-HeadersTellTheirSettings = (mode other : Mode) (s t : HubSettings) → AreOfAHub s → AreOfAHub t →
-    header mode s ≡ header other t → (mode ≡ other) × (s ≡ t)
+HeadersTellTheirSettings = (version : Version) (mode other : Mode) (s t : HubSettings) → AreOfAHub s → AreOfAHub t →
+    header version mode s ≡ header version other t → (mode ≡ other) × (s ≡ t)

@@ -5,6 +5,7 @@ pub mod Header
 pub mod Input
 pub mod Intake
 pub mod Logged
+pub mod Marking
 pub mod Refused
 -- Only inner functions and proofs cite these.
 pub mod inner

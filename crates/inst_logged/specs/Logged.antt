@@ -8,9 +8,13 @@ use Rattle.inst_settings.specs.Settings.{HubSettings}
 use Rattle.inst_journal.specs.History.{History}
 use Rattle.inst_world.specs.NextOpening.{CanOpenFrom}
 use Rattle.inst_lines.specs.Answering.{Past, opened}
-use Rattle.inst_log.specs.Layout.{recovered, IsBatch}
-use Rattle.inst_log.specs.Opening.{kept}
+use Rattle.inst_log.specs.Layout.{IsBatch}
+use Rattle.inst_log.specs.Opening.{Begins}
 use Rattle.inst_log.specs.Serving.{Replies, TellsKept}
+use Rattle.inst_chain.specs.Chain.{kept_said}
+use Rattle.inst_chain.specs.declared.marker.Marker.{Marker}
+use Rattle.inst_logged.specs.declared.version.Version.{Version}
+use Rattle.inst_logged.specs.Marking.{BeginsBy}
 use Rattle.inst_logged.specs.Header.{header, header_from}
 use Rattle.inst_logged.specs.Answering.{replies_at, opened_from, told_of}
 use Rattle.inst_logged.specs.LineAnswers.{HasOpened}
@@ -29,30 +33,33 @@ owed mode past first told lines =
 abbrev pub Are : Replies → Replies → Type 0
 Are these replies = (lines : List (List ℕ)) → replies lines ≡ these lines
 
--- these may be the first lines of a log, and no other was read
-pub record IsUnbegun (header : List ℕ) (intake : Intake) : Type 0 where
+-- these may be the first lines of a log of this version, this makes its next mark, and no other line was read
+pub record IsUnbegun (version : Version) (header : List ℕ) (marker : Marker) (intake : Intake) : Type 0 where
   pub batch : IsBatch header
+  pub begins : BeginsBy version header marker
   pub nothing : held intake ≡ []
 
 -- A hub of these settings began for the first time, or from journals that it can open from, and a log of its lines begins
 -- so.
-abbrev pub HasBegun : Mode → HubSettings → List ℕ → LineAnswers → Type 0
-HasBegun mode s first answers =
-    (HasOpened mode (opened s) answers × (first ≡ header mode s))
+abbrev pub HasBegun : Version → Mode → HubSettings → List ℕ → LineAnswers → Type 0
+HasBegun version mode s first answers =
+    (HasOpened mode (opened s) answers × (first ≡ header version mode s))
     ⊎ ((journals : List History) × CanOpenFrom s journals × HasOpened mode (opened_from s journals) answers
-    × (first ≡ header_from mode s journals))
+    × (first ≡ header_from version mode s journals))
 
 -- The lines of these bytes: those that end there, or all of them, where the input is at its end.
 abbrev pub AreLinesOf : List ℕ → Option (List ℕ) → List (List ℕ) → Type 0
 AreLinesOf bytes left lines = (lines ≡ whole_lines_of bytes) ⊎ (IsAtEnd left × (lines ≡ lines_of bytes))
 
--- all that the reader had left is in the log, behind the lines that were there, and what was owed was handed out
+-- All that the reader had left is in the log, behind the lines that were there, and what was owed was handed out. Lines are
+-- those without marks.
 pub record HasLogged (mode : Mode) (past : Past) (header : List ℕ) (told : Option ℕ) (old new : List ℕ) (left left' before after : Option (List ℕ)) : Type 0 where
   pub bytes : List ℕ
   pub consumes : Consumes left left' bytes
   pub at_end : IsAtEnd left'
-  pub lines : recovered new ≡ recovered header ++ (kept header old ++ map logged (lines_of bytes))
-  pub replies : Appends before after (owed mode past (kept header old) (told_of told (kept header old)) (map logged (lines_of bytes)))
+  pub begins : Begins header new
+  pub lines : kept_said header new ≡ kept_said header old ++ map logged (lines_of bytes)
+  pub replies : Appends before after (owed mode past (kept_said header old) (told_of told (kept_said header old)) (map logged (lines_of bytes)))
 
 -- Some bytes were read. Each file that a crash may leave has the lines that were in the log and then a front of those
 -- read, none skipped and none in part, and all that was handed to the writer is a front of what is owed for these.
@@ -62,6 +69,6 @@ pub record SurvivesACrash (mode : Mode) (past : Past) (header : List ℕ) (told 
   pub consumes : Consumes left left' bytes
   pub lines : List (List ℕ)
   pub lines_are : AreLinesOf bytes left' lines
-  pub kept : TellsKept (kept header) may_leave
-      (Are (owed mode past (kept header old) (told_of told (kept header old))))
-      (kept header old) (map logged lines) before after
+  pub kept : TellsKept (kept_said header) may_leave
+      (Are (owed mode past (kept_said header old) (told_of told (kept_said header old))))
+      (kept_said header old) (map logged lines) before after

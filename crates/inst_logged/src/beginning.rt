@@ -1,11 +1,11 @@
 //! What the first line of a log says, read again.
-ghost use Rattle.std.specs.Prelude.{◌≡◌, [], IfOk, None};
-ghost use Rattle.inst_log.specs.Layout.{recovered};
+ghost use Rattle.std.specs.Prelude.{◌≡◌, [], IfOk, Some, None};
+ghost use Rattle.inst_logged.specs.declared.version.Version.TheVariants.{Two};
 
+use crate::Version;
 use crate::header::header_line;
 use inst_base::Code;
 use inst_lines::Mode;
-use inst_log::first_line;
 use inst_settings::{Numbers, Settings};
 use serde_json::Value;
 use std::alloc::{AllocError, Global};
@@ -112,43 +112,60 @@ fn medium(value: &Value, name: &str) -> Option<u32> {
     u32::try_from(number(value, name)?).ok()
 }
 
-/// The text of the books that stand behind the settings in the file of a log, or nothing where it begins otherwise: with
-/// other settings than these, for a hub that opens for the first time, or with fewer lines than it says.
-pub(crate) fn books_behind<'a>(
+/// Returns the version that a log's first line tells: the latest, unless it tells an earlier one. `None` if no log begins
+/// so: the line is JSON that has none of the members by which a log is known.
+pub fn version_of(alloc: Global, line: &[u8]) -> Result<Option<Version>, AllocError>
+    ensures { line.now ≡ [] → IfOk result (λ version. version ≡ Some Two) }
+{
+    if line.is_empty() {
+        return Ok(Some(Version::Two));
+    }
+    match value_of(alloc, line)? {
+        Some(value) => Ok(version_in(&value)),
+        None => Ok(Some(Version::Two)),
+    }
+}
+
+/// The version that a first line tells that is this JSON, or nothing if no log begins so.
+fn version_in(value: &Value) -> Option<Version> {
+    if value.get("log").is_none() && value.get("version").is_none() {
+        return None;
+    }
+    match number(value, "version") {
+        Some(1) => Some(Version::One),
+        _ => Some(Version::Two),
+    }
+}
+
+/// Returns how many lines of books follow the first line of a log, given with its newline, or `None` if it begins
+/// otherwise: with other settings than these, or for a hub that opens for the first time.
+pub(crate) fn books_behind(
     alloc: Global,
+    version: Version,
     mode: Mode,
     settings: &Settings,
-    bytes: &'a [u8],
-) -> Result<Option<&'a [u8]>, AllocError>
-    ensures { recovered bytes.now ≡ [] → IfOk result (λ text. text ≡ None) }
+    first: &[u8],
+) -> Result<Option<u64>, AllocError>
+    ensures { first.now ≡ [] → IfOk result (λ count. count ≡ None) }
 {
-    let Some(len) = first_line(bytes) else {
+    if first.is_empty() {
         return Ok(None);
-    };
-    let line = &bytes[..len - 1];
+    }
+    let line = &first[..first.len() - 1];
     let Some(count) = books_of(alloc, line)? else {
         return Ok(None);
     };
-    let expected = header_line(alloc, mode, settings, Some(count))?;
+    let expected = header_line(alloc, version, mode, settings, Some(count))?;
     if expected.as_bytes() != line {
         return Ok(None);
     }
-    Ok(first_lines(&bytes[len..], count))
+    Ok(Some(count))
 }
 
-/// How many lines of books a first line tells of.
+/// Returns how many lines of books a first line tells of.
 fn books_of(alloc: Global, line: &[u8]) -> Result<Option<u64>, AllocError> {
     match value_of(alloc, line)? {
         Some(value) => Ok(number(&value, "books")),
         None => Ok(None),
     }
-}
-
-/// The first lines, so many, or nothing where there are fewer.
-fn first_lines(bytes: &[u8], count: u64) -> Option<&[u8]> {
-    let mut rest = bytes;
-    for _ in 0..count {
-        rest = &rest[first_line(rest)?..];
-    }
-    Some(&bytes[..bytes.len() - rest.len()])
 }

@@ -1,9 +1,12 @@
 ghost use Rattle.std.specs.Prelude.{◌≡◌};
 ghost use Rattle.inst_logged.specs.declared.error.LoggedError.TheVariants.{Log};
-ghost use Rattle.inst_log.specs.declared.error.LogError.TheVariants.{Memory};
+ghost use Rattle.inst_log.specs.declared.error.LogError.TheVariants.{Disk, Memory};
+ghost use Rattle.inst_logged.specs.inner.Errors.{of_chain};
 
+use inst_chain::{ChainError, Prefix};
 use inst_log::LogError;
 use std::alloc::AllocError;
+use std::io;
 use thiserror::Error;
 
 /// Why a hub with a log ended. Open the log again.
@@ -18,6 +21,15 @@ pub enum LoggedError {
     /// The books that stand behind the log's settings are none that a hub can open from.
     #[error("the books behind the log's settings are none that a hub can open from")]
     Books,
+    /// The log is damaged after this prefix. It was left as it is.
+    #[error("the log is damaged after line {}, byte {}", .0.lines, .0.bytes)]
+    Damaged(Prefix),
+    /// The log has no mark with the digest that was asked for. It was left as it is.
+    #[error("the log doesn't have the digest")]
+    OtherDigest,
+    /// The log's file hasn't the size that the hub left: another program truncated it or wrote to it.
+    #[error("the log was changed by another program")]
+    Changed,
 }
 
 impl From<LogError> for LoggedError {
@@ -33,5 +45,24 @@ impl From<AllocError> for LoggedError {
 
     fn from(_: AllocError) -> LoggedError {
         LoggedError::Log(LogError::Memory)
+    }
+}
+
+impl From<io::Error> for LoggedError {
+    ghost from_gives = { λ error result. result ≡ Log (Disk error) };
+
+    fn from(error: io::Error) -> LoggedError {
+        LoggedError::Log(LogError::Disk(error))
+    }
+}
+
+impl From<ChainError> for LoggedError {
+    ghost from_gives = { λ error result. result ≡ of_chain error };
+
+    fn from(error: ChainError) -> LoggedError {
+        match error {
+            ChainError::Log(error) => LoggedError::Log(error),
+            ChainError::Damaged(right) => LoggedError::Damaged(right),
+        }
     }
 }

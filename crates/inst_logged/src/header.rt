@@ -1,14 +1,18 @@
 //! The line with which a log begins.
-ghost use Rattle.std.specs.Prelude.{◌≡◌, ◌++◌, ◌∷◌, [], true, false, nat_lt, IfOk, OnOk, string_bytes};
+ghost use Rattle.std.specs.Prelude.{◌≡◌, ◌<◌, ◌++◌, ◌∷◌, length, [], true, false, nat_lt, IfOk, OnOk, string_bytes};
 ghost use Rattle.inst_settings.specs.Settings.{is_participant};
 ghost use Rattle.inst_command.specs.LineText.{code_numbered};
-ghost use Rattle.inst_log.specs.Layout.{recovered, IsBatch, IsWhole};
+ghost use Rattle.inst_log.specs.Layout.{recovered, at_rest, IsBatch, IsWhole};
 ghost use Rattle.inst_log.specs.Escape.{raw_of};
 ghost use Rattle.inst_world.specs.NextOpening.{CanOpenFrom};
-ghost use Rattle.inst_logged.specs.Header.{header, header_from, header_line, books_field, field, mode_field, participants_field, mode_word, listed, comma_if, quoted};
+ghost use Rattle.inst_chain.specs.Chain.{HasNoMark};
+ghost use Rattle.inst_logged.specs.Marking.{BeginsBy};
+ghost use Rattle.inst_logged.specs.Header.{marked, header, header_from, header_line, books_field, field, mode_field, participants_field, mode_word, version_word, listed, comma_if, quoted};
 
+use crate::Version;
 use inst_books::append_books;
 use inst_bytes::find_newline;
+use inst_chain::{Marker, has_mark, mark_lines};
 use inst_journal::Journal;
 use inst_json::code_text;
 use inst_lines::Mode;
@@ -16,47 +20,105 @@ use inst_log::{close_batch, count_lines, push_line, whole_lines};
 use inst_settings::Settings;
 use std::alloc::{AllocError, Global};
 
-/// The first batch of a log of such a hub: one line, with its settings and what its lines stand for.
-pub fn first_batch(alloc: Global, mode: Mode, settings: &Settings) -> Result<Vec<u8>, AllocError>
-    ensures batch { IfOk result (λ batch. IsBatch batch.items) }
-    ensures items { IfOk result (λ batch. batch.items ≡ header mode settings.now) }
-{
-    let mut batch = settings_line(alloc, mode, settings, None)?;
-    close_batch(&mut batch)?;
-    Ok(batch)
+/// The first lines of a log, as a batch, and what makes the mark of the next batch.
+#[derive(Drop)]
+pub struct Heading {
+    pub batch: Vec<u8>,
+    pub marker: Marker,
 }
 
-/// The first batch of a log of a hub that opened again from these journals, one for each participant by number: the line
-/// of its settings, and a line for each event of its books.
+/// Returns the first lines of a log of such a hub: one line, with its settings and what its lines stand for.
+pub fn first_batch(
+    alloc: Global,
+    version: Version,
+    mode: Mode,
+    settings: &Settings,
+) -> Result<Heading, AllocError>
+    ensures batch { IfOk result (λ heading. IsBatch heading.batch.items) }
+    ensures items { IfOk result (λ heading. heading.batch.items ≡ header version mode settings.now) }
+    ensures marker { IfOk result (λ heading. BeginsBy version heading.batch.items heading.marker) }
+{
+    let lines = settings_line(alloc, version, mode, settings, None)?;
+    close_heading(version, lines)
+}
+
+/// Returns the first lines of a log of a hub that opened again from these journals, one for each participant by number:
+/// the line of its settings, and a line for each event of its books.
 pub fn first_batch_from(
     alloc: Global,
+    version: Version,
     mode: Mode,
     settings: &Settings,
     journals: &[Journal],
-) -> Result<Vec<u8>, AllocError>
+) -> Result<Heading, AllocError>
     requires { CanOpenFrom settings.now journals.now }
-    ensures batch { IfOk result (λ batch. IsBatch batch.items) }
-    ensures items { IfOk result (λ batch. batch.items ≡ header_from mode settings.now journals.now) }
+    ensures batch { IfOk result (λ heading. IsBatch heading.batch.items) }
+    ensures items { IfOk result (λ heading. heading.batch.items ≡ header_from version mode settings.now journals.now) }
+    ensures marker { IfOk result (λ heading. BeginsBy version heading.batch.items heading.marker) }
 {
     let mut books = Vec::new(alloc);
     append_books(settings, journals, &mut books)?;
-    let mut batch = settings_line(alloc, mode, settings, Some(count_lines(&books) as u64))?;
-    batch.extend_from_slice(whole_lines(&books))?;
-    close_batch(&mut batch)?;
-    Ok(batch)
+    let mut lines = settings_line(
+        alloc,
+        version,
+        mode,
+        settings,
+        Some(count_lines(&books) as u64),
+    )?;
+    lines.extend_from_slice(whole_lines(&books))?;
+    close_heading(version, lines)
+}
+
+/// Puts their mark behind the first lines of a log, if it has marks, and closes them.
+fn close_heading(version: Version, mut lines: Vec<u8>) -> Result<Heading, AllocError>
+    requires whole { IsWhole lines.items }
+    requires some { 0 < length (recovered lines.items) }
+    ensures batch { IfOk result (λ heading. IsBatch heading.batch.items) }
+    ensures items { IfOk result (λ heading. heading.batch.items ≡ at_rest (marked version (recovered lines.items))) }
+    ensures marker { IfOk result (λ heading. BeginsBy version heading.batch.items heading.marker) }
+{
+    // No line of settings or of books is a mark: this is never reached.
+    if has_mark(&lines) {
+        return Err(AllocError);
+    }
+    let marker = mark_heading(version, &mut lines)?;
+    close_batch(&mut lines)?;
+    Ok(Heading {
+        batch: lines,
+        marker,
+    })
+}
+
+/// Puts their mark behind the first lines of a log, if it has marks. Returns what makes the next one.
+fn mark_heading(version: Version, lines: &mut Vec<u8>) -> Result<Marker, AllocError>
+    requires whole { IsWhole lines.old.items }
+    requires plain { HasNoMark (recovered lines.old.items) }
+    ensures whole { OnOk result (IsWhole lines.new.items) }
+    ensures lines { OnOk result (recovered lines.new.items ≡ marked version (recovered lines.old.items)) }
+    ensures marker { IfOk result (λ marker. BeginsBy version lines.new.items marker) }
+{
+    let mut marker = Marker::new();
+    match version {
+        Version::One => Ok(marker),
+        Version::Two => {
+            mark_lines(&mut marker, lines)?;
+            Ok(marker)
+        }
+    }
 }
 
 /// The line of the settings, with its newline, as a batch that isn't closed.
 fn settings_line(
     alloc: Global,
+    version: Version,
     mode: Mode,
     settings: &Settings,
     books: Option<u64>,
 ) -> Result<Vec<u8>, AllocError>
     ensures whole { IfOk result (λ batch. IsWhole batch.items) }
-    ensures lines { IfOk result (λ batch. recovered batch.items ≡ raw_of (header_line mode settings.now books) ∷ []) }
+    ensures lines { IfOk result (λ batch. recovered batch.items ≡ raw_of (header_line version mode settings.now books) ∷ []) }
 {
-    let line = header_line(alloc, mode, settings, books)?;
+    let line = header_line(alloc, version, mode, settings, books)?;
     batch_of(alloc, line.as_bytes())
 }
 
@@ -78,26 +140,28 @@ fn batch_of(alloc: Global, line: &[u8]) -> Result<Vec<u8>, AllocError>
 /// JSON.
 pub(crate) fn header_line(
     alloc: Global,
+    version: Version,
     mode: Mode,
     settings: &Settings,
     books: Option<u64>,
 ) -> Result<String, AllocError>
-    ensures { IfOk result (λ text. string_bytes text ≡ header_line mode settings.now books) }
+    ensures { IfOk result (λ text. string_bytes text ≡ header_line version mode settings.now books) }
 {
     let mut text = String::new(alloc);
-    push_header(&mut text, mode, settings, books)?;
+    push_header(&mut text, version, mode, settings, books)?;
     Ok(text)
 }
 
 /// Puts the settings, what the lines stand for, and how many lines of books come behind into an empty text.
 fn push_header(
     text: &mut String,
+    version: Version,
     mode: Mode,
     settings: &Settings,
     books: Option<u64>,
 ) -> Result<(), AllocError>
     requires { string_bytes text.old ≡ [] }
-    ensures { OnOk result (string_bytes text.new ≡ header_line mode settings.now books) }
+    ensures { OnOk result (string_bytes text.new ≡ header_line version mode settings.now books) }
 {
     push_field(text, "{\"ahead\":", u64::from(settings.ahead()))?;
     push_field(text, ",\"base\":", settings.base())?;
@@ -109,7 +173,8 @@ fn push_header(
     push_field(text, ",\"margin\":", u64::from(settings.margin()))?;
     push_participants(text, settings)?;
     push_field(text, ",\"places\":", u64::from(settings.places()))?;
-    text.push_str(",\"version\":1}")
+    text.push_str(",")?;
+    text.push_str(version_word(version))
 }
 
 /// Puts a name and a number at the end of a text.
@@ -137,6 +202,15 @@ fn push_mode(text: &mut String, mode: Mode) -> Result<(), AllocError>
     text.push_str(",\"log\":\"")?;
     text.push_str(mode_word(mode))?;
     text.push_str("\"")
+}
+
+fn version_word(version: Version) -> &'static str
+    ensures { result.now ≡ version_word version }
+{
+    match version {
+        Version::One => "\"version\":1}",
+        Version::Two => "\"version\":2}",
+    }
 }
 
 fn mode_word(mode: Mode) -> &'static str

@@ -1,11 +1,12 @@
 //! Bytes that were read, on their way into a log.
-ghost use Rattle.std.specs.Prelude.{◌≡◌, ◌+◌, ◌≤◌, ◌++◌, [], map, take, vec_len, List, ℕ, IfOk, IfErr, OnOk, OnErr, IsOkUnless, MatchBool};
+ghost use Rattle.std.specs.Prelude.{◌≡◌, ◌≢◌, ◌+◌, ◌≤◌, ◌++◌, [], map, take, vec_len, List, ℕ, IfOk, IfErr, OnOk, OnErr, IsOkUnless, MatchBool};
 ghost use Rattle.std.specs.Io.{ReadsAtMost};
 ghost use Rattle.std.specs.Io.KnownBytes.{Consumes, ReadConsumes};
 ghost use Rattle.inst_lines.specs.Limits.{buffer_bytes, most_line_bytes};
 ghost use Rattle.inst_bytes.specs.Newline.{NoNewline};
 ghost use Rattle.inst_log.specs.Layout.{recovered, IsWhole};
 ghost use Rattle.inst_log.specs.Escape.{raw_of};
+ghost use Rattle.inst_chain.specs.Chain.{HasNoMark};
 ghost use Rattle.inst_logged.specs.Input.{cut, logged};
 ghost use Rattle.inst_logged.specs.inner.Input.{last_line, lines_from, rest_from, CutsLines};
 
@@ -32,6 +33,7 @@ impl Intake {
     ghost use Rattle.inst_logged.specs.Intake.{held};
     ghost use Rattle.inst_logged.specs.inner.Intake.{TakesIn, TakesLast};
     ghost use Rattle.inst_logged.specs.Refused.{IsRefused};
+    ghost use Rattle.inst_logged.specs.declared.error.LoggedError.TheVariants.{Changed};
 
     /// Nothing was read yet.
     pub(crate) fn new(alloc: Global) -> Result<Intake, AllocError>
@@ -56,7 +58,9 @@ impl Intake {
         ensures err { OnErr result ((read : List ℕ) × Consumes (R.remaining reader.old) (R.remaining reader.new) read) }
         ensures part { OnOk result (NoNewline (held self.new)) }
         ensures whole { OnOk result (IsWhole batch.new.items) }
+        ensures plain { OnOk result (HasNoMark (recovered batch.old.items) → HasNoMark (recovered batch.new.items)) }
         ensures unrefused { IfErr result (λ error. ¬ IsRefused error) }
+        ensures unchanged { IfErr result (λ error. error ≢ Changed) }
     {
         let count = read_bytes(reader, &mut self.bytes[self.len..])?;
         if count == 0 {

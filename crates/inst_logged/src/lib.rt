@@ -9,10 +9,13 @@ mod hub;
 mod intake;
 mod laws;
 mod line_answers;
+mod marking;
+mod version;
 
-pub use beginning::{Beginning, read_beginning};
+pub use beginning::{Beginning, read_beginning, version_of};
 pub use error::LoggedError;
-pub use header::{first_batch, first_batch_from};
+pub use header::{Heading, first_batch, first_batch_from};
 pub use hub::LoggedHub;
 pub use laws::{headers_tell_their_settings, lines_answer_alike};
 pub use line_answers::LineAnswers;
+pub use version::Version;

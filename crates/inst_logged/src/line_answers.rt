@@ -1,10 +1,12 @@
 //! A hub in one thread answers the lines of a log.
-ghost use Rattle.std.specs.Prelude.{◌≡◌, ◌<◌, [], length, IfOk, OnOk, MatchOption};
+ghost use Rattle.std.specs.Prelude.{◌≡◌, ◌≤◌, [], ◌∷◌, length, IfOk, OnOk};
 ghost use Rattle.inst_log.specs.Layout.{recovered};
-ghost use Rattle.inst_logged.specs.Answering.{SaysLines, told_of};
-ghost use Rattle.inst_logged.specs.inner.Answering.{AnswersLines, AnswersNext, AnswersFirst};
+ghost use Rattle.inst_chain.specs.Chain.{said};
+ghost use Rattle.inst_logged.specs.Answering.{SaysLines};
+ghost use Rattle.inst_logged.specs.inner.Answering.{AnswersLines, AnswersFirst};
 
 use inst_agenda::Runner;
+use inst_chain::is_mark;
 use inst_journal::Journal;
 use inst_json::LineReader;
 use inst_lines::{Mode, answer_line};
@@ -60,49 +62,28 @@ impl LineAnswers {
         })
     }
 
-    /// Answers those of a log's lines that have been told, so many or all, and says where the others begin, or nothing
-    /// where there are fewer.
-    pub(crate) fn answer_told(
-        &mut self,
-        lines: &[u8],
-        told: Option<u64>,
-        out: &mut Vec<u8>,
-    ) -> Result<Option<usize>, AllocError>
-        ensures ok { IfOk result (λ start. MatchOption start
-            (length (recovered lines.now) < told_of told (recovered lines.now))
-            (λ n. AnswersFirst self.old.mode self.old.runner self.new.runner
-            out.old.items out.new.items lines.now n (told_of told (recovered lines.now)))) }
-        ensures mode { self.new.mode ≡ self.old.mode }
-    {
-        match told {
-            None => {
-                self.answer_all(lines, out)?;
-                Ok(Some(lines.len()))
-            }
-            Some(count) => self.answer_first(lines, count, out),
-        }
-    }
-
-    /// Answers the first lines of a log, so many, and says where the others begin, or nothing where there are fewer.
-    fn answer_first(
+    /// Answers the first lines of a log, so many without marks, or all. Returns where the others begin, and how many are
+    /// missing.
+    pub(crate) fn answer_first(
         &mut self,
         lines: &[u8],
         count: u64,
         out: &mut Vec<u8>,
-    ) -> Result<Option<usize>, AllocError>
-        ensures ok { IfOk result (λ start. MatchOption start (length (recovered lines.now) < count)
-            (λ n. AnswersFirst self.old.mode self.old.runner self.new.runner
-            out.old.items out.new.items lines.now n count)) }
+    ) -> Result<(usize, u64), AllocError>
+        ensures ok { IfOk result (λ done. AnswersFirst self.old.mode self.old.runner self.new.runner
+            out.old.items out.new.items lines.now done.0 count done.1) }
         ensures mode { self.new.mode ≡ self.old.mode }
     {
         let mut rest = lines;
-        for _ in 0..count {
-            match self.answer_next(rest, out)? {
-                Some(len) => rest = &rest[len..],
-                None => return Ok(None),
+        let mut left = count;
+        while let Some(len) = first_line(rest) {
+            if left == 0 {
+                return Ok((lines.len() - rest.len(), 0));
             }
+            left -= self.answer_raw(&rest[..len - 1], out)?;
+            rest = &rest[len..];
         }
-        Ok(Some(lines.len() - rest.len()))
+        Ok((lines.len() - rest.len(), left))
     }
 
     /// Answers the lines of a log.
@@ -112,25 +93,27 @@ impl LineAnswers {
         ensures mode { self.new.mode ≡ self.old.mode }
     {
         let mut rest = lines;
-        while let Some(len) = self.answer_next(rest, out)? {
+        while let Some(len) = first_line(rest) {
+            self.answer_raw(&rest[..len - 1], out)?;
             rest = &rest[len..];
         }
         Ok(())
     }
 
-    /// Answers the first line, if one stands there, and says how long it is with its newline.
-    fn answer_next(&mut self, lines: &[u8], out: &mut Vec<u8>) -> Result<Option<usize>, AllocError>
-        ensures ok { IfOk result (λ len. MatchOption len
-            ((recovered lines.now ≡ []) × ((self.new.runner ≡ self.old.runner) × (out.new.items ≡ out.old.items)))
-            (λ n. AnswersNext self.old.mode self.old.runner self.new.runner out.old.items out.new.items lines.now n)) }
+    /// Answers a line as a log has it, if it isn't a mark. Returns how many replies that are, 1 or 0.
+    fn answer_raw(&mut self, raw: &[u8], out: &mut Vec<u8>) -> Result<u64, AllocError>
+        ensures ok { OnOk result (AnswersLines self.old.mode self.old.runner self.new.runner
+            out.old.items out.new.items (raw.now ∷ [])) }
+        ensures count { IfOk result (λ n. n ≡ length (said (raw.now ∷ []))) }
+        ensures most { IfOk result (λ n. n ≤ 1) }
         ensures mode { self.new.mode ≡ self.old.mode }
     {
-        let Some(len) = first_line(lines) else {
-            return Ok(None);
-        };
-        let line = line_of(&lines[..len - 1]);
+        if is_mark(raw) {
+            return Ok(0);
+        }
+        let line = line_of(raw);
         answer_line(&mut self.reader, self.mode, &mut self.runner, line, out)?;
-        Ok(Some(len))
+        Ok(1)
     }
 }
 

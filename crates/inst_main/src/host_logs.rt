@@ -1,9 +1,10 @@
 //! Logs in the files of the machine.
 use inst_faults::LogFault;
-use inst_program::Logs;
+use inst_program::{Logs, LogsError};
 use sqlite_disk::Files;
 use sqlite_std_file::{FileFrom, OpenError, Unknown};
-use std::fs;
+use std::fs::{self, File};
+use std::io::{Error, ErrorKind};
 
 /// The files of the machine.
 #[derive(Clone, Copy)]
@@ -14,21 +15,47 @@ pub(crate) struct HostLogs<'a> {
 impl<'a> Logs for HostLogs<'a> {
     type Log = FileFrom<Unknown>;
 
+    type Reader = File;
+
     // That the file which is opened is the one of that name is the machine's to say.
     ghost is_named = { λ _ _ _. Unit {0} };
 
-    fn open(&self, path: &str) -> Result<FileFrom<Unknown>, LogFault> {
+    ghost reads = { λ _ _ _. Unit {0} };
+
+    fn open(&self, path: &str) -> Result<FileFrom<Unknown>, LogsError> {
         match sqlite_std_file::open(self.rt, path, Unknown) {
             Ok(Files { log, db }) => {
                 drop(log);
                 Ok(db)
             }
-            Err(OpenError::Busy) => Err(LogFault::LogInUse),
-            Err(_) => Err(LogFault::DiskFault),
+            Err(OpenError::OutOfMemory) => Err(LogsError::Memory),
+            Err(OpenError::Busy) => Err(LogsError::Log(LogFault::LogInUse)),
+            Err(OpenError::HotJournal) => Err(LogsError::Log(LogFault::DiskFault)),
+            Err(OpenError::Io(error)) => Err(logs_error(&error)),
         }
     }
 
-    fn has(&self, path: &str) -> Result<bool, LogFault> {
-        fs::exists(self.rt, path).map_err(|_| LogFault::DiskFault)
+    fn read(&self, path: &str) -> Result<File, LogsError> {
+        File::open(self.rt, path).map_err(|error| read_error(&error))
+    }
+
+    fn has(&self, path: &str) -> Result<bool, LogsError> {
+        fs::exists(self.rt, path).map_err(|error| logs_error(&error))
+    }
+}
+
+/// An allocation failed, or the disk did.
+fn logs_error(error: &Error) -> LogsError {
+    match error.kind() {
+        ErrorKind::OutOfMemory => LogsError::Memory,
+        _ => LogsError::Log(LogFault::DiskFault),
+    }
+}
+
+/// The file isn't there, an allocation failed, or the disk did.
+fn read_error(error: &Error) -> LogsError {
+    match error.kind() {
+        ErrorKind::NotFound => LogsError::Log(LogFault::NoLog),
+        _ => logs_error(error),
     }
 }

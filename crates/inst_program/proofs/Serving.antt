@@ -1,5 +1,5 @@
 -- What the program does as the words ask for, and what it leaves by its exit status.
-use Rattle.std.proofs.Common.{◌≡◌, ◌⊎◌, inl, inr, ℕ, List, Option, refl, subst, arith}
+use Rattle.std.proofs.Common.{◌≡◌, ◌⊎◌, inl, inr, ℕ, List, Option, refl, sym, subst, ◌∙◌, arith}
 use Rattle.inst_base.specs.declared.fault.Fault.{Fault}
 use Rattle.inst_base.specs.declared.fault.Fault.TheVariants.{BadSettings, Memory, WriteFault}
 use Rattle.inst_lines.specs.Answers.{Answerer}
@@ -11,7 +11,7 @@ use Rattle.inst_options.specs.Asking.{AreUnfit, AreWrong, AskForHelp, IsNoWish, 
 use Rattle.inst_options.specs.declared.error.WordsError.{WordsError}
 use Rattle.inst_options.specs.declared.error.WordsError.TheVariants as error
 use Rattle.inst_program.specs.Program.{status_of, AreRefused, AskForADrill, AskForALog, AskForAnExplanation, NameNoFault, FailsAtLines}
-use Rattle.inst_program.specs.inner.Ending.{status_of_ending, status_of_error, status_of_kind, FailsWithALog, IsEnding}
+use Rattle.inst_program.specs.inner.Ending.{status_of_ending, status_of_error, status_of_kind, FailsWithALog, IsEnding, IsErrorStatus}
 use Rattle.inst_program.specs.declared.ending.Ending.{Ending}
 use Rattle.inst_program.specs.declared.ending.Ending.TheVariants as ending
 use Rattle.inst_program.proofs.Refusing.{refused}
@@ -37,7 +37,7 @@ Refused words = AreWrong words ⊎ (AreRefused words ⊎ (NameALog words ⊎ Nam
 abbrev Failed : List (List ℕ) → Type 0 → Type 0 → Type 0 → Option (List ℕ) → Option (List ℕ) → Option (List ℕ) → Option (List ℕ) → Type 0
 Failed words unread unwritten front left left' held held' =
     (unread × unwritten) ⊎ (((fault : Fault) × FailsAtLines words left left' held held' fault)
-    ⊎ (front ⊎ (unread × (AskForADrill words ⊎ (AskForAnExplanation words ⊎ AskForALog words)))))
+    ⊎ (front ⊎ (unread × (AskForADrill words ⊎ (AskForAnExplanation words ⊎ (AskForALog words ⊎ AskForHelp words))))))
 
 pub two_is_not_zero : ◌≡◌ {A = ℕ} 2 0 → ⊥
 two_is_not_zero is = omega (arith, is)
@@ -76,13 +76,13 @@ module _ (words : List (List ℕ)) (unread unwritten front : Type 0) (left left'
   of_log : FailsWithALog words unread unwritten front → Failed words unread unwritten front left left' held held'
   of_log (inl untouched) = inl untouched
   of_log (inr (inl part)) = inr (inr (inl part))
-  of_log (inr (inr (still, asks))) = inr (inr (inr (still, inr (inr asks))))
+  of_log (inr (inr (still, asks))) = inr (inr (inr (still, inr (inr (inl asks)))))
 
   pub failed_ending : (e : Ending) → IsEnding words unread unwritten (FailsAtLines words left left' held held') front e
       → Failed words unread unwritten front left left' held held'
   failed_ending (ending.Fault fault) (inl h) = inl (h.1, h.2)
   failed_ending (ending.Fault fault) (inr (inl f)) = inr (inl (fault, f))
-  failed_ending (ending.Fault fault) (inr (inr (inl h))) = inr (inr (inr (h.1, or_more (AskForADrill words) (AskForAnExplanation words) (AskForALog words) h.2)))
+  failed_ending (ending.Fault fault) (inr (inr (inl h))) = inr (inr (inr (h.1, or_more (AskForADrill words) (AskForAnExplanation words) (AskForALog words ⊎ AskForHelp words) h.2)))
   failed_ending (ending.Fault fault) (inr (inr (inr h))) = of_log h.1
   failed_ending (ending.Log fault) h = of_log h.2
   failed_ending ending.Unexplained h = inl (h.0, h.1)
@@ -119,6 +119,22 @@ refused_error words (error.Words e) none is = inl (wrong_kind words (kind_of e) 
 refused_error words (error.Option bad) none is = unfit_or_log words none.0
 refused_error words (error.Fault fault) none is = of_refusal words fault (only_settings fault is) none
 
-pub unwritten_error : (status : ℕ) (same : Type 0) → same ⊎ (status ≡ 0) → (status ≡ 0 → ⊥) → same
-unwritten_error status same (inl is) other = is
-unwritten_error status same (inr zero) other = absurd (other zero)
+-- a status of 0 or 2 is that of the error
+pub zero_status : (e : WordsError) (status : ℕ) → IsErrorStatus e status → status ≡ 0 → status_of_error e ≡ 0
+zero_status e status (inl is) zero = sym is ∙ zero
+zero_status e status (inr text) zero = text.0
+
+pub two_status : (e : WordsError) (status : ℕ) → IsErrorStatus e status → status ≡ 2 → status_of_error e ≡ 2
+two_status e status (inl is) two = sym is ∙ two
+two_status e status (inr text) two = absurd (let no : 3 ≡ 2 = sym text.1 ∙ two in omega (arith, no))
+
+pub unwritten_error : (e : WordsError) (same : Type 0) → same ⊎ (status_of_error e ≡ 0) → status_of_error e ≡ 2 → same
+unwritten_error e same (inl is) two = is
+unwritten_error e same (inr zero) two = absurd (two_is_not_zero (sym two ∙ zero))
+
+-- where an error ends the program with 3, nothing was written, or a part of a text that the words ask for
+pub failed_error : (words : List (List ℕ)) (e : WordsError) (unread same front : Type 0) (left left' held held' : Option (List ℕ)) → IsNoWish words e → unread →
+    same ⊎ (status_of_error e ≡ 0) → Failed words unread same front left left' held held'
+failed_error words e unread same front left left' held held' none still (inl is) = inl (still, is)
+failed_error words e unread same front left left' held held' none still (inr zero) =
+    inr (inr (inr (still, inr (inr (inr (helped words e none zero))))))

@@ -1,5 +1,5 @@
 -- What the program leaves, by its exit status. Exit statuses are this hub's own choice.
-use Rattle.std.specs.Prelude.{◌≡◌, ◌≢◌, ◌⊎◌, ◌++◌, ◌∷◌, [], ℕ, List, length, All, Option, Some, IfSome, codes}
+use Rattle.std.specs.Prelude.{◌≡◌, ◌≢◌, ◌⊎◌, ◌++◌, ◌∷◌, [], ℕ, Bool, List, length, All, Option, Some, IfSome, codes}
 use Rattle.std.specs.Fmt.{decimal}
 use Rattle.std.specs.Io.KnownBytes.{Appends, IsAtEnd}
 use Rattle.clap.specs.Words.{Row, subcommand_of}
@@ -123,7 +123,7 @@ abbrev pub HasDrilled : List (List ℕ) → Option (List ℕ) → Option (List �
 HasDrilled words held held' = (asked : AskForADrill words) × Drills asked.openings held held'
 
 -- a hub of the settings that the words choose, with the log that they name, kept the lines of the reader in this way
-pub record WithTheLog (words : List (List ℕ)) (way : Mode → HubSettings → List ℕ → Option ℕ → Type 0) : Type 0 where
+pub record WithTheLog (words : List (List ℕ)) (way : Mode → HubSettings → List ℕ → Option ℕ → Option (List ℕ) → Type 0) : Type 0 where
   pub mode : Mode
   pub settings : HubSettings
   pub lawful : IsSettings settings
@@ -131,32 +131,35 @@ pub record WithTheLog (words : List (List ℕ)) (way : Mode → HubSettings → 
   pub chosen : AreChosen words (task_of mode) settings
   pub name : List ℕ
   pub told : Option ℕ
-  pub log : NameTheLog words name told
-  pub keeps : way mode settings name told
+  pub resume : Bool
+  pub digest : Option (List ℕ)
+  pub log : NameTheLog words name told resume digest
+  pub keeps : way mode settings name told digest
 
 -- all that the reader had left
 abbrev pub HasKept : {D : Type 0} → Ghosts D → (List ℕ → D → Type 0) → List (List ℕ) →
     Option (List ℕ) → Option (List ℕ) → Option (List ℕ) → Option (List ℕ) → Type 0
 HasKept disks is_named words left left' held held' =
-    WithTheLog words (λ mode s name told. KeepsLines disks is_named mode s name told left left' held held')
+    WithTheLog words (λ mode s name told digest. KeepsLines disks is_named mode s name told digest left left' held held')
 
 -- or some of it
 abbrev pub FailsToKeep : {D : Type 0} → Ghosts D → (List ℕ → D → Type 0) → List (List ℕ) →
     Option (List ℕ) → Option (List ℕ) → Option (List ℕ) → Option (List ℕ) → Type 0
 FailsToKeep disks is_named words left left' held held' =
-    WithTheLog words (λ mode s name told. KeepsAFront disks is_named mode s name told left left' held held')
+    WithTheLog words (λ mode s name told digest. KeepsAFront disks is_named mode s name told left left' held held')
 
 -- the words ask what a log has
 abbrev pub AskForALog : List (List ℕ) → Type 0
 AskForALog words = (name : List ℕ) × AskForTheLog words name
 
 -- and it was told
-abbrev pub HasShown : {D : Type 0} → Ghosts D → (List ℕ → D → Type 0) → List (List ℕ) → Option (List ℕ) → Option (List ℕ) → Type 0
-HasShown disks is_named words held held' = (name : List ℕ) × AskForTheLog words name × TellsOfTheLog disks is_named name held held'
+abbrev pub HasShown : {R : Type 0} → (R → Option (List ℕ)) → (List ℕ → R → Type 0) → List (List ℕ) → Option (List ℕ) → Option (List ℕ) → Type 0
+HasShown remaining reads words held held' = (name : List ℕ) × AskForTheLog words name × TellsOfTheLog remaining reads name held held'
 
 -- they ask for a log that begins with the books of another, and it does
 abbrev pub HasCarried : {D : Type 0} → Ghosts D → (List ℕ → D → Type 0) → List (List ℕ) → Type 0
-HasCarried disks is_named words = (from : List ℕ) × (to : List ℕ) × AskForTheNext words from to × Carries disks is_named from to
+HasCarried disks is_named words = (from : List ℕ) × (to : List ℕ) × (digest : Option (List ℕ)) × AskForTheNext words from to digest
+    × Carries disks is_named from to digest
 
 -- a fault's number and name, what it usually means, and what to do
 abbrev pub explanation_text : ℕ → List ℕ → List ℕ → List ℕ → List ℕ

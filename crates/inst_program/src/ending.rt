@@ -2,11 +2,14 @@ ghost use Rattle.std.specs.Prelude.{◌≡◌};
 ghost use Rattle.inst_logged.specs.Refused.{IsRefused};
 ghost use Rattle.inst_program.specs.inner.Ending.{IsUnkept};
 
+use crate::logs::LogsError;
 use inst_base::Fault;
+use inst_chain::Prefix;
 use inst_faults::LogFault;
 use inst_log::LogError;
 use inst_logged::LoggedError;
 use std::alloc::AllocError;
+use std::io::Write;
 
 /// Why the program ends without having done what the words ask for.
 #[derive(Clone, Copy)]
@@ -40,13 +43,16 @@ impl From<AllocError> for Ending {
     }
 }
 
-impl From<LogFault> for Ending {
-    ghost use Rattle.inst_program.specs.declared.ending.Ending.TheVariants as ending;
+impl From<LogsError> for Ending {
+    ghost use Rattle.inst_program.specs.inner.Ending.{ending_of_error};
 
-    ghost from_gives = { λ fault result. result ≡ ending.Log fault };
+    ghost from_gives = { λ error result. result ≡ ending_of_error error };
 
-    fn from(fault: LogFault) -> Ending {
-        Ending::Log(fault)
+    fn from(error: LogsError) -> Ending {
+        match error {
+            LogsError::Memory => Ending::Fault(Fault::Memory),
+            LogsError::Log(fault) => Ending::Log(fault),
+        }
     }
 }
 
@@ -57,6 +63,9 @@ pub(crate) fn ending_of(error: LoggedError) -> Ending
     match error {
         LoggedError::Read => Ending::Fault(Fault::ReadFault),
         LoggedError::Books => Ending::Log(LogFault::BadBooks),
+        LoggedError::Damaged(_) => Ending::Log(LogFault::DamagedLog),
+        LoggedError::OtherDigest => Ending::Log(LogFault::OtherDigest),
+        LoggedError::Changed => Ending::Log(LogFault::ChangedLog),
         LoggedError::Log(LogError::Memory) => Ending::Fault(Fault::Memory),
         LoggedError::Log(LogError::Write) => Ending::Fault(Fault::WriteFault),
         LoggedError::Log(LogError::Disk(_) | LogError::Full) => Ending::Log(LogFault::DiskFault),
@@ -64,4 +73,23 @@ pub(crate) fn ending_of(error: LoggedError) -> Ending
         LoggedError::Log(LogError::OtherSettings) => Ending::Log(LogFault::OtherSettings),
         LoggedError::Log(LogError::NoLog) => Ending::Log(LogFault::NoLog),
     }
+}
+
+/// How a program ends by this error of a hub with a log. Where the log is damaged, `errors` gets how far it is right.
+pub(crate) fn told_ending<E: Write>(error: LoggedError, errors: &mut E) -> Ending
+    ensures { IsUnkept (IsRefused error) result }
+{
+    if let LoggedError::Damaged(right) = error {
+        tell_damage(right, errors);
+    }
+    ending_of(error)
+}
+
+/// Tells after which line a log is damaged.
+pub(crate) fn tell_damage<E: Write>(right: Prefix, errors: &mut E) {
+    let Prefix { lines, bytes } = right;
+    let _ = writeln!(
+        errors,
+        "the log is damaged after line {lines}, byte {bytes}"
+    );
 }

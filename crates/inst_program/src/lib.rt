@@ -11,5 +11,5 @@ mod showing;
 mod summary;
 mod tasks;
 
-pub use logs::Logs;
+pub use logs::{Logs, LogsError};
 pub use tasks::{program, words_failed};

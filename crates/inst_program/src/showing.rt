@@ -1,45 +1,99 @@
 //! What a log has.
-ghost use Rattle.std.specs.Prelude.{◌≡◌, OnOk, IfErr};
-ghost use Rattle.inst_program.specs.Keeping.{TellsOfTheLog};
+ghost use Rattle.std.specs.Prelude.{◌≡◌, IfOk, OnOk, IfErr, string_bytes};
+ghost use Rattle.std.specs.Io.KnownBytes.{Appends};
+ghost use Rattle.inst_program.specs.Keeping.{TellsOfTheLog, digest_line, log_text};
 ghost use Rattle.inst_program.specs.inner.Ending.{IsUnkept};
+ghost use Rattle.inst_program.specs.inner.Showing.{HasDigest};
 
-use crate::ending::{Ending, ending_of};
+use crate::ending::{Ending, ending_of, tell_damage};
 use crate::logs::Logs;
 use inst_base::Fault;
+use inst_chain::{Digest, Prefix, Summary, summarize};
 use inst_faults::LogFault;
-use inst_log::read;
-use inst_logged::{LoggedError, read_beginning};
+use inst_logged::{LoggedError, Version, read_beginning, version_of};
 use std::alloc::{AllocError, Global};
 use std::io::Write;
 
-/// Tells with which settings the log of this name begins, and how many lines it has behind them and its books.
-pub(crate) fn show<L: Logs, W: Write>(
+/// Tells with which settings the log of this name begins, how many lines it has behind them and its books, and the digest
+/// of its last mark, if it has marks. The log is only read, also while a hub runs on it. Where it is damaged, `errors`
+/// gets how far it is right.
+pub(crate) fn show<L: Logs, W: Write, E: Write>(
     logs: &L,
     alloc: Global,
     path: &str,
     writer: &mut W,
+    errors: &mut E,
 ) -> Result<(), Ending>
-    ensures ok { OnOk result (TellsOfTheLog L.Log.Disk (L.is_named logs.now) path.now
+    ensures ok { OnOk result (TellsOfTheLog L.Reader.Read.remaining (L.reads logs.now) path.now
         (W.contents writer.old) (W.contents writer.new)) }
     ensures err { IfErr result (IsUnkept (writer.new ≡ writer.old)) }
 {
-    if !logs.has(path)? {
+    let mut reader = logs.read(path)?;
+    let summary = match summarize(alloc, &mut reader) {
+        Ok(summary) => summary,
+        Err(error) => return Err(ending_of(LoggedError::Log(error))),
+    };
+    let Some(beginning) = read_beginning(alloc, &summary.first)? else {
         return Err(Ending::Log(LogFault::NoLog));
+    };
+    let version = version_of(alloc, &summary.first)?.unwrap_or(Version::Two);
+    let digest = match digest_of(version, &summary.chain) {
+        Ok(digest) => digest,
+        Err(right) => {
+            tell_damage(right, errors);
+            return Err(Ending::Log(LogFault::DamagedLog));
+        }
+    };
+    let lines = summary
+        .lines
+        .saturating_sub(1)
+        .saturating_sub(beginning.books.unwrap_or(0));
+    tell(alloc, &summary.first, lines, digest, writer)
+}
+
+/// Returns the digest of a log's last mark, or `None` for a version without marks.
+///
+/// # Errors
+///
+/// A mark is missing or wrong: the lines up to the last mark that is right.
+fn digest_of(version: Version, chain: &Result<Digest, Prefix>) -> Result<Option<Digest>, Prefix>
+    ensures { IfOk result (HasDigest version chain.now) }
+{
+    match (version, chain) {
+        (Version::One, _) => Ok(None),
+        (Version::Two, Ok(digest)) => Ok(Some(*digest)),
+        (Version::Two, Err(right)) => Err(*right),
     }
-    let mut disk = logs.open(path)?;
-    let reading = read(alloc, &mut disk).map_err(|error| ending_of(LoggedError::Log(error)))?;
-    let text = String::from_utf8_lossy(alloc, &reading.first)?;
-    let lines = (reading.behind as u64).saturating_sub(books_of(alloc, &reading.first)?);
-    match writeln!(writer, "settings {text}\nlines {lines}") {
+}
+
+/// Tells what a log has.
+fn tell<W: Write>(
+    alloc: Global,
+    first: &[u8],
+    lines: u64,
+    digest: Option<Digest>,
+    writer: &mut W,
+) -> Result<(), Ending>
+    ensures ok { OnOk result (Appends (W.contents writer.old) (W.contents writer.new) (log_text first.now lines digest)) }
+    ensures err { IfErr result (IsUnkept (writer.new ≡ writer.old)) }
+{
+    let first = String::from_utf8_lossy(alloc, first)?;
+    let digest = digest_line(alloc, digest)?;
+    match write!(writer, "settings {first}\nlines {lines}\n{digest}") {
         Ok(()) => Ok(()),
         Err(_) => Err(Ending::Fault(Fault::WriteFault)),
     }
 }
 
-/// How many lines of books stand behind a log's first line.
-fn books_of(alloc: Global, first: &[u8]) -> Result<u64, AllocError> {
-    match read_beginning(alloc, first)? {
-        Some(beginning) => Ok(beginning.books.unwrap_or(0)),
-        None => Ok(0),
+/// Returns the line of a digest, with its newline, or no text if there is none.
+fn digest_line(alloc: Global, digest: Option<Digest>) -> Result<String, AllocError>
+    ensures { IfOk result (λ text. string_bytes text ≡ digest_line digest) }
+{
+    let mut text = String::new(alloc);
+    if let Some(digest) = digest {
+        text.push_str("digest ")?;
+        text.push_str(&String::from_utf8_lossy(alloc, &digest.text)?)?;
+        text.push_str("\n")?;
     }
+    Ok(text)
 }

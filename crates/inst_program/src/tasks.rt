@@ -7,7 +7,7 @@ ghost use Rattle.inst_lines.specs.Session.{FailsAfter};
 ghost use Rattle.inst_options.specs.Asking.{AskForHelp, AreWrong, IsWished, NameALog};
 ghost use Rattle.inst_program.specs.Keeping.{KeepsAFront, KeepsLines};
 ghost use Rattle.inst_program.specs.Program.{status_of};
-ghost use Rattle.inst_program.specs.inner.Ending.{status_of_error, status_of_ending};
+ghost use Rattle.inst_program.specs.inner.Ending.{IsErrorStatus, status_of_error, status_of_ending};
 ghost use Rattle.inst_program.specs.Program.{Answers, Serves, Checks, HasKept, HasChecked, HasDrilled, HasExplained};
 ghost use Rattle.inst_program.specs.Program.{FailsAtLines, FailsToKeep};
 ghost use Rattle.inst_program.specs.Program.{AreRefused, AskForADrill, AskForAnExplanation, NameNoFault};
@@ -25,9 +25,9 @@ use crate::summary::sum_up;
 use clap::error::ErrorKind;
 use inst_base::Fault;
 use inst_drill::{Ungated, drill};
-use inst_faults::fault_of;
+use inst_faults::{excerpt, fault_of};
 use inst_lines::{Mode, check_lines, serve_lines};
-use inst_options::{LogOptions, Wish, WordsError, wished};
+use inst_options::{BadOption, LogOptions, Wish, WordsError, wished};
 use inst_settings::Settings;
 use std::alloc::Global;
 use std::io::{self, ErrorKind as IoErrorKind, Read, Write};
@@ -43,9 +43,9 @@ use std::thread::Threads;
 /// `drill` reads nothing, and drills a hub of these settings by threads: `writer` gets what each opening came to, and
 /// `errors` how far it is, where `is_watched`. `explain` tells what a fault usually means.
 /// Answers the exit status: 0 where what was asked for is done, 2 for words or settings that are wrong and for a log
-/// that isn't taken, 3 for what failed, and where memory was wanting before it began. What is wrong is told on `errors`:
-/// a text, or one line `fault <number> <name>`. What `errors` doesn't take is lost. Its time is in the bytes of the
-/// input and of the log.
+/// that isn't taken, 3 for what failed, also for a help text that can't be written, and where memory was wanting before it
+/// began. What is wrong is told on `errors`: a text, or one line `fault <number> <name>`. What `errors` doesn't take is
+/// lost. Its time is in the bytes of the input and of the log.
 pub fn program<H: Threads + Wait + Sync, L: Logs, R: Read, W: Write, E: Write>(
     rt: &H,
     logs: &L,
@@ -69,7 +69,7 @@ pub fn program<H: Threads + Wait + Sync, L: Logs, R: Read, W: Write, E: Write>(
         (R.remaining reader.old) (R.remaining reader.new) (W.contents writer.old) (W.contents writer.new)
         ⊎ ((reader.new ≡ reader.old) × (AskForHelp (map string_bytes words.items)
         ⊎ (HasDrilled (map string_bytes words.items) (W.contents writer.old) (W.contents writer.new)
-        ⊎ (HasShown L.Log.Disk (L.is_named logs.now) (map string_bytes words.items)
+        ⊎ (HasShown L.Reader.Read.remaining (L.reads logs.now) (map string_bytes words.items)
         (W.contents writer.old) (W.contents writer.new)
         ⊎ (HasCarried L.Log.Disk (L.is_named logs.now) (map string_bytes words.items)
         ⊎ HasExplained (map string_bytes words.items) (W.contents writer.old) (W.contents writer.new)))))))) }
@@ -81,7 +81,7 @@ pub fn program<H: Threads + Wait + Sync, L: Logs, R: Read, W: Write, E: Write>(
         ⊎ (NameALog (map string_bytes words.items) ⊎ NameNoFault (map string_bytes words.items)))) }
 
     // Nothing was read or written, or a run has failed, without a log or with one, or what reads nothing: a drill, an
-    // explanation, or the telling of what a log has.
+    // explanation, the telling of what a log has, or a help text.
     ensures failed { result ≡ 3 → ((reader.new ≡ reader.old) × (writer.new ≡ writer.old))
         ⊎ (((fault : SomeFault) × FailsAtLines (map string_bytes words.items)
         (R.remaining reader.old) (R.remaining reader.new) (W.contents writer.old) (W.contents writer.new) fault)
@@ -89,28 +89,34 @@ pub fn program<H: Threads + Wait + Sync, L: Logs, R: Read, W: Write, E: Write>(
         (map string_bytes words.items)
         (R.remaining reader.old) (R.remaining reader.new) (W.contents writer.old) (W.contents writer.new)
         ⊎ ((reader.new ≡ reader.old) × (AskForADrill (map string_bytes words.items)
-        ⊎ (AskForAnExplanation (map string_bytes words.items) ⊎ AskForALog (map string_bytes words.items)))))) }
+        ⊎ (AskForAnExplanation (map string_bytes words.items)
+        ⊎ (AskForALog (map string_bytes words.items) ⊎ AskForHelp (map string_bytes words.items))))))) }
 {
     match wished(alloc, &words) {
         Ok(wish) => match serve(rt, logs, alloc, wish, reader, writer, errors, is_watched) {
             Ok(()) => 0,
             Err(ending) => tell_ending(ending, errors),
         },
-        Err(error) => tell_error(error, writer, errors),
+        Err(error) => tell_error(alloc, error, writer, errors),
     }
 }
 
 /// Tells why the words ask for nothing, and answers the exit status. A text that they ask for goes to `writer`.
-fn tell_error<W: Write, E: Write>(error: WordsError<'_>, writer: &mut W, errors: &mut E) -> u8
-    ensures status { result ≡ status_of_error error.entry }
-    ensures written { (writer.new ≡ writer.old) ⊎ (result ≡ 0) }
+fn tell_error<W: Write, E: Write>(
+    alloc: Global,
+    error: WordsError<'_>,
+    writer: &mut W,
+    errors: &mut E,
+) -> u8
+    ensures status { IsErrorStatus error.entry result }
+    ensures written { (writer.new ≡ writer.old) ⊎ (status_of_error error.entry ≡ 0) }
 {
     match error {
         WordsError::Words(error) => match error.kind() {
-            ErrorKind::DisplayHelp | ErrorKind::DisplayVersion => {
-                let _ = write!(writer, "{error}");
-                0
-            }
+            ErrorKind::DisplayHelp | ErrorKind::DisplayVersion => match write!(writer, "{error}") {
+                Ok(()) => 0,
+                Err(_) => tell(Fault::WriteFault, errors),
+            },
             _ => {
                 let _ = write!(errors, "{error}");
                 2
@@ -118,14 +124,21 @@ fn tell_error<W: Write, E: Write>(error: WordsError<'_>, writer: &mut W, errors:
         },
         WordsError::Option(bad) => {
             let status = tell(Fault::BadSettings, errors);
-            let _ = writeln!(
-                errors,
-                "--{} is '{}' and may be {}",
-                bad.name, bad.value, bad.range
-            );
+            tell_option(alloc, bad, errors);
             status
         }
         WordsError::Fault(fault) => tell(fault, errors),
+    }
+}
+
+/// Tells which option is bad, its value and what it may be. Nothing is told if an allocation fails.
+fn tell_option<E: Write>(alloc: Global, bad: BadOption<'_>, errors: &mut E) {
+    if let Ok(value) = excerpt(alloc, bad.value.as_bytes()) {
+        let _ = writeln!(
+            errors,
+            "--{} is '{value}' and may be {}",
+            bad.name, bad.range
+        );
     }
 }
 
@@ -169,7 +182,7 @@ fn tell_ending<E: Write>(ending: Ending, errors: &mut E) -> u8
         Ending::Unexplained => {
             let _ = writeln!(
                 errors,
-                "error: no fault has this number or name; the numbers are 1 to 25"
+                "error: no fault has this number or name; the numbers are 1 to 28"
             );
             2
         }
@@ -198,7 +211,7 @@ fn serve<H: Threads + Wait + Sync, L: Logs, R: Read, W: Write, E: Write>(
     ensures ok { (words : List (List ℕ)) → IsWished words wish.entry → OnOk result (IsServed words (reader.new ≡ reader.old)
         (HasKept L.Log.Disk (L.is_named logs.now) words
         (R.remaining reader.old) (R.remaining reader.new) (W.contents writer.old) (W.contents writer.new))
-        (HasShown L.Log.Disk (L.is_named logs.now) words (W.contents writer.old) (W.contents writer.new))
+        (HasShown L.Reader.Read.remaining (L.reads logs.now) words (W.contents writer.old) (W.contents writer.new))
         (HasCarried L.Log.Disk (L.is_named logs.now) words)
         (R.remaining reader.old) (R.remaining reader.new) (W.contents writer.old) (W.contents writer.new)) }
     ensures err { (words : List (List ℕ)) → IsWished words wish.entry → IfErr result (IsEnding words
@@ -237,8 +250,8 @@ fn serve<H: Threads + Wait + Sync, L: Logs, R: Read, W: Write, E: Write>(
             Ok(())
         }
         Wish::Check(settings) => check(alloc, &settings, reader, writer),
-        Wish::Log(path) => show(logs, alloc, path, writer),
-        Wish::Next(from, to) => next(logs, alloc, from, to),
+        Wish::Log(path) => show(logs, alloc, path, writer, errors),
+        Wish::Next(from, to, digest) => next(logs, alloc, from, to, digest, errors),
         Wish::Explain(word) => explain(word, writer),
     }
 }
@@ -256,11 +269,11 @@ fn answer<L: Logs, R: Read, W: Write, E: Write>(
     errors: &mut E,
 ) -> Result<(), Ending>
     ensures ok { OnOk result (IsAnswered mode settings.now
-        (λ name told. KeepsLines L.Log.Disk (L.is_named logs.now) mode settings.now name told
+        (λ name told digest. KeepsLines L.Log.Disk (L.is_named logs.now) mode settings.now name told digest
         (R.remaining reader.old) (R.remaining reader.new) (W.contents writer.old) (W.contents writer.new)) log.entry
         (R.remaining reader.old) (R.remaining reader.new) (W.contents writer.old) (W.contents writer.new)) }
     ensures err { IfErr result (IsUnanswered mode settings.now ((reader.new ≡ reader.old) × (writer.new ≡ writer.old))
-        (λ name told. KeepsAFront L.Log.Disk (L.is_named logs.now) mode settings.now name told
+        (λ name told digest. KeepsAFront L.Log.Disk (L.is_named logs.now) mode settings.now name told
         (R.remaining reader.old) (R.remaining reader.new) (W.contents writer.old) (W.contents writer.new)) log.entry
         (R.remaining reader.old) (R.remaining reader.new) (W.contents writer.old) (W.contents writer.new)) }
 {

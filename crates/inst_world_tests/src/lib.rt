@@ -1,9 +1,6 @@
-//! Tests of what runs in one thread: values, one participant's books and slot, the hub with its runs of lines, logs, and
-//! chains of marks.
+//! Tests of what runs in one thread: values, one participant's books and slot, the hub with its runs of lines, and logs.
 #![tactic(auto)]
 
-#[cfg(test)]
-mod chains;
 #[cfg(test)]
 mod comparing;
 #[cfg(test)]

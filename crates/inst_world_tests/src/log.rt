@@ -4,7 +4,6 @@ mod batches;
 mod errors;
 mod escapes;
 mod openings;
-mod pieces;
 mod readings;
 mod runs;
-mod stops;
+pub(crate) mod stops;

@@ -4,9 +4,9 @@ use Rattle.std.specs.Io.KnownBytes.{Consumes, IsAtEnd}
 use Rattle.inst_lines.specs.Lines.{lines_of}
 use Rattle.inst_log.specs.Layout.{recovered}
 use Rattle.inst_log.specs.Log.{IsSettled}
-use Rattle.inst_log.specs.Opening.{kept}
 use Rattle.inst_log.specs.Serving.{Replies, Tells, TellsKept, SaysOn}
 use Rattle.inst_log.specs.declared.recorder.Recorder.{Recorder}
+use Rattle.inst_chain.specs.Chain.{said}
 use Rattle.inst_logged.specs.Answering.{SaysLines}
 use Rattle.inst_logged.specs.Input.{cut, logged}
 use Rattle.inst_logged.specs.inner.Input.{lines_from, rest_from, last_line}
@@ -51,11 +51,11 @@ pub record CameIn (left left' : Option (List ℕ)) (lines : List (List ℕ)) : T
   pub read_are : AreLinesOf bytes left' read
   pub lines_are : lines ≡ map logged read
 
--- some lines came, are on the disk, and their replies were handed out
+-- some lines came, are on the disk with marks among them, and their replies were handed out
 pub record ServedOn {D : Type 0} (seen : D → List ℕ) (may_leave : D → List ℕ → Type 0) (clean : Type 0) (given : List (List ℕ) → Type 0)
     (old new : Recorder D LineAnswers) (before after : Option (List ℕ)) : Type 0 where
   pub lines : List (List ℕ)
-  pub came : given lines
+  pub came : given (said lines)
   pub tells : Tells (SaysLines old.answers.mode old.answers.runner) lines before after
   pub on : SaysOn (SaysLines old.answers.mode old.answers.runner) lines (SaysLines new.answers.mode new.answers.runner)
   pub settled : clean → IsSettled seen may_leave new.log × (recovered (seen new.log.disk) ≡ recovered (seen old.log.disk) ++ lines)
@@ -73,5 +73,5 @@ pub record HasCome {D : Type 0} (seen : D → List ℕ) (may_leave : D → List 
 pub record KeptOn (may_leave : List ℕ → Type 0) (given : List (List ℕ) → Type 0) (says : Replies → Type 0) (stand : List (List ℕ))
     (before after : Option (List ℕ)) : Type 0 where
   pub lines : List (List ℕ)
-  pub came : given lines
+  pub came : given (said lines)
   pub kept : TellsKept recovered may_leave says stand lines before after

@@ -1,6 +1,6 @@
 -- How what the words ask for is done, or ends, in each of the parts that the program's run has. Exit statuses are this
 -- hub's own choice.
-use Rattle.std.specs.Prelude.{◌≡◌, ◌≢◌, ◌⊎◌, ℕ, List, Option, Some, None, IfSome}
+use Rattle.std.specs.Prelude.{◌≡◌, ◌≢◌, ◌⊎◌, ℕ, List, Option, Some, None, option_map, IfSome}
 use Rattle.clap.specs.Words.{kind_of}
 use Rattle.clap.specs.declared.error.kind.ErrorKind.{ErrorKind}
 use Rattle.clap.specs.declared.error.kind.ErrorKind.TheVariants.{DisplayHelp, DisplayVersion}
@@ -21,6 +21,8 @@ use Rattle.inst_options.specs.declared.error.WordsError.TheVariants as error
 use Rattle.inst_options.specs.declared.wish.LogOptions.{LogOptions}
 use Rattle.inst_program.specs.declared.ending.Ending.{Ending}
 use Rattle.inst_program.specs.declared.ending.Ending.TheVariants as ending
+use Rattle.inst_program.specs.declared.logs.LogsError.{LogsError}
+use Rattle.inst_program.specs.declared.logs.LogsError.TheVariants as opening
 use Rattle.inst_program.specs.Program.{status_of, AskForADrill, AskForALog, AreRefused, Answers, Serves, HasChecked, HasDrilled, AskForAnExplanation, HasExplained, NameNoFault}
 
 -- for words that ask for nothing that can be done: 0 where they ask for a text
@@ -33,6 +35,15 @@ abbrev pub status_of_error : WordsError → ℕ
 status_of_error (error.Words e) = status_of_kind (kind_of e)
 status_of_error (error.Option bad) = 2
 status_of_error (error.Fault fault) = status_of fault
+
+-- the exit status for them: 3 too, where a text that they ask for can't be written
+abbrev pub IsErrorStatus : WordsError → ℕ → Type 0
+IsErrorStatus e status = (status ≡ status_of_error e) ⊎ ((status_of_error e ≡ 0) × (status ≡ 3))
+
+-- how the program ends by an error of opening a log
+abbrev pub ending_of_error : LogsError → Ending
+ending_of_error opening.Memory = ending.Fault Memory
+ending_of_error (opening.Log fault) = ending.Log fault
 
 -- and for words whose task wasn't done
 abbrev pub status_of_ending : Ending → ℕ
@@ -53,22 +64,22 @@ IsUnkept untouched (ending.Log fault) = status_of_log fault ≡ 2 → untouched
 IsUnkept untouched ending.Unexplained = ⊥
 
 -- the lines of the reader are answered at a hub of these settings, with this log
--- keeps: so it is with the log of a name, of whose lines so many were told
-abbrev pub IsAnswered : Mode → HubSettings → (List ℕ → Option ℕ → Type 0) → Option LogOptions →
+-- keeps: so it is with the log of a name, of whose lines so many were told, and which must have this digest, if any
+abbrev pub IsAnswered : Mode → HubSettings → (List ℕ → Option ℕ → Option (List ℕ) → Type 0) → Option LogOptions →
     Option (List ℕ) → Option (List ℕ) → Option (List ℕ) → Option (List ℕ) → Type 0
 IsAnswered mode s keeps None left left' held held' = Answers mode s left left' held held'
-IsAnswered mode s keeps (Some log) left left' held held' = keeps log.path.now log.told
+IsAnswered mode s keeps (Some log) left left' held held' = keeps log.path.now log.told (option_map (λ d. d.now) log.digest)
 
 -- they are not, and the program ends so
 -- front: so it is where some of them are
-abbrev pub IsUnanswered : Mode → HubSettings → Type 0 → (List ℕ → Option ℕ → Type 0) → Option LogOptions →
+abbrev pub IsUnanswered : Mode → HubSettings → Type 0 → (List ℕ → Option ℕ → Option (List ℕ) → Type 0) → Option LogOptions →
     Option (List ℕ) → Option (List ℕ) → Option (List ℕ) → Option (List ℕ) → Ending → Type 0
 IsUnanswered mode s untouched front None left left' held held' (ending.Fault fault) =
     FailsAfter (answering mode) (opened s) held held' left left' fault
 IsUnanswered mode s untouched front None left left' held held' (ending.Log fault) = ⊥
 IsUnanswered mode s untouched front None left left' held held' ending.Unexplained = ⊥
 IsUnanswered mode s untouched front (Some log) left left' held held' e =
-    IsUnkept untouched e × (untouched ⊎ front log.path.now log.told)
+    IsUnkept untouched e × (untouched ⊎ front log.path.now log.told (option_map (λ d. d.now) log.digest))
 
 -- a check is ended by this fault, when no more than a front was told
 abbrev pub IsUnchecked : HubSettings → Option (List ℕ) → Option (List ℕ) → Option (List ℕ) → Ending → Type 0

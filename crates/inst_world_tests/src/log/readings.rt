@@ -1,59 +1,105 @@
 //! What is read of files of which nothing is repaired.
 use crate::comparing::{same, same_at};
 use crate::disks::filled;
-use inst_log::{LogError, Reading, read};
+use inst_log::{Extent, LogError, lines_len, read_lines, survey};
 use sqlite_disk::Memory;
+use std::alloc::Global;
 use std::process::Abort;
 use std::test::Fail;
 
-const SETTINGS: &[u8] = b"{\"s\":1}";
-
-/// Logs, and how many lines each has behind its settings.
-const LOGS: &[(&[u8], usize)] = &[
-    (b"{\"s\":1}\n\0", 0),
-    (b"{\"s\":1}\n", 0),
-    (b"{\"s\":1}\nx\"a\":2}\n{\"b\":3}\n", 0),
-    (b"{\"s\":1}\n{\"a\":2}\n{\"b\"", 1),
-    (b"{\"s\":1}\n{\"a\":2}\n{\x01\n\0{\"c\":4}\n", 2),
+/// Files, how many lines are asked for, and those that come.
+const ROWS: &[(&[u8], u64, &[u8])] = &[
+    (b"{\"s\":1}\n\0", 1, b"{\"s\":1}\n"),
+    (b"{\"s\":1}\n{\"a\":2}\n\0", 0, b""),
+    (b"{\"s\":1}\n{\"a\":2}\n\0", 1, b"{\"s\":1}\n"),
+    (b"{\"s\":1}\n{\"a\":2}\n\0", 2, b"{\"s\":1}\n{\"a\":2}\n"),
+    (
+        b"{\"s\":1}\n{\"a\":2}\n\0",
+        u64::MAX,
+        b"{\"s\":1}\n{\"a\":2}\n",
+    ),
+    (b"{\"s\":1}\nx\"a\":2}\n{\"b\":3}\n", 3, b"{\"s\":1}\n"),
+    (b"{\"s\":1}\n{\x01\n\0{\"c\":4}\n", 3, b"{\"s\":1}\n{\x01\n"),
+    (b"{\"s\":1}\n{\"b\"", 2, b"{\"s\":1}\n"),
+    (b"", 1, b""),
+    (b"\0", 1, b""),
+    (b"{\"s\":1}", 1, b""),
+    (b"hello\n{}\n", 1, b""),
 ];
 
-const NO_LOGS: &[&[u8]] = &[b"", b"\0", b"{\"s\":1}", b"\0\"s\":1}\n\0", b"hello\n{}\n"];
+/// How long the lines are of a file that is read in several pieces.
+const LONG: usize = 40_000;
 
-/// Reads a file with these bytes, which is left as it is.
-fn read_file(
+/// Reads lines of a file with these bytes, which is left as it is.
+fn lines_of(
     rt: &(impl Abort + AllocGlobal),
     bytes: &[u8],
-) -> Result<Result<Reading, LogError>, Fail> {
+    count: u64,
+) -> Result<Result<Vec<u8>, LogError>, Fail> {
     let mut disk = filled(Memory::new(rt.alloc()), bytes)?;
-    let reading = read(rt.alloc(), &mut disk);
+    let lines = read_lines(rt.alloc(), &mut disk, count);
     same(rt, disk.bytes(), bytes);
-    Ok(reading)
+    Ok(lines)
 }
 
-/// A log has the settings, and so many lines behind them.
-fn is_log(rt: &(impl Abort + AllocGlobal), bytes: &[u8], behind: usize) -> Result<(), Fail> {
-    let reading = read_file(rt, bytes)??;
+/// How far the lines of a file go with these bytes, which is left as it is.
+fn extent_of(
+    rt: &(impl Abort + AllocGlobal),
+    bytes: &[u8],
+) -> Result<Result<Extent, LogError>, Fail> {
+    let mut disk = filled(Memory::new(rt.alloc()), bytes)?;
+    let extent = survey(rt.alloc(), &mut disk);
+    same(rt, disk.bytes(), bytes);
+    Ok(extent)
+}
+
+/// A file's lines go as far as those of its bytes.
+fn is_surveyed(rt: &(impl Abort + AllocGlobal), bytes: &[u8]) -> Result<(), Fail> {
+    let found = extent_of(rt, bytes)??;
+    let wanted = Extent::of(bytes);
     same(
         rt,
-        (reading.first.as_slice(), reading.behind),
-        (SETTINGS, behind),
+        (found.len, found.end, found.is_closed),
+        (wanted.len, wanted.end, wanted.is_closed),
     );
-    Ok(())
-}
-
-fn is_no_log(rt: &(impl Abort + AllocGlobal), bytes: &[u8]) -> Result<(), Fail> {
-    let reading = read_file(rt, bytes)?;
-    same_at(rt, bytes, matches!(reading, Err(LogError::NoLog)), true);
     Ok(())
 }
 
 #[test]
 fn files_are_read_and_left(rt: HostRuntime) -> Result<(), Fail> {
-    for &(bytes, behind) in LOGS {
-        is_log(&rt, bytes, behind)?;
+    for &(bytes, count, lines) in ROWS {
+        let found = lines_of(&rt, bytes, count)??;
+        same_at(&rt, (bytes, count), found.as_slice(), lines);
+        is_surveyed(&rt, bytes)?;
     }
-    for bytes in NO_LOGS {
-        is_no_log(&rt, bytes)?;
+    Ok(())
+}
+
+/// So many long lines, each with its newline.
+fn long_lines(alloc: Global, count: usize) -> Result<Vec<u8>, Fail> {
+    let mut text = Vec::new(alloc);
+    for _ in 0..count {
+        let mut line = vec![in alloc; b' '; LONG]?;
+        line.push(b'\n')?;
+        text.push(b'{')?;
+        text.extend_from_slice(&line)?;
+    }
+    Ok(text)
+}
+
+#[test]
+fn a_file_is_read_in_pieces(rt: HostRuntime) -> Result<(), Fail> {
+    let mut file = long_lines(rt.alloc(), 5)?;
+    file.push(0)?;
+    is_surveyed(&rt, &file)?;
+    for count in 0..7 {
+        let found = lines_of(&rt, &file, count)??;
+        same_at(
+            &rt,
+            count,
+            found.as_slice(),
+            &file[..lines_len(&file, count)],
+        );
     }
     Ok(())
 }

@@ -102,7 +102,12 @@ fn stop(rt: &(impl Abort + AllocGlobal), start: &[u8], calls: u64) -> Result<Sto
 }
 
 /// The file after a call that was cut off behind so many of its bytes.
-fn torn(alloc: Global, before: &[u8], after: &[u8], len: usize) -> Result<Vec<u8>, AllocError> {
+pub(crate) fn torn(
+    alloc: Global,
+    before: &[u8],
+    after: &[u8],
+    len: usize,
+) -> Result<Vec<u8>, AllocError> {
     let mut bytes = Vec::new(alloc);
     bytes.extend_from_slice(&after[..len.min(after.len())])?;
     bytes.extend_from_slice(&before[len.min(before.len())..])?;

@@ -1,4 +1,4 @@
-//! Books that were changed in the file of a log.
+//! Books that were changed in a log of version 1, which has no marks.
 use crate::comparing::{same, same_at};
 use crate::disks::filled;
 use crate::logged::keeping::text_of;
@@ -116,7 +116,7 @@ fn open(
     let disk = filled(Memory::new(alloc), &log)?;
     let mut reader: &[u8] = b"";
     match LoggedHub::of_log(alloc, Mode::Run, settings, disk) {
-        Ok(mut hub) => Ok(hub.run(alloc, None, &mut reader, &mut Vec::new(alloc))),
+        Ok(mut hub) => Ok(hub.run(alloc, None, None, &mut reader, &mut Vec::new(alloc))),
         Err(error) => Ok(Err(error)),
     }
 }

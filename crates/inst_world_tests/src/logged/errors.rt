@@ -1,5 +1,6 @@
 //! What the errors of a hub with a log tell.
 use crate::comparing::tells;
+use inst_chain::{ChainError, Prefix};
 use inst_log::LogError;
 use inst_logged::LoggedError;
 use std::test::Fail;
@@ -12,6 +13,18 @@ const ROWS: &[(LoggedError, &str)] = &[
         LoggedError::Books,
         "the books behind the log's settings are none that a hub can open from",
     ),
+    (
+        LoggedError::Damaged(Prefix {
+            lines: 5,
+            bytes: 470,
+        }),
+        "the log is damaged after line 5, byte 470",
+    ),
+    (LoggedError::OtherDigest, "the log doesn't have the digest"),
+    (
+        LoggedError::Changed,
+        "the log was changed by another program",
+    ),
 ];
 
 #[test]
@@ -20,4 +33,18 @@ fn an_error_tells_what_went_wrong(rt: HostRuntime) -> Result<(), Fail> {
         tells(&rt, error, told)?;
     }
     Ok(())
+}
+
+#[test]
+fn an_error_of_a_chain_tells_the_same(rt: HostRuntime) -> Result<(), Fail> {
+    tells(&rt, &ChainError::Log(LogError::NoLog), "the file is no log")?;
+    let right = Prefix {
+        lines: 5,
+        bytes: 470,
+    };
+    tells(
+        &rt,
+        &ChainError::Damaged(right),
+        "the log is damaged after line 5, byte 470",
+    )
 }

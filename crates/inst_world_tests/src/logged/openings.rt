@@ -9,7 +9,7 @@ use crate::disks::filled;
 use crate::logged::keeping::text_of;
 use inst_journal::Journal;
 use inst_lines::Mode;
-use inst_logged::LoggedHub;
+use inst_logged::{LoggedHub, Version};
 use inst_rows::settings;
 use inst_settings::Settings;
 use sqlite_disk::{Disk, Memory};
@@ -31,8 +31,8 @@ const FIRST: &[&[u8]] = &[
 ];
 
 /// The log that begins with its books.
-const NEXT: &[&[u8]] = &[
-    br#"{"ahead":1000,"base":0,"books":14,"ceiling":99999999999,"fundings":4,"limit":10000,"log":"run","margin":0,"participants":["AAAADEFF","BBBBFRPP","CCCCITMM"],"places":2,"version":1}"#,
+pub(crate) const NEXT: &[&[u8]] = &[
+    br#"{"ahead":1000,"base":0,"books":14,"ceiling":99999999999,"fundings":4,"limit":10000,"log":"run","margin":0,"participants":["AAAADEFF","BBBBFRPP","CCCCITMM"],"places":2,"version":2}"#,
     br#"{"book":"AAAADEFF","cents":50000,"event":"funded","ref":"F1"}"#,
     br#"{"book":"AAAADEFF","cents":20000,"event":"taken","id":"T1","stamp":1000,"to":"BBBBFRPP"}"#,
     br#"{"book":"AAAADEFF","cents":300,"event":"taken","id":"T2","stamp":1000,"to":"BBBBFRPP"}"#,
@@ -47,10 +47,12 @@ const NEXT: &[&[u8]] = &[
     br#"{"book":"CCCCITMM","cents":200,"event":"defunded","ref":"D1"}"#,
     br#"{"book":"CCCCITMM","cents":500,"event":"taken","id":"T1","stamp":1000,"to":"AAAADEFF"}"#,
     br#"{"book":"CCCCITMM","event":"booked","from":"CCCCITMM","id":"T1","outcome":"rejected","reason":"AC04"}"#,
+    // What `sha256sum` prints for the lines above.
+    b"{\x01{f5c7fdcdf327791172b42b316b071187adc6d3dbe9c92a90e3d84f5b860adbf6",
 ];
 
 /// Lines of a next opening: of what was decided, of what is pending, and new ones.
-const SECOND: &[&[u8]] = &[
+pub(crate) const SECOND: &[&[u8]] = &[
     br#"{"at":2100,"cmd":"position","who":"AAAADEFF"}"#,
     br#"{"at":2100,"cents":20000,"cmd":"submit","id":"T1","stamp":1000,"to":"BBBBFRPP","who":"AAAADEFF"}"#,
     br#"{"at":2100,"cents":1,"cmd":"submit","id":"T1","stamp":1000,"to":"BBBBFRPP","who":"AAAADEFF"}"#,
@@ -74,7 +76,7 @@ const REPLIES: &[&[u8]] = &[
 ];
 
 /// A log of these lines.
-fn log_of(alloc: Global, lines: &[&[u8]]) -> Result<Vec<u8>, Fail> {
+pub(crate) fn log_of(alloc: Global, lines: &[&[u8]]) -> Result<Vec<u8>, Fail> {
     let mut log = text_of(alloc, lines)?;
     log.push(0)?;
     Ok(log)
@@ -87,20 +89,20 @@ fn run_through<D: Disk + Drop>(
     input: &[u8],
     written: &mut Vec<u8>,
 ) -> Result<D, Fail>
-    requires unbegun { IsUnbegun hub.header.items hub.intake }
+    requires unbegun { IsUnbegun hub.version hub.header.items hub.marker hub.intake }
     requires usable { IsTrue (D.Disk.is_usable hub.recorder.log.disk) }
     requires known { IsTrue (D.Disk.is_clean hub.recorder.log.disk)
         → Only (D.Disk.seen hub.recorder.log.disk) (D.Disk.may_leave hub.recorder.log.disk) }
 {
     let mut reader = input;
-    let outcome = hub.run(alloc, None, &mut reader, written);
+    let outcome = hub.run(alloc, None, None, &mut reader, written);
     let disk = hub.into_disk();
     outcome?;
     Ok(disk)
 }
 
 /// Runs the hub of a log that has these bytes, and gives what the log has then.
-fn run_on(
+pub(crate) fn run_on(
     alloc: Global,
     settings: &Settings,
     log: &[u8],
@@ -114,30 +116,38 @@ fn run_on(
 }
 
 /// The log that begins with these books.
-fn begun_from(alloc: Global, settings: &Settings, books: &[Journal]) -> Result<Vec<u8>, Fail>
+pub(crate) fn begun_from(
+    alloc: Global,
+    settings: &Settings,
+    books: &[Journal],
+) -> Result<Vec<u8>, Fail>
     requires { CanOpenFrom settings.now books.now }
 {
     let disk = filled(Memory::new(alloc), b"")?;
-    let hub = LoggedHub::new_from(alloc, Mode::Run, settings, books, disk)?;
+    let hub = LoggedHub::new_from(alloc, Version::Two, Mode::Run, settings, books, disk)?;
     let disk = run_through(alloc, hub, b"", &mut Vec::new(alloc))?;
     Ok(disk.bytes().to_vec(alloc)?)
 }
 
 /// The log that begins with the books that this hub leaves.
 fn next_of<D: Disk + Drop>(alloc: Global, hub: &mut LoggedHub<D>) -> Result<Option<Vec<u8>>, Fail>
-    requires unbegun { IsUnbegun hub.old.header.items hub.old.intake }
+    requires unbegun { IsUnbegun hub.old.version hub.old.header.items hub.old.marker hub.old.intake }
     requires usable { IsTrue (D.Disk.is_usable hub.old.recorder.log.disk) }
     requires known { IsTrue (D.Disk.is_clean hub.old.recorder.log.disk)
         → Only (D.Disk.seen hub.old.recorder.log.disk) (D.Disk.may_leave hub.old.recorder.log.disk) }
 {
-    match hub.close(alloc)? {
+    match hub.close(alloc, None)? {
         Some(books) => Ok(Some(begun_from(alloc, hub.settings(), &books)?)),
         None => Ok(None),
     }
 }
 
 /// The log that begins with the books of this one.
-fn next(alloc: Global, settings: &Settings, log: &[u8]) -> Result<Option<Vec<u8>>, Fail> {
+pub(crate) fn next(
+    alloc: Global,
+    settings: &Settings,
+    log: &[u8],
+) -> Result<Option<Vec<u8>>, Fail> {
     let disk = filled(Memory::new(alloc), log)?;
     let mut hub = LoggedHub::of_log(alloc, Mode::Run, settings, disk)?;
     next_of(alloc, &mut hub)

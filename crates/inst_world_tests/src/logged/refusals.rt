@@ -1,5 +1,6 @@
 //! Logs that aren't taken: they are left as they are, and nothing is written.
 use crate::comparing::{same, same_at};
+use crate::logged::damage::{USES, use_log};
 use crate::logged::keeping::{LINES, go_on, serve, text_of};
 use inst_base::Code;
 use inst_lines::Mode;
@@ -129,6 +130,40 @@ fn files_that_are_no_logs_are_left(rt: HostRuntime) -> Result<(), Fail> {
     for bytes in NO_LOGS {
         is_no_log(&rt, Mode::Run, &settings, bytes)?;
         is_no_log(&rt, Mode::Play, &settings, bytes)?;
+    }
+    Ok(())
+}
+
+/// Files by their first lines, and whether they are no logs: those of which the first line is JSON without the members
+/// `log` and `version`, or begins with another byte than a brace. The others are damaged.
+const FIRST_LINES: &[(&[u8], bool)] = &[
+    (b"{}\n\0", true),
+    (
+        b"{\"at\":0,\"cmd\":\"position\",\"who\":\"AAAADEFF\"}\n{}\n",
+        true,
+    ),
+    (b"[]\n{}\n\0", true),
+    (b"{\"log\":0}\n\0", false),
+    (b"{\"version\":2}\n\0", false),
+    (b"{\"lag\":\"run\",\"version\":2\n\0", false),
+];
+
+#[test]
+fn a_first_line_tells_whether_a_file_is_a_log(rt: HostRuntime) -> Result<(), Fail> {
+    let settings = settings(rt.alloc())?;
+    for &(bytes, is_none) in FIRST_LINES {
+        for how in USES {
+            let ended = use_log(rt.alloc(), &settings, bytes, how, None)?;
+            let is_no_log = matches!(ended.outcome, Err(LoggedError::Log(LogError::NoLog)));
+            let is_damaged = matches!(ended.outcome, Err(LoggedError::Damaged(_)));
+            same_at(
+                &rt,
+                (bytes, how),
+                (is_no_log, is_damaged),
+                (is_none, !is_none),
+            );
+            same_at(&rt, (bytes, how), ended.log.as_slice(), bytes);
+        }
     }
     Ok(())
 }

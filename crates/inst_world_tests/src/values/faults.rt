@@ -2,17 +2,18 @@
 use crate::comparing::{same, same_at};
 use inst_base::Fault;
 use inst_command::{Reply, refusals_told};
-use inst_faults::{AnyFault, LogFault, fault_of};
+use inst_faults::{AnyFault, LogFault, excerpt, fault_of};
+use std::test::Fail;
 
 const WORDS: &[(&str, Option<AnyFault>)] = &[
     ("1", Some(AnyFault::Hub(Fault::NotJson))),
     ("13", Some(AnyFault::Hub(Fault::Shortage))),
     ("Shortage", Some(AnyFault::Hub(Fault::Shortage))),
     ("19", Some(AnyFault::Log(LogFault::DiskFault))),
-    ("25", Some(AnyFault::Log(LogFault::LastOpening))),
-    ("LastOpening", Some(AnyFault::Log(LogFault::LastOpening))),
+    ("28", Some(AnyFault::Log(LogFault::ChangedLog))),
+    ("ChangedLog", Some(AnyFault::Log(LogFault::ChangedLog))),
     ("0", None),
-    ("26", None),
+    ("29", None),
     ("269", None),
     ("shortage", None),
     ("", None),
@@ -24,6 +25,32 @@ fn faults_are_found_by_number_and_by_name(rt: HostRuntime) {
     for (word, wanted) in WORDS {
         same_at(&rt, *word, fault_of(word), *wanted);
     }
+}
+
+const EXCERPTS: &[(&[u8], &str)] = &[
+    (b"", ""),
+    (b"{\"base\":0} ~", "{\"base\":0} ~"),
+    (b"\x1b[2J\n\x7f", "\\x1b[2J\\x0a\\x7f"),
+    (b"\xc2\x9b\\", "\\xc2\\x9b\\x5c"),
+];
+
+/// An excerpt has no control character, and ends by two points if 200 bytes aren't all.
+#[test]
+fn excerpts_are_printable(rt: HostRuntime) -> Result<(), Fail> {
+    for (bytes, wanted) in EXCERPTS {
+        same(&rt, excerpt(rt.alloc(), *bytes)?.as_str(), *wanted);
+    }
+    let most = [b'a'; 200];
+    let more = [b'a'; 201];
+    let all = excerpt(rt.alloc(), &most)?;
+    let part = excerpt(rt.alloc(), &more)?;
+    same(&rt, all.as_bytes(), &most);
+    same(
+        &rt,
+        part.as_bytes(),
+        format!(in rt.alloc(); "{}..", all)?.as_bytes(),
+    );
+    Ok(())
 }
 
 /// What a refusal for this fault is told by: the fault of a reply, or none where there is no reply.

@@ -1,37 +1,40 @@
 use Rattle.std.proofs.Common.{◌≡◌, ◌∙◌, Some, List, ℕ, ◌∷◌, ◌++◌, length, ap}
+use Rattle.std.proofs.lemmas.Result.{IfOk-weaker}
 use Rattle.inst_log.specs.Layout.{recovered, at_rest}
 use Rattle.inst_log.specs.Escape.{raw_of}
 use Rattle.inst_books.specs.Books.{all_events, books_text}
-use Rattle.inst_logged.specs.Header.{header_from, header_line}
-use Rattle.inst_logged.proofs.Heading.{behind_lines, behind_whole, behind_some}
+use Rattle.inst_logged.specs.Header.{header_from, header_line, marked}
+use Rattle.inst_logged.proofs.Headings.{behind_lines, behind_whole, behind_some}
 use Rattle.inst_logged.proofs.Written.{can_be_written}
 use Rattle.inst_logged.proofs.header.first_batch_from.Goals as goal
 
 pub append_books-requires-clause-writable : goal.append_books-requires-clause-writable
 append_books-requires-clause-writable c = can_be_written c.args.settings.now c.args.journals.now c.requires
 
-pub close_batch-requires-clause-whole : goal.close_batch-requires-clause-whole
-close_batch-requires-clause-whole c =
-    behind_whole c.in_ok-batch.batch.items _ c.deref-2.result.now c.extend_from_slice.new.self.items c.in_ok-batch.ensures.whole c.in_ok-batch.ensures.lines
-    (c.in_ok-extend_from_slice.ensures.items ∙ ap (λ (l : List ℕ). c.in_ok-batch.batch.items ++ l) c.whole_lines.ensures)
+pub close_heading-requires-clause-whole : goal.close_heading-requires-clause-whole
+close_heading-requires-clause-whole c =
+    behind_whole c.in_ok-lines.lines.items _ c.deref-2.result.now c.extend_from_slice.new.self.items c.in_ok-lines.ensures.whole c.in_ok-lines.ensures.lines
+    (c.in_ok-extend_from_slice.ensures.items ∙ ap (λ (l : List ℕ). c.in_ok-lines.lines.items ++ l) c.whole_lines.ensures)
 
-pub close_batch-requires-clause-some : goal.close_batch-requires-clause-some
-close_batch-requires-clause-some c =
-    behind_some c.in_ok-batch.batch.items _ c.deref-2.result.now c.extend_from_slice.new.self.items c.in_ok-batch.ensures.whole c.in_ok-batch.ensures.lines
-    (c.in_ok-extend_from_slice.ensures.items ∙ ap (λ (l : List ℕ). c.in_ok-batch.batch.items ++ l) c.whole_lines.ensures)
+pub close_heading-requires-clause-some : goal.close_heading-requires-clause-some
+close_heading-requires-clause-some c =
+    behind_some c.in_ok-lines.lines.items _ c.deref-2.result.now c.extend_from_slice.new.self.items c.in_ok-lines.ensures.whole c.in_ok-lines.ensures.lines
+    (c.in_ok-extend_from_slice.ensures.items ∙ ap (λ (l : List ℕ). c.in_ok-lines.lines.items ++ l) c.whole_lines.ensures)
 
 pub returns-clause-items : goal.returns-clause-items
 unfolding header_from
 returns-clause-items c =
     let mode = c.args.mode in
+    let version = c.args.version in
     let s = c.args.settings.now in
     let text : List ℕ = books_text s (all_events c.args.journals.now) in
-    let line = raw_of (header_line mode s (Some c.count_lines.result)) in
+    let line = raw_of (header_line version mode s (Some c.count_lines.result)) in
     let written : c.append_books.new.out.items ≡ text = c.in_ok-append_books.ensures.text ∙ ap (λ (l : List ℕ). l ++ text) c.new-books.ensures.items in
     let counted : c.count_lines.result ≡ length (recovered text) = c.count_lines.ensures.count ∙ ap (λ (l : List ℕ). length (recovered l)) (c.deref.ensures.value ∙ written) in
     let lines : recovered c.extend_from_slice.new.self.items ≡ line ∷ recovered c.deref-2.result.now =
-    behind_lines c.in_ok-batch.batch.items _ c.deref-2.result.now c.extend_from_slice.new.self.items c.in_ok-batch.ensures.whole c.in_ok-batch.ensures.lines
-    (c.in_ok-extend_from_slice.ensures.items ∙ ap (λ (l : List ℕ). c.in_ok-batch.batch.items ++ l) c.whole_lines.ensures) in
-    c.in_ok-close_batch.ensures.batch.whole ∙ ap at_rest (c.in_ok-close_batch.ensures.lines ∙ lines)
-    ∙ ap (λ (l : List ℕ). at_rest (line ∷ recovered l)) (c.deref-2.ensures.value ∙ written)
-    ∙ ap (λ (n : ℕ). at_rest (raw_of (header_line mode s (Some n)) ∷ recovered text)) counted
+    behind_lines c.in_ok-lines.lines.items _ c.deref-2.result.now c.extend_from_slice.new.self.items c.in_ok-lines.ensures.whole c.in_ok-lines.ensures.lines
+    (c.in_ok-extend_from_slice.ensures.items ∙ ap (λ (l : List ℕ). c.in_ok-lines.lines.items ++ l) c.whole_lines.ensures) in
+    IfOk-weaker c.close_heading.result _ _ (λ heading is.
+    is ∙ ap (λ (ls : List (List ℕ)). at_rest (marked version ls)) lines
+    ∙ ap (λ (l : List ℕ). at_rest (marked version (line ∷ recovered l))) (c.deref-2.ensures.value ∙ written)
+    ∙ ap (λ (n : ℕ). at_rest (marked version (raw_of (header_line version mode s (Some n)) ∷ recovered text))) counted) c.close_heading.ensures.items

@@ -1,5 +1,5 @@
 use Rattle.std.proofs.Common.{rules}
-use Rattle.inst_logged.proofs.Heading.{listed_next, listed_all}
+use Rattle.inst_logged.proofs.Headings.{listed_next, listed_all}
 use Rattle.inst_logged.proofs.header.push_codes.Goals as goal
 
 pub loop-number-preserved : goal.loop-number-preserved

@@ -1,5 +1,5 @@
-use Rattle.inst_logged.proofs.Telling.{headers_tell}
+use Rattle.inst_logged.proofs.Telling.{all_headers_tell}
 use Rattle.inst_logged.proofs.laws.headers_tell_their_settings.Goals as goal
 
 pub returns : goal.returns
-returns c = headers_tell
+returns c = all_headers_tell

@@ -1,4 +1,4 @@
-use Rattle.std.proofs.Common.{◌≡◌, inl, inr, refl}
+use Rattle.std.proofs.Common.{◌≡◌, ℕ, List, Bor, option_map, inl, inr, refl}
 use Rattle.std.proofs.lemmas.Result.{on_ok_weaker}
 use Rattle.inst_options.specs.Asking.{AskForTheNext}
 use Rattle.inst_program.proofs.Doing.{answered, checked, drilled, unanswered_err, uncarried_err, unchecked_err, undrilled_err, unexplained_err, unshown_err}
@@ -50,13 +50,14 @@ returns-in-Log-clause-err g c words wished =
 
 pub returns-in-Next-clause-ok : goal.returns-in-Next-clause-ok
 returns-in-Next-clause-ok g c words wished =
-    let is : AskForTheNext words c.in-Next.from.now c.in-Next.to.now = rw c.in-Next.is at wished in
-    on_ok_weaker c.next.result (λ done. inr (inr (inr (refl, inr (inr (inl (c.in-Next.from.now, c.in-Next.to.now, is, done))))))) c.next.ensures.ok
+    let digest = option_map (λ (d : Bor (List ℕ)). d.now) c.in-Next.digest in
+    let is : AskForTheNext words c.in-Next.from.now c.in-Next.to.now digest = rw c.in-Next.is at wished in
+    on_ok_weaker c.next.result (λ done. inr (inr (inr (refl, inr (inr (inl (c.in-Next.from.now, c.in-Next.to.now, digest, is, done))))))) c.next.ensures.ok
 
 pub returns-in-Next-clause-err : goal.returns-in-Next-clause-err
 returns-in-Next-clause-err g c words wished =
     let is = rw c.in-Next.is at wished in
-    uncarried_err words c.in-Next.from.now c.in-Next.to.now (c.args.reader.now ≡ c.args.reader.now) (c.args.writer.now ≡ c.args.writer.now) _ _ c.next.result is refl refl c.next.ensures.err
+    uncarried_err words c.in-Next.from.now c.in-Next.to.now (option_map (λ (d : Bor (List ℕ)). d.now) c.in-Next.digest) (c.args.reader.now ≡ c.args.reader.now) (c.args.writer.now ≡ c.args.writer.now) _ _ c.next.result is refl refl c.next.ensures.err
 
 pub returns-in-Explain-clause-err : goal.returns-in-Explain-clause-err
 returns-in-Explain-clause-err g c words wished =

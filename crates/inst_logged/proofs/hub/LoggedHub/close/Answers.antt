@@ -9,11 +9,11 @@ returns-clause-books g c =
     let self = c.args.self.now in
     let mode = self.recorder.answers.mode in
     some_weaker c.in_ok-carry.field-0 _ _ (λ journals are clean past keeps.
-    are_carried mode (past_after mode past (kept self.header.items (g.D.Disk.seen self.recorder.log.disk))) c.replay.new.self.recorder.answers.runner journals.items (c.in_ok-replay.ensures.ran clean past keeps) are) c.in_ok-carry.ensures.books
+    are_carried mode (past_after mode past (kept self.header.items (g.D.Disk.seen self.recorder.log.disk))) c.open.new.self.recorder.answers.runner journals.items (c.in_ok-open.ensures.state clean past keeps) are) c.in_ok-carry.ensures.books
 
 pub returns-clause-settings : goal.returns-clause-settings
 returns-clause-settings g c clean past keeps =
     let self = c.args.self.now in
     let mode = self.recorder.answers.mode in
     c.carry.ensures.settings
-    ∙ (has_run mode (past_after mode past (kept self.header.items (g.D.Disk.seen self.recorder.log.disk))) c.replay.new.self.recorder.answers.runner (c.in_ok-replay.ensures.ran clean past keeps)).0
+    ∙ (has_run mode (past_after mode past (kept self.header.items (g.D.Disk.seen self.recorder.log.disk))) c.open.new.self.recorder.answers.runner (c.in_ok-open.ensures.state clean past keeps)).0

@@ -1,8 +1,11 @@
-use Rattle.std.proofs.Common.{[], ◌∙◌, refl, sym, subst, IsTrue}
+use Rattle.std.proofs.Common.{[], ◌∙◌, refl, sym, subst}
 use Rattle.std.proofs.lemmas.Bool.{MatchBool-at_true, MatchBool-at_false}
 use Rattle.inst_bytes.specs.Newline.{NoNewline}
 use Rattle.inst_logged.specs.inner.Input.{rest_from}
 use Rattle.inst_logged.proofs.Coming.{come_none, come_more, come_end, come_kept, come_so_far, served_as}
+use Rattle.inst_logged.specs.Marking.{IsIntact, IsIntactBy}
+use Rattle.inst_logged.specs.declared.version.Version.{Version}
+use Rattle.inst_logged.proofs.Intact.{same_intact}
 use Rattle.inst_logged.proofs.hub.LoggedHub.serve_all.Goals as goal
 
 pub loop-init : goal.loop-init
@@ -10,27 +13,31 @@ loop-init g c =
     record {
       come = come_none g.D.Disk.seen g.D.Disk.may_leave c.args.self.now.recorder _ _ _ c.args.self.now.intake c.requires.settled c.requires.nothing;
       usable = c.requires.usable;
-      clean = refl;
+      clean = λ clean. clean;
+      size = c.requires.size;
       part = subst NoNewline (sym c.requires.nothing) tt;
+      version = refl;
+      intact = c.requires.intact;
+      durable = λ clean. (c.requires.settled clean).durable;
     }
 
 pub returns-in_err-turn-clause-any_moment : goal.returns-in_err-turn-clause-any_moment
 returns-in_err-turn-clause-any_moment g c clean =
     let h = c.loop.invariant.come in
-    come_kept g.D.Disk.seen g.D.Disk.may_leave c.args.self.now.recorder _ _ _ c.loop.self.recorder c.loop.self.intake _ _ _ _ _ (subst IsTrue c.turn.ensures.clean clean) h
+    come_kept g.D.Disk.seen g.D.Disk.may_leave c.args.self.now.recorder _ _ _ c.loop.self.recorder c.loop.self.intake _ _ _ _ _ (c.turn.ensures.clean clean) h
     (c.turn.ensures.any_moment clean (rest_from [] h.bytes) h.held_is)
 
 pub returns-then-not-branch-clause-ok : goal.returns-then-not-branch-clause-ok
 returns-then-not-branch-clause-ok g c =
     let h = c.loop.invariant.come in
-    come_end g.D.Disk.seen g.D.Disk.may_leave c.args.self.now.recorder _ _ _ _ c.loop.self.recorder c.turn.new.self.recorder c.loop.self.intake _ _ _ _ (λ is. subst IsTrue c.turn.ensures.clean is) h
+    come_end g.D.Disk.seen g.D.Disk.may_leave c.args.self.now.recorder _ _ _ _ c.loop.self.recorder c.turn.new.self.recorder c.loop.self.intake _ _ _ _ c.turn.ensures.clean h
     (served_as g.D.Disk.seen g.D.Disk.may_leave c.loop.self.recorder (g.R.Read.remaining c.loop.reader) _ _ _ _ c.turn.new.self.recorder _ (λ lines. MatchBool-at_false _ _ c.if-not-branch.true)
     (c.in_ok-turn.ensures.ok (rest_from [] h.bytes) h.held_is))
 
 pub returns-then-not-branch-clause-any_moment : goal.returns-then-not-branch-clause-any_moment
 returns-then-not-branch-clause-any_moment g c clean =
     let h = c.loop.invariant.come in
-    come_kept g.D.Disk.seen g.D.Disk.may_leave c.args.self.now.recorder _ _ _ c.loop.self.recorder c.loop.self.intake _ _ _ _ _ (subst IsTrue c.turn.ensures.clean clean) h
+    come_kept g.D.Disk.seen g.D.Disk.may_leave c.args.self.now.recorder _ _ _ c.loop.self.recorder c.loop.self.intake _ _ _ _ _ (c.turn.ensures.clean clean) h
     (c.turn.ensures.any_moment clean (rest_from [] h.bytes) h.held_is)
 
 pub returns-then-not-branch-clause-end : goal.returns-then-not-branch-clause-end
@@ -42,13 +49,39 @@ pub loop-preserved : goal.loop-preserved
 loop-preserved g c =
     let h = c.loop.invariant.come in
     record {
-      come = come_more g.D.Disk.seen g.D.Disk.may_leave c.args.self.now.recorder _ _ _ _ c.loop.self.recorder c.turn.new.self.recorder c.loop.self.intake c.turn.new.self.intake _ _ _ _ (λ is. subst IsTrue c.turn.ensures.clean is) h
+      come = come_more g.D.Disk.seen g.D.Disk.may_leave c.args.self.now.recorder _ _ _ _ c.loop.self.recorder c.turn.new.self.recorder c.loop.self.intake c.turn.new.self.intake _ _ _ _ c.turn.ensures.clean h
           (served_as g.D.Disk.seen g.D.Disk.may_leave c.loop.self.recorder (g.R.Read.remaining c.loop.reader) _ _ _ _ c.turn.new.self.recorder _ (λ lines. MatchBool-at_true _ _ c.if-not-branch.false)
           (c.in_ok-turn.ensures.ok (rest_from [] h.bytes) h.held_is));
       usable = c.in_ok-turn.ensures.usable;
-      clean = c.turn.ensures.clean ∙ c.loop.invariant.clean;
+      clean = λ clean. c.loop.invariant.clean (c.turn.ensures.clean clean);
+      size = c.in_ok-turn.ensures.size;
       part = c.in_ok-turn.ensures.part;
+      version = c.turn.ensures.version ∙ c.loop.invariant.version;
+      intact = λ clean. subst (λ (v : Version). IsIntactBy v (g.D.Disk.seen c.turn.new.self.recorder.log.disk) c.turn.new.self.marker) c.loop.invariant.version (c.in_ok-turn.ensures.intact_now clean);
+      durable = λ clean. ((c.in_ok-turn.ensures.ok (rest_from [] h.bytes) h.held_is).settled clean).0.durable;
     }
 
 pub returns-clause-any_moment : goal.returns-clause-any_moment
 returns-clause-any_moment g c clean = come_so_far g.D.Disk.seen g.D.Disk.may_leave c.args.self.now.recorder _ _ _ c.loop.self.recorder c.loop.self.intake _ _ clean c.loop.invariant.come
+
+-- marks stay right
+
+pub turn-requires-clause-intact : goal.turn-requires-clause-intact
+turn-requires-clause-intact g c clean =
+    subst (λ (v : Version). IsIntactBy v (g.D.Disk.seen c.loop.self.recorder.log.disk) c.loop.self.marker) (sym c.loop.invariant.version) (c.loop.invariant.intact clean)
+
+pub returns-in_err-turn-clause-intact : goal.returns-in_err-turn-clause-intact
+returns-in_err-turn-clause-intact g c mixes clean left may =
+    subst (λ (v : Version). IsIntact v left) c.loop.invariant.version (c.turn.ensures.intact mixes clean left may)
+
+pub returns-then-not-branch-clause-intact : goal.returns-then-not-branch-clause-intact
+returns-then-not-branch-clause-intact g c mixes clean left may =
+    subst (λ (v : Version). IsIntact v left) c.loop.invariant.version (c.turn.ensures.intact mixes clean left may)
+
+pub returns-then-not-branch-clause-intact_now : goal.returns-then-not-branch-clause-intact_now
+returns-then-not-branch-clause-intact_now g c clean =
+    subst (λ (v : Version). IsIntactBy v (g.D.Disk.seen c.turn.new.self.recorder.log.disk) c.turn.new.self.marker) c.loop.invariant.version (c.in_ok-turn.ensures.intact_now clean)
+
+pub returns-clause-intact : goal.returns-clause-intact
+returns-clause-intact g c mixes clean left may =
+    same_intact c.args.self.now.version _ left c.loop.self.marker (c.loop.invariant.intact clean) (c.loop.invariant.durable clean left may)

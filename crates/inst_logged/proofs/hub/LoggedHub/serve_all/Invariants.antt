@@ -1,6 +1,8 @@
-use Rattle.std.proofs.Common.{◌≡◌, IsTrue}
+use Rattle.std.proofs.Common.{◌≡◌, length, IsTrue}
 use Rattle.inst_bytes.specs.Newline.{NoNewline}
 use Rattle.inst_logged.specs.Intake.{held}
+use Rattle.sqlite_disk.specs.Disk.{Only}
+use Rattle.inst_logged.specs.Marking.{IsIntactBy}
 use Rattle.inst_logged.specs.inner.Logged.{HasCome}
 use Rattle.inst_logged.proofs.hub.LoggedHub.serve_all.Given as goal
 
@@ -9,6 +11,10 @@ invariant-loop g l = record {
   come : HasCome g.D.Disk.seen g.D.Disk.may_leave (IsTrue (g.D.Disk.is_clean l.self.recorder.log.disk)) l.fn.self.recorder l.self.recorder
       l.self.intake (g.R.Read.remaining l.fn.reader) (g.R.Read.remaining l.reader) (g.W.Write.contents l.fn.writer) (g.W.Write.contents l.writer);
   usable : IsTrue (g.D.Disk.is_usable l.self.recorder.log.disk);
-  clean : g.D.Disk.is_clean l.self.recorder.log.disk ≡ g.D.Disk.is_clean l.fn.self.recorder.log.disk;
+  clean : IsTrue (g.D.Disk.is_clean l.self.recorder.log.disk) → IsTrue (g.D.Disk.is_clean l.fn.self.recorder.log.disk);
+  size : IsTrue (g.D.Disk.is_clean l.self.recorder.log.disk) → l.self.size ≡ length (g.D.Disk.seen l.self.recorder.log.disk);
   part : NoNewline (held l.self.intake);
+  version : l.self.version ≡ l.fn.self.version;
+  intact : IsTrue (g.D.Disk.is_clean l.self.recorder.log.disk) → IsIntactBy l.fn.self.version (g.D.Disk.seen l.self.recorder.log.disk) l.self.marker;
+  durable : IsTrue (g.D.Disk.is_clean l.self.recorder.log.disk) → Only (g.D.Disk.seen l.self.recorder.log.disk) (g.D.Disk.may_leave l.self.recorder.log.disk);
 }

@@ -1,42 +1,103 @@
-use Rattle.std.proofs.Common.{inl, refl, ap, [], map}
+use Rattle.std.proofs.Common.{inl, sym, ◌∙◌, ap, subst, [], map, List, ℕ}
+use Rattle.std.specs.Prelude.{MatchBool}
 use Rattle.inst_log.specs.Layout.{recovered}
 use Rattle.inst_log.proofs.Serve.{kept_before}
+use Rattle.inst_chain.specs.Chain.{HasNoMark}
+use Rattle.inst_chain.proofs.Said.{said_plain}
 use Rattle.inst_logged.specs.Input.{logged}
 use Rattle.inst_logged.specs.inner.Input.{lines_from}
-use Rattle.inst_logged.proofs.Turning.{turned_of, came_of}
+use Rattle.inst_logged.specs.inner.Logged.{Came, Turned, Ended}
+use Rattle.inst_logged.proofs.Turning.{turned_of, came_of, plain_logged}
+use Rattle.inst_logged.proofs.Intact.{same_intact, writing_intact, now_intact}
 use Rattle.inst_logged.proofs.hub.LoggedHub.turn.Goals as goal
 
 pub returns-in_err-more-clause-any_moment : goal.returns-in_err-more-clause-any_moment
 returns-in_err-more-clause-any_moment g c clean part same =
     let (read, consumes) = c.in_err-more.ensures.err in
+    let lines = map logged (lines_from part read) in
     record {
-      lines = map logged (lines_from part read);
-      came = record { read = read; consumes = consumes; lines_are = inl refl };
-      kept = kept_before _ _ (map logged (lines_from part read)) _ _ (λ f said. said.are []) (λ left may. inl (ap recovered ((c.requires.settled clean).durable left may)));
+      lines = lines;
+      came = record { read = read; consumes = consumes; lines_are = inl (said_plain lines (plain_logged (lines_from part read))) };
+      kept = kept_before _ _ lines _ _ (λ f said. said.are []) (λ left may. inl (ap recovered ((c.requires.settled clean).durable left may)));
     }
 
-pub returns-in_err-serve_lines-clause-any_moment : goal.returns-in_err-serve_lines-clause-any_moment
-returns-in_err-serve_lines-clause-any_moment g c clean part same =
+pub returns-in_err-mark_batch-clause-any_moment : goal.returns-in_err-mark_batch-clause-any_moment
+returns-in_err-mark_batch-clause-any_moment g c clean part same =
+    let lines = recovered c.read.new.batch.items in
+    let plain = c.in_ok-more.ensures.plain (subst (λ (b : List ℕ). HasNoMark (recovered b)) (sym c.clear.ensures.items) tt) in
     record {
-      lines = recovered c.read.new.batch.items;
-      came = came_of part c.read.new.self _ _ _ c.in_ok-more.more (turned_of c.args.self.now.intake c.read.new.self _ _ part _ _ c.in_ok-more.more c.clear.ensures.items same c.in_ok-more.ensures.lines);
-      kept = c.serve_lines.ensures.any_moment clean;
+      lines = lines;
+      came = subst (λ (ls : List (List ℕ)). Came part ls (g.R.Read.remaining c.args.reader.now) (g.R.Read.remaining c.read.new.reader)) (sym (said_plain lines plain))
+          (came_of part c.read.new.self _ _ _ c.in_ok-more.more (turned_of c.args.self.now.intake c.read.new.self _ _ part _ _ c.in_ok-more.more c.clear.ensures.items same c.in_ok-more.ensures.lines));
+      kept = kept_before _ _ lines _ _ (λ f said. said.are []) (λ left may. inl (ap recovered ((c.requires.settled clean).durable left may)));
+    }
+
+pub returns-in_err-serve_measured-clause-any_moment : goal.returns-in_err-serve_measured-clause-any_moment
+returns-in_err-serve_measured-clause-any_moment g c clean part same =
+    let lines = recovered c.read.new.batch.items in
+    let plain = c.in_ok-more.ensures.plain (subst (λ (b : List ℕ). HasNoMark (recovered b)) (sym c.clear.ensures.items) tt) in
+    record {
+      lines = recovered c.mark_batch.new.batch.items;
+      came = subst (λ (ls : List (List ℕ)). Came part ls (g.R.Read.remaining c.args.reader.now) (g.R.Read.remaining c.read.new.reader)) (sym (c.in_ok-mark_batch.ensures.said ∙ said_plain lines plain))
+          (came_of part c.read.new.self _ _ _ c.in_ok-more.more (turned_of c.args.self.now.intake c.read.new.self _ _ part _ _ c.in_ok-more.more c.clear.ensures.items same c.in_ok-more.ensures.lines));
+      kept = c.serve_measured.ensures.any_moment clean;
     }
 
 pub returns-clause-ok : goal.returns-clause-ok
 returns-clause-ok g c part same =
+    let lines = recovered c.read.new.batch.items in
+    let plain = c.in_ok-more.ensures.plain (subst (λ (b : List ℕ). HasNoMark (recovered b)) (sym c.clear.ensures.items) tt) in
     record {
-      lines = recovered c.read.new.batch.items;
-      came = turned_of c.args.self.now.intake c.read.new.self _ _ part _ _ c.in_ok-more.more c.clear.ensures.items same c.in_ok-more.ensures.lines;
-      tells = c.in_ok-serve_lines.ensures.replied;
-      on = c.in_ok-serve_lines.ensures.on;
-      settled = c.in_ok-serve_lines.ensures.acknowledged;
+      lines = recovered c.mark_batch.new.batch.items;
+      came = subst (λ (ls : List (List ℕ)). MatchBool c.in_ok-more.more (Turned part c.read.new.self ls (g.R.Read.remaining c.args.reader.now) (g.R.Read.remaining c.read.new.reader))
+          (Ended part ls (g.R.Read.remaining c.args.reader.now) (g.R.Read.remaining c.read.new.reader))) (sym (c.in_ok-mark_batch.ensures.said ∙ said_plain lines plain))
+          (turned_of c.args.self.now.intake c.read.new.self _ _ part _ _ c.in_ok-more.more c.clear.ensures.items same c.in_ok-more.ensures.lines);
+      tells = c.in_ok-serve_measured.ensures.replied;
+      on = c.in_ok-serve_measured.ensures.on;
+      settled = c.in_ok-serve_measured.ensures.acknowledged;
     }
 
 pub returns-clause-any_moment : goal.returns-clause-any_moment
 returns-clause-any_moment g c clean part same =
+    let lines = recovered c.read.new.batch.items in
+    let plain = c.in_ok-more.ensures.plain (subst (λ (b : List ℕ). HasNoMark (recovered b)) (sym c.clear.ensures.items) tt) in
     record {
-      lines = recovered c.read.new.batch.items;
-      came = came_of part c.read.new.self _ _ _ c.in_ok-more.more (turned_of c.args.self.now.intake c.read.new.self _ _ part _ _ c.in_ok-more.more c.clear.ensures.items same c.in_ok-more.ensures.lines);
-      kept = c.serve_lines.ensures.any_moment clean;
+      lines = recovered c.mark_batch.new.batch.items;
+      came = subst (λ (ls : List (List ℕ)). Came part ls (g.R.Read.remaining c.args.reader.now) (g.R.Read.remaining c.read.new.reader)) (sym (c.in_ok-mark_batch.ensures.said ∙ said_plain lines plain))
+          (came_of part c.read.new.self _ _ _ c.in_ok-more.more (turned_of c.args.self.now.intake c.read.new.self _ _ part _ _ c.in_ok-more.more c.clear.ensures.items same c.in_ok-more.ensures.lines));
+      kept = c.serve_measured.ensures.any_moment clean;
     }
+
+-- marks stay right
+
+pub returns-in_err-more-clause-intact : goal.returns-in_err-more-clause-intact
+returns-in_err-more-clause-intact g c mixes clean left may =
+    same_intact c.args.self.now.version _ left c.args.self.now.marker (c.requires.intact clean) ((c.requires.settled clean).durable left may)
+
+pub returns-in_err-mark_batch-clause-intact : goal.returns-in_err-mark_batch-clause-intact
+returns-in_err-mark_batch-clause-intact g c mixes clean left may =
+    same_intact c.args.self.now.version _ left c.args.self.now.marker (c.requires.intact clean) ((c.requires.settled clean).durable left may)
+
+pub returns-in_err-serve_measured-clause-intact : goal.returns-in_err-serve_measured-clause-intact
+returns-in_err-serve_measured-clause-intact g c mixes clean left may =
+    let before = c.serve_measured.ensures.clean clean in
+    let plain = c.in_ok-more.ensures.plain (subst (λ (b : List ℕ). HasNoMark (recovered b)) (sym c.clear.ensures.items) tt) in
+    writing_intact c.args.self.now.version (g.D.Disk.seen c.args.self.now.recorder.log.disk) left (recovered c.mark_batch.new.batch.items) c.args.self.now.marker c.mark_batch.new.marker (c.requires.intact before)
+    (c.serve_measured.ensures.stands clean left may) (λ shut. c.serve_measured.ensures.shut mixes clean shut left may)
+    (λ whole shut. c.in_ok-mark_batch.ensures.intact plain _ left (c.requires.intact before) whole shut)
+
+pub returns-clause-intact : goal.returns-clause-intact
+returns-clause-intact g c mixes clean left may =
+    let before = c.serve_measured.ensures.clean clean in
+    let plain = c.in_ok-more.ensures.plain (subst (λ (b : List ℕ). HasNoMark (recovered b)) (sym c.clear.ensures.items) tt) in
+    writing_intact c.args.self.now.version (g.D.Disk.seen c.args.self.now.recorder.log.disk) left (recovered c.mark_batch.new.batch.items) c.args.self.now.marker c.mark_batch.new.marker (c.requires.intact before)
+    (c.serve_measured.ensures.stands clean left may) (λ shut. c.serve_measured.ensures.shut mixes clean shut left may)
+    (λ whole shut. c.in_ok-mark_batch.ensures.intact plain _ left (c.requires.intact before) whole shut)
+
+pub returns-clause-intact_now : goal.returns-clause-intact_now
+returns-clause-intact_now g c clean =
+    let before = c.serve_measured.ensures.clean clean in
+    let plain = c.in_ok-more.ensures.plain (subst (λ (b : List ℕ). HasNoMark (recovered b)) (sym c.clear.ensures.items) tt) in
+    now_intact c.args.self.now.version (g.D.Disk.seen c.args.self.now.recorder.log.disk) (g.D.Disk.seen c.serve_measured.new.recorder.log.disk) c.args.self.now.marker c.mark_batch.new.marker (c.requires.intact before)
+    (c.in_ok-serve_measured.ensures.shut_now clean)
+    (λ shut. c.in_ok-mark_batch.ensures.intact plain _ _ (c.requires.intact before) (c.in_ok-serve_measured.ensures.acknowledged clean).1 shut)

@@ -9,6 +9,7 @@ use Rattle.inst_logged.specs.inner.Input.{lines_from, rest_from}
 use Rattle.inst_logged.specs.Intake.{held}
 use Rattle.inst_logged.proofs.Cutting.{quiet_held}
 use Rattle.inst_logged.proofs.Intaking.{read_behind, lines_taken, rest_taken}
+use Rattle.inst_logged.proofs.Turning.{plain_more, plain_raw, plain_logged}
 use Rattle.inst_logged.proofs.intake.Intake.read.Goals as goal
 
 pub returns-clause-lines : goal.returns-clause-lines
@@ -57,3 +58,10 @@ take_last-requires-clause-part g c = grind (arith, common_steps)
 
 pub returns-then-count-eq0-clause-lines : goal.returns-then-count-eq0-clause-lines
 returns-then-count-eq0-clause-lines g c = grind (arith, common_steps)
+
+-- no line that was read is a mark
+pub returns-then-count-eq0-clause-plain : goal.returns-then-count-eq0-clause-plain
+returns-then-count-eq0-clause-plain g c = λ plain. plain_more _ _ _ c.in_ok-take_last.ensures.lines (plain_raw _) plain
+
+pub returns-clause-plain : goal.returns-clause-plain
+returns-clause-plain g c = λ plain. plain_more _ _ _ c.in_ok-take_lines.ensures.lines (plain_logged _) plain

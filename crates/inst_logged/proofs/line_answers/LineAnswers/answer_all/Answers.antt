@@ -6,10 +6,9 @@ use Rattle.inst_logged.proofs.line_answers.LineAnswers.answer_all.Goals as goal
 pub loop-len-preserved : goal.loop-len-preserved
 loop-len-preserved c =
     let i = c.loop-len.invariant in
-    let next = rw c.in-Some.is at c.in_ok-len.ensures.ok in
     let old = c.args.self.now in
     rw take_rest (record {
-      front = front_more old.mode c.loop-len.self.mode old.runner c.loop-len.self.runner c.answer_next.new.self.runner c.args.out.now.items c.loop-len.out.items
-          c.answer_next.new.out.items c.args.lines.now c.loop-len.rest.now c.in-Some.len i.mode i.front next;
-      mode = c.answer_next.ensures.mode ∙ i.mode;
+      front = front_more old.mode c.loop-len.self.mode old.runner c.loop-len.self.runner c.answer_raw.new.self.runner c.args.out.now.items c.loop-len.out.items
+          c.answer_raw.new.out.items c.args.lines.now c.loop-len.rest.now c.in-Some.len i.mode i.front c.in-Some.ensures c.in_ok-answer_raw.ensures.ok;
+      mode = c.answer_raw.ensures.mode ∙ i.mode;
     })

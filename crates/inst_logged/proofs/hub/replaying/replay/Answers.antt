@@ -1,0 +1,95 @@
+use Rattle.std.proofs.Common.{◌++◌, [], List, ℕ, refl, sym, ◌∙◌, ap, subst}
+use Rattle.std.proofs.lemmas.Result.{on_ok_weaker, IfErr-weaker}
+use Rattle.inst_bytes.specs.Handing.{WritesPart}
+use Rattle.inst_log.specs.Layout.{recovered}
+use Rattle.inst_chain.specs.Chain.{said}
+use Rattle.inst_logged.specs.inner.Answering.{AnswersAgain, debt}
+use Rattle.inst_logged.specs.inner.Replaying.{IsReplayed}
+use Rattle.inst_logged.proofs.Debt.{again_none, again_more, replayed, part_so_far, part_more, too_few, kept_so_far, kept_at_end, reading_none, reading_more, still_told, not_zero}
+use Rattle.inst_logged.proofs.hub.replaying.replay.Goals as goal
+
+pub loop-lines-init : goal.loop-lines-init
+loop-lines-init g c =
+    let file = g.D.Disk.seen c.args.recorder.now.log.disk in
+    record {
+      done = [];
+      again = again_none c.args.recorder.now.answers.mode c.args.told c.args.recorder.now.answers.runner _;
+      untouched = λ _. refl;
+      reading = λ clean.
+          reading_none c.args.header.now file c.in_ok-lines.lines c.requires.header (c.requires.begins (c.new.ensures.clean clean)) (c.in_ok-lines.ensures.reading clean);
+      mode = refl;
+      end = refl;
+      seen = c.new.ensures.seen;
+      crash = c.new.ensures.crash;
+      usable = c.new.ensures.usable;
+      clean = c.new.ensures.clean;
+    }
+
+pub returns-in_err-piece-clause-part : goal.returns-in_err-piece-clause-part
+returns-in_err-piece-clause-part g c clean past keeps =
+    let i = c.loop-lines.invariant in
+    let file = g.D.Disk.seen c.args.recorder.now.log.disk in
+    let kept_now = kept_so_far c.args.header.now file c.loop-lines.lines i.done (i.reading (c.next.ensures.clean clean)) in
+    part_so_far c.args.recorder.now.answers.mode past c.args.told c.loop-lines.left c.args.recorder.now.answers.runner c.loop-lines.recorder.answers.runner _ i.done _ _ _ (ap said kept_now) keeps i.again
+
+pub returns-in_err-left-clause-part : goal.returns-in_err-left-clause-part
+returns-in_err-left-clause-part g c clean past keeps =
+    let i = c.loop-lines.invariant in
+    let file = g.D.Disk.seen c.args.recorder.now.log.disk in
+    let piece = recovered c.in_ok-piece.piece.items in
+    let reading = reading_more c.args.header.now file (g.D.Disk.seen c.loop-lines.recorder.log.disk) c.loop-lines.lines c.next.new.self i.done piece i.seen (i.reading (c.next.ensures.clean clean)) (c.in_ok-piece.ensures.reading clean) in
+    let kept_now = kept_so_far c.args.header.now file c.next.new.self (i.done ++ piece) reading in
+    part_more c.args.recorder.now.answers.mode past c.args.told c.loop-lines.left c.args.recorder.now.answers.runner c.loop-lines.recorder.answers.runner _ i.done piece _ _ _ _ c.loop-lines.recorder.answers.mode i.mode (ap said kept_now) keeps i.again
+    (λ later of. subst (λ (l : List ℕ). WritesPart (g.W.Write.contents c.loop-lines.writer) (g.W.Write.contents c.answer_again.new.writer) (debt c.loop-lines.recorder.answers.mode later c.loop-lines.left (recovered l))) c.deref.ensures.value (c.answer_again.ensures.part later of))
+
+pub loop-lines-preserved : goal.loop-lines-preserved
+loop-lines-preserved g c =
+    let i = c.loop-lines.invariant in
+    let file = g.D.Disk.seen c.args.recorder.now.log.disk in
+    let piece = recovered c.in_ok-piece.piece.items in
+    let again : AnswersAgain c.loop-lines.recorder.answers.mode c.loop-lines.left c.in_ok-left.left c.loop-lines.recorder.answers.runner c.answer_again.new.answers.runner piece (g.W.Write.contents c.loop-lines.writer) (g.W.Write.contents c.answer_again.new.writer) =
+    subst (λ (l : List ℕ). AnswersAgain c.loop-lines.recorder.answers.mode c.loop-lines.left c.in_ok-left.left c.loop-lines.recorder.answers.runner c.answer_again.new.answers.runner (recovered l) (g.W.Write.contents c.loop-lines.writer) (g.W.Write.contents c.answer_again.new.writer))
+    c.deref.ensures.value c.in_ok-left.ensures.ok in
+    record {
+      done = i.done ++ piece;
+      again = again_more c.args.recorder.now.answers.mode c.args.told c.loop-lines.left c.in_ok-left.left c.args.recorder.now.answers.runner c.loop-lines.recorder.answers.runner c.answer_again.new.answers.runner i.done piece _ _ _
+          c.loop-lines.recorder.answers.mode i.mode i.again again;
+      untouched = λ more. c.in_ok-left.ensures.untouched more ∙ i.untouched (still_told c.loop-lines.left c.in_ok-left.left piece again.left_is more);
+      reading = λ clean.
+          reading_more c.args.header.now file (g.D.Disk.seen c.loop-lines.recorder.log.disk) c.loop-lines.lines c.next.new.self i.done piece i.seen (i.reading (c.next.ensures.clean clean)) (c.in_ok-piece.ensures.reading clean);
+      mode = c.answer_again.ensures.mode ∙ i.mode;
+      end = i.end;
+      seen = c.next.ensures.seen ∙ i.seen;
+      crash = λ left may. i.crash left (c.next.ensures.crash left may);
+      usable = c.next.ensures.usable;
+      clean = λ clean. i.clean (c.next.ensures.clean clean);
+    }
+
+pub returns-clause-replayed : goal.returns-clause-replayed
+returns-clause-replayed g c =
+    let i = c.loop-lines.invariant in
+    let file = g.D.Disk.seen c.args.recorder.now.log.disk in
+    on_ok_weaker c.require_none.result (λ none clean.
+    let all = kept_at_end c.args.header.now file c.loop-lines.lines i.done (i.reading clean) (sym c.has_more.ensures ∙ c.loop-lines-test.false) in
+    subst (λ (ls : List (List ℕ)). IsReplayed c.args.recorder.now.answers.mode c.args.told c.args.recorder.now.answers.runner c.loop-lines.recorder.answers.runner ls (g.W.Write.contents c.args.writer.now) (g.W.Write.contents c.loop-lines.writer)) (sym all)
+    (replayed c.args.recorder.now.answers.mode c.args.told c.loop-lines.left c.args.recorder.now.answers.runner c.loop-lines.recorder.answers.runner i.done _ _ i.again none)) c.require_none.ensures.none
+
+pub returns-clause-part : goal.returns-clause-part
+returns-clause-part g c clean past keeps =
+    let i = c.loop-lines.invariant in
+    let file = g.D.Disk.seen c.args.recorder.now.log.disk in
+    let kept_now = kept_so_far c.args.header.now file c.loop-lines.lines i.done (i.reading clean) in
+    part_so_far c.args.recorder.now.answers.mode past c.args.told c.loop-lines.left c.args.recorder.now.answers.runner c.loop-lines.recorder.answers.runner _ i.done _ _ _ (ap said kept_now) keeps i.again
+
+pub returns-clause-refused : goal.returns-clause-refused
+returns-clause-refused g c =
+    let i = c.loop-lines.invariant in
+    let file = g.D.Disk.seen c.args.recorder.now.log.disk in
+    let mode = c.args.recorder.now.answers.mode in
+    IfErr-weaker c.require_none.result _ _ (λ error e refused. (
+      e.0,
+      i.untouched (not_zero c.loop-lines.left e.1 e.2 e.3),
+      λ clean.
+          let all = kept_at_end c.args.header.now file c.loop-lines.lines i.done (i.reading clean) (sym c.has_more.ensures ∙ c.loop-lines-test.false) in
+          rw all (too_few mode c.args.told c.loop-lines.left i.done e.1 i.again.left_is e.2 e.3),
+    )) c.require_none.ensures.some

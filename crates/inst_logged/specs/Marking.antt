@@ -1,0 +1,27 @@
+-- What a log's marks are right by. A log of version 1 has none, so nothing is said of it.
+use Rattle.std.specs.Prelude.{◌≡◌, List, ℕ}
+use Rattle.inst_log.specs.Layout.{recovered, IsShut}
+use Rattle.inst_chain.specs.Chain.{IsChain, IsTaken}
+use Rattle.inst_chain.specs.Verifying.{SealedBy}
+use Rattle.inst_chain.specs.declared.marker.Marker.{Marker}
+use Rattle.inst_logged.specs.declared.version.Version.{Version}
+use Rattle.inst_logged.specs.declared.version.Version.TheVariants.{One, Two}
+
+-- a file is no damaged log: it has no line, or its marks are right
+abbrev pub IsIntact : Version → List ℕ → Type 0
+IsIntact One file = Unit {0}
+IsIntact Two file = IsTaken file
+
+-- a log's marks are right, and this makes the next one
+abbrev pub IsIntactBy : Version → List ℕ → Marker → Type 0
+IsIntactBy One file marker = Unit {0}
+IsIntactBy Two file marker = SealedBy file marker
+
+-- a log that has just these lines has right marks, and this makes the next one
+pub record IsFirst (header : List ℕ) (marker : Marker) : Type 0 where
+  pub chain : (file : List ℕ) → recovered file ≡ recovered header → IsChain (recovered file)
+  pub sealed : (file : List ℕ) → recovered file ≡ recovered header → IsShut file → SealedBy file marker
+
+abbrev pub BeginsBy : Version → List ℕ → Marker → Type 0
+BeginsBy One header marker = Unit {0}
+BeginsBy Two header marker = IsFirst header marker

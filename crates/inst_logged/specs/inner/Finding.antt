@@ -1,0 +1,22 @@
+-- What a file was found to have before it is opened.
+use Rattle.std.specs.Prelude.{◌≡◌, true, List, ℕ, [], Option, MatchOption}
+use Rattle.inst_log.specs.Layout.{recovered}
+use Rattle.inst_log.specs.Pieces.{IsExtent}
+use Rattle.inst_chain.specs.Chain.{has_wanted}
+use Rattle.inst_chain.specs.Verifying.{SealedBy}
+use Rattle.inst_chain.specs.declared.digest.Digest.{Digest}
+use Rattle.inst_chain.specs.declared.marker.Marker.{Marker}
+use Rattle.inst_logged.specs.declared.version.Version.{Version}
+use Rattle.inst_logged.specs.declared.version.Version.TheVariants.{One, Two}
+use Rattle.inst_logged.specs.declared.hub.examining.Found.{Found}
+
+-- a log without marks is taken as it is; one with marks has no line, or its marks are right
+abbrev pub IsVerified : Version → List ℕ → Option Marker → Type 0
+IsVerified One file found = Unit {0}
+IsVerified Two file found = MatchOption found (recovered file ≡ []) (λ marker. SealedBy file marker)
+
+-- the file's lines go so far, its marks are right, and it has the mark that was asked for
+pub record Finds (version : Version) (wanted : Option Digest) (file : List ℕ) (found : Found) : Type 0 where
+  pub extent : IsExtent file found.extent
+  pub verified : IsVerified version file found.marker
+  pub digest : has_wanted wanted (recovered file) ≡ true

@@ -1,0 +1,94 @@
+//! A log is examined before anything is written to it.
+ghost use Rattle.std.specs.Prelude.{◌≡◌, List, ℕ, Option, IsTrue, IfOk, IfErr};
+ghost use Rattle.inst_logged.specs.declared.version.Version.TheVariants as version;
+ghost use Rattle.inst_logged.specs.Refused.{IsCause};
+ghost use Rattle.inst_logged.specs.inner.Finding.{Finds};
+
+use crate::{LoggedError, Version};
+use inst_chain::{Digest, Marker, Verified, verify};
+use inst_log::{Extent, survey};
+use sqlite_disk::Disk;
+use std::alloc::Global;
+
+/// What a log was found to have.
+#[derive(Drop)]
+pub(crate) struct Found {
+    /// How far its lines go.
+    pub(crate) extent: Extent,
+    /// What makes its next mark, if it has marks and a line.
+    pub(crate) marker: Option<Marker>,
+}
+
+/// Reads the log on this disk, and verifies its marks, if it has any.
+///
+/// # Errors
+///
+/// `Damaged` if a mark is wrong, or the end is; `OtherDigest` if it has no mark with the digest that is wanted.
+pub(crate) fn examine<D: Disk>(
+    alloc: Global,
+    version: Version,
+    disk: &mut D,
+    wanted: Option<Digest>,
+) -> Result<Found, LoggedError>
+    requires usable { IsTrue (D.Disk.is_usable disk.old) }
+    ensures found { IfOk result (λ found. IsTrue (D.Disk.is_clean disk.new) → Finds version wanted (D.Disk.seen disk.old) found) }
+    ensures cause { IfErr result (λ error. IsTrue (D.Disk.is_clean disk.new) → (header : List ℕ) (told : Option ℕ)
+        → IsCause version header told wanted (D.Disk.seen disk.old) error) }
+    ensures seen { D.Disk.seen disk.new ≡ D.Disk.seen disk.old }
+    ensures crash { (c : List ℕ) → D.Disk.may_leave disk.new c → D.Disk.may_leave disk.old c }
+    ensures usable { IsTrue (D.Disk.is_usable disk.new) }
+    ensures clean { IsTrue (D.Disk.is_clean disk.new) → IsTrue (D.Disk.is_clean disk.old) }
+{
+    match version {
+        Version::One => examine_unmarked(alloc, disk, wanted),
+        Version::Two => examine_marked(alloc, disk, wanted),
+    }
+}
+
+/// Reads a log without marks.
+fn examine_unmarked<D: Disk>(
+    alloc: Global,
+    disk: &mut D,
+    wanted: Option<Digest>,
+) -> Result<Found, LoggedError>
+    requires usable { IsTrue (D.Disk.is_usable disk.old) }
+    ensures found { IfOk result (λ found. IsTrue (D.Disk.is_clean disk.new) → Finds version.One wanted (D.Disk.seen disk.old) found) }
+    ensures cause { IfErr result (λ error. IsTrue (D.Disk.is_clean disk.new) → (header : List ℕ) (told : Option ℕ)
+        → IsCause version.One header told wanted (D.Disk.seen disk.old) error) }
+    ensures seen { D.Disk.seen disk.new ≡ D.Disk.seen disk.old }
+    ensures crash { (c : List ℕ) → D.Disk.may_leave disk.new c → D.Disk.may_leave disk.old c }
+    ensures usable { IsTrue (D.Disk.is_usable disk.new) }
+    ensures clean { IsTrue (D.Disk.is_clean disk.new) → IsTrue (D.Disk.is_clean disk.old) }
+{
+    if wanted.is_some() {
+        return Err(LoggedError::OtherDigest);
+    }
+    let extent = survey(alloc, disk)?;
+    Ok(Found {
+        extent,
+        marker: None,
+    })
+}
+
+/// Reads a log with marks, and verifies them.
+fn examine_marked<D: Disk>(
+    alloc: Global,
+    disk: &mut D,
+    wanted: Option<Digest>,
+) -> Result<Found, LoggedError>
+    requires usable { IsTrue (D.Disk.is_usable disk.old) }
+    ensures found { IfOk result (λ found. IsTrue (D.Disk.is_clean disk.new) → Finds version.Two wanted (D.Disk.seen disk.old) found) }
+    ensures cause { IfErr result (λ error. IsTrue (D.Disk.is_clean disk.new) → (header : List ℕ) (told : Option ℕ)
+        → IsCause version.Two header told wanted (D.Disk.seen disk.old) error) }
+    ensures seen { D.Disk.seen disk.new ≡ D.Disk.seen disk.old }
+    ensures crash { (c : List ℕ) → D.Disk.may_leave disk.new c → D.Disk.may_leave disk.old c }
+    ensures usable { IsTrue (D.Disk.is_usable disk.new) }
+    ensures clean { IsTrue (D.Disk.is_clean disk.new) → IsTrue (D.Disk.is_clean disk.old) }
+{
+    let verified = verify(alloc, disk, wanted)?;
+    if !verified.has_wanted {
+        return Err(LoggedError::OtherDigest);
+    }
+    let Verified { extent, marker, .. } = verified;
+    Ok(Found { extent, marker })
+}

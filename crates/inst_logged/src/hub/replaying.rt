@@ -1,0 +1,158 @@
+//! The lines of a log are answered again, piece by piece.
+ghost use Rattle.std.specs.Prelude.{◌≡◌, ◌≢◌, ◌<◌, [], List, ℕ, Some, length, IsTrue, IfOk, IfErr, OnOk};
+ghost use Rattle.inst_bytes.specs.Handing.{WritesPart};
+ghost use Rattle.inst_log.specs.Layout.{recovered, IsBatch};
+ghost use Rattle.inst_log.specs.Opening.{kept, Begins};
+ghost use Rattle.inst_log.specs.Pieces.{Starts};
+ghost use Rattle.inst_log.specs.inner.Serving.{TellsPart};
+ghost use Rattle.inst_chain.specs.Chain.{kept_said};
+ghost use Rattle.inst_lines.specs.Answering.{Past, Keeps};
+ghost use Rattle.inst_logged.specs.Answering.{told_of};
+ghost use Rattle.inst_logged.specs.Logged.{Are, owed};
+ghost use Rattle.inst_logged.specs.Refused.{IsRefused};
+ghost use Rattle.inst_logged.specs.declared.error.LoggedError.TheVariants.{Log, Changed};
+ghost use Rattle.inst_log.specs.declared.error.LogError.TheVariants.{Told};
+ghost use Rattle.inst_logged.specs.inner.Answering.{AnswersAgain, debt};
+ghost use Rattle.inst_logged.specs.inner.Replaying.{IsReplayed};
+
+use crate::{LineAnswers, LoggedError};
+use inst_log::{FileLines, LogError, Recorder, Start, deliver};
+use sqlite_disk::Disk;
+use std::alloc::Global;
+use std::io::Write;
+
+/// Answers the lines that a log has behind its first ones, none if the file is new, and hands out the replies but those to
+/// the first `told` lines, or none.
+///
+/// # Errors
+///
+/// `Told` if the log has fewer lines; then nothing was handed out.
+pub(crate) fn start_again<D: Disk, W: Write>(
+    alloc: Global,
+    recorder: &mut Recorder<D, LineAnswers>,
+    header: &[u8],
+    start: Start,
+    told: Option<u64>,
+    writer: &mut W,
+) -> Result<(), LoggedError>
+    requires usable { IsTrue (D.Disk.is_usable recorder.old.log.disk) }
+    requires header { IsBatch header.now }
+    requires starts { IsTrue (D.Disk.is_clean recorder.old.log.disk) → Starts header.now (D.Disk.seen recorder.old.log.disk) start }
+    ensures replayed { OnOk result (IsTrue (D.Disk.is_clean recorder.new.log.disk)
+        → IsReplayed recorder.old.answers.mode told recorder.old.answers.runner recorder.new.answers.runner
+        (kept header.now (D.Disk.seen recorder.old.log.disk)) (W.contents writer.old) (W.contents writer.new)) }
+    ensures part { IsTrue (D.Disk.is_clean recorder.new.log.disk)
+        → (past : Past) → Keeps recorder.old.answers.mode past recorder.old.answers.runner
+        → TellsPart (Are (owed recorder.old.answers.mode past (kept_said header.now (D.Disk.seen recorder.old.log.disk))
+        (told_of told (kept_said header.now (D.Disk.seen recorder.old.log.disk))))) []
+        (W.contents writer.old) (W.contents writer.new) }
+    ensures refused { IfErr result (λ error. IsRefused error → (error ≡ Log Told) × (writer.new ≡ writer.old)
+        × (IsTrue (D.Disk.is_clean recorder.new.log.disk) → length (kept_said header.now (D.Disk.seen recorder.old.log.disk))
+        < told_of told (kept_said header.now (D.Disk.seen recorder.old.log.disk)))) }
+    ensures unchanged { IfErr result (λ error. error ≢ Changed) }
+    ensures mode { recorder.new.answers.mode ≡ recorder.old.answers.mode }
+    ensures end { recorder.new.log.end ≡ recorder.old.log.end }
+    ensures seen { D.Disk.seen recorder.new.log.disk ≡ D.Disk.seen recorder.old.log.disk }
+    ensures crash { (c : List ℕ) → D.Disk.may_leave recorder.new.log.disk c → D.Disk.may_leave recorder.old.log.disk c }
+    ensures usable { IsTrue (D.Disk.is_usable recorder.new.log.disk) }
+    ensures clean { IsTrue (D.Disk.is_clean recorder.new.log.disk) → IsTrue (D.Disk.is_clean recorder.old.log.disk) }
+{
+    match start {
+        Start::Log => replay(alloc, recorder, header, told, writer),
+        Start::New(_) => require_none(told),
+    }
+}
+
+/// Answers the lines that a log has behind its first ones, and hands out the replies but those
+/// to the first `told` lines, or none.
+///
+/// # Errors
+///
+/// `Told` if the log has fewer lines; then nothing was handed out.
+fn replay<D: Disk, W: Write>(
+    alloc: Global,
+    recorder: &mut Recorder<D, LineAnswers>,
+    header: &[u8],
+    told: Option<u64>,
+    writer: &mut W,
+) -> Result<(), LoggedError>
+    requires usable { IsTrue (D.Disk.is_usable recorder.old.log.disk) }
+    requires header { IsBatch header.now }
+    requires begins { IsTrue (D.Disk.is_clean recorder.old.log.disk) → Begins header.now (D.Disk.seen recorder.old.log.disk) }
+    ensures replayed { OnOk result (IsTrue (D.Disk.is_clean recorder.new.log.disk)
+        → IsReplayed recorder.old.answers.mode told recorder.old.answers.runner recorder.new.answers.runner
+        (kept header.now (D.Disk.seen recorder.old.log.disk)) (W.contents writer.old) (W.contents writer.new)) }
+    ensures part { IsTrue (D.Disk.is_clean recorder.new.log.disk)
+        → (past : Past) → Keeps recorder.old.answers.mode past recorder.old.answers.runner
+        → TellsPart (Are (owed recorder.old.answers.mode past (kept_said header.now (D.Disk.seen recorder.old.log.disk))
+        (told_of told (kept_said header.now (D.Disk.seen recorder.old.log.disk))))) []
+        (W.contents writer.old) (W.contents writer.new) }
+    ensures refused { IfErr result (λ error. IsRefused error → (error ≡ Log Told) × (writer.new ≡ writer.old)
+        × (IsTrue (D.Disk.is_clean recorder.new.log.disk) → length (kept_said header.now (D.Disk.seen recorder.old.log.disk))
+        < told_of told (kept_said header.now (D.Disk.seen recorder.old.log.disk)))) }
+    ensures unchanged { IfErr result (λ error. error ≢ Changed) }
+    ensures mode { recorder.new.answers.mode ≡ recorder.old.answers.mode }
+    ensures end { recorder.new.log.end ≡ recorder.old.log.end }
+    ensures seen { D.Disk.seen recorder.new.log.disk ≡ D.Disk.seen recorder.old.log.disk }
+    ensures crash { (c : List ℕ) → D.Disk.may_leave recorder.new.log.disk c → D.Disk.may_leave recorder.old.log.disk c }
+    ensures usable { IsTrue (D.Disk.is_usable recorder.new.log.disk) }
+    ensures clean { IsTrue (D.Disk.is_clean recorder.new.log.disk) → IsTrue (D.Disk.is_clean recorder.old.log.disk) }
+{
+    let mut lines = FileLines::new(alloc, &mut recorder.log.disk, header.len() - 1)?;
+    let mut left = told;
+    while lines.has_more() {
+        let piece = lines.next(&mut recorder.log.disk)?;
+        left = answer_again(
+            &mut recorder.answers,
+            &mut recorder.out,
+            &piece,
+            left,
+            writer,
+        )?;
+    }
+    require_none(left)
+}
+
+/// No further lines have been told.
+fn require_none(left: Option<u64>) -> Result<(), LoggedError>
+    ensures none { OnOk result ((n : ℕ) → left ≡ Some n → n ≡ 0) }
+    ensures some { IfErr result (λ error. (error ≡ Log Told) × (n : ℕ) × (left ≡ Some n) × (0 < n)) }
+{
+    match left {
+        None | Some(0) => Ok(()),
+        Some(_) => Err(LoggedError::Log(LogError::Told)),
+    }
+}
+
+/// Answers lines of a log again. The replies to the first `told` lines, or to all, are dropped, and the others handed
+/// out. Returns how many further lines have been told.
+fn answer_again<W: Write>(
+    answers: &mut LineAnswers,
+    out: &mut Vec<u8>,
+    lines: &[u8],
+    told: Option<u64>,
+    writer: &mut W,
+) -> Result<Option<u64>, LoggedError>
+    ensures ok { IfOk result (λ left. AnswersAgain answers.old.mode told left answers.old.runner answers.new.runner
+        (recovered lines.now) (W.contents writer.old) (W.contents writer.new)) }
+    ensures untouched { IfOk result (λ left. (left ≡ Some 0 → ⊥) → writer.new ≡ writer.old) }
+    ensures part { (past : Past) → Keeps answers.old.mode past answers.old.runner
+        → WritesPart (W.contents writer.old) (W.contents writer.new) (debt answers.old.mode past told (recovered lines.now)) }
+    ensures unrefused { IfErr result (λ error. ¬ IsRefused error) }
+    ensures unchanged { IfErr result (λ error. error ≢ Changed) }
+    ensures mode { answers.new.mode ≡ answers.old.mode }
+{
+    out.clear();
+    let Some(count) = told else {
+        answers.answer_all(lines, out)?;
+        return Ok(None);
+    };
+    let (start, left) = answers.answer_first(lines, count, out)?;
+    if left > 0 {
+        return Ok(Some(left));
+    }
+    out.clear();
+    answers.answer_all(&lines[start..], out)?;
+    deliver(writer, out)?;
+    Ok(Some(0))
+}
