@@ -7,6 +7,7 @@ adapter.py replica HOST:PORT,HOST:PORT,.. NAME FOLDER PROGRAM WORDS.."""
 import json
 import os
 import queue
+import re
 import sys
 import threading
 import time
@@ -113,7 +114,8 @@ def replica(nodes, name, folder, *words):
     told = run([words[0], "log", log], capture_output=True, text=True)
     if told.returncode and "fault 21 NoLog" not in told.stderr:
         sys.exit(told.stderr.strip())
-    had = int((told.stdout.split() or [0])[-1]) - place["lines"]
+    found = re.search(r"^lines (\d+)$", told.stdout, re.M)
+    had = (int(found[1]) if found else 0) - place["lines"]
     hub = Popen([*words, "--log", log, "--told", str(place["lines"])], stdin=PIPE, stdout=PIPE)
 
     def answer(lines, channels):
