@@ -69,7 +69,7 @@ settings_kept : (mode : Mode) (past : Past) (runner : Runner) → Keeps mode pas
 settings_kept Run past runner of = of.settings_are
 settings_kept Play past runner of = of.settings_are
 
-text_of : (mode : Mode) (past : Past) (line : List ℕ) → compact_text (answer_data past.settings (any_line_answer mode past line)) ≡ reply_to (answering mode) past line
+pub text_of : (mode : Mode) (past : Past) (line : List ℕ) → compact_text (answer_data past.settings (any_line_answer mode past line)) ≡ reply_to (answering mode) past line
 unfolding answer_text too_long_text
 text_of mode past line =
     elim (is_too_long line) as (λ b. compact_text (answer_data past.settings (cond b (Reply (Refused LineTooLong)) (line_answer mode past line))) ≡ cond b too_long_text (answer_text past.settings (line_answer mode past line))) [

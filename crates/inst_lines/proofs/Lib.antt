@@ -6,5 +6,7 @@ pub mod SessionLemmas
 pub mod RunLemmas
 pub mod Writing
 pub mod AnsweringLemmas
+pub mod Fitting
 pub mod RunBehind
+pub mod Replying
 pub mod Checking

@@ -1,12 +1,25 @@
 -- The headline where lines are answered: the steps that the lines stood for, with what the model answers to them and the
--- histories that it makes of them, are a run like any other. That lines stand for these steps is this hub's own choice.
-use Rattle.std.specs.Prelude.{ℕ, List, [], reverse, if◌then◌else◌}
+-- histories that it makes of them, are a run like any other, and the replies to the lines are among its answers. That
+-- lines stand for these steps is this hub's own choice.
+use Rattle.std.specs.Prelude.{◌≡◌, ℕ, List, [], ◌∷◌, ◌++◌, length, reverse, slice_get, Some, Result, Ok, Err, if◌then◌else◌}
+use Rattle.inst_base.specs.declared.fault.Fault.{Fault}
+use Rattle.inst_base.specs.declared.fault.Fault.TheVariants.{LineTooLong}
+use Rattle.inst_bytes.specs.Newline.{newline}
 use Rattle.inst_settings.specs.Settings.{HubSettings, is_participant}
+use Rattle.inst_command.specs.declared.ask.Ask.{Ask as AskValue}
+use Rattle.inst_command.specs.declared.reply.Answer.{Answer}
+use Rattle.inst_command.specs.declared.reply.Answer.TheVariants.{Reply}
+use Rattle.inst_command.specs.declared.reply.Reply.TheVariants.{Refused}
+use Rattle.inst_command.specs.declared.step.Step.{Step}
+use Rattle.inst_command.specs.declared.step.Step.TheVariants.{Ask}
+use Rattle.inst_json.specs.Lines.{command_of_line, step_of_line}
 use Rattle.inst_model.specs.Hub.{history}
 use Rattle.inst_model.specs.Trace.{trace}
 use Rattle.inst_world.specs.Headline.{Run, run_of, KeepsTheHeadline}
-use Rattle.inst_lines.specs.Answers.{Answerer, state_after}
-use Rattle.inst_lines.specs.Answering.{Past, opened}
+use Rattle.inst_lines.specs.declared.mode.Mode.{Mode}
+use Rattle.inst_lines.specs.declared.mode.Mode.TheVariants as modes
+use Rattle.inst_lines.specs.Answers.{Answerer, is_too_long, state_after_line, state_after}
+use Rattle.inst_lines.specs.Answering.{Past, opened, answering, answer_text}
 
 -- the run of a hub that has gone through this
 abbrev pub run_through : Past → Run
@@ -21,3 +34,39 @@ run_of_lines a s lines = run_through (state_after a (opened s) lines)
 -- that run keeps the headline
 abbrev pub LinesKeepTheHeadline : Answerer Past → HubSettings → List (List ℕ) → Type 0
 LinesKeepTheHeadline a s lines = KeepsTheHeadline s (run_of_lines a s lines)
+
+-- an ask, as a step
+abbrev pub as_step : Result AskValue Fault → Result Step Fault
+as_step (Ok ask) = Ok (Ask ask)
+as_step (Err fault) = Err fault
+
+-- the step that a line stands for, or the fault by which it stands for none
+abbrev pub own_step : Mode → HubSettings → List ℕ → Result Step Fault
+own_step modes.Run s line = if is_too_long line then Err LineTooLong else as_step (command_of_line s line)
+own_step modes.Play s line = if is_too_long line then Err LineTooLong else step_of_line s line
+
+-- what the run answers to a line: its answer to the line's own step, which is the step at this index; or the refusal of a
+-- line that stands for no step
+abbrev pub IsAnswerTo : Run → ℕ → Result Step Fault → Answer → Type 0
+IsAnswerTo run index (Ok step) answer = (slice_get run.steps index ≡ Some step) × (slice_get run.answers index ≡ Some answer)
+IsAnswerTo run index (Err fault) answer = answer ≡ Reply (Refused fault)
+
+-- what the run answers to lines that come after this past, one answer for each line: the index of a line's own step is the
+-- number of steps before it, and what follows a line has no part in the answers
+abbrev pub AreAnswersTo : Mode → Past → Run → List (List ℕ) → List Answer → Type 0
+AreAnswersTo mode past run [] [] = Unit {0}
+AreAnswersTo mode past run (line ∷ lines) (answer ∷ answers) =
+    IsAnswerTo run (length past.steps) (own_step mode past.settings line) answer
+    × AreAnswersTo mode (state_after_line (answering mode) past line) run lines answers
+AreAnswersTo mode past run _ _ = ⊥
+
+-- the texts of answers, with a newline after each
+abbrev pub texts_of : HubSettings → List Answer → List ℕ
+texts_of s [] = []
+texts_of s (answer ∷ answers) = (answer_text s answer ++ newline ∷ []) ++ texts_of s answers
+
+-- the bytes are the texts of what the run answers to lines that come after this past
+pub record AreRepliesOf (run : Run) (mode : Mode) (past : Past) (lines : List (List ℕ)) (bytes : List ℕ) : Type 0 where
+  pub answers : List Answer
+  pub are_answers : AreAnswersTo mode past run lines answers
+  pub bytes_are : bytes ≡ texts_of past.settings answers

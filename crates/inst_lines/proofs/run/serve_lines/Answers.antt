@@ -3,7 +3,7 @@ use Rattle.inst_lines.specs.Answering.{answering, opened}
 use Rattle.inst_lines.specs.Lines.{lines_of}
 use Rattle.inst_lines.specs.Session.{FailsAfter}
 use Rattle.inst_lines.proofs.AnsweringLemmas.{keeps_opened}
-use Rattle.inst_lines.proofs.RunBehind.{kept_headline}
+use Rattle.inst_lines.proofs.RunBehind.{opened_keep}
 use Rattle.inst_lines.proofs.SessionLemmas.{err_passed}
 use Rattle.inst_lines.proofs.run.serve_lines.Goals as goal
 
@@ -39,5 +39,4 @@ returns-in_err-counts-clause-err g c =
     (c.in_err-counts.ensures.err (opened s) (keeps_opened s c.in_ok-runner.runner c.in_ok-runner.ensures.settings c.in_ok-runner.ensures.watches c.args.mode))
 
 pub returns-clause-headline : goal.returns-clause-headline
-returns-clause-headline g c = kept_headline (g.R.Read.remaining c.args.reader.now) lines_of c.args.mode c.args.settings.now c.answer_lines.new.runner
-    (c.in_ok-counts.ensures.runner (opened c.args.settings.now) (keeps_opened c.args.settings.now c.in_ok-runner.runner c.in_ok-runner.ensures.settings c.in_ok-runner.ensures.watches c.args.mode))
+returns-clause-headline g c = opened_keep c.args.mode c.args.settings.now (g.R.Read.remaining c.args.reader.now) lines_of

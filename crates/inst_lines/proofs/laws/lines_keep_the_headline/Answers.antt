@@ -1,0 +1,5 @@
+use Rattle.inst_lines.proofs.RunBehind.{lines_keep}
+use Rattle.inst_lines.proofs.laws.lines_keep_the_headline.Goals as goal
+
+pub returns : goal.returns
+returns c = lines_keep

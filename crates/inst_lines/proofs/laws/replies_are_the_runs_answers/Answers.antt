@@ -1,0 +1,5 @@
+use Rattle.inst_lines.proofs.Replying.{replies_are_answers}
+use Rattle.inst_lines.proofs.laws.replies_are_the_runs_answers.Goals as goal
+
+pub returns : goal.returns
+returns c = replies_are_answers
