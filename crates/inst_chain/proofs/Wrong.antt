@@ -5,7 +5,7 @@ use Rattle.inst_log.specs.Layout.{recovered, blocks, IsShut}
 use Rattle.inst_log.proofs.Lines.{parts, blocks-append}
 use Rattle.inst_chain.specs.Chain.{is_mark, mark_of, front_of, chained, HasNoMark, IsSealed, has_wanted}
 use Rattle.inst_chain.specs.Checking.{Digests, EndsMarked, Stands, IsWrongAt}
-use Rattle.std.specs.Prelude.{is_some, not}
+use Rattle.std.specs.Prelude.{is_some, not, MatchResult}
 use Rattle.inst_log.specs.Pieces.{IsReading, has_more}
 use Rattle.inst_log.specs.declared.file_lines.FileLines.{FileLines}
 use Rattle.inst_chain.specs.Verifying.{IsDamagedAfter, SealedBy, Unverified}
@@ -118,27 +118,29 @@ sealed_end file checker lines s all sealed shut =
     }
 
 -- damage that was found where a premise holds
-damaged_if : (file : List ℕ) (P : Type 0) (error : ChainError) → ((right : Prefix) × (error ≡ Damaged right)) → (P → Unverified file (Unit {0}) error) → Unverified file P error
-damaged_if file P (Log error) is found = absurd (cc is.1)
-damaged_if file P (Damaged at) is found = λ p. found p tt
+damaged_if : (file : List ℕ) (P failed : Type 0) (error : ChainError) → ((right : Prefix) × (error ≡ Damaged right)) → (P → Unverified file (Unit {0}) ⊥ error) → Unverified file P failed error
+damaged_if file P failed (Log error) is found = absurd (cc is.1)
+damaged_if file P failed (Damaged at) is found = λ p. found p tt
 
-pub damaged_err : {T : Type 0} (file : List ℕ) (P : Type 0) (r : Result T ChainError) → IfErr r (λ error. (right : Prefix) × (error ≡ Damaged right))
-    → (P → IfErr r (Unverified file (Unit {0}))) → IfErr r (Unverified file P)
-damaged_err file P (Ok v) is found = tt
-damaged_err file P (Err error) is found = damaged_if file P error is found
+pub damaged_err : {T : Type 0} (file : List ℕ) (calm P failed : Type 0) (r : Result T ChainError) → calm → IfErr r (λ error. (right : Prefix) × (error ≡ Damaged right))
+    → (P → IfErr r (Unverified file (Unit {0}) ⊥)) → MatchResult r (λ _. calm) (Unverified file P failed)
+damaged_err file calm P failed (Ok v) none is found = none
+damaged_err file calm P failed (Err error) none is found = damaged_if file P failed error is found
 
 -- the disk failed, or there was no memory
-any_cause : (failed no_memory : Type 0) (error : LogError) → HasCause failed no_memory ⊥ error → HasCause (Unit {0}) (Unit {0}) ⊥ error
-any_cause failed no_memory (log.Disk error) cause = tt
-any_cause failed no_memory log.Memory cause = tt
-any_cause failed no_memory log.Full cause = cause
-any_cause failed no_memory log.Write cause = cause
-any_cause failed no_memory log.Told cause = cause
-any_cause failed no_memory log.OtherSettings cause = cause
-any_cause failed no_memory log.NoLog cause = cause
+any_cause : (failed fails no_memory : Type 0) (error : LogError) → (failed → fails) → HasCause failed no_memory ⊥ error → HasCause fails (Unit {0}) ⊥ error
+any_cause failed fails no_memory (log.Disk error) so cause = so cause
+any_cause failed fails no_memory log.Memory so cause = tt
+any_cause failed fails no_memory log.Full so cause = cause
+any_cause failed fails no_memory log.Write so cause = cause
+any_cause failed fails no_memory log.Told so cause = cause
+any_cause failed fails no_memory log.OtherSettings so cause = cause
+any_cause failed fails no_memory log.NoLog so cause = cause
 
-pub log_failed : {T : Type 0} (file : List ℕ) (P failed no_memory : Type 0) (r : Result T ChainError) (f : LogError) → (x : ChainError) × (r ≡ Err x) × (x ≡ Log f) → HasCause failed no_memory ⊥ f → IfErr r (Unverified file P)
-log_failed file P failed no_memory r f p cause = subst (λ (q : _). IfErr q (Unverified file P)) (sym p.1) (subst (Unverified file P) (sym p.2) (any_cause failed no_memory f cause))
+pub log_failed : {T : Type 0} (file : List ℕ) (calm P failed fails no_memory : Type 0) (r : Result T ChainError) (f : LogError) → (x : ChainError) × (r ≡ Err x) × (x ≡ Log f) → (failed → P → fails)
+    → HasCause failed no_memory ⊥ f → MatchResult r (λ _. calm) (Unverified file P fails)
+log_failed file calm P failed fails no_memory r f p so cause =
+    subst (λ (q : _). MatchResult q (λ _. calm) (Unverified file P fails)) (sym p.1) (subst (Unverified file P fails) (sym p.2) (any_cause failed (P → fails) no_memory f so cause))
 
 -- no line has the digest that is asked for
 pub wanted_none : (wanted : Option Digest) (b : Bool) → is_some wanted ≡ not b → b ≡ has_wanted wanted []

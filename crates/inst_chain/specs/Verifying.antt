@@ -35,6 +35,6 @@ pub record IsDamagedAfter (file : List ℕ) (right : Prefix) : Type 0 where
   pub not_sealed : IsSealed file → ⊥
 
 -- why it was not: the disk failed, there was no memory, or it is damaged
-abbrev pub Unverified : List ℕ → Type 0 → ChainError → Type 0
-Unverified file clean (Log error) = HasCause (Unit {0}) (Unit {0}) ⊥ error
-Unverified file clean (Damaged right) = clean → IsDamagedAfter file right
+abbrev pub Unverified : List ℕ → Type 0 → Type 0 → ChainError → Type 0
+Unverified file clean failed (Log error) = HasCause (clean → failed) (Unit {0}) ⊥ error
+Unverified file clean failed (Damaged right) = clean → IsDamagedAfter file right

@@ -1,5 +1,6 @@
 //! The marks of a file are verified, and nothing of it is changed.
-ghost use Rattle.std.specs.Prelude.{◌≡◌, ◌++◌, List, ℕ, IsTrue, IfOk, IfErr, ⊤};
+ghost use Rattle.std.specs.Prelude.{◌≡◌, ◌++◌, List, ℕ, IsTrue, IfOk, IfErr, MatchResult, ⊤};
+ghost use Rattle.sqlite_disk.specs.Disk.{MoreFaults};
 ghost use Rattle.inst_log.specs.Layout.{recovered};
 ghost use Rattle.inst_chain.specs.Chain.{has_wanted};
 ghost use Rattle.inst_chain.specs.Verifying.{Finds, Unverified};
@@ -41,7 +42,8 @@ pub fn verify<D: Disk>(
     ensures found { IfOk result (λ verified. IsTrue (D.Disk.is_clean disk.new) → Finds (D.Disk.seen disk.old) verified) }
     ensures wanted { IfOk result (λ verified. IsTrue (D.Disk.is_clean disk.new)
         → verified.has_wanted ≡ has_wanted wanted (recovered (D.Disk.seen disk.old))) }
-    ensures damaged { IfErr result (λ error. Unverified (D.Disk.seen disk.old) (IsTrue (D.Disk.is_clean disk.new)) error) }
+    ensures cause { MatchResult result (λ _. D.Disk.faults disk.new ≡ D.Disk.faults disk.old)
+        (Unverified (D.Disk.seen disk.old) (IsTrue (D.Disk.is_clean disk.new)) (MoreFaults (D.Disk.faults disk.old) (D.Disk.faults disk.new))) }
     ensures seen { D.Disk.seen disk.new ≡ D.Disk.seen disk.old }
     ensures crash { (c : List ℕ) → D.Disk.may_leave disk.new c → D.Disk.may_leave disk.old c }
     ensures usable { IsTrue (D.Disk.is_usable disk.new) }
@@ -74,7 +76,7 @@ fn find_wanted(found: bool, lines: &[u8], wanted: Option<Digest>) -> bool
 fn end(lines: &FileLines, checker: Checker, has_wanted: bool) -> Result<Verified, ChainError>
     ensures found { IfOk result (λ verified. (file : List ℕ) → IsChecked file lines.now checker → Finds file verified) }
     ensures wanted { IfOk result (λ verified. verified.has_wanted ≡ has_wanted) }
-    ensures damaged { IfErr result (λ error. (file : List ℕ) → IsChecked file lines.now checker → Unverified file ⊤ error) }
+    ensures damaged { IfErr result (λ error. (file : List ℕ) → IsChecked file lines.now checker → Unverified file ⊤ ⊥ error) }
     ensures only { IfErr result (λ error. (right : Prefix) × (error ≡ Damaged right)) }
 {
     let extent = lines.extent();

@@ -1,5 +1,6 @@
 -- What an error of a call says of an error of its caller.
 use Rattle.std.proofs.Common.{◌≡◌, ◌⊎◌, inl, inr, ℕ, List, Result, Ok, Err, sym, subst, IfErr}
+use Rattle.std.specs.Prelude.{MatchResult}
 use Rattle.std.specs.Bool.{⊤}
 use Rattle.inst_log.specs.Log.{HasCause}
 use Rattle.inst_log.specs.Opening.{Unopened}
@@ -9,6 +10,20 @@ use Rattle.inst_log.specs.declared.error.LogError.TheVariants.{Disk, Memory, Ful
 
 pub err_passed : {T : Type 0} (P : LogError → Type 0) (r : Result T LogError) (f : LogError) → (x : LogError) × (r ≡ Err x) × (x ≡ f) → P f → IfErr r P
 err_passed P r f p h = subst (λ (q : _). IfErr q P) (sym p.1) (subst P (sym p.2) h)
+
+-- the disk failed where more is known
+cause_so : (failed fails : Type 0) (error : LogError) → (failed → fails) → HasCause failed ⊤ ⊥ error → HasCause fails ⊤ ⊥ error
+cause_so failed fails (Disk error) so cause = so cause
+cause_so failed fails Memory so cause = tt
+cause_so failed fails Full so cause = cause
+cause_so failed fails Write so cause = cause
+cause_so failed fails Told so cause = cause
+cause_so failed fails OtherSettings so cause = cause
+cause_so failed fails NoLog so cause = cause
+
+pub counts_passed : {T : Type 0} (calm failed fails : Type 0) (r : Result T LogError) (f : LogError) → (x : LogError) × (r ≡ Err x) × (x ≡ f) → (failed → fails) → HasCause failed ⊤ ⊥ f
+    → MatchResult r (λ _. calm) (HasCause fails ⊤ ⊥)
+counts_passed calm failed fails r f p so cause = subst (λ (q : _). MatchResult q (λ _. calm) (HasCause fails ⊤ ⊥)) (sym p.1) (cause_so failed fails p.0 so (subst (HasCause failed ⊤ ⊥) (sym p.2) cause))
 
 pub unopened : (settings file : List ℕ) (clean untouched failed fails : Type 0) (error : LogError) → (failed → fails) → HasCause failed ⊤ ⊥ error → Unopened settings file clean untouched fails error
 unopened settings file clean untouched failed fails (Disk error) so cause = so cause

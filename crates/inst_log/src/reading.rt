@@ -1,6 +1,7 @@
 //! The first lines of a file are read, and nothing of it is changed.
-ghost use Rattle.std.specs.Prelude.{◌≡◌, ◌≤◌, List, ℕ, length, take, IsTrue, IfOk, IfErr, ⊤};
+ghost use Rattle.std.specs.Prelude.{◌≡◌, ◌≤◌, List, ℕ, length, take, IsTrue, IfOk, MatchResult, ⊤};
 ghost use Rattle.inst_log.specs.Layout.{recovered, blocks};
+ghost use Rattle.sqlite_disk.specs.Disk.{MoreFaults};
 ghost use Rattle.inst_log.specs.Log.{HasCause};
 
 use crate::LogError;
@@ -17,7 +18,8 @@ pub fn read_lines<D: Disk>(alloc: Global, disk: &mut D, count: u64) -> Result<Ve
         → text.items ≡ blocks (take count (recovered (D.Disk.seen disk.old)))) }
     ensures seen { D.Disk.seen disk.new ≡ D.Disk.seen disk.old }
     ensures crash { (c : List ℕ) → D.Disk.may_leave disk.new c → D.Disk.may_leave disk.old c }
-    ensures cause { IfErr result (HasCause ⊤ ⊤ ⊥) }
+    ensures cause { MatchResult result (λ _. D.Disk.faults disk.new ≡ D.Disk.faults disk.old) (HasCause (IsTrue (D.Disk.is_clean disk.new)
+        → MoreFaults (D.Disk.faults disk.old) (D.Disk.faults disk.new)) ⊤ ⊥) }
     ensures usable { IsTrue (D.Disk.is_usable disk.new) }
     ensures clean { IsTrue (D.Disk.is_clean disk.new) → IsTrue (D.Disk.is_clean disk.old) }
 {

@@ -1,5 +1,6 @@
 //! How far the lines of a disk's file go.
-ghost use Rattle.std.specs.Prelude.{◌≡◌, List, ℕ, IsTrue, IfOk, IfErr, ⊤};
+ghost use Rattle.std.specs.Prelude.{◌≡◌, List, ℕ, IsTrue, IfOk, MatchResult, ⊤};
+ghost use Rattle.sqlite_disk.specs.Disk.{MoreFaults};
 ghost use Rattle.inst_log.specs.Log.{HasCause};
 ghost use Rattle.inst_log.specs.Pieces.{IsExtent};
 
@@ -16,7 +17,8 @@ pub fn survey<D: Disk>(alloc: Global, disk: &mut D) -> Result<Extent, LogError>
     ensures extent { IfOk result (λ extent. IsTrue (D.Disk.is_clean disk.new) → IsExtent (D.Disk.seen disk.old) extent) }
     ensures seen { D.Disk.seen disk.new ≡ D.Disk.seen disk.old }
     ensures crash { (c : List ℕ) → D.Disk.may_leave disk.new c → D.Disk.may_leave disk.old c }
-    ensures cause { IfErr result (HasCause ⊤ ⊤ ⊥) }
+    ensures cause { MatchResult result (λ _. D.Disk.faults disk.new ≡ D.Disk.faults disk.old) (HasCause (IsTrue (D.Disk.is_clean disk.new)
+        → MoreFaults (D.Disk.faults disk.old) (D.Disk.faults disk.new)) ⊤ ⊥) }
     ensures usable { IsTrue (D.Disk.is_usable disk.new) }
     ensures clean { IsTrue (D.Disk.is_clean disk.new) → IsTrue (D.Disk.is_clean disk.old) }
 {

@@ -1,11 +1,31 @@
 -- Why a log isn't taken.
-use Rattle.std.proofs.Common.{◌≡◌, refl, ℕ, List, Option, Result, Ok, Err, IfErr}
+use Rattle.std.proofs.Common.{◌≡◌, ◌<◌, inl, inr, refl, ℕ, List, [], length, Option, ap, subst, arith}
+use Rattle.inst_log.specs.Layout.{recovered}
+use Rattle.inst_log.specs.Opening.{Begins}
 use Rattle.inst_log.specs.declared.error.LogError.TheVariants.{Disk, Memory, Full, Write, Told, OtherSettings, NoLog}
 use Rattle.inst_logged.specs.declared.error.LoggedError.{LoggedError}
 use Rattle.inst_logged.specs.declared.error.LoggedError.TheVariants.{Log, Read, Books, Damaged, OtherDigest, Changed}
+use Rattle.inst_chain.specs.Verifying.{IsDamagedAfter}
 use Rattle.inst_chain.specs.declared.digest.Digest.{Digest}
+use Rattle.inst_chain.specs.declared.prefix.Prefix.{Prefix}
 use Rattle.inst_logged.specs.declared.version.Version.{Version}
-use Rattle.inst_logged.specs.Refused.{IsRefused, IsCause}
+use Rattle.inst_logged.specs.declared.version.Version.TheVariants.{Two}
+use Rattle.inst_logged.specs.Marking.{IsIntact}
+use Rattle.inst_logged.specs.Refused.{OpensAs, IsRefused, IsCause, IsTaken}
+
+no_line : (file : List ℕ) → 0 < length (recovered file) → recovered file ≡ [] → ⊥
+no_line file some none = omega (arith, some, ap length none)
+
+other_settings : (header file : List ℕ) → 0 < length (recovered file) → (Begins header file → ⊥) → OpensAs header file → ⊥
+other_settings header file some not (inl begins) = not begins
+other_settings header file some not (inr new) = no_line file some new.0
+
+not_intact : (file : List ℕ) (right : Prefix) → IsDamagedAfter file right → IsIntact Two file → ⊥
+not_intact file right d (inl none) = no_line file d.some none
+not_intact file right d (inr sealed) = d.not_sealed sealed
+
+pub damaged : (version : Version) (file : List ℕ) (right : Prefix) → version ≡ Two → IsDamagedAfter file right → IsIntact version file → ⊥
+damaged version file right two d intact = not_intact file right d (subst (λ (v : Version). IsIntact v file) two intact)
 
 -- an error that is neither a refusal nor a change by others has none of these causes
 pub cause_of_none : (version : Version) (header : List ℕ) (told : Option ℕ) (wanted : Option Digest) (file : List ℕ) (e : LoggedError) → (IsRefused e → ⊥) → (e ≡ Changed → ⊥) → IsCause version header told wanted file e
@@ -22,7 +42,18 @@ cause_of_none version header told wanted file (Damaged right) not alone = absurd
 cause_of_none version header told wanted file OtherDigest not alone = absurd (not tt)
 cause_of_none version header told wanted file Changed not alone = absurd (alone refl)
 
-pub causes_of_none : {T : Type 0} (version : Version) (header : List ℕ) (told : Option ℕ) (wanted : Option Digest) (file : List ℕ) (clean : Type 0) (r : Result T LoggedError) → IfErr r (λ e. IsRefused e → ⊥)
-    → IfErr r (λ e. clean → e ≡ Changed → ⊥) → IfErr r (λ e. clean → IsCause version header told wanted file e)
-causes_of_none version header told wanted file clean (Ok v) not alone = tt
-causes_of_none version header told wanted file clean (Err e) not alone = λ was. cause_of_none version header told wanted file e not (alone was)
+-- whatever cause a refusal has, the log isn't one that is taken
+pub not_taken : (version : Version) (header : List ℕ) (told : Option ℕ) (wanted : Option Digest) (file : List ℕ) (e : LoggedError) → IsRefused e → IsCause version header told wanted file e
+    → IsTaken version header told wanted file → ⊥
+not_taken version header told wanted file (Log OtherSettings) is why taken = other_settings header file why.0 why.1 taken.opens
+not_taken version header told wanted file (Log NoLog) is why taken = why.1 taken.opens
+not_taken version header told wanted file (Log Told) is why taken = omega (arith, why, taken.enough)
+not_taken version header told wanted file (Log (Disk error)) is why taken = is
+not_taken version header told wanted file (Log Memory) is why taken = is
+not_taken version header told wanted file (Log Full) is why taken = is
+not_taken version header told wanted file (Log Write) is why taken = is
+not_taken version header told wanted file Read is why taken = is
+not_taken version header told wanted file Books is why taken = why
+not_taken version header told wanted file (Damaged right) is why taken = damaged version file right why.0 why.1 taken.intact
+not_taken version header told wanted file OtherDigest is why taken = why taken.digest
+not_taken version header told wanted file Changed is why taken = is

@@ -1,5 +1,5 @@
 -- How far a hub with a log has come.
-use Rattle.std.proofs.Common.{◌≡◌, ⊎_elim, inl, inr, ℕ, ◌+◌, List, [], ◌++◌, map, Option, length, take, append_assoc, length-append, refl, sym, ◌∙◌, ap, subst, arith}
+use Rattle.std.proofs.Common.{◌≡◌, ⊎_elim, inl, inr, ℕ, ◌+◌, ◌≤◌, List, [], ◌++◌, map, Option, length, take, append_assoc, length-append, refl, sym, ◌∙◌, ap, subst, arith}
 use Rattle.std.proofs.Math.Seq.{take-append-add}
 use Rattle.std.proofs.lemmas.List.{append-nil, map-append}
 use Rattle.std.specs.Io.KnownBytes.{Consumes}
@@ -107,6 +107,15 @@ module _ {D : Type 0} (seen : D → List ℕ) (may_leave : D → List ℕ → Ty
             ∙ sym (map-append logged (lines_from [] h.bytes) (lines_from (rest_from [] h.bytes) read))
             ∙ ap (λ (ls : List (List ℕ)). map logged ls) (sym (lines_append [] h.bytes read)));
       }
+
+  pub come_longer : (clean clean' : Type 0) (mid new : Recorder D LineAnswers) (intake intake' : Intake) (left' left'' at after : Option (List ℕ)) (was : clean' → clean)
+      → (h : HasCome seen may_leave clean old mid intake left left' before at)
+      → (t : ServedOn seen may_leave clean' (λ lines. Turned (rest_from [] h.bytes) intake' lines left' left'') mid new at after)
+      → (n : ℕ) → n ≤ length h.bytes → n + 1 ≤ length (come_more clean clean' mid new intake intake' left' left'' at after was h t).bytes
+  unfolding come_more
+  come_longer clean clean' mid new intake intake' left' left'' at after was h t n few =
+      let longer : n + 1 ≤ length (h.bytes ++ t.came.read) = omega (arith, few, t.came.some, length-append h.bytes t.came.read) in
+      longer
 
   last_too : (bytes : List ℕ) (lines more : List (List ℕ)) → lines ≡ map logged (lines_from [] bytes) → more ≡ map logged (last_line (rest_from [] bytes))
       → lines ++ more ≡ map logged (lines_of bytes)

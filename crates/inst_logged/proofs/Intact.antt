@@ -1,6 +1,6 @@
 -- Marks that were right stay right while a log is opened and written to.
 use Rattle.std.proofs.Common.{◌≡◌, inl, inr, ℕ, ◌==◌, suc, true, false, List, [], ◌∷◌, ◌++◌, length, drop, Option, Some, None, Result, Ok, Err, refl, sym, ◌∙◌, ap, subst, arith}
-use Rattle.std.specs.Result.{OnOk}
+use Rattle.std.specs.Result.{IfErr, OnOk}
 use Rattle.std.proofs.lemmas.Bool.Decides.{nat_tests}
 use Rattle.std.proofs.lemmas.List.{append-nil, drop_all}
 use Rattle.inst_log.specs.Layout.{recovered, IsShut, EndsWell}
@@ -100,3 +100,7 @@ empty_of (x ∷ l) n is e = absurd (cc (sym (suc_not_zero (length l)) ∙ ap (λ
 pub on_ok_both : {T E : Type 0} (r : Result T E) (P Q : Type 0) → OnOk r P → OnOk r Q → OnOk r (P × Q)
 on_ok_both (Ok t) P Q p q = (p, q)
 on_ok_both (Err e) P Q p q = tt
+
+pub if_err_both : {T E : Type 0} (r : Result T E) (P Q : E → Type 0) → IfErr r P → IfErr r Q → IfErr r (λ e. P e × Q e)
+if_err_both (Ok t) P Q p q = tt
+if_err_both (Err e) P Q p q = (p, q)

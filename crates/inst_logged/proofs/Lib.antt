@@ -1,10 +1,14 @@
 mod Alike
 mod Answering
-mod Causes
+pub mod Behind
+pub mod Causes
 mod Coming
 mod Cutting
 mod Debt
+mod Enough
 mod Examined
+mod Failing
+mod FirstLine
 mod Intact
 mod Headings
 mod Opened

@@ -1,24 +1,62 @@
 -- A whole run of a hub with a log.
-use Rattle.std.proofs.Common.{◌≡◌, inl, ℕ, List, [], ◌++◌, Option, length, take, drop, append_assoc, length-append, take-append-drop, refl, sym, ◌∙◌, ap, subst, arith}
+use Rattle.std.proofs.Common.{◌≡◌, inl, inr, ℕ, List, [], ◌++◌, Option, length, take, drop, append_assoc, length-append, take-append-drop, refl, sym, ◌∙◌, ap, subst, arith}
 use Rattle.std.proofs.lemmas.List.{append-nil, take_at}
 use Rattle.std.specs.Io.KnownBytes.{Appends}
 use Rattle.inst_lines.specs.declared.mode.Mode.{Mode}
+use Rattle.inst_world.specs.Headline.{KeepsTheHeadline}
 use Rattle.inst_lines.specs.Answering.{Past}
+use Rattle.inst_lines.specs.Headline.{run_through}
 use Rattle.inst_bytes.proofs.Streams.{Consumes-keeps, Appends-append, Keeps-same}
 use Rattle.inst_log.specs.Layout.{recovered}
-use Rattle.inst_log.specs.Opening.{kept}
-use Rattle.inst_log.specs.Serving.{Replies, Tells, TellsKept, SaysOn}
+use Rattle.inst_log.specs.Opening.{kept, Begins, IsSameOrBegun}
+use Rattle.inst_log.specs.Serving.{Covers, Replies, Tells, TellsKept, SaysOn}
 use Rattle.inst_log.specs.inner.Serving.{TellsPart}
 use Rattle.inst_log.specs.declared.recorder.Recorder.{Recorder}
 use Rattle.inst_log.proofs.Serve.{run_kept}
+use Rattle.sqlite_disk.specs.declared.Disk.{Ghosts}
 use Rattle.inst_chain.specs.Chain.{said, kept_said}
+use Rattle.inst_chain.specs.declared.digest.Digest.{Digest}
 use Rattle.inst_chain.proofs.Said.{said-append}
-use Rattle.inst_logged.specs.Answering.{SaysLines, replies_at, told_of}
+use Rattle.inst_logged.specs.Answering.{SaysLines, replies_at, past_after, told_of}
 use Rattle.inst_logged.specs.Logged.{Are, owed, HasLogged, SurvivesACrash}
 use Rattle.inst_logged.specs.inner.Logged.{IsInput, CameIn, ServedOn, KeptOn}
+use Rattle.inst_logged.specs.Running.{StopsBy}
+use Rattle.inst_logged.specs.declared.error.LoggedError.{LoggedError}
+use Rattle.inst_logged.specs.declared.hub.LoggedHub.{LoggedHub}
 use Rattle.inst_logged.specs.declared.line_answers.LineAnswers.{LineAnswers}
 use Rattle.inst_logged.proofs.Answering.{said_said, replies_said}
 use Rattle.inst_logged.proofs.Debt.{kept_is}
+use Rattle.inst_logged.proofs.Failing.{failed_so}
+
+-- a file with the same lines begins with the same ones, and so does one that has the first ones alone
+begins_same : (header file c : List ℕ) → Begins header file → recovered c ≡ recovered file → Begins header c
+begins_same header file c begins same = subst (λ (ls : List (List ℕ)). ls ≡ recovered header ++ drop (length (recovered header)) ls) (sym same) begins
+
+begins_first : (header c : List ℕ) → recovered c ≡ recovered header → Begins header c
+begins_first header c same =
+    same ∙ sym (append-nil (recovered header)) ∙ ap (λ (ls : List (List ℕ)). recovered header ++ ls) (sym (kept_is header c [] (same ∙ sym (append-nil (recovered header)))))
+
+pub begins_still : (header file c : List ℕ) → Begins header file → IsSameOrBegun header file c → Begins header c
+begins_still header file c begins (inl same) = begins_same header file c begins same
+begins_still header file c begins (inr first) = begins_first header c first.1
+
+-- and one with further lines behind those of a log that was opened
+pub begins_behind : (says : Replies → Type 0) (header : List ℕ) (first here read : List (List ℕ)) (told : List ℕ) (c : List ℕ) → here ≡ recovered header ++ first
+    → Covers says here read told (recovered c) → Begins header c
+begins_behind says header first here read told c same k =
+    let all : recovered c ≡ recovered header ++ (first ++ take k.n read) =
+    k.lines ∙ ap (λ (ls : List (List ℕ)). ls ++ take k.n read) same ∙ append_assoc (recovered header) first (take k.n read) in
+    all ∙ ap (λ (ls : List (List ℕ)). recovered header ++ ls) (sym (kept_is header c (first ++ take k.n read) all))
+
+-- where less was still, and less is known of room, nothing else changes
+pub ends_still : {D : Type 0} (disks : Ghosts D) (told : Option ℕ) (wanted : Option Digest) (old new : LoggedHub D) (still still' no_room : Type 0) (e : LoggedError) → (still → still')
+    → StopsBy disks told wanted old new still ⊥ e → StopsBy disks told wanted old new still' no_room e
+ends_still disks told wanted old new still still' no_room e more x = record {
+  refused = λ r. let is = x.refused r in (more is.0, is.1);
+  begun = λ faith. elim (x.begun faith) [ inl is ↦ inl (more is.0, is.1) | inr taken ↦ inr taken ];
+  cause = x.cause;
+  failure = λ faith. failed_so _ _ ⊥ no_room _ _ e (λ is. is) (λ no. absurd no) (λ is. is) (x.failure faith);
+}
 
 module _ (mode : Mode) (past : Past) (header : List ℕ) (told : Option ℕ) (file : List ℕ) where
   -- the lines that were in the log, with marks among them and without
@@ -93,8 +131,9 @@ module _ (mode : Mode) (past : Past) (header : List ℕ) (told : Option ℕ) (fi
   -- all is answered
   pub logs_all : {D : Type 0} (seen : D → List ℕ) (may_leave : D → List ℕ → Type 0) (clean : Type 0) (old new : Recorder D LineAnswers) (left left' before at after : Option (List ℕ))
       → SaysOn (Are debt) [] (SaysLines old.answers.mode old.answers.runner) → Tells (Are debt) [] before at → recovered (seen old.log.disk) ≡ recovered header ++ first
-      → ServedOn seen may_leave clean (IsInput left left') old new at after → clean → HasLogged mode past header told file (seen new.log.disk) left left' before after
-  logs_all seen may_leave clean old new left left' before at after on tells same v is =
+      → ServedOn seen may_leave clean (IsInput left left') old new at after → clean → ((lines : List (List ℕ)) → KeepsTheHeadline past.settings (run_through (past_after mode past lines)))
+      → HasLogged mode past header told file (seen new.log.disk) left left' before after
+  logs_all seen may_leave clean old new left left' before at after on tells same v is headline =
       let (g, said_g, goes) = on debt (λ lines. refl) in
       let all : debt v.lines ≡ tells.told ++ v.tells.told =
       goes v.lines ∙ ap (λ (l : List ℕ). l ++ g v.lines) (tells.whole debt (λ lines. refl)) ∙ ap (λ (l : List ℕ). tells.told ++ l) (v.tells.whole g said_g) in
@@ -109,4 +148,5 @@ module _ (mode : Mode) (past : Past) (header : List ℕ) (told : Option ℕ) (fi
         lines = ap said behind ∙ said-append first v.lines ∙ ap (λ (ls : List (List ℕ)). kept_said header file ++ ls) v.came.lines_are;
         replies = subst (λ (l : List ℕ). Appends before after l) (sym all ∙ sym (debt_said v.lines) ∙ ap debt v.came.lines_are)
             (Appends-append before at after tells.told v.tells.told tells.handed v.tells.handed);
+        headline = headline (kept header (seen new.log.disk));
       }

@@ -1,11 +1,13 @@
 -- With which line a log begins: the settings of its hub, and what its lines stand for. This hub's own choice.
-use Rattle.std.specs.Prelude.{◌≡◌, ℕ, Bool, true, false, List, [], ◌∷◌, ◌++◌, length, Option, None, Some, codes, decimal, if◌then◌else◌}
+use Rattle.std.specs.Prelude.{◌≡◌, ◌⊎◌, ◌<◌, ◌^◌, ℕ, Bool, true, false, List, [], ◌∷◌, ◌++◌, length, Option, None, Some, codes, decimal, if◌then◌else◌}
 use Rattle.inst_settings.specs.Settings.{HubSettings}
 use Rattle.inst_settings.specs.Lawful.{AreOfAHub}
 use Rattle.inst_lines.specs.declared.mode.Mode.{Mode}
 use Rattle.inst_lines.specs.declared.mode.Mode.TheVariants.{Run, Play}
 use Rattle.inst_journal.specs.History.{History}
+use Rattle.inst_world.specs.NextOpening.{CanOpenFrom}
 use Rattle.inst_books.specs.Books.{all_events, books_text}
+use Rattle.inst_books.specs.Laws.{AreBooksOf}
 use Rattle.inst_log.specs.Layout.{recovered, blocks, at_rest}
 use Rattle.inst_log.specs.Escape.{raw_of}
 use Rattle.inst_chain.specs.Chain.{mark_of}
@@ -69,11 +71,28 @@ marked Two lines = lines ++ mark_of (blocks lines) ∷ []
 unfoldable pub header : Version → Mode → HubSettings → List ℕ
 header version mode s = at_rest (marked version (raw_of (header_line version mode s None) ∷ []))
 
+-- the lines of the books of these journals
+abbrev pub lines_of_books : HubSettings → List History → List (List ℕ)
+lines_of_books s journals = recovered (books_text s (all_events journals))
+
 -- the first batch of a log of a hub that opened again from these journals: its settings, and a line for each event of its
 -- books
 unfoldable pub header_from : Version → Mode → HubSettings → List History → List ℕ
 header_from version mode s journals =
-    let books = recovered (books_text s (all_events journals)) in at_rest (marked version (raw_of (header_line version mode s (Some (length books))) ∷ books))
+    let books = lines_of_books s journals in at_rest (marked version (raw_of (header_line version mode s (Some (length books))) ∷ books))
+
+-- A hub of these settings can open from the journals, and a log can have their books: each event has its form, and the
+-- lines fit in memory.
+pub record CanBeginFrom (s : HubSettings) (journals : List History) : Type 0 where
+  pub can : CanOpenFrom s journals
+  pub books : AreBooksOf s (all_events journals)
+  pub few : length (lines_of_books s journals) < 2 ^ 63
+
+-- The first lines of a log of a hub that can have these settings: it opened for the first time, or from journals.
+abbrev pub AreFirstLines : Version → Mode → HubSettings → List ℕ → Type 0
+AreFirstLines version mode s first =
+    (AreOfAHub s × (first ≡ header version mode s))
+    ⊎ ((journals : List History) × CanBeginFrom s journals × (first ≡ header_from version mode s journals))
 
 -- logs that begin alike are of hubs with the same settings, and their lines stand for the same
 abbrev pub HeadersTellTheirSettings : Type 0

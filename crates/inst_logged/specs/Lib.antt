@@ -2,10 +2,16 @@
 pub mod Answering
 pub mod LineAnswers
 pub mod Header
+pub mod Beginning
+pub mod Finding
 pub mod Input
 pub mod Intake
 pub mod Logged
 pub mod Marking
+pub mod NewHub
 pub mod Refused
+pub mod Running
+pub mod Closing
+pub mod Streams
 -- Only inner functions and proofs cite these.
 pub mod inner

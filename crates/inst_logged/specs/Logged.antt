@@ -7,16 +7,18 @@ use Rattle.inst_lines.specs.Lines.{lines_of, whole_lines_of}
 use Rattle.inst_settings.specs.Settings.{HubSettings}
 use Rattle.inst_journal.specs.History.{History}
 use Rattle.inst_world.specs.NextOpening.{CanOpenFrom}
+use Rattle.inst_world.specs.Headline.{KeepsTheHeadline}
 use Rattle.inst_lines.specs.Answering.{Past, opened}
+use Rattle.inst_lines.specs.Headline.{run_through}
 use Rattle.inst_log.specs.Layout.{IsBatch}
-use Rattle.inst_log.specs.Opening.{Begins}
+use Rattle.inst_log.specs.Opening.{kept, Begins}
 use Rattle.inst_log.specs.Serving.{Replies, TellsKept}
 use Rattle.inst_chain.specs.Chain.{kept_said}
 use Rattle.inst_chain.specs.declared.marker.Marker.{Marker}
 use Rattle.inst_logged.specs.declared.version.Version.{Version}
 use Rattle.inst_logged.specs.Marking.{BeginsBy}
 use Rattle.inst_logged.specs.Header.{header, header_from}
-use Rattle.inst_logged.specs.Answering.{replies_at, opened_from, told_of}
+use Rattle.inst_logged.specs.Answering.{replies_at, past_after, opened_from, told_of}
 use Rattle.inst_logged.specs.LineAnswers.{HasOpened}
 use Rattle.inst_logged.specs.Input.{logged}
 use Rattle.inst_logged.specs.Intake.{held}
@@ -53,6 +55,7 @@ AreLinesOf bytes left lines = (lines ≡ whole_lines_of bytes) ⊎ (IsAtEnd left
 
 -- All that the reader had left is in the log, behind the lines that were there, and what was owed was handed out. Lines are
 -- those without marks.
+-- headline: the run that all lines of the log stand for keeps it
 pub record HasLogged (mode : Mode) (past : Past) (header : List ℕ) (told : Option ℕ) (old new : List ℕ) (left left' before after : Option (List ℕ)) : Type 0 where
   pub bytes : List ℕ
   pub consumes : Consumes left left' bytes
@@ -60,6 +63,7 @@ pub record HasLogged (mode : Mode) (past : Past) (header : List ℕ) (told : Opt
   pub begins : Begins header new
   pub lines : kept_said header new ≡ kept_said header old ++ map logged (lines_of bytes)
   pub replies : Appends before after (owed mode past (kept_said header old) (told_of told (kept_said header old)) (map logged (lines_of bytes)))
+  pub headline : KeepsTheHeadline past.settings (run_through (past_after mode past (kept header new)))
 
 -- Some bytes were read. Each file that a crash may leave has the lines that were in the log and then a front of those
 -- read, none skipped and none in part, and all that was handed to the writer is a front of what is owed for these.

@@ -1,7 +1,11 @@
 pub mod Answering
+pub mod Beginning
+pub mod Books
 pub mod Errors
+pub mod Failing
 pub mod Finding
 pub mod Input
 pub mod Intake
 pub mod Logged
+pub mod Reopening
 pub mod Replaying

@@ -1,5 +1,18 @@
 //! What the first line of a log says, read again.
-ghost use Rattle.std.specs.Prelude.{◌≡◌, [], IfOk, Some, None};
+ghost use Rattle.std.specs.Prelude.{◌≡◌, ◌⊎◌, ◌<◌, ◌^◌, ◌++◌, [], ◌∷◌, List, ℕ, Option, Some, None, true, map, codes, IfOk, option_map, ok_or};
+ghost use Rattle.std.specs.List.{list_all};
+ghost use Rattle.serde_json.specs.Data.{string};
+ghost use Rattle.serde_json.specs.View.{view, items_view};
+ghost use Rattle.inst_base.specs.Text.{is_code};
+ghost use Rattle.inst_base.specs.declared.fault.Fault.TheVariants.{NotJson};
+ghost use Rattle.inst_settings.specs.Settings.{HubSettings};
+ghost use Rattle.inst_settings.specs.Lawful.{IsSettings, AreOfAHub, numbers_of};
+ghost use Rattle.inst_bytes.specs.Newline.{newline, NoNewline};
+ghost use Rattle.inst_json.specs.Replies.{items};
+ghost use Rattle.inst_json.specs.Lines.{json_of};
+ghost use Rattle.inst_logged.specs.Header.{mode_word};
+ghost use Rattle.inst_logged.specs.Beginning.{IsHeaderLine, beginning_with};
+ghost use Rattle.inst_logged.specs.inner.Beginning.{Says, SaysSettings, number_in, text_in, list_in, number_of};
 ghost use Rattle.inst_logged.specs.declared.version.Version.TheVariants.{Two};
 
 use crate::Version;
@@ -21,16 +34,28 @@ pub struct Beginning {
     pub books: Option<u64>,
 }
 
-/// What the first line of a log says, or nothing where no log begins so.
-pub fn read_beginning(alloc: Global, line: &[u8]) -> Result<Option<Beginning>, AllocError> {
-    match value_of(alloc, line)? {
+/// Returns what the first line of a log says, given with its newline or without, or `None` if no log begins so.
+pub fn read_beginning(alloc: Global, line: &[u8]) -> Result<Option<Beginning>, AllocError>
+    ensures { (version : Version) (mode : Mode) (s : HubSettings) (books : Option ℕ) → IsHeaderLine version mode s books line.now
+        → IfOk result (λ beginning. beginning ≡ Some (beginning_with mode s books)) }
+{
+    match value_of(alloc, without_newline(line))? {
         Some(value) => beginning_in(alloc, &value),
         None => Ok(None),
     }
 }
 
-/// The JSON of a line, or nothing where it is none.
-fn value_of(alloc: Global, line: &[u8]) -> Result<Option<Value>, AllocError> {
+/// Returns a line without its newline.
+fn without_newline(line: &[u8]) -> &[u8]
+    ensures { (text : List ℕ) → NoNewline text → (line.now ≡ text) ⊎ (line.now ≡ text ++ newline ∷ []) → result.now ≡ text }
+{
+    line.strip_suffix(b"\n").unwrap_or(line)
+}
+
+/// Returns the JSON value of a line, or `None` if the line is not JSON.
+fn value_of(alloc: Global, line: &[u8]) -> Result<Option<Value>, AllocError>
+    ensures { IfOk result (λ value. ok_or (option_map view value) NotJson ≡ json_of line.now) }
+{
     match Value::from_slice(alloc, line) {
         Ok(value) => Ok(Some(value)),
         Err(error) if error.is_memory() => Err(AllocError),
@@ -38,8 +63,11 @@ fn value_of(alloc: Global, line: &[u8]) -> Result<Option<Value>, AllocError> {
     }
 }
 
-/// What a first line says that is this JSON, or nothing where no log begins so.
-fn beginning_in(alloc: Global, value: &Value) -> Result<Option<Beginning>, AllocError> {
+/// Returns what a first line says that is this JSON, or `None` if no log begins so.
+fn beginning_in(alloc: Global, value: &Value) -> Result<Option<Beginning>, AllocError>
+    ensures { (version : Version) (mode : Mode) (s : HubSettings) (books : Option ℕ) → AreOfAHub s → Says version mode s books (view value.now)
+        → IfOk result (λ beginning. beginning ≡ Some (beginning_with mode s books)) }
+{
     let Some(mode) = mode_of(value) else {
         return Ok(None);
     };
@@ -54,7 +82,9 @@ fn beginning_in(alloc: Global, value: &Value) -> Result<Option<Beginning>, Alloc
     }
 }
 
-fn mode_of(value: &Value) -> Option<Mode> {
+fn mode_of(value: &Value) -> Option<Mode>
+    ensures { (mode : Mode) → text_in (codes "log") (view value.now) ≡ Some (mode_word mode) → result ≡ Some mode }
+{
     match value.get("log")?.as_str()? {
         "run" => Some(Mode::Run),
         "play" => Some(Mode::Play),
@@ -62,7 +92,9 @@ fn mode_of(value: &Value) -> Option<Mode> {
     }
 }
 
-fn settings_of(alloc: Global, value: &Value) -> Result<Option<Settings>, AllocError> {
+fn settings_of(alloc: Global, value: &Value) -> Result<Option<Settings>, AllocError>
+    ensures { (s : HubSettings) → AreOfAHub s → SaysSettings s (view value.now) → IfOk result (λ settings. settings ≡ Some s) }
+{
     let Some(numbers) = numbers_of(value) else {
         return Ok(None);
     };
@@ -72,14 +104,25 @@ fn settings_of(alloc: Global, value: &Value) -> Result<Option<Settings>, AllocEr
     Ok(Settings::check(codes, numbers).ok())
 }
 
-/// The codes of the participants.
-fn codes_of(alloc: Global, value: &Value) -> Result<Option<Vec<Code>>, AllocError> {
-    let Some(listed) = value.get("participants").and_then(Value::as_array) else {
-        return Ok(None);
-    };
+/// Returns the codes of the participants.
+fn codes_of(alloc: Global, value: &Value) -> Result<Option<Vec<Code>>, AllocError>
+    ensures { (listed : List (List ℕ)) → list_all is_code listed ≡ true → list_in (codes "participants") (view value.now) ≡ Some (items (map string listed))
+        → IfOk result (λ found. option_map (λ codes. codes.items) found ≡ Some listed) }
+{
+    match value.get("participants").and_then(Value::as_array) {
+        Some(listed) => codes_in(alloc, listed),
+        None => Ok(None),
+    }
+}
+
+/// Returns the codes that are listed, or `None` if one is no code.
+fn codes_in(alloc: Global, listed: &[Value]) -> Result<Option<Vec<Code>>, AllocError>
+    ensures { (named : List (List ℕ)) → list_all is_code named ≡ true → items_view listed.now ≡ items (map string named)
+        → IfOk result (λ found. option_map (λ codes. codes.items) found ≡ Some named) }
+{
     let mut codes = Vec::new(alloc);
-    for code in listed {
-        match code.as_str().and_then(|text| Code::new(text).ok()) {
+    for value in listed {
+        match code_of(value) {
             Some(code) => codes.push(code)?,
             None => return Ok(None),
         }
@@ -87,8 +130,17 @@ fn codes_of(alloc: Global, value: &Value) -> Result<Option<Vec<Code>>, AllocErro
     Ok(Some(codes))
 }
 
-/// The numbers among the settings.
-fn numbers_of(value: &Value) -> Option<Numbers> {
+/// Returns the code that a value is.
+fn code_of(value: &Value) -> Option<Code>
+    ensures { (code : List ℕ) → is_code code ≡ true → view value.now ≡ string code → result ≡ Some code }
+{
+    Code::new(value.as_str()?).ok()
+}
+
+/// Returns the numbers among the settings.
+fn numbers_of(value: &Value) -> Option<Numbers>
+    ensures { (s : HubSettings) → IsSettings s → SaysSettings s (view value.now) → result ≡ Some (numbers_of s) }
+{
     Some(Numbers {
         places: small(value, "places")?,
         fundings: small(value, "fundings")?,
@@ -100,34 +152,44 @@ fn numbers_of(value: &Value) -> Option<Numbers> {
     })
 }
 
-fn number(value: &Value, name: &str) -> Option<u64> {
+fn number(value: &Value, name: &str) -> Option<u64>
+    ensures { result ≡ number_in name.now (view value.now) }
+{
     value.get(name)?.as_u64()
 }
 
-fn small(value: &Value, name: &str) -> Option<u16> {
+fn small(value: &Value, name: &str) -> Option<u16>
+    ensures { (n : ℕ) → n < 2 ^ 16 → number_in name.now (view value.now) ≡ Some n → result ≡ Some n }
+{
     u16::try_from(number(value, name)?).ok()
 }
 
-fn medium(value: &Value, name: &str) -> Option<u32> {
+fn medium(value: &Value, name: &str) -> Option<u32>
+    ensures { (n : ℕ) → n < 2 ^ 32 → number_in name.now (view value.now) ≡ Some n → result ≡ Some n }
+{
     u32::try_from(number(value, name)?).ok()
 }
 
-/// Returns the version that a log's first line tells: the latest, unless it tells an earlier one. `None` if no log begins
-/// so: the line is JSON that has none of the members by which a log is known.
+/// Returns the version that a log's first line tells, given with its newline or without: the latest, unless it tells an
+/// earlier one. `None` if no log begins so: the line is JSON that has none of the members by which a log is known.
 pub fn version_of(alloc: Global, line: &[u8]) -> Result<Option<Version>, AllocError>
-    ensures { line.now ≡ [] → IfOk result (λ version. version ≡ Some Two) }
+    ensures none { line.now ≡ [] → IfOk result (λ version. version ≡ Some Two) }
+    ensures back { (version : Version) (mode : Mode) (s : HubSettings) (books : Option ℕ) → IsHeaderLine version mode s books line.now
+        → IfOk result (λ found. found ≡ Some version) }
 {
     if line.is_empty() {
         return Ok(Some(Version::Two));
     }
-    match value_of(alloc, line)? {
+    match value_of(alloc, without_newline(line))? {
         Some(value) => Ok(version_in(&value)),
         None => Ok(Some(Version::Two)),
     }
 }
 
-/// The version that a first line tells that is this JSON, or nothing if no log begins so.
-fn version_in(value: &Value) -> Option<Version> {
+/// Returns the version that a first line tells that is this JSON, or `None` if no log begins so.
+fn version_in(value: &Value) -> Option<Version>
+    ensures { (version : Version) → number_in (codes "version") (view value.now) ≡ Some (number_of version) → result ≡ Some version }
+{
     if value.get("log").is_none() && value.get("version").is_none() {
         return None;
     }
@@ -146,13 +208,14 @@ pub(crate) fn books_behind(
     settings: &Settings,
     first: &[u8],
 ) -> Result<Option<u64>, AllocError>
-    ensures { first.now ≡ [] → IfOk result (λ count. count ≡ None) }
+    ensures none { first.now ≡ [] → IfOk result (λ count. count ≡ None) }
+    ensures back { (books : Option ℕ) → IsHeaderLine version mode settings.now books first.now → IfOk result (λ count. count ≡ books) }
 {
     if first.is_empty() {
         return Ok(None);
     }
-    let line = &first[..first.len() - 1];
-    let Some(count) = books_of(alloc, line)? else {
+    let line = without_newline(first);
+    let Some(count) = books_of(alloc, first)? else {
         return Ok(None);
     };
     let expected = header_line(alloc, version, mode, settings, Some(count))?;
@@ -163,8 +226,11 @@ pub(crate) fn books_behind(
 }
 
 /// Returns how many lines of books a first line tells of.
-fn books_of(alloc: Global, line: &[u8]) -> Result<Option<u64>, AllocError> {
-    match value_of(alloc, line)? {
+fn books_of(alloc: Global, line: &[u8]) -> Result<Option<u64>, AllocError>
+    ensures { (version : Version) (mode : Mode) (s : HubSettings) (books : Option ℕ) → IsHeaderLine version mode s books line.now
+        → IfOk result (λ count. count ≡ books) }
+{
+    match value_of(alloc, without_newline(line))? {
         Some(value) => Ok(number(&value, "books")),
         None => Ok(None),
     }

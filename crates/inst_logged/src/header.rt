@@ -1,13 +1,14 @@
 //! The line with which a log begins.
 ghost use Rattle.std.specs.Prelude.{◌≡◌, ◌<◌, ◌++◌, ◌∷◌, length, [], true, false, nat_lt, IfOk, OnOk, string_bytes};
 ghost use Rattle.inst_settings.specs.Settings.{is_participant};
+ghost use Rattle.inst_settings.specs.Lawful.{IsSettings};
 ghost use Rattle.inst_command.specs.LineText.{code_numbered};
 ghost use Rattle.inst_log.specs.Layout.{recovered, at_rest, IsBatch, IsWhole};
 ghost use Rattle.inst_log.specs.Escape.{raw_of};
 ghost use Rattle.inst_world.specs.NextOpening.{CanOpenFrom};
 ghost use Rattle.inst_chain.specs.Chain.{HasNoMark};
 ghost use Rattle.inst_logged.specs.Marking.{BeginsBy};
-ghost use Rattle.inst_logged.specs.Header.{marked, header, header_from, header_line, books_field, field, mode_field, participants_field, mode_word, version_word, listed, comma_if, quoted};
+ghost use Rattle.inst_logged.specs.Header.{marked, header, header_from, CanBeginFrom, header_line, books_field, field, mode_field, participants_field, mode_word, version_word, listed, comma_if, quoted};
 
 use crate::Version;
 use inst_books::append_books;
@@ -55,6 +56,8 @@ pub fn first_batch_from(
     ensures batch { IfOk result (λ heading. IsBatch heading.batch.items) }
     ensures items { IfOk result (λ heading. heading.batch.items ≡ header_from version mode settings.now journals.now) }
     ensures marker { IfOk result (λ heading. BeginsBy version heading.batch.items heading.marker) }
+    // So a start finds the log again.
+    ensures again { IfOk result (λ _. IsSettings settings.now → CanBeginFrom settings.now journals.now) }
 {
     let mut books = Vec::new(alloc);
     append_books(settings, journals, &mut books)?;

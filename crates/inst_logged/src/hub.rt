@@ -1,48 +1,45 @@
 //! A hub with a log: its opening, and whole runs of lines.
-ghost use Rattle.std.specs.Prelude.{◌≡◌, ◌≢◌, ◌++◌, [], List, ℕ, length, IsTrue, IfOk, IfErr, OnOk, MatchBool};
+ghost use Rattle.std.specs.Prelude.{◌≡◌, ◌≤◌, ◌^◌, [], List, ℕ, length, IsTrue, IfOk, IfErr, OnOk, MatchBool};
 ghost use Rattle.std.specs.Io.KnownBytes.{IsAtEnd};
-ghost use Rattle.sqlite_disk.specs.Disk.{Only};
 ghost use Rattle.inst_bytes.specs.Newline.{NoNewline};
-ghost use Rattle.inst_log.specs.Layout.{recovered, IsBatch};
+ghost use Rattle.inst_log.specs.Layout.{recovered, blocks};
 ghost use Rattle.inst_log.specs.Log.{IsSettled};
-ghost use Rattle.inst_log.specs.Opening.{kept, Opens, OpensAlike};
 ghost use Rattle.inst_log.specs.inner.Serving.{TellsPart};
 ghost use Rattle.inst_chain.specs.Chain.{kept_said};
-ghost use Rattle.inst_lines.specs.Answering.{Past, Keeps, opened};
+ghost use Rattle.inst_lines.specs.Answering.{Past};
 ghost use Rattle.inst_world.specs.HasRun.{settings_of};
-ghost use Rattle.inst_world.specs.NextOpening.{CanOpenFrom};
-ghost use Rattle.inst_logged.specs.Header.{header, header_from};
 ghost use Rattle.inst_logged.specs.Input.{cut};
 ghost use Rattle.inst_logged.specs.Intake.{held};
-ghost use Rattle.inst_logged.specs.Answering.{SaysLines, opened_from, told_of};
-ghost use Rattle.inst_logged.specs.Marking.{BeginsBy, IsIntact, IsIntactBy};
-ghost use Rattle.inst_logged.specs.Refused.{IsTaken, IsRefused, IsCause};
-ghost use Rattle.inst_logged.specs.declared.error.LoggedError.TheVariants.{Changed};
-ghost use Rattle.inst_logged.specs.Logged.{Are, owed, IsUnbegun};
-ghost use Rattle.inst_logged.specs.Logged.{HasLogged, SurvivesACrash};
+ghost use Rattle.inst_logged.specs.Answering.{SaysLines, told_of};
+ghost use Rattle.inst_logged.specs.Marking.{IsIntact, IsIntactBy};
+ghost use Rattle.inst_logged.specs.Refused.{IsRefused};
+ghost use Rattle.inst_logged.specs.Running.{disk_of, file_of, StopsBy, HasGone, HasKeptFaith, HasNoRoom, IsKept, IsReady, RunsThrough, StaysAlike};
+ghost use Rattle.inst_logged.specs.Streams.{streams};
+ghost use Rattle.inst_logged.specs.Logged.{Are, owed};
+ghost use Rattle.inst_logged.specs.inner.Failing.{FailsBy};
 ghost use Rattle.inst_logged.specs.inner.Logged.{Turned, Ended, Came, IsInput, CameIn, ServedOn, KeptOn};
-ghost use Rattle.inst_logged.specs.inner.Replaying.{IsReplayed};
+ghost use Rattle.inst_logged.specs.inner.Reopening.{Reopens};
 
 mod closing;
 mod examining;
 mod finding;
 mod measuring;
+mod new_hub;
 mod replaying;
 
 use crate::intake::Intake;
 use crate::marking::mark_batch;
-use crate::{Heading, LineAnswers, LoggedError, Version, first_batch, first_batch_from};
+use crate::{LineAnswers, LoggedError, Version};
 use examining::{Found, examine};
 use inst_agenda::Runner;
 use inst_chain::{Digest, Marker};
-use inst_journal::Journal;
-use inst_lines::Mode;
 use inst_log::{Log, LogError, Recorder};
 use inst_settings::Settings;
 use measuring::{open_measured, serve_measured};
+pub use new_hub::NewHub;
 use replaying::start_again;
 use sqlite_disk::Disk;
-use std::alloc::{AllocError, Global};
+use std::alloc::Global;
 use std::io::{Read, Write};
 
 /// A hub in one thread that keeps each line before it hands out a byte of its reply.
@@ -61,88 +58,6 @@ pub struct LoggedHub<D: Disk> {
 }
 
 impl<D: Disk + Drop> LoggedHub<D> {
-    /// Returns a hub of these settings that has answered nothing, with the disk of its log of this version, of which
-    /// nothing is read yet. It has capacity for its slots and places.
-    pub fn new(
-        alloc: Global,
-        version: Version,
-        mode: Mode,
-        settings: &Settings,
-        disk: D,
-    ) -> Result<LoggedHub<D>, AllocError>
-        ensures unbegun { IfOk result (λ hub. IsUnbegun version hub.header.items hub.marker hub.intake) }
-        ensures header { IfOk result (λ hub. hub.header.items ≡ header version mode settings.now) }
-        ensures version { IfOk result (λ hub. hub.version ≡ version) }
-        ensures mode { IfOk result (λ hub. hub.recorder.answers.mode ≡ mode) }
-        ensures opened { IfOk result (λ hub. Keeps mode (opened settings.now) hub.recorder.answers.runner) }
-        ensures settings { IfOk result (λ hub. settings_of hub.recorder.answers.runner.world ≡ settings.now) }
-        ensures disk { IfOk result (λ hub. hub.recorder.log.disk ≡ disk) }
-    {
-        let intake = Intake::new(alloc)?;
-        let heading = first_batch(alloc, version, mode, settings)?;
-        let answers = LineAnswers::open(alloc, mode, settings)?;
-        Ok(LoggedHub::begin(alloc, answers, version, heading, intake, disk))
-    }
-
-    /// Returns a hub of these settings that opens again from these journals, one for each participant by number, of which
-    /// it has a copy, and has answered nothing, with the disk of its log of this version, of which nothing is read yet.
-    pub fn new_from(
-        alloc: Global,
-        version: Version,
-        mode: Mode,
-        settings: &Settings,
-        journals: &[Journal],
-        disk: D,
-    ) -> Result<LoggedHub<D>, AllocError>
-        requires journals { CanOpenFrom settings.now journals.now }
-        ensures unbegun { IfOk result (λ hub. IsUnbegun version hub.header.items hub.marker hub.intake) }
-        ensures header { IfOk result (λ hub. hub.header.items ≡ header_from version mode settings.now journals.now) }
-        ensures version { IfOk result (λ hub. hub.version ≡ version) }
-        ensures mode { IfOk result (λ hub. hub.recorder.answers.mode ≡ mode) }
-        ensures opened { IfOk result (λ hub. Keeps mode (opened_from settings.now journals.now) hub.recorder.answers.runner) }
-        ensures settings { IfOk result (λ hub. settings_of hub.recorder.answers.runner.world ≡ settings.now) }
-        ensures disk { IfOk result (λ hub. hub.recorder.log.disk ≡ disk) }
-    {
-        let intake = Intake::new(alloc)?;
-        let heading = first_batch_from(alloc, version, mode, settings, journals)?;
-        let answers = LineAnswers::open_from(alloc, mode, settings, journals)?;
-        Ok(LoggedHub::begin(alloc, answers, version, heading, intake, disk))
-    }
-
-    /// Returns a hub with this state and the first lines of its log.
-    fn begin(
-        alloc: Global,
-        answers: LineAnswers,
-        version: Version,
-        heading: Heading,
-        intake: Intake,
-        disk: D,
-    ) -> LoggedHub<D>
-        requires batch { IsBatch heading.batch.items }
-        requires begins { BeginsBy version heading.batch.items heading.marker }
-        requires intake { held intake ≡ [] }
-        ensures unbegun { IsUnbegun version result.header.items result.marker result.intake }
-        ensures header { result.header ≡ heading.batch }
-        ensures version { result.version ≡ version }
-        ensures answers { result.recorder.answers ≡ answers }
-        ensures disk { result.recorder.log.disk ≡ disk }
-    {
-        let Heading { batch, marker } = heading;
-        LoggedHub {
-            recorder: Recorder {
-                log: Log { disk, end: 0 },
-                answers,
-                out: Vec::new(alloc),
-            },
-            intake,
-            batch: Vec::new(alloc),
-            version,
-            header: batch,
-            marker,
-            size: 0,
-        }
-    }
-
     /// Returns the settings of the hub.
     pub fn settings(&self) -> &Settings
         ensures { result.now ≡ settings_of self.now.recorder.answers.runner.world }
@@ -150,24 +65,16 @@ impl<D: Disk + Drop> LoggedHub<D> {
         self.recorder.answers.runner.settings()
     }
 
-    /// Returns the hub without its log.
-    pub fn into_runner(self) -> Runner
-        ensures { result ≡ self.recorder.answers.runner }
+    /// Returns the hub without its log, and the disk of that.
+    pub fn into_parts(self) -> (Runner, D)
+        ensures runner { result.0 ≡ self.recorder.answers.runner }
+        ensures disk { result.1 ≡ self.recorder.log.disk }
     {
         let LoggedHub { recorder, .. } = self;
-        let Recorder { answers, .. } = recorder;
-        let LineAnswers { runner, .. } = answers;
-        runner
-    }
-
-    /// Returns the disk of its log.
-    pub fn into_disk(self) -> D
-        ensures { result ≡ self.recorder.log.disk }
-    {
-        let LoggedHub { recorder, .. } = self;
-        let Recorder { log, .. } = recorder;
+        let Recorder { log, answers, .. } = recorder;
         let Log { disk, .. } = log;
-        disk
+        let LineAnswers { runner, .. } = answers;
+        (runner, disk)
     }
 
     /// Opens the log, or makes it if the disk is empty, and answers its lines again. Of these replies the reader has those
@@ -188,44 +95,17 @@ impl<D: Disk + Drop> LoggedHub<D> {
         reader: &mut R,
         writer: &mut W,
     ) -> Result<(), LoggedError>
-        requires unbegun { IsUnbegun self.old.version self.old.header.items self.old.marker self.old.intake }
-        requires usable { IsTrue (D.Disk.is_usable self.old.recorder.log.disk) }
-        // After a restart, what is read is what is on the disk.
-        requires known { IsTrue (D.Disk.is_clean self.old.recorder.log.disk)
-            → Only (D.Disk.seen self.old.recorder.log.disk) (D.Disk.may_leave self.old.recorder.log.disk) }
-
-        ensures taken { OnOk result (IsTrue (D.Disk.is_clean self.new.recorder.log.disk)
-            → IsTaken self.old.version self.old.header.items told wanted (D.Disk.seen self.old.recorder.log.disk)) }
+        requires ready { IsReady D.Disk self.old }
         ensures end { OnOk result (IsAtEnd (R.remaining reader.new)) }
-        ensures logged { OnOk result (IsTrue (D.Disk.is_clean self.new.recorder.log.disk)
-            → (past : Past) → Keeps self.old.recorder.answers.mode past self.old.recorder.answers.runner
-            → HasLogged self.old.recorder.answers.mode past self.old.header.items told
-            (D.Disk.seen self.old.recorder.log.disk) (D.Disk.seen self.new.recorder.log.disk)
-            (R.remaining reader.old) (R.remaining reader.new) (W.contents writer.old) (W.contents writer.new)) }
-        ensures settled { OnOk result (IsTrue (D.Disk.is_clean self.new.recorder.log.disk)
-            → IsSettled D.Disk.seen D.Disk.may_leave self.new.recorder.log
-            × IsIntact self.old.version (D.Disk.seen self.new.recorder.log.disk)) }
-
-        // At `Ok` and at `Err`: whatever moment the machine stops at.
-        ensures any_moment { IsTrue (D.Disk.is_clean self.new.recorder.log.disk)
-            → (past : Past) → Keeps self.old.recorder.answers.mode past self.old.recorder.answers.runner
-            → SurvivesACrash self.old.recorder.answers.mode past self.old.header.items told
-            (D.Disk.seen self.old.recorder.log.disk) (D.Disk.may_leave self.new.recorder.log.disk)
-            (R.remaining reader.old) (R.remaining reader.new) (W.contents writer.old) (W.contents writer.new) }
-        ensures opens { IsTrue (D.Disk.is_clean self.new.recorder.log.disk)
-            → Opens self.old.header.items (D.Disk.seen self.old.recorder.log.disk)
-            → (c : List ℕ) → D.Disk.may_leave self.new.recorder.log.disk c → Opens self.old.header.items c }
-        // Where the disk leaves each byte of a write old or new, what a crash leaves of a log is never called damaged.
-        ensures intact { ((d : D) → IsTrue (D.Disk.is_mixing d)) → IsTrue (D.Disk.is_clean self.new.recorder.log.disk)
-            → IsIntact self.old.version (D.Disk.seen self.old.recorder.log.disk)
-            → (c : List ℕ) → D.Disk.may_leave self.new.recorder.log.disk c → IsIntact self.old.version c }
-        // A log that isn't taken: nothing was read and nothing handed out, and it is as it was.
-        ensures refused { IfErr result (λ error. IsRefused error → (reader.new ≡ reader.old) × (writer.new ≡ writer.old)
-            × (D.Disk.seen self.new.recorder.log.disk ≡ D.Disk.seen self.old.recorder.log.disk)
-            × ((c : List ℕ) → D.Disk.may_leave self.new.recorder.log.disk c → D.Disk.may_leave self.old.recorder.log.disk c)) }
-        ensures cause { IfErr result (λ error. IsTrue (D.Disk.is_clean self.new.recorder.log.disk)
-            → IsCause self.old.version self.old.header.items told wanted (D.Disk.seen self.old.recorder.log.disk) error) }
-        ensures clean { IsTrue (D.Disk.is_clean self.new.recorder.log.disk) → IsTrue (D.Disk.is_clean self.old.recorder.log.disk) }
+        ensures ok { OnOk result (HasKeptFaith D.Disk (disk_of self.new) → RunsThrough D.Disk told wanted self.old self.new
+            (streams R.Read W.Write reader.old reader.new writer.old writer.new)) }
+        // At `Ok` and at `Err`, whatever moment the machine stops at.
+        ensures any_moment { HasKeptFaith D.Disk (disk_of self.new) → IsKept D.Disk told self.old self.new
+            (streams R.Read W.Write reader.old reader.new writer.old writer.new) }
+        ensures err { IfErr result (StopsBy D.Disk told wanted self.old self.new
+            ((reader.new ≡ reader.old) × (writer.new ≡ writer.old))
+            (HasNoRoom D.Disk self.new (R.remaining reader.old) (R.remaining reader.new))) }
+        ensures clean { HasKeptFaith D.Disk (disk_of self.new) → HasKeptFaith D.Disk (disk_of self.old) }
     {
         self.reopen(alloc, told, wanted, writer)?;
         self.serve_all(reader, writer)
@@ -239,42 +119,18 @@ impl<D: Disk + Drop> LoggedHub<D> {
         wanted: Option<Digest>,
         writer: &mut W,
     ) -> Result<(), LoggedError>
-        requires unbegun { IsUnbegun self.old.version self.old.header.items self.old.marker self.old.intake }
-        requires usable { IsTrue (D.Disk.is_usable self.old.recorder.log.disk) }
-        requires known { IsTrue (D.Disk.is_clean self.old.recorder.log.disk)
-            → Only (D.Disk.seen self.old.recorder.log.disk) (D.Disk.may_leave self.old.recorder.log.disk) }
-        ensures taken { OnOk result (IsTrue (D.Disk.is_clean self.new.recorder.log.disk)
-            → IsTaken self.old.version self.old.header.items told wanted (D.Disk.seen self.old.recorder.log.disk)) }
-        ensures settled { OnOk result (IsTrue (D.Disk.is_clean self.new.recorder.log.disk)
-            → IsSettled D.Disk.seen D.Disk.may_leave self.new.recorder.log
-            × (recovered (D.Disk.seen self.new.recorder.log.disk)
-            ≡ recovered self.old.header.items ++ kept self.old.header.items (D.Disk.seen self.old.recorder.log.disk))
-            × IsIntactBy self.old.version (D.Disk.seen self.new.recorder.log.disk) self.new.marker) }
-        ensures any_moment { IsTrue (D.Disk.is_clean self.new.recorder.log.disk) → (c : List ℕ)
-            → D.Disk.may_leave self.new.recorder.log.disk c → OpensAlike self.old.header.items (D.Disk.seen self.old.recorder.log.disk) c }
-        ensures intact { ((d : D) → IsTrue (D.Disk.is_mixing d)) → IsTrue (D.Disk.is_clean self.new.recorder.log.disk)
-            → IsIntact self.old.version (D.Disk.seen self.old.recorder.log.disk)
-            → (c : List ℕ) → D.Disk.may_leave self.new.recorder.log.disk c → IsIntact self.old.version c }
-        ensures replayed { OnOk result (IsTrue (D.Disk.is_clean self.new.recorder.log.disk)
-            → IsReplayed self.old.recorder.answers.mode told self.old.recorder.answers.runner self.new.recorder.answers.runner
-            (kept self.old.header.items (D.Disk.seen self.old.recorder.log.disk)) (W.contents writer.old) (W.contents writer.new)) }
-        ensures part { IsTrue (D.Disk.is_clean self.new.recorder.log.disk)
-            → (past : Past) → Keeps self.old.recorder.answers.mode past self.old.recorder.answers.runner
-            → TellsPart (Are (owed self.old.recorder.answers.mode past
-            (kept_said self.old.header.items (D.Disk.seen self.old.recorder.log.disk))
-            (told_of told (kept_said self.old.header.items (D.Disk.seen self.old.recorder.log.disk))))) []
+        requires ready { IsReady D.Disk self.old }
+        ensures ok { OnOk result (IsTrue (D.Disk.is_usable (disk_of self.new)) × (HasKeptFaith D.Disk (disk_of self.new)
+            → Reopens D.Disk told wanted self.old self.new (W.contents writer.old) (W.contents writer.new))) }
+        ensures any_moment { HasKeptFaith D.Disk (disk_of self.new) → StaysAlike D.Disk self.old self.new }
+        ensures part { HasKeptFaith D.Disk (disk_of self.new) → (past : Past) → HasGone self.old past
+            → TellsPart (Are (owed self.old.recorder.answers.mode past (kept_said self.old.header.items (file_of D.Disk self.old))
+            (told_of told (kept_said self.old.header.items (file_of D.Disk self.old))))) []
             (W.contents writer.old) (W.contents writer.new) }
-        ensures refused { IfErr result (λ error. IsRefused error → (writer.new ≡ writer.old)
-            × (D.Disk.seen self.new.recorder.log.disk ≡ D.Disk.seen self.old.recorder.log.disk)
-            × ((c : List ℕ) → D.Disk.may_leave self.new.recorder.log.disk c → D.Disk.may_leave self.old.recorder.log.disk c)) }
-        ensures cause { IfErr result (λ error. IsTrue (D.Disk.is_clean self.new.recorder.log.disk)
-            → IsCause self.old.version self.old.header.items told wanted (D.Disk.seen self.old.recorder.log.disk) error) }
+        ensures err { IfErr result (StopsBy D.Disk told wanted self.old self.new (writer.new ≡ writer.old) ⊥) }
         ensures same { (self.new.intake ≡ self.old.intake) × (self.new.version ≡ self.old.version)
             × (self.new.recorder.answers.mode ≡ self.old.recorder.answers.mode) }
-        ensures size { OnOk result (IsTrue (D.Disk.is_clean self.new.recorder.log.disk)
-            → self.new.size ≡ length (D.Disk.seen self.new.recorder.log.disk)) }
-        ensures usable { OnOk result (IsTrue (D.Disk.is_usable self.new.recorder.log.disk)) }
-        ensures clean { IsTrue (D.Disk.is_clean self.new.recorder.log.disk) → IsTrue (D.Disk.is_clean self.old.recorder.log.disk) }
+        ensures clean { HasKeptFaith D.Disk (disk_of self.new) → HasKeptFaith D.Disk (disk_of self.old) }
     {
         let recorder = &mut self.recorder;
         let header = self.header.as_slice();
@@ -319,7 +175,9 @@ impl<D: Disk + Drop> LoggedHub<D> {
             → IsIntactBy self.old.version (D.Disk.seen self.new.recorder.log.disk) self.new.marker) }
         ensures end { OnOk result (IsAtEnd (R.remaining reader.new)) }
         ensures unrefused { IfErr result (λ error. ¬ IsRefused error) }
-        ensures unchanged { IfErr result (λ error. IsTrue (D.Disk.is_clean self.new.recorder.log.disk) → error ≢ Changed) }
+        ensures failure { FailsBy D.Disk self.old.recorder.log.disk self.new.recorder.log.disk
+            (HasNoRoom D.Disk self.new (R.remaining reader.old) (R.remaining reader.new))
+            (IsSettled D.Disk.seen D.Disk.may_leave self.new.recorder.log) result }
         ensures clean { IsTrue (D.Disk.is_clean self.new.recorder.log.disk) → IsTrue (D.Disk.is_clean self.old.recorder.log.disk) }
     {
         for _ in 0..u64::MAX {
@@ -366,7 +224,9 @@ impl<D: Disk + Drop> LoggedHub<D> {
         ensures usable { OnOk result (IsTrue (D.Disk.is_usable self.new.recorder.log.disk)) }
         ensures size { OnOk result (IsTrue (D.Disk.is_clean self.new.recorder.log.disk)
             → self.new.size ≡ length (D.Disk.seen self.new.recorder.log.disk)) }
-        ensures unchanged { IfErr result (λ error. IsTrue (D.Disk.is_clean self.new.recorder.log.disk) → error ≢ Changed) }
+        ensures failure { FailsBy D.Disk self.old.recorder.log.disk self.new.recorder.log.disk
+            (2 ^ 62 ≤ length (blocks (recovered (D.Disk.seen self.new.recorder.log.disk))))
+            (IsSettled D.Disk.seen D.Disk.may_leave self.new.recorder.log) result }
         ensures clean { IsTrue (D.Disk.is_clean self.new.recorder.log.disk) → IsTrue (D.Disk.is_clean self.old.recorder.log.disk) }
     {
         self.batch.clear();

@@ -1,5 +1,5 @@
 //! Bytes that were read, on their way into a log.
-ghost use Rattle.std.specs.Prelude.{◌≡◌, ◌≢◌, ◌+◌, ◌≤◌, ◌++◌, [], map, take, vec_len, List, ℕ, IfOk, IfErr, OnOk, OnErr, IsOkUnless, MatchBool};
+ghost use Rattle.std.specs.Prelude.{◌≡◌, ◌+◌, ◌≤◌, ◌++◌, [], map, take, vec_len, List, ℕ, IfOk, IfErr, OnOk, OnErr, IsOkUnless, MatchBool};
 ghost use Rattle.std.specs.Io.{ReadsAtMost};
 ghost use Rattle.std.specs.Io.KnownBytes.{Consumes, ReadConsumes};
 ghost use Rattle.inst_lines.specs.Limits.{buffer_bytes, most_line_bytes};
@@ -33,7 +33,7 @@ impl Intake {
     ghost use Rattle.inst_logged.specs.Intake.{held};
     ghost use Rattle.inst_logged.specs.inner.Intake.{TakesIn, TakesLast};
     ghost use Rattle.inst_logged.specs.Refused.{IsRefused};
-    ghost use Rattle.inst_logged.specs.declared.error.LoggedError.TheVariants.{Changed};
+    ghost use Rattle.inst_logged.specs.inner.Failing.{Fails};
 
     /// Nothing was read yet.
     pub(crate) fn new(alloc: Global) -> Result<Intake, AllocError>
@@ -60,7 +60,7 @@ impl Intake {
         ensures whole { OnOk result (IsWhole batch.new.items) }
         ensures plain { OnOk result (HasNoMark (recovered batch.old.items) → HasNoMark (recovered batch.new.items)) }
         ensures unrefused { IfErr result (λ error. ¬ IsRefused error) }
-        ensures unchanged { IfErr result (λ error. error ≢ Changed) }
+        ensures failure { IfErr result (Fails ⊥ ⊥ ⊥) }
     {
         let count = read_bytes(reader, &mut self.bytes[self.len..])?;
         if count == 0 {

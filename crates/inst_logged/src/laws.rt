@@ -4,6 +4,7 @@ ghost use Rattle.inst_lines.specs.declared.mode.Mode.{Mode};
 ghost use Rattle.inst_lines.specs.Answers.{output};
 ghost use Rattle.inst_lines.specs.Answering.{Past, answering};
 ghost use Rattle.inst_logged.specs.Header.{HeadersTellTheirSettings};
+ghost use Rattle.inst_logged.specs.Refused.{ARefusedLogIsNotTaken};
 ghost use Rattle.inst_logged.specs.Input.{logged};
 ghost use Rattle.inst_logged.specs.Answering.{replies_at};
 
@@ -15,4 +16,9 @@ pub fn lines_answer_alike()
 /// Two logs begin alike only where their hubs have the same settings and their lines stand for the same.
 pub fn headers_tell_their_settings()
     ensures { HeadersTellTheirSettings }
+{}
+
+/// No log that a hub refuses is one that it takes: a good log is never refused.
+pub fn a_refused_log_is_not_taken()
+    ensures { ARefusedLogIsNotTaken }
 {}

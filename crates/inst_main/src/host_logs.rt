@@ -1,15 +1,59 @@
 //! Logs in the files of the machine.
+ghost use Rattle.std.specs.Prelude.{◌≡◌, None, is_some, option_map, string_bytes, IfErr, IfOk};
+ghost use Rattle.inst_program.specs.Logs.{IsLogsError};
+ghost use Rattle.inst_main.specs.HostLogs.{IsNew, host_files, last_closed};
+
 use inst_faults::LogFault;
 use inst_program::{Logs, LogsError};
-use sqlite_disk::Files;
+use sqlite_disk::{Disk, Files};
 use sqlite_std_file::{FileFrom, OpenError, Unknown};
 use std::fs::{self, File};
 use std::io::{Error, ErrorKind};
 
-/// The files of the machine.
-#[derive(Clone, Copy)]
+/// A log that was closed.
+#[derive(Drop)]
+struct Closed<D: Disk> {
+    name: String,
+    log: D,
+}
+
+/// Returns `true` if a log of this name was closed.
+fn was_closed<D: Disk>(closed: &[Closed<D>], name: &str) -> bool
+    ensures { result ≡ is_some (last_closed closed.now name.now) }
+{
+    for one in closed {
+        if one.name.as_str() == name {
+            return true;
+        }
+    }
+    false
+}
+
+/// The files of the machine. It keeps each log that was closed, and with it the lock on its file: the file has what the
+/// disk of the log has.
+#[derive(Drop)]
 pub(crate) struct HostLogs<'a> {
-    pub(crate) rt: &'a HostRuntime,
+    rt: &'a HostRuntime,
+    /// The name of the log that is open.
+    out: Option<String>,
+    /// The logs that were closed, the last one first.
+    closed: Vec<Closed<FileFrom<Unknown>>>,
+    /// `false` once a file was read without its disk, the file of a closed log was missing, or a closed log wasn't kept.
+    is_known: bool,
+}
+
+impl<'a> HostLogs<'a> {
+    /// Returns the files of the machine. No log is open.
+    pub(crate) fn new(rt: &'a HostRuntime) -> HostLogs<'a>
+        ensures { result.out ≡ None }
+    {
+        HostLogs {
+            rt,
+            out: None,
+            closed: Vec::new(rt.alloc()),
+            is_known: true,
+        }
+    }
 }
 
 impl<'a> Logs for HostLogs<'a> {
@@ -17,35 +61,81 @@ impl<'a> Logs for HostLogs<'a> {
 
     type Reader = File;
 
-    // That the file which is opened is the one of that name is the machine's to say.
-    ghost is_named = { λ _ _ _. Unit {0} };
+    ghost files = { λ logs. host_files ⟦<FileFrom<Unknown> as Disk>⟧ logs.closed.items (option_map string_bytes logs.out) logs.is_known };
 
-    ghost reads = { λ _ _ _. Unit {0} };
+    ghost mixing = { λ logs mixes. mixes };
 
-    fn open(&self, path: &str) -> Result<FileFrom<Unknown>, LogsError> {
-        match sqlite_std_file::open(self.rt, path, Unknown) {
-            Ok(Files { log, db }) => {
-                drop(log);
-                Ok(db)
-            }
-            Err(OpenError::OutOfMemory) => Err(LogsError::Memory),
-            Err(OpenError::Busy) => Err(LogsError::Log(LogFault::LogInUse)),
-            Err(OpenError::HotJournal) => Err(LogsError::Log(LogFault::DiskFault)),
-            Err(OpenError::Io(error)) => Err(logs_error(&error)),
+    fn open(&mut self, path: &str) -> Result<FileFrom<Unknown>, LogsError> {
+        if was_closed(&self.closed, path) {
+            return Err(LogsError::Log(LogFault::LogInUse));
+        }
+        let Ok(name) = String::from_str(self.rt.alloc(), path) else {
+            return Err(LogsError::Memory);
+        };
+        let log = open_file(self.rt, path)?;
+        self.out = Some(name);
+        Ok(log)
+    }
+
+    fn close(&mut self, log: FileFrom<Unknown>) {
+        let Some(name) = self.out.take() else {
+            self.is_known = false;
+            return;
+        };
+        if self.closed.insert(0, Closed { name, log }).is_err() {
+            self.is_known = false;
         }
     }
 
-    fn read(&self, path: &str) -> Result<File, LogsError> {
-        File::open(self.rt, path).map_err(|error| read_error(&error))
+    fn read(&mut self, path: &str) -> Result<File, LogsError> {
+        match File::open(self.rt, path) {
+            Ok(file) => {
+                // No clause says what the file has.
+                self.is_known = false;
+                Ok(file)
+            }
+            Err(error) => {
+                if was_closed(&self.closed, path) {
+                    self.is_known = false;
+                }
+                Err(read_error(&error))
+            }
+        }
     }
 
-    fn has(&self, path: &str) -> Result<bool, LogsError> {
-        fs::exists(self.rt, path).map_err(|error| logs_error(&error))
+    fn has(&mut self, path: &str) -> Result<bool, LogsError> {
+        let there = match fs::exists(self.rt, path) {
+            Ok(there) => there,
+            Err(error) => return Err(logs_error(&error)),
+        };
+        if !there && was_closed(&self.closed, path) {
+            self.is_known = false;
+        }
+        Ok(there)
+    }
+}
+
+/// Opens the file at this path as a disk, for this program alone, and makes it if it isn't there.
+fn open_file(rt: &HostRuntime, path: &str) -> Result<FileFrom<Unknown>, LogsError>
+    ensures new { IfOk result (IsNew ⟦<FileFrom<Unknown> as Disk>⟧) }
+    ensures cause { IfErr result (IsLogsError (Unit {0}) ⊥) }
+{
+    match sqlite_std_file::open(rt, path, Unknown) {
+        Ok(Files { log, db }) => {
+            drop(log);
+            Ok(db)
+        }
+        Err(OpenError::OutOfMemory) => Err(LogsError::Memory),
+        Err(OpenError::Busy) => Err(LogsError::Log(LogFault::LogInUse)),
+        Err(OpenError::HotJournal) => Err(LogsError::Log(LogFault::DiskFault)),
+        Err(OpenError::Io(error)) => Err(logs_error(&error)),
     }
 }
 
 /// An allocation failed, or the disk did.
-fn logs_error(error: &Error) -> LogsError {
+fn logs_error(error: &Error) -> LogsError
+    ensures { IsLogsError ⊥ ⊥ result }
+{
     match error.kind() {
         ErrorKind::OutOfMemory => LogsError::Memory,
         _ => LogsError::Log(LogFault::DiskFault),
@@ -53,7 +143,9 @@ fn logs_error(error: &Error) -> LogsError {
 }
 
 /// The file isn't there, an allocation failed, or the disk did.
-fn read_error(error: &Error) -> LogsError {
+fn read_error(error: &Error) -> LogsError
+    ensures { IsLogsError ⊥ (Unit {0}) result }
+{
     match error.kind() {
         ErrorKind::NotFound => LogsError::Log(LogFault::NoLog),
         _ => logs_error(error),

@@ -19,10 +19,11 @@ fn main(rt: HostRuntime) -> ExitCode {
     };
     let mut reader = rt.stdin();
     let mut writer = rt.stdout();
+    let mut logs = HostLogs::new(&rt);
     let is_watched = errors.is_terminal();
     ExitCode::from(program(
         &rt,
-        &HostLogs { rt: &rt },
+        &mut logs,
         alloc,
         words,
         &mut reader,

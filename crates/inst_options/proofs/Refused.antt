@@ -10,9 +10,9 @@ use Rattle.inst_base.specs.declared.fault.Fault.TheVariants.{BadSettings}
 use Rattle.inst_settings.specs.Settings.{HubSettings, same_text}
 use Rattle.inst_settings.specs.Lawful.{IsSettings, are_different}
 use Rattle.inst_options.specs.CommandLine.{command_line}
-use Rattle.inst_options.specs.Options.{Chooses, DescribesALog, Gives, GivesNoneBelow, HasAHub, IsTask, SpeaksOfALog, Task}
+use Rattle.inst_options.specs.Options.{Chooses, Gives, GivesNoneBelow, HasAHub, IsTask, AreOfNoLog, Task}
 use Rattle.inst_options.specs.inner.Asking.{IsAsked, IsUnasked}
-use Rattle.inst_options.specs.inner.Options.{AreOfNoLog, AskForNone, ChooseNone, FitNoTask, GivesLog, IsWish}
+use Rattle.inst_options.specs.inner.Options.{AskForNone, ChooseNone, FitNoTask, GivesLog, IsWish}
 use Rattle.inst_options.specs.Options.Task.{Run, Play, Drill, Check}
 use Rattle.inst_options.specs.Asking.{AreChosen, AreUnfit, AreWhole, IsNoWish, IsRefusal, IsWished, GiveTheLog}
 use Rattle.inst_options.specs.declared.error.WordsError.{WordsError}
@@ -116,11 +116,6 @@ passed_more P Q (Ok x) fault is weaker q = tt
 passed_more P Q (Err e) fault is weaker (inl memory) = inl (is ∙ memory)
 passed_more P Q (Err e) fault is weaker (inr bad) = inr (is ∙ bad.0, weaker bad.1)
 
--- options that are of no log describe one
-pub of_a_log : (rows : List Row) → AreOfNoLog rows → DescribesALog rows
-of_a_log rows (inl bad) = inr (inl (bad.0, bad.1))
-of_a_log rows (inr none) = none.1
-
 -- options that choose no settings do so for each task
 pub none_of_all : (name : List ℕ) (rows : List Row) → HasAHub name → ChooseNone rows → AskForNone name rows
 none_of_all name rows hub none = (hub, λ task s is chosen good. none s chosen good.0)
@@ -152,9 +147,9 @@ no_openings name rows other drill none (Drill transfers openings) s is chosen go
 
 pub numberless : {A : Type 0} (name : List ℕ) (rows : List Row) (r : Result A Fault) (fault : Fault) → HasAHub name → same_text name (codes "play") ≡ false → same_text name (codes "drill") ≡ true →
     IsErrAnd r (λ e. e ≡ fault) → GivesNoneBelow (2 ^ 16) rows (codes "transfers") ⊎ GivesNoneBelow (2 ^ 8) rows (codes "openings") → fault ≡ BadSettings →
-    IfErr r (IsRefusal (AskForNone name rows ⊎ SpeaksOfALog name rows))
+    IfErr r (IsRefusal (AskForNone name rows ⊎ AreOfNoLog rows))
 numberless name rows r fault hub other drill is none bad =
-    passed_on (AskForNone name rows ⊎ SpeaksOfALog name rows) r fault is bad
+    passed_on (AskForNone name rows ⊎ AreOfNoLog rows) r fault is bad
     (inl (hub, ⊎_elim (no_transfers name rows other drill) (no_openings name rows other drill) none))
 
 -- words name one subcommand, and where it has a hub, they name none that has none
@@ -185,7 +180,7 @@ unfit words name rows whole at none = record {
 }
 
 pub unsettled : (words : List (List ℕ)) (name : List ℕ) (rows : List Row) (fault : Fault) → AreWhole words → subcommand_of command_line words ≡ Some (name, rows) →
-    IsRefusal (AskForNone name rows ⊎ SpeaksOfALog name rows) fault → IsNoWish words (error.Fault fault)
+    IsRefusal (AskForNone name rows ⊎ AreOfNoLog rows) fault → IsNoWish words (error.Fault fault)
 unsettled words name rows fault whole at (inl memory) = inl memory
 unsettled words name rows fault whole at (inr bad) =
     inr (bad.0, ⊎_elim (λ none. inl (unfit words name rows whole at none)) (λ speaks. inr (whole, (name, rows, at, speaks))) bad.1)

@@ -8,7 +8,7 @@ use Rattle.inst_base.specs.declared.fault.Fault.TheVariants.{BadSettings, Memory
 use Rattle.inst_settings.specs.Settings.{HubSettings, same_text}
 use Rattle.inst_settings.specs.Lawful.{AreOfAHub, IsSettings}
 use Rattle.inst_options.specs.CommandLine.{command_line}
-use Rattle.inst_options.specs.Options.{Chooses, GivesDigest, HasAHub, HasSmallNumbers, IsFlag, IsTask, IsText, NamesNoLog, NamesTheLog, SpeaksOfALog, Task}
+use Rattle.inst_options.specs.Options.{AreOfNoLog, Chooses, GivesDigest, HasAHub, HasSmallNumbers, IsFlag, IsTask, IsText, NamesNoLog, NamesTheLog, Task}
 use Rattle.inst_options.specs.Options.Task.{Run, Play, Drill, Check}
 use Rattle.inst_options.specs.declared.bad_option.BadOption.{BadOption}
 use Rattle.inst_options.specs.declared.error.WordsError.{WordsError}
@@ -42,12 +42,13 @@ abbrev pub AreChosen : List (List ℕ) → Task → HubSettings → Type 0
 AreChosen words task s = (name : List ℕ) × (rows : List Row) × (subcommand_of command_line words ≡ Some (name, rows))
     × IsTask name rows task × Chooses rows s
 
--- the words are a whole command line and speak of a log
-abbrev pub NameALog : List (List ℕ) → Type 0
-NameALog words = AreWhole words
-    × ((name : List ℕ) × (rows : List Row) × (subcommand_of command_line words ≡ Some (name, rows)) × SpeaksOfALog name rows)
+-- the words are a whole command line, and their options describe a log that they don't name, or give as its digest what is
+-- none
+abbrev pub NameABadLog : List (List ℕ) → Type 0
+NameABadLog words = AreWhole words
+    × ((name : List ℕ) × (rows : List Row) × (subcommand_of command_line words ≡ Some (name, rows)) × AreOfNoLog rows)
 
--- they name it by this file, and say that so many of its replies are there already, or not how many; whether it must be
+-- the options name a log by this file, and say that so many of its replies are there already, or not how many; whether it must be
 -- there, and which digest it must contain, if any
 abbrev pub NameTheLog : List (List ℕ) → List ℕ → Option ℕ → Bool → Option (List ℕ) → Type 0
 NameTheLog words path told resume digest = (name : List ℕ) × (rows : List Row) × (subcommand_of command_line words ≡ Some (name, rows))
@@ -114,5 +115,5 @@ IsGivenBy words bad = (name : List ℕ) × (rows : List Row) × (subcommand_of c
 -- they choose
 abbrev pub IsNoWish : List (List ℕ) → WordsError → Type 0
 IsNoWish words (error.Words e) = (kind_of e ≢ OutOfMemory) × IsAmong (kind_of e) (faults_of words)
-IsNoWish words (error.Option bad) = (AreUnfit words ⊎ NameALog words) × IsGivenBy words bad
-IsNoWish words (error.Fault fault) = IsRefusal (AreUnfit words ⊎ NameALog words) fault
+IsNoWish words (error.Option bad) = (AreUnfit words ⊎ NameABadLog words) × IsGivenBy words bad
+IsNoWish words (error.Fault fault) = IsRefusal (AreUnfit words ⊎ NameABadLog words) fault

@@ -39,10 +39,6 @@ IsFlag name rows flag =
     (one_of name rows ≡ Some (codes "true") → flag ≡ true)
     × (((one_of name rows ≡ None) ⊎ (one_of name rows ≡ Some (codes "false"))) → flag ≡ false)
 
--- the subcommand is `log` or `next`
-abbrev pub IsAboutLogs : List ℕ → Type 0
-IsAboutLogs name = (same_text name (codes "log") ≡ true) ⊎ (same_text name (codes "next") ≡ true)
-
 -- it has a hub: it is none of `log`, `next` and `explain`
 abbrev pub HasAHub : List ℕ → Type 0
 HasAHub name =
@@ -51,10 +47,6 @@ HasAHub name =
 -- an option says something of a log: how many replies are there, which digest it contains, or that it is there
 abbrev pub DescribesALog : List Row → Type 0
 DescribesALog rows = IsGiven (codes "told") rows ⊎ (IsGiven (codes "digest") rows ⊎ IsFlag (codes "resume") rows true)
-
--- it is `log` or `next`, or an option is of a log
-abbrev pub SpeaksOfALog : List ℕ → List Row → Type 0
-SpeaksOfALog name rows = IsAboutLogs name ⊎ (IsGiven (codes "log") rows ⊎ DescribesALog rows)
 
 -- the options say that so many replies are there already, or no number that a word can have
 abbrev pub GivesTold : List Row → Option ℕ → Type 0
@@ -90,6 +82,14 @@ NamesTheLog rows path told resume digest =
 -- they name none
 abbrev pub NamesNoLog : List Row → Type 0
 NamesNoLog rows = first_of (codes "log") rows ≡ None
+
+-- the text of the option is no digest
+abbrev pub GivesNoDigest : List Row → Type 0
+GivesNoDigest rows = (text : Text) × (first_of (codes "digest") rows ≡ Some text) × (is_digest text ≡ false)
+
+-- the options say something of a log, and name none, or what they give as its digest is none
+abbrev pub AreOfNoLog : List Row → Type 0
+AreOfNoLog rows = GivesNoDigest rows ⊎ (NamesNoLog rows × DescribesALog rows)
 
 -- the options give a drill's numbers
 abbrev pub IsDrill : List Row → ℕ → ℕ → Type 0

@@ -2,10 +2,10 @@
 ghost use Rattle.std.specs.Prelude.{◌≡◌, ◌^◌, ◌⊎◌, ◌↔◌, IfOk, IfErr, OnErr, IsOkUnless, Some, None, true};
 ghost use Rattle.std.specs.Prelude.{codes, option_map};
 ghost use Rattle.clap.specs.Words.{first_of, found_of, rows_of};
-ghost use Rattle.inst_options.specs.Options.{HasAHub, SpeaksOfALog, IsText};
+ghost use Rattle.inst_options.specs.Options.{AreOfNoLog, GivesNoDigest, HasAHub, IsText};
 ghost use Rattle.inst_options.specs.Options.{IsFlag, Gives, GivesNoneBelow, Chooses, IsDrill};
 ghost use Rattle.inst_options.specs.Options.{DescribesALog, GivesDigest, IsGiven, must_resume};
-ghost use Rattle.inst_options.specs.inner.Options.{AreOfNoLog, GivesLog, GivesNoDigest, IsWish};
+ghost use Rattle.inst_options.specs.inner.Options.{GivesLog, IsWish};
 ghost use Rattle.inst_options.specs.inner.Options.{ChooseNone, AskForNone};
 ghost use Rattle.inst_options.specs.Asking.{IsRefusal};
 ghost use Rattle.inst_settings.specs.Lawful.{IsSettings};
@@ -26,7 +26,7 @@ pub(crate) fn wish<'a>(
 ) -> Result<Wish<'a>, Fault>
     ensures wish { IfOk result (IsWish name.now (rows_of (found_of options.now))) }
     ensures fault { IfErr result (IsRefusal (AskForNone name.now (rows_of (found_of options.now))
-        ⊎ SpeaksOfALog name.now (rows_of (found_of options.now)))) }
+        ⊎ AreOfNoLog (rows_of (found_of options.now)))) }
 {
     if name == "log" {
         return Ok(Wish::Log(text_if_any(options, "file")));
@@ -49,7 +49,7 @@ fn hub_wish<'a>(alloc: Global, name: &str, options: &ArgMatches<'a>) -> Result<W
     requires hub { HasAHub name.now }
     ensures wish { IfOk result (IsWish name.now (rows_of (found_of options.now))) }
     ensures fault { IfErr result (IsRefusal (AskForNone name.now (rows_of (found_of options.now))
-        ⊎ SpeaksOfALog name.now (rows_of (found_of options.now)))) }
+        ⊎ AreOfNoLog (rows_of (found_of options.now)))) }
 {
     if name == "drill" {
         let (transfers, openings) = drill_options(options)?;

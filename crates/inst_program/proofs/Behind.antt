@@ -1,86 +1,316 @@
--- What a hub with a log that was opened by its name has answered, and what the log of the next opening begins with.
-use Rattle.std.proofs.Common.{◌≡◌, ◌++◌, [], ℕ, List, Option, None, Result, Ok, Err, is_ok, OnOk, inl, inr, refl, ap, sym, subst}
+-- What a hub leaves of the log on a disk that it gives back.
+use Rattle.std.proofs.Common.{◌≡◌, ◌∙◌, inl, inr, ◌<◌, length, ◌++◌, [], ◌∷◌, ◌||◌, ℕ, Bool, true, List, Option, None, Some, IsTrue, Vec, Result, Err, refl, ap, sym, subst}
+use Rattle.std.specs.Prelude.{bytes_eq}
+use Rattle.std.specs.Io.KnownBytes.{IsAtEnd}
+use Rattle.std.specs.declared.alloc.Global.{Global}
+use Rattle.sqlite_disk.specs.declared.Disk.{Ghosts}
 use Rattle.inst_settings.specs.Settings.{HubSettings}
+use Rattle.inst_journal.specs.History.{History}
+use Rattle.inst_world.specs.HasRun.{settings_of}
+use Rattle.inst_world.specs.NextOpening.{CanOpenFrom}
 use Rattle.inst_lines.specs.declared.mode.Mode.{Mode}
 use Rattle.inst_lines.specs.Answering.{Past, Keeps, opened}
 use Rattle.inst_log.specs.Layout.{recovered}
-use Rattle.inst_log.specs.Opening.{kept}
+use Rattle.inst_log.specs.Opening.{kept, Begins, IsSameOrBegun, OpensAlike}
+use Rattle.inst_chain.specs.Chain.{has_digest, mark_with}
 use Rattle.inst_chain.specs.declared.digest.Digest.{Digest}
 use Rattle.inst_logged.specs.declared.version.Version.{Version}
-use Rattle.inst_logged.specs.declared.version.Version.TheVariants.{Two}
-use Rattle.inst_logged.specs.Marking.{IsIntact}
-use Rattle.inst_journal.specs.History.{History}
+use Rattle.inst_logged.specs.declared.version.Version.TheVariants.{One, Two}
+use Rattle.inst_logged.specs.declared.error.LoggedError.{LoggedError}
+use Rattle.inst_logged.specs.declared.hub.LoggedHub.{LoggedHub}
+use Rattle.inst_logged.specs.declared.hub.new_hub.NewHub.{NewHub}
+use Rattle.inst_logged.specs.NewHub.{IsNewHub}
+use Rattle.inst_logged.specs.declared.line_answers.LineAnswers.{LineAnswers}
 use Rattle.inst_logged.specs.Answering.{opened_from, past_after, AreBooksAfter}
+use Rattle.inst_logged.specs.Closing.{ClosesWith, HaveOpeningsLeft}
 use Rattle.inst_logged.specs.Header.{header, header_from}
 use Rattle.inst_logged.specs.LineAnswers.{HasOpened}
-use Rattle.inst_logged.specs.Logged.{HasBegun, HasLogged}
-use Rattle.inst_logged.specs.Refused.{IsTaken}
-use Rattle.inst_logged.specs.declared.line_answers.LineAnswers.{LineAnswers}
-use Rattle.inst_program.specs.Keeping.{AnswersBehind, AsksFor, CarriesBooks, IsBeginning}
+use Rattle.inst_logged.specs.Marking.{IsIntact}
+use Rattle.inst_logged.specs.Logged.{HasBegun, HasLogged, SurvivesACrash}
+use Rattle.inst_logged.specs.Refused.{HasWanted, IsRefused, IsTaken}
+use Rattle.inst_logged.specs.Running.{disk_of, file_of, HasGone, HasKeptFaith, HasNoRoom, IsKept, IsLeft, OpensAgain, RunsThrough, StaysAlike, StopsBy}
+use Rattle.inst_logged.specs.Streams.{Streams}
+use Rattle.inst_program.specs.Files.{Change, IsAsItWas, change_on}
+use Rattle.inst_program.specs.Keeping.{AnswersAFront, AsksFor, CarriesBooks, HasNoOpeningLeft, IsBeginning, IsBegun, IsGoodFor, IsSafe, IsSpared, IsSparedLog, IsTakenFor, KeepsLines, KeptRun}
+use Rattle.inst_logged.specs.Finding.{Unrefused}
+use Rattle.inst_logged.proofs.Causes.{not_taken}
+use Rattle.inst_program.specs.inner.Ending.{IsUnkept}
+use Rattle.inst_program.specs.inner.Finding.{FindsGood, MayBeFound}
 
--- what is so where a call has a value is so once its error was turned into another
-pub on_ok_through : {A E F : Type 0} (r : Result A E) (q : Result A F) (P : Type 0) → is_ok q ≡ is_ok r → OnOk r P → OnOk q P
-on_ok_through r (Err e) P same has = tt
-on_ok_through (Ok x) (Ok y) P same has = has
-on_ok_through (Err e) (Ok y) P same has = absurd (cc (same))
+-- a disk that was only read
+module _ {D : Type 0} (disks : Ghosts D) where
+  pub left_as_it_was : (a b : D) → IsLeft disks a b → IsAsItWas (change_on disks a b)
+  left_as_it_was a b x = record { same = x.same; crash = x.crash }
 
-pub both_ok : {A E : Type 0} (r : Result A E) (P Q : Type 0) → OnOk r P → OnOk r Q → OnOk r (P × Q)
-both_ok (Ok x) P Q p q = (p, q)
-both_ok (Err e) P Q p q = tt
+  pub left_behind : (a b c : D) → IsLeft disks a b → IsLeft disks b c → IsLeft disks a c
+  left_behind a b c x y = record { same = y.same ∙ x.same; crash = λ file may. x.crash file (y.crash file may) }
 
+  pub left_equal : (a b : D) → b ≡ a → IsLeft disks a b
+  left_equal a b same = subst (λ (d : D). IsLeft disks a d) (sym same) (record { same = refl; crash = λ file may. may })
+
+-- what has the digest that is asked for has it, whichever digest has its text
+has_same : (d e : Digest) → d.text ≡ e.text → (lines : List (List ℕ)) → has_digest d lines ≡ has_digest e lines
+has_same d e same [] = refl
+has_same d e same (line ∷ lines) =
+    ap (λ (t : List ℕ). bytes_eq line (mark_with t) || has_digest d lines) same
+    ∙ ap (λ (b : Bool). bytes_eq line (mark_with e.text) || b) (has_same d e same lines)
+
+wanted_so : (version : Version) (file : List ℕ) (d e : Digest) → d.text ≡ e.text → HasWanted version (Some d) file → HasWanted version (Some e) file
+wanted_so One file d e same has = absurd (cc has)
+wanted_so Two file d e same has = sym (has_same d e same (recovered file)) ∙ has
+
+pub wanted_same : (digest : Option (List ℕ)) (w v : Option Digest) → AsksFor digest w → AsksFor digest v → (version : Version) (file : List ℕ) → HasWanted version w file → HasWanted version v file
+wanted_same None w v is same version file has = subst (λ (o : Option Digest). HasWanted version o file) (is ∙ sym same) has
+wanted_same (Some text) w v (d, is, is_text) (e, same, so) version file has =
+    subst (λ (o : Option Digest). HasWanted version o file) (sym same)
+    (wanted_so version file d e (is_text ∙ sym so) (subst (λ (o : Option Digest). HasWanted version o file) is has))
+
+pub taken_same : (digest : Option (List ℕ)) (w v : Option Digest) → AsksFor digest w → AsksFor digest v → (version : Version) (first : List ℕ) (told : Option ℕ) (file : List ℕ)
+    → IsTaken version first told w file → IsTaken version first told v file
+taken_same digest w v is same version first told file taken =
+    record { intact = taken.intact; opens = taken.opens; enough = taken.enough; digest = wanted_same digest w v is same version file taken.digest }
+
+-- a good log may be found
+pub may_be_found : (run : KeptRun) (file : List ℕ) (good : IsGoodFor run file) → MayBeFound run.mode run.settings run.resume file good.version good.first
+may_be_found run file good = record { lines = good.lines; fresh = good.fresh; there = good.there; opens = good.taken.opens }
+
+pub unrefused_at : {V : Type 0} (P : V → Type 0) (r : Result V LoggedError) (e : LoggedError) → Unrefused P r → r ≡ Err e → ¬ (IsRefused e)
+unrefused_at P r e is failed = subst (Unrefused P) failed is
+
+-- a hub began so
 begun : (version : Version) (mode : Mode) (s : HubSettings) (first : List ℕ) (answers : LineAnswers) → HasBegun version mode s first answers →
     (past : Past) × IsBeginning version mode s past first × HasOpened mode past answers
 begun version mode s first answers (inl (has, is)) = (opened s, inl (refl, is), has)
 begun version mode s first answers (inr (journals, can, has, is)) = (opened_from s journals, inr (journals, can, refl, is), has)
 
-module _ (version : Version) (mode : Mode) (s : HubSettings) (first : List ℕ) (answers : LineAnswers) (has : HasBegun version mode s first answers) where
-  -- it has gone through this
+-- It was found by its log, on a disk that was only read, and then it has the disk: `hub` before a run and `after` behind it,
+-- when only reads followed.
+module _ {D : Type 0} (disks : Ghosts D) (run : KeptRun) (hub after : LoggedHub D) (disk disk' : D)
+    (has : HasBegun hub.version run.mode run.settings hub.header.items hub.recorder.answers)
+    (left : IsLeft disks disk (disk_of hub)) (left' : IsLeft disks (disk_of after) disk') where
   abbrev went : Past
-  went = (begun version mode s first answers has).0
+  went = (begun hub.version run.mode run.settings hub.header.items hub.recorder.answers has).0
 
-  of_mode : answers.mode ≡ mode
-  of_mode = (begun version mode s first answers has).2.mode_is
+  of_mode : hub.recorder.answers.mode ≡ run.mode
+  of_mode = (begun hub.version run.mode run.settings hub.header.items hub.recorder.answers has).2.mode_is
 
-  keeps : Keeps answers.mode went answers.runner
-  keeps = subst (λ (m : Mode). Keeps m went answers.runner) (sym of_mode) (begun version mode s first answers has).2.keeps
+  has_gone : HasGone hub went
+  has_gone = subst (λ (m : Mode). Keeps m went hub.recorder.answers.runner) (sym of_mode) (begun hub.version run.mode run.settings hub.header.items hub.recorder.answers has).2.keeps
 
-  -- all lines
-  pub answers_behind : (told : Option ℕ) (digest : Option (List ℕ)) (wanted : Option Digest) → AsksFor digest wanted → (file file' : List ℕ) (left left' held held' : Option (List ℕ))
-      → (recovered file ≡ [] → (version ≡ Two) × (first ≡ header Two mode s)) → IsTaken version first told wanted file → IsIntact version file'
-      → ((past : Past) → Keeps answers.mode past answers.runner → HasLogged answers.mode past first told file file' left left' held held')
-      → AnswersBehind mode s told digest file file' left left' held held'
-  answers_behind told digest wanted asked file file' left left' held held' fresh taken intact has_logged = record {
-    version = version;
-    past = went;
-    first = first;
-    begins = (begun version mode s first answers has).1;
+  abbrev Fresh : Type 0
+  Fresh = recovered (disks.seen disk) ≡ [] → (hub.version ≡ Two) × (hub.header.items ≡ header Two run.mode run.settings)
+
+  abbrev There : Type 0
+  There = run.resume ≡ true → 0 < length (recovered (disks.seen disk))
+
+  taken_for : (wanted : Option Digest) → AsksFor run.digest wanted → Fresh → There → IsTaken hub.version hub.header.items run.told wanted (file_of disks hub)
+      → IsTakenFor run (disks.seen disk) hub.version went hub.header.items
+  taken_for wanted asked fresh there taken = record {
+    begins = (begun hub.version run.mode run.settings hub.header.items hub.recorder.answers has).1;
     fresh = fresh;
+    there = there;
     wanted = wanted;
     asked = asked;
-    taken = taken;
-    intact = intact;
-    logged = subst (λ (m : Mode). HasLogged m went first told file file' left left' held held') of_mode (has_logged went keeps);
+    taken = subst (IsTaken hub.version hub.header.items run.told wanted) left.same taken;
   }
 
-  -- the books behind its lines
-  pub carries_books : (digest : Option (List ℕ)) (wanted : Option Digest) → AsksFor digest wanted → (file file' : List ℕ) (journals : List History) (t : HubSettings)
-      → IsTaken version first None wanted file → recovered file' ≡ recovered first ++ kept first file
-      → ((past : Past) → Keeps answers.mode past answers.runner → AreBooksAfter answers.mode past (kept first file) journals)
-      → ((past : Past) → Keeps answers.mode past answers.runner → t ≡ (past_after answers.mode past (kept first file)).settings)
-      → CarriesBooks digest file file' (header_from Two mode t journals)
-  carries_books digest wanted asked file file' journals t taken stays books settings = record {
-    version = version;
+  module _ (wanted : Option Digest) (asked : AsksFor run.digest wanted) (fresh : HasKeptFaith disks (disk_of hub) → Fresh) (there : HasKeptFaith disks (disk_of hub) → There)
+      (faithful : HasKeptFaith disks (disk_of after) → HasKeptFaith disks (disk_of hub)) (faithful' : HasKeptFaith disks disk' → HasKeptFaith disks (disk_of after)) (t : Streams) where
+    pub keeps_lines : IsAtEnd t.left' → (HasKeptFaith disks (disk_of after) → RunsThrough disks run.told wanted hub after t)
+        → KeepsLines run t (HasKeptFaith disks disk') (change_on disks disk disk')
+    keeps_lines at_end ran = record {
+      at_end = at_end;
+      answers = λ is.
+          let r = ran (faithful' is) in
+          let was = faithful (faithful' is) in
+          let logged = subst (λ (m : Mode). HasLogged m went hub.header.items run.told (file_of disks hub) (file_of disks after) t.left t.left' t.held t.held') of_mode (r.logged went has_gone) in
+          let logged' = subst (λ (file : List ℕ). HasLogged run.mode went hub.header.items run.told file (file_of disks after) t.left t.left' t.held t.held') left.same logged in
+          record {
+            version = hub.version;
+            past = went;
+            first = hub.header.items;
+            taken = taken_for wanted asked (fresh was) (there was) r.taken;
+            intact = subst (λ (file : List ℕ). IsIntact hub.version file) (sym left'.same) r.intact;
+            logged = subst (λ (file : List ℕ). HasLogged run.mode went hub.header.items run.told (disks.seen disk) file t.left t.left' t.held t.held') (sym left'.same) logged';
+          };
+      durable = λ is file may. (ran (faithful' is)).settled.durable file (left'.crash file may) ∙ sym left'.same;
+    }
+
+    front_on : HasKeptFaith disks disk' → IsKept disks run.told hub after t → IsTaken hub.version hub.header.items run.told wanted (file_of disks hub)
+        → AnswersAFront run t ((d : D) → IsTrue (disks.is_mixing d)) (change_on disks disk disk')
+    front_on is kept taken =
+        let was = faithful (faithful' is) in
+        let survives = subst (λ (file : List ℕ). SurvivesACrash run.mode went hub.header.items run.told file (disks.may_leave (disk_of after)) t.left t.left' t.held t.held') left.same
+        (subst (λ (m : Mode). SurvivesACrash m went hub.header.items run.told (file_of disks hub) (disks.may_leave (disk_of after)) t.left t.left' t.held t.held') of_mode (kept.survives went has_gone)) in
+        let k = survives.kept in
+        record {
+          version = hub.version;
+          past = went;
+          first = hub.header.items;
+          taken = taken_for wanted asked (fresh was) (there was) taken;
+          survives = record {
+            bytes = survives.bytes;
+            consumes = survives.consumes;
+            lines = survives.lines;
+            lines_are = survives.lines_are;
+            kept = record { told = k.told; handed = k.handed; kept = λ file may. k.kept file (left'.crash file may) };
+          };
+          begins = λ begins file may.
+              kept.begins (subst (λ (f : List ℕ). Begins hub.header.items f) (sym left.same) begins) file (left'.crash file may);
+          intact = λ mixes intact file may.
+              kept.intact mixes (subst (λ (f : List ℕ). IsIntact hub.version f) (sym left.same) intact) file (left'.crash file may);
+        }
+
+    as_before : IsLeft disks (disk_of hub) (disk_of after) → IsAsItWas (change_on disks disk disk')
+    as_before x = left_as_it_was disks disk disk' (left_behind disks disk (disk_of after) disk' (left_behind disks disk (disk_of hub) (disk_of after) left x) left')
+
+    -- where the hub of a good log was found, a refused log is none
+    not_good : (HasKeptFaith disks (disk_of hub) → (version : Version) (first : List ℕ) → MayBeFound run.mode run.settings run.resume (disks.seen disk) version first → (hub.version ≡ version) × (hub.header.items ≡ first))
+        → (e : LoggedError) → IsRefused e → StopsBy disks run.told wanted hub after (t.unread × t.unwritten) (HasNoRoom disks after t.left t.left') e → HasKeptFaith disks disk' → ¬ (IsGoodFor run (disks.seen disk))
+    not_good finds e is_refused stops is good =
+        let found = finds (faithful (faithful' is)) good.version good.first (may_be_found run (disks.seen disk) good) in
+        let taken = subst (λ (v : Version). IsTaken v hub.header.items run.told wanted (disks.seen disk)) (sym found.0)
+        (subst (λ (first : List ℕ). IsTaken good.version first run.told wanted (disks.seen disk)) (sym found.1)
+        (taken_same run.digest good.wanted wanted good.asked asked good.version good.first run.told (disks.seen disk) good.taken)) in
+        not_taken hub.version hub.header.items run.told wanted (file_of disks hub) e is_refused (stops.cause (faithful' is))
+        (subst (IsTaken hub.version hub.header.items run.told wanted) (sym left.same) taken)
+
+    pub unkept_on : (e : LoggedError) (status : ℕ) → (status ≡ 2 → IsRefused e)
+        → (HasKeptFaith disks (disk_of hub) → (version : Version) (first : List ℕ) → MayBeFound run.mode run.settings run.resume (disks.seen disk) version first → (hub.version ≡ version) × (hub.header.items ≡ first))
+        → StopsBy disks run.told wanted hub after (t.unread × t.unwritten) (HasNoRoom disks after t.left t.left') e
+        → (HasKeptFaith disks (disk_of after) → IsKept disks run.told hub after t)
+        → IsUnkept run t ((d : D) → IsTrue (disks.is_mixing d)) ⊥ (HasKeptFaith disks disk') (change_on disks disk disk') status
+    unkept_on e status refusal finds stops kept = record {
+      refused = λ two.
+          let r = stops.refused (refusal two) in
+          (r.0.0, r.0.1, (λ _. as_before r.1), inr (not_good finds e (refusal two) stops));
+      front = λ is.
+          elim (stops.begun (faithful' is)) [
+            | inl still ↦ inl (still.0.0, still.0.1, as_before still.1)
+            | inr taken ↦ inr (front_on is (kept (faithful' is)) taken)
+          ];
+    }
+
+-- A hub with a log was opened or closed: `hub` before, `after` behind it.
+module _ {D : Type 0} (disks : Ghosts D) (mode : Mode) (s : HubSettings) (hub after : LoggedHub D) (disk disk' : D)
+    (has : HasBegun hub.version mode s hub.header.items hub.recorder.answers)
+    (left : IsLeft disks disk (disk_of hub)) (left' : IsLeft disks (disk_of after) disk') where
+  abbrev mixes_all : Type 0
+  mixes_all = (d : D) → IsTrue (disks.is_mixing d)
+
+  abbrev gone : Past
+  gone = (begun hub.version mode s hub.header.items hub.recorder.answers has).0
+
+  same_mode : hub.recorder.answers.mode ≡ mode
+  same_mode = (begun hub.version mode s hub.header.items hub.recorder.answers has).2.mode_is
+
+  has_gone_so : HasGone hub gone
+  has_gone_so = subst (λ (m : Mode). Keeps m gone hub.recorder.answers.runner) (sym same_mode) (begun hub.version mode s hub.header.items hub.recorder.answers has).2.keeps
+
+  spared_on : StaysAlike disks hub after → IsSpared hub.version hub.header.items mixes_all (change_on disks disk disk')
+  spared_on stays = record {
+    alike = λ file may. subst (λ (f : List ℕ). OpensAlike hub.header.items f file) left.same (stays.alike file (left'.crash file may));
+    stands = λ file may. subst (λ (f : List ℕ). IsSameOrBegun hub.header.items f file) left.same (stays.stands file (left'.crash file may));
+    intact = λ mixes intact file may. stays.intact mixes (subst (λ (f : List ℕ). IsIntact hub.version f) (sym left.same) intact) file (left'.crash file may);
+  }
+
+  spared_log_on : (wanted : Option Digest) → StaysAlike disks hub after → IsTaken hub.version hub.header.items None wanted (file_of disks hub)
+      → IsSparedLog mixes_all (change_on disks disk disk')
+  spared_log_on wanted stays taken = record {
+    version = hub.version;
     mode = mode;
     settings = s;
-    past = went;
-    first = first;
-    begins = (begun version mode s first answers has).1;
+    past = gone;
+    first = hub.header.items;
+    begins = (begun hub.version mode s hub.header.items hub.recorder.answers has).1;
+    wanted = wanted;
+    taken = subst (IsTaken hub.version hub.header.items None wanted) left.same taken;
+    spared = spared_on stays;
+  }
+
+  pub safe_on : (faith : Type 0) (wanted : Option Digest) (e : LoggedError) → (faith → HasKeptFaith disks (disk_of after)) → StopsBy disks None wanted hub after (Unit {0}) ⊥ e
+      → (HasKeptFaith disks (disk_of after) → StaysAlike disks hub after) → IsSafe mixes_all faith (change_on disks disk disk')
+  safe_on faith wanted e faithful stops stays is =
+      elim (stops.begun (faithful is)) [
+        | inl still ↦ inl (left_as_it_was disks disk disk' (left_behind disks disk (disk_of after) disk' (left_behind disks disk (disk_of hub) (disk_of after) left still.1) left'))
+        | inr taken ↦ inr (spared_log_on wanted (stays (faithful is)) taken)
+      ]
+
+  pub safe_closed : (faith : Type 0) (wanted : Option Digest) → (faith → HasKeptFaith disks (disk_of after))
+      → (HasKeptFaith disks (disk_of after) → IsTaken hub.version hub.header.items None wanted (file_of disks hub))
+      → (HasKeptFaith disks (disk_of after) → StaysAlike disks hub after) → IsSafe mixes_all faith (change_on disks disk disk')
+  safe_closed faith wanted faithful taken stays is = inr (spared_log_on wanted (stays (faithful is)) (taken (faithful is)))
+
+  pub carries_on : (digest : Option (List ℕ)) (wanted : Option Digest) → AsksFor digest wanted → (journals : Vec History Global) → 0 < length (recovered (disks.seen disk))
+      → ClosesWith disks wanted hub after (Some journals) → StaysAlike disks hub after
+      → CarriesBooks digest mixes_all (header_from Two mode (settings_of after.recorder.answers.runner.world) journals.items) (change_on disks disk disk')
+  carries_on digest wanted asked journals there closes stays = record {
+    there = there;
+    version = hub.version;
+    mode = mode;
+    settings = s;
+    past = gone;
+    first = hub.header.items;
+    begins = (begun hub.version mode s hub.header.items hub.recorder.answers has).1;
     wanted = wanted;
     asked = asked;
-    taken = taken;
-    stays = stays;
-    journals = journals;
-    books = subst (λ (m : Mode). AreBooksAfter m went (kept first file) journals) of_mode (books went keeps);
-    next_is = ap (λ (u : HubSettings). header_from Two mode u journals)
-        (subst (λ (m : Mode). t ≡ (past_after m went (kept first file)).settings) of_mode (settings went keeps));
+    taken = subst (IsTaken hub.version hub.header.items None wanted) left.same closes.taken;
+    stays = subst (λ (f : List ℕ). recovered f ≡ recovered hub.header.items ++ kept hub.header.items (disks.seen disk)) (sym left'.same)
+        (subst (λ (f : List ℕ). recovered (file_of disks after) ≡ recovered hub.header.items ++ kept hub.header.items f) left.same closes.lines);
+    spared = spared_on stays;
+    journals = journals.items;
+    books = subst (λ (f : List ℕ). AreBooksAfter mode gone (kept hub.header.items f) journals.items) left.same
+        (subst (λ (m : Mode). AreBooksAfter m gone (kept hub.header.items (file_of disks hub)) journals.items) same_mode (closes.are gone has_gone_so));
+    next_is = ap (λ (u : HubSettings). header_from Two mode u journals.items)
+        (subst (λ (f : List ℕ). settings_of after.recorder.answers.runner.world ≡ (past_after mode gone (kept hub.header.items f)).settings) left.same
+        (subst (λ (m : Mode). settings_of after.recorder.answers.runner.world ≡ (past_after m gone (kept hub.header.items (file_of disks hub))).settings) same_mode (closes.settings gone has_gone_so)));
   }
+
+  -- no opening is left behind it
+  pub no_opening_on : (wanted : Option Digest) → ClosesWith disks wanted hub after None → HasNoOpeningLeft (disks.seen disk)
+  no_opening_on wanted closes = record {
+    version = hub.version;
+    mode = mode;
+    settings = s;
+    past = gone;
+    first = hub.header.items;
+    begins = (begun hub.version mode s hub.header.items hub.recorder.answers has).1;
+    wanted = wanted;
+    taken = subst (IsTaken hub.version hub.header.items None wanted) left.same closes.taken;
+    none = subst (λ (f : List ℕ). ¬ (HaveOpeningsLeft mode gone (kept hub.header.items f))) left.same
+        (subst (λ (m : Mode). ¬ (HaveOpeningsLeft m gone (kept hub.header.items (file_of disks hub)))) same_mode (closes.last refl gone has_gone_so));
+  }
+
+  -- a log of version 2 was opened with its first lines
+  pub begun_on : hub.version ≡ Two → OpensAgain disks None hub after → IsBegun hub.header.items (change_on disks disk disk')
+  begun_on two opens =
+      let taken = subst (λ (v : Version). IsTaken v hub.header.items None None (file_of disks hub)) two opens.taken in
+      let intact = subst (λ (v : Version). IsIntact v (file_of disks after)) two opens.intact in
+      record {
+        taken = subst (IsTaken Two hub.header.items None None) left.same taken;
+        lines = subst (λ (f : List ℕ). recovered f ≡ recovered hub.header.items ++ kept hub.header.items (disks.seen disk)) (sym left'.same)
+            (subst (λ (f : List ℕ). recovered (file_of disks after) ≡ recovered hub.header.items ++ kept hub.header.items f) left.same opens.lines);
+        intact = subst (IsIntact Two) (sym left'.same) intact;
+        durable = λ file may. opens.settled.durable file (left'.crash file may) ∙ sym left'.same;
+      }
+
+-- a hub with the disk of its log began as it did without
+pub begun_with : (version version' : Version) (mode : Mode) (s : HubSettings) (head head' : Vec ℕ Global) (answers answers' : LineAnswers) → version' ≡ version → head' ≡ head → answers' ≡ answers
+    → HasBegun version mode s head.items answers → HasBegun version' mode s head'.items answers'
+begun_with version version' mode s head head' answers answers' versions heads all has =
+    subst (λ (v : Version). HasBegun v mode s head'.items answers') (sym versions)
+    (subst (λ (a : LineAnswers). HasBegun version mode s head'.items a) (sym all) (subst (λ (h : Vec ℕ Global). HasBegun version mode s h.items answers) (sym heads) has))
+
+-- nothing was done but read, since no hub of a good log was found
+pub unkept_at_once : (run : KeptRun) (t : Streams) (mixes faith : Type 0) (c : Change) (result : Result NewHub LoggedError) (e : LoggedError) (status : ℕ) → t.unread → t.unwritten → IsAsItWas c
+    → (faith → FindsGood run.mode run.settings run.resume c.was result) → result ≡ Err e → (status ≡ 2 → IsRefused e) → IsUnkept run t mixes ⊥ faith c status
+unkept_at_once run t mixes faith c result e status unread unwritten same finds failed refusal = record {
+  refused = λ two. (unread, unwritten, (λ _. same), inr (λ is good. unrefused_at _ result e (finds is good.version good.first (may_be_found run c.was good)) failed (refusal two)));
+  front = λ _. inl (unread, unwritten, same);
+}
+
+-- a hub that opens from these journals began so
+pub begun_new : (mode : Mode) (s : HubSettings) (journals : List History) (hub : NewHub) → CanOpenFrom s journals
+    → IsNewHub Two mode (opened_from s journals) (header_from Two mode s journals) hub → HasBegun hub.version mode s hub.heading.batch.items hub.answers
+begun_new mode s journals hub can new =
+    subst (λ (v : Version). HasBegun v mode s hub.heading.batch.items hub.answers) (sym new.version_is) (inr (journals, can, new.opened, new.first_is))

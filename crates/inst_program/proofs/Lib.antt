@@ -1,4 +1,12 @@
+pub mod Texts
+pub mod Passing
+pub mod FirstLine
+pub mod Visiting
 pub mod Behind
+pub mod Closing
+pub mod TwoLogs
+pub mod Told
+pub mod Statuses
 pub mod Refusing
 pub mod Doing
 pub mod Serving

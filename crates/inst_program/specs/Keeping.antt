@@ -1,29 +1,52 @@
--- What runs with logs leave, whatever disks the logs are on. A disk that a name opened is `disk`, and what it has become
--- is `disk'`; what is said of its bytes is said where no wrong answer of it was taken as true by then (`is_clean`). This
--- hub's own choice.
-use Rattle.std.specs.Prelude.{◌≡◌, ◌⊎◌, ◌-◌, ◌++◌, ◌∷◌, [], ℕ, List, length, Option, None, Some, IfSome, IsTrue, codes}
+-- What runs with logs leave of the file of a log. What is said of a file is said where its disk has kept faith (`faith`):
+-- it was what it is said to be, and no wrong answer of it was taken as true. This hub's own choice.
+use Rattle.std.specs.Prelude.{◌≡◌, ◌≢◌, ◌⊎◌, ◌-◌, ◌<◌, ◌^◌, ◌++◌, ◌∷◌, [], ℕ, Bool, true, List, length, Option, None, Some, option_map, unwrap_or, IsTrue, codes}
 use Rattle.std.specs.Fmt.{decimal}
 use Rattle.std.specs.Str.Lossy.{utf8_lossy}
 use Rattle.std.specs.Io.KnownBytes.{Appends, IsAtEnd}
 use Rattle.sqlite_disk.specs.Disk.{Only}
-use Rattle.sqlite_disk.specs.declared.Disk.{Ghosts}
 use Rattle.inst_settings.specs.Settings.{HubSettings}
 use Rattle.inst_journal.specs.History.{History}
 use Rattle.inst_world.specs.NextOpening.{CanOpenFrom}
 use Rattle.inst_lines.specs.Answering.{Past, opened}
 use Rattle.inst_lines.specs.declared.mode.Mode.{Mode}
 use Rattle.inst_log.specs.Layout.{recovered}
-use Rattle.inst_log.specs.Opening.{kept}
+use Rattle.inst_log.specs.Opening.{kept, Begins, OpensAlike, IsSameOrBegun}
 use Rattle.inst_chain.specs.Chain.{said}
 use Rattle.inst_chain.specs.Summing.{HasFirst, IsSealedBy}
 use Rattle.inst_chain.specs.declared.digest.Digest.{Digest}
 use Rattle.inst_logged.specs.declared.version.Version.{Version}
 use Rattle.inst_logged.specs.declared.version.Version.TheVariants.{One, Two}
 use Rattle.inst_logged.specs.Answering.{opened_from, past_after, AreBooksAfter}
-use Rattle.inst_logged.specs.Header.{header, header_from}
+use Rattle.inst_logged.specs.Beginning.{IsHeaderLine}
+use Rattle.inst_logged.specs.Header.{AreFirstLines, header, header_from}
+use Rattle.inst_logged.specs.Closing.{HaveOpeningsLeft}
 use Rattle.inst_logged.specs.Marking.{IsIntact}
 use Rattle.inst_logged.specs.Logged.{HasLogged, SurvivesACrash}
 use Rattle.inst_logged.specs.Refused.{IsTaken}
+use Rattle.inst_logged.specs.Streams.{Streams}
+use Rattle.inst_options.specs.declared.wish.LogOptions.{LogOptions}
+use Rattle.inst_program.specs.Files.{Change, Files, change_of, AllButTwoStay, IfKept, IsAsItWas}
+
+-- a run with a log, as words ask for it: at a hub of these settings, with the log of this name, of whose lines so many were
+-- told; whether it must be there, and which digest it must have, if any
+pub record KeptRun : Type 0 where
+  pub mode : Mode
+  pub settings : HubSettings
+  pub name : List ℕ
+  pub told : Option ℕ
+  pub resume : Bool
+  pub digest : Option (List ℕ)
+
+abbrev pub kept_run : Mode → HubSettings → LogOptions → KeptRun
+kept_run mode s log = record {
+  mode = mode;
+  settings = s;
+  name = log.path.now;
+  told = log.told;
+  resume = log.resume;
+  digest = option_map (λ d. d.now) log.digest;
+}
 
 -- a hub of these settings had gone through this before the first line of its log, which begins with these lines: it opened
 -- for the first time, or from books
@@ -37,50 +60,56 @@ abbrev pub AsksFor : Option (List ℕ) → Option Digest → Type 0
 AsksFor None wanted = wanted ≡ None
 AsksFor (Some text) wanted = (digest : Digest) × (wanted ≡ Some digest) × (digest.text ≡ text)
 
--- such a hub took the log of this file, answered all that the reader had left, and made the file into this one; where the
--- file has no line it has no books either, and a new log has marks. The marks of a log that has some are right, before and
--- after, and one of them had the digest that was asked for
-pub record AnswersBehind (mode : Mode) (s : HubSettings) (told : Option ℕ) (digest : Option (List ℕ)) (file file' : List ℕ)
-    (left left' held held' : Option (List ℕ)) : Type 0 where
-  pub version : Version
-  pub past : Past
-  pub first : List ℕ
-  pub begins : IsBeginning version mode s past first
-  pub fresh : recovered file ≡ [] → (version ≡ Two) × (first ≡ header Two mode s)
+-- Such a hub takes the log of this file. Where the file has no line it has no books either, and a new log has marks.
+pub record IsTakenFor (run : KeptRun) (file : List ℕ) (version : Version) (past : Past) (first : List ℕ) : Type 0 where
+  pub begins : IsBeginning version run.mode run.settings past first
+  pub fresh : recovered file ≡ [] → (version ≡ Two) × (first ≡ header Two run.mode run.settings)
+  pub there : run.resume ≡ true → 0 < length (recovered file)
   pub wanted : Option Digest
-  pub asked : AsksFor digest wanted
-  pub taken : IsTaken version first told wanted file
-  pub intact : IsIntact version file'
-  pub logged : HasLogged mode past first told file file' left left' held held'
+  pub asked : AsksFor run.digest wanted
+  pub taken : IsTaken version first run.told wanted file
 
--- it answered some of it, and these are the files that a crash may leave: none of a log whose marks were right is called
--- damaged, where the disk leaves each byte of a write old or new
-pub record AnswersAFront (mixes : Type 0) (mode : Mode) (s : HubSettings) (told : Option ℕ) (file : List ℕ) (may_leave : List ℕ → Type 0)
-    (left left' held held' : Option (List ℕ)) : Type 0 where
+-- The log of this file is one that such a run takes: it begins as the log of a hub of these settings does, or is new, its
+-- marks are right, and it has what is asked for.
+pub record IsGoodFor (run : KeptRun) (file : List ℕ) : Type 0 where
+  pub version : Version
+  pub first : List ℕ
+  pub lines : AreFirstLines version run.mode run.settings first
+  pub fresh : recovered file ≡ [] → (version ≡ Two) × (first ≡ header Two run.mode run.settings)
+  pub there : run.resume ≡ true → 0 < length (recovered file)
+  pub wanted : Option Digest
+  pub asked : AsksFor run.digest wanted
+  pub taken : IsTaken version first run.told wanted file
+
+-- it took the log, answered all that the reader had left, and made the file into this one, whose marks are right
+pub record AnswersBehind (run : KeptRun) (t : Streams) (c : Change) : Type 0 where
   pub version : Version
   pub past : Past
   pub first : List ℕ
-  pub begins : IsBeginning version mode s past first
-  pub intact : mixes → IsIntact version file → (c : List ℕ) → may_leave c → IsIntact version c
-  pub survives : SurvivesACrash mode past first told file may_leave left left' held held'
+  pub taken : IsTakenFor run c.was version past first
+  pub intact : IsIntact version c.now
+  pub logged : HasLogged run.mode past first run.told c.was c.now t.left t.left' t.held t.held'
 
--- lines were answered with the log of this name: all that the reader had left, and what was synced is what is read
-pub record KeepsLines {D : Type 0} (disks : Ghosts D) (is_named : List ℕ → D → Type 0)
-    (mode : Mode) (s : HubSettings) (name : List ℕ) (told : Option ℕ) (digest : Option (List ℕ)) (left left' held held' : Option (List ℕ)) : Type 0 where
-  pub at_end : IsAtEnd left'
-  pub disk : D
-  pub named : is_named name disk
-  pub disk' : D
-  pub answers : IsTrue (disks.is_clean disk') → AnswersBehind mode s told digest (disks.seen disk) (disks.seen disk') left left' held held'
-  pub durable : IsTrue (disks.is_clean disk') → Only (disks.seen disk') (disks.may_leave disk')
+-- It took the log, and answered some of it. The log begins as it did, whatever a crash leaves of it, and none whose marks
+-- were right is called damaged, where the disk leaves each byte of a write old or new.
+pub record AnswersAFront (run : KeptRun) (t : Streams) (mixes : Type 0) (c : Change) : Type 0 where
+  pub version : Version
+  pub past : Past
+  pub first : List ℕ
+  pub taken : IsTakenFor run c.was version past first
+  pub survives : SurvivesACrash run.mode past first run.told c.was c.may_leave t.left t.left' t.held t.held'
+  pub begins : Begins first c.was → (file : List ℕ) → c.may_leave file → Begins first file
+  pub intact : mixes → IsIntact version c.was → (file : List ℕ) → c.may_leave file → IsIntact version file
 
--- or some of it
-pub record KeepsAFront {D : Type 0} (disks : Ghosts D) (is_named : List ℕ → D → Type 0)
-    (mode : Mode) (s : HubSettings) (name : List ℕ) (told : Option ℕ) (left left' held held' : Option (List ℕ)) : Type 0 where
-  pub disk : D
-  pub named : is_named name disk
-  pub disk' : D
-  pub answers : IsTrue (disks.is_clean disk') → AnswersAFront ((d : D) → IsTrue (disks.is_mixing d)) mode s told (disks.seen disk) (disks.may_leave disk') left left' held held'
+-- lines were answered with a log: all that the reader had left, and what was synced is what is read
+pub record KeepsLines (run : KeptRun) (t : Streams) (faith : Type 0) (c : Change) : Type 0 where
+  pub at_end : IsAtEnd t.left'
+  pub answers : faith → AnswersBehind run t c
+  pub durable : faith → Only c.now c.may_leave
+
+-- or some of it, or nothing was done
+abbrev pub KeepsAFront : KeptRun → Streams → Type 0 → Type 0 → Change → Type 0
+KeepsAFront run t mixes faith c = faith → (t.unread × t.unwritten × IsAsItWas c) ⊎ AnswersAFront run t mixes c
 
 -- the line of a digest, or none
 abbrev pub digest_line : Option Digest → List ℕ
@@ -98,39 +127,65 @@ abbrev pub HasLastDigest : Version → List ℕ → Option Digest → Type 0
 HasLastDigest One file digest = digest ≡ None
 HasLastDigest Two file digest = (last : Digest) × (digest ≡ Some last) × IsSealedBy file last
 
--- so it was told of the log of this file; of the lines without marks behind its first one so many aren't told
-pub record TellsOfTheFile (file : List ℕ) (held held' : Option (List ℕ)) : Type 0 where
+-- the log of this file is that of a hub, and its marks are right
+pub record IsGoodLog (file : List ℕ) : Type 0 where
+  pub version : Version
+  pub mode : Mode
+  pub settings : HubSettings
+  pub first : List ℕ
+  pub lines : AreFirstLines version mode settings first
+  pub begins : Begins first file
+  pub intact : IsIntact version file
+  pub few : length file < 2 ^ 64
+
+-- So it was told of the log of this file. Of the lines without marks behind its first one so many aren't told: the lines of
+-- its books, where the first line is that of a log.
+pub record TellsOfTheLog (file : List ℕ) (held held' : Option (List ℕ)) : Type 0 where
   pub first : List ℕ
   pub begins : HasFirst (recovered file) first
   pub version : Version
   pub digest : Option Digest
   pub last : HasLastDigest version file digest
   pub books : ℕ
+  pub says : (v : Version) (mode : Mode) (s : HubSettings) (n : Option ℕ) → IsHeaderLine v mode s n first → (version ≡ v) × (books ≡ unwrap_or n 0)
   pub told : Appends held held' (log_text first (length (said (recovered file)) - 1 - books) digest)
 
--- a reader of the log of this name was read, and nothing else: of its bytes, so far as they are known, it was told so
-pub record TellsOfTheLog {R : Type 0} (remaining : R → Option (List ℕ)) (reads : List ℕ → R → Type 0) (name : List ℕ)
-    (held held' : Option (List ℕ)) : Type 0 where
-  pub reader : R
-  pub named : reads name reader
-  pub tells : IfSome (remaining reader) (λ file. TellsOfTheFile file held held')
+-- a log of these first lines was opened: it has the very lines that it had, or where there were none, the first ones,
+-- whatever a crash leaves of it, and none whose marks were right is called damaged
+pub record IsSpared (version : Version) (first : List ℕ) (mixes : Type 0) (c : Change) : Type 0 where
+  pub alike : (file : List ℕ) → c.may_leave file → OpensAlike first c.was file
+  pub stands : (file : List ℕ) → c.may_leave file → IsSameOrBegun first c.was file
+  pub intact : mixes → IsIntact version c.was → (file : List ℕ) → c.may_leave file → IsIntact version file
+
+-- so it is with the log of some hub, of some settings
+pub record IsSparedLog (mixes : Type 0) (c : Change) : Type 0 where
+  pub version : Version
+  pub mode : Mode
+  pub settings : HubSettings
+  pub past : Past
+  pub first : List ℕ
+  pub begins : IsBeginning version mode settings past first
+  pub wanted : Option Digest
+  pub taken : IsTaken version first None wanted c.was
+  pub spared : IsSpared version first mixes c
+
+-- a log is as it was, or it was opened, and at most its end was mended or its first lines written
+abbrev pub IsSafe : Type 0 → Type 0 → Change → Type 0
+IsSafe mixes faith c = faith → IsAsItWas c ⊎ IsSparedLog mixes c
 
 -- the log of this file begins with these lines, or is new, and was made into the file that has them in front, with the
--- lines that were behind them; its marks are right, before and after
-pub record IsBegun (first file file' : List ℕ) : Type 0 where
-  pub taken : IsTaken Two first None None file
-  pub lines : recovered file' ≡ recovered first ++ kept first file
-  pub intact : IsIntact Two file'
+-- lines that were behind them; its marks are right, before and after; what was synced is what is read
+pub record IsBegun (first : List ℕ) (c : Change) : Type 0 where
+  pub taken : IsTaken Two first None None c.was
+  pub lines : recovered c.now ≡ recovered first ++ kept first c.was
+  pub intact : IsIntact Two c.now
+  pub durable : Only c.now c.may_leave
 
--- so it is with the log on this disk, and what was synced is what is read
-pub record BeginsLog {D : Type 0} (disks : Ghosts D) (first : List ℕ) (disk : D) : Type 0 where
-  pub disk' : D
-  pub begun : IsTrue (disks.is_clean disk') → IsBegun first (disks.seen disk) (disks.seen disk')
-  pub durable : IsTrue (disks.is_clean disk') → Only (disks.seen disk') (disks.may_leave disk')
-
--- a hub whose log was this file, and is that one with the same lines, was closed behind all of them, and a log with marks
--- that begins with its books begins so. Its log's marks were right, if it has some, and one had the digest that was asked for
-pub record CarriesBooks (digest : Option (List ℕ)) (file file' next : List ℕ) : Type 0 where
+-- A hub whose log was this file, and is that one with the same lines, was closed behind all of them, and a log with marks
+-- that begins with its books begins so. Its log's marks were right, if it has some, and one had the digest that was asked
+-- for.
+pub record CarriesBooks (digest : Option (List ℕ)) (mixes : Type 0) (next : List ℕ) (c : Change) : Type 0 where
+  pub there : 0 < length (recovered c.was)
   pub version : Version
   pub mode : Mode
   pub settings : HubSettings
@@ -139,23 +194,55 @@ pub record CarriesBooks (digest : Option (List ℕ)) (file file' next : List ℕ
   pub begins : IsBeginning version mode settings past first
   pub wanted : Option Digest
   pub asked : AsksFor digest wanted
-  pub taken : IsTaken version first None wanted file
-  pub stays : recovered file' ≡ recovered first ++ kept first file
+  pub taken : IsTaken version first None wanted c.was
+  pub stays : recovered c.now ≡ recovered first ++ kept first c.was
+  pub spared : IsSpared version first mixes c
   pub journals : List History
-  pub books : AreBooksAfter mode past (kept first file) journals
-  pub next_is : next ≡ header_from Two mode (past_after mode past (kept first file)).settings journals
+  pub books : AreBooksAfter mode past (kept first c.was) journals
+  pub next_is : next ≡ header_from Two mode (past_after mode past (kept first c.was)).settings journals
 
--- the log of this name begins with the books of the hub whose log was this file
-pub record BeginsNext {D : Type 0} (disks : Ghosts D) (is_named : List ℕ → D → Type 0) (digest : Option (List ℕ)) (file name : List ℕ) : Type 0 where
-  pub disk' : D
-  pub next : D
-  pub named : is_named name next
+-- the log of this file is that of a hub, its marks are right, and it has the digest that is asked for
+pub record IsGoodToClose (wanted : Option Digest) (file : List ℕ) : Type 0 where
+  pub version : Version
+  pub mode : Mode
+  pub settings : HubSettings
   pub first : List ℕ
-  pub carries : IsTrue (disks.is_clean disk') → CarriesBooks digest file (disks.seen disk') first
-  pub begins : BeginsLog disks first next
+  pub lines : AreFirstLines version mode settings first
+  pub begins : Begins first file
+  pub taken : IsTaken version first None wanted file
 
--- the log of the second name begins with the books of the hub of the log of the first name
-pub record Carries {D : Type 0} (disks : Ghosts D) (is_named : List ℕ → D → Type 0) (from to : List ℕ) (digest : Option (List ℕ)) : Type 0 where
-  pub disk : D
-  pub named : is_named from disk
-  pub next : BeginsNext disks is_named digest (disks.seen disk) to
+-- the books of the hub of this log were opened from as often as they may be
+pub record HasNoOpeningLeft (file : List ℕ) : Type 0 where
+  pub version : Version
+  pub mode : Mode
+  pub settings : HubSettings
+  pub past : Past
+  pub first : List ℕ
+  pub begins : IsBeginning version mode settings past first
+  pub wanted : Option Digest
+  pub taken : IsTaken version first None wanted file
+  pub none : ¬ (HaveOpeningsLeft mode past (kept first file))
+
+-- the log of the second name begins with the books of the hub of the log of the first name, which has the lines that it had
+pub record Carries (from to : List ℕ) (digest : Option (List ℕ)) (old new : Files) : Type 0 where
+  pub apart : from ≢ to
+  pub next : List ℕ
+  pub carries : IfKept new (CarriesBooks digest old.mixes next (change_of old new from))
+  pub begun : IfKept new (IsBegun next (change_of old new to))
+  pub others : AllButTwoStay old new from to
+
+-- or it doesn't, and both are safe
+pub record SparesBoth (from to : List ℕ) (old new : Files) : Type 0 where
+  pub from_is : IsSafe old.mixes (IsTrue new.is_clean) (change_of old new from)
+  pub to_is : IsSafe old.mixes (IsTrue new.is_clean) (change_of old new to)
+  pub others : AllButTwoStay old new from to
+
+-- Why it doesn't: the names are one, another program has a log open, the first log is none that can be closed, or has no
+-- opening left, or the second one is another log.
+pub data IsUncarried (from to : List ℕ) (digest : Option (List ℕ)) (old new : Files) : Type 0 where
+  Same : from ≡ to → IsUncarried from to digest old new
+  InUse : new.in_use from ⊎ new.in_use to → IsUncarried from to digest old new
+  Bad : ((wanted : Option Digest) → AsksFor digest wanted → IfKept new (¬ (IsGoodToClose wanted (old.bytes from)))) → IsUncarried from to digest old new
+  Last : IfKept new (HasNoOpeningLeft (old.bytes from)) → IsUncarried from to digest old new
+  Other : (next : List ℕ) → IfKept new (CarriesBooks digest old.mixes next (change_of old new from) × ¬ (IsTaken Two next None None (old.bytes to)))
+      → IsUncarried from to digest old new

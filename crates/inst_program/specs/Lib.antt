@@ -1,4 +1,6 @@
 -- Public contracts cite these.
+pub mod Files
+pub mod Logs
 pub mod Keeping
 pub mod Program
 -- Only inner functions and proofs cite these.

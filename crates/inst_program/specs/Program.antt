@@ -1,9 +1,9 @@
--- What the program leaves, by its exit status. Exit statuses are this hub's own choice.
-use Rattle.std.specs.Prelude.{◌≡◌, ◌≢◌, ◌⊎◌, ◌++◌, ◌∷◌, [], ℕ, Bool, List, length, All, Option, Some, IfSome, codes}
+-- What the program leaves, by its exit status: `t` is what its reader and its writer had and have, `old` and `new` are the
+-- files before and after. Exit statuses are this hub's own choice.
+use Rattle.std.specs.Prelude.{◌≡◌, ◌≢◌, ◌⊎◌, ◌++◌, ◌∷◌, [], ℕ, List, length, All, Option, Some, IfSome, IsTrue, codes}
 use Rattle.std.specs.Fmt.{decimal}
 use Rattle.std.specs.Io.KnownBytes.{Appends, IsAtEnd}
 use Rattle.clap.specs.Words.{Row, subcommand_of}
-use Rattle.sqlite_disk.specs.declared.Disk.{Ghosts}
 use Rattle.inst_base.specs.declared.fault.Fault.{Fault}
 use Rattle.inst_base.specs.declared.fault.Fault.TheVariants.{BadSettings}
 use Rattle.inst_settings.specs.Settings.{HubSettings}
@@ -24,8 +24,10 @@ use Rattle.inst_faults.specs.declared.any_fault.AnyFault.{AnyFault}
 use Rattle.inst_options.specs.CommandLine.{command_line}
 use Rattle.inst_options.specs.Options.{HasAHub, Task}
 use Rattle.inst_options.specs.Options.Task.{Run, Play, Drill, Check}
-use Rattle.inst_options.specs.Asking.{AreChosen, AreWhole, AskForTheLog, AskForTheNext, AskToExplain, NameNoLog, NameTheLog}
-use Rattle.inst_program.specs.Keeping.{Carries, KeepsAFront, KeepsLines, TellsOfTheLog}
+use Rattle.inst_options.specs.Asking.{AreChosen, AreWhole, AreWrong, AskForHelp, AskForTheLog, AskForTheNext, AskToExplain, NameABadLog, NameNoLog, NameTheLog}
+use Rattle.inst_logged.specs.Streams.{Streams}
+use Rattle.inst_program.specs.Files.{Files, IfKept, OthersStay, Stay, change_of}
+use Rattle.inst_program.specs.Keeping.{Carries, IsGoodFor, IsGoodLog, IsUncarried, KeepsAFront, KeepsLines, KeptRun, SparesBoth, TellsOfTheLog}
 
 -- the exit status for a fault
 abbrev pub status_of : Fault → ℕ
@@ -61,56 +63,55 @@ task_of mode.Play = Play
 
 -- a hub of these settings answered all that the reader had left, and wrote the replies alone
 -- headline: the run that these lines stand for keeps it
-pub record Answers (mode : Mode) (settings : HubSettings) (left left' held held' : Option (List ℕ)) : Type 0 where
-  pub at_end : IsAtEnd left'
-  pub answered : IfSome left (λ bytes. Appends held held' (output (answering mode) (opened settings) (lines_of bytes)))
-  pub headline : IfSome left (λ bytes. LinesKeepTheHeadline (answering mode) settings (lines_of bytes))
+pub record Answers (mode : Mode) (settings : HubSettings) (t : Streams) : Type 0 where
+  pub at_end : IsAtEnd t.left'
+  pub answered : IfSome t.left (λ bytes. Appends t.held t.held' (output (answering mode) (opened settings) (lines_of bytes)))
+  pub headline : IfSome t.left (λ bytes. LinesKeepTheHeadline (answering mode) settings (lines_of bytes))
 
 -- a hub of the settings that the words choose answered, as the words ask for, all that the reader had left, and wrote
 -- the replies alone; they name no log
-pub record Serves (words : List (List ℕ)) (left left' held held' : Option (List ℕ)) : Type 0 where
+pub record Serves (words : List (List ℕ)) (t : Streams) : Type 0 where
   pub mode : Mode
   pub settings : HubSettings
   pub lawful : IsSettings settings
   pub whole : AreWhole words
   pub chosen : AreChosen words (task_of mode) settings
   pub unkept : NameNoLog words
-  pub answers : Answers mode settings left left' held held'
+  pub answers : Answers mode settings t
 
--- a hub of the settings that the words choose was ended by this fault, as it answered lines; they name no log
-pub record Fails (words : List (List ℕ)) (left left' held held' : Option (List ℕ)) (fault : Fault) : Type 0 where
+-- it was ended by this fault, as it answered lines
+pub record Fails (words : List (List ℕ)) (t : Streams) (fault : Fault) : Type 0 where
   pub mode : Mode
   pub settings : HubSettings
   pub lawful : IsSettings settings
   pub whole : AreWhole words
   pub chosen : AreChosen words (task_of mode) settings
   pub unkept : NameNoLog words
-  pub after : FailsAfter (answering mode) (opened settings) held held' left left' fault
+  pub after : FailsAfter (answering mode) (opened settings) t.held t.held' t.left t.left' fault
 
 -- all that the reader had left was read, and told of each of its lines that no hub of these settings takes, and that alone
-abbrev pub Checks : HubSettings → Option (List ℕ) → Option (List ℕ) → Option (List ℕ) → Option (List ℕ) → Type 0
-Checks s left left' held held' = IsAtEnd left' × IfSome left (λ bytes. Appends held held' (told_of s bytes))
+abbrev pub Checks : HubSettings → Streams → Type 0
+Checks s t = IsAtEnd t.left' × IfSome t.left (λ bytes. Appends t.held t.held' (told_of s bytes))
 
 -- so it was for the settings that the words choose
-pub record HasChecked (words : List (List ℕ)) (left left' held held' : Option (List ℕ)) : Type 0 where
+pub record HasChecked (words : List (List ℕ)) (t : Streams) : Type 0 where
   pub settings : HubSettings
   pub lawful : IsSettings settings
   pub whole : AreWhole words
   pub chosen : AreChosen words Check settings
-  pub checks : Checks settings left left' held held'
+  pub checks : Checks settings t
 
 -- it was ended by a fault, when no more than a front was told
-pub record FailsToCheck (words : List (List ℕ)) (left held held' : Option (List ℕ)) : Type 0 where
+pub record FailsToCheck (words : List (List ℕ)) (t : Streams) : Type 0 where
   pub settings : HubSettings
   pub lawful : IsSettings settings
   pub whole : AreWhole words
   pub chosen : AreChosen words Check settings
-  pub part : IfSome left (λ bytes. TellsPart settings bytes held held')
+  pub part : IfSome t.left (λ bytes. TellsPart settings bytes t.held t.held')
 
 -- lines were answered, or told of, until this fault
-abbrev pub FailsAtLines : List (List ℕ) → Option (List ℕ) → Option (List ℕ) → Option (List ℕ) → Option (List ℕ) → Fault → Type 0
-FailsAtLines words left left' held held' fault =
-    Fails words left left' held held' fault ⊎ ((fault ≢ BadSettings) × FailsToCheck words left held held')
+abbrev pub FailsAtLines : List (List ℕ) → Streams → Fault → Type 0
+FailsAtLines words t fault = Fails words t fault ⊎ ((fault ≢ BadSettings) × FailsToCheck words t)
 
 -- a drill of so many openings wrote what each of them came to, and that alone
 abbrev pub Drills : ℕ → Option (List ℕ) → Option (List ℕ) → Type 0
@@ -119,47 +120,48 @@ Drills openings held held' =
     × Appends held held' (reports_text reports)
 
 -- a hub of the settings that the words choose was drilled as the words ask for
-abbrev pub HasDrilled : List (List ℕ) → Option (List ℕ) → Option (List ℕ) → Type 0
-HasDrilled words held held' = (asked : AskForADrill words) × Drills asked.openings held held'
+abbrev pub HasDrilled : List (List ℕ) → Streams → Type 0
+HasDrilled words t = (asked : AskForADrill words) × Drills asked.openings t.held t.held'
 
--- a hub of the settings that the words choose, with the log that they name, kept the lines of the reader in this way
-pub record WithTheLog (words : List (List ℕ)) (way : Mode → HubSettings → List ℕ → Option ℕ → Option (List ℕ) → Type 0) : Type 0 where
-  pub mode : Mode
-  pub settings : HubSettings
-  pub lawful : IsSettings settings
+-- the words ask for this run with a log
+pub record AskForAKeptRun (words : List (List ℕ)) (run : KeptRun) : Type 0 where
+  pub lawful : IsSettings run.settings
   pub whole : AreWhole words
-  pub chosen : AreChosen words (task_of mode) settings
-  pub name : List ℕ
-  pub told : Option ℕ
-  pub resume : Bool
-  pub digest : Option (List ℕ)
-  pub log : NameTheLog words name told resume digest
-  pub keeps : way mode settings name told digest
+  pub chosen : AreChosen words (task_of run.mode) run.settings
+  pub log : NameTheLog words run.name run.told run.resume run.digest
 
--- all that the reader had left
-abbrev pub HasKept : {D : Type 0} → Ghosts D → (List ℕ → D → Type 0) → List (List ℕ) →
-    Option (List ℕ) → Option (List ℕ) → Option (List ℕ) → Option (List ℕ) → Type 0
-HasKept disks is_named words left left' held held' =
-    WithTheLog words (λ mode s name told digest. KeepsLines disks is_named mode s name told digest left left' held held')
+-- and it answered all that the reader had left
+pub record HasKept (words : List (List ℕ)) (t : Streams) (old new : Files) : Type 0 where
+  pub run : KeptRun
+  pub asked : AskForAKeptRun words run
+  pub keeps : KeepsLines run t (IsTrue new.is_clean) (change_of old new run.name)
+  pub others : OthersStay old new run.name
 
 -- or some of it
-abbrev pub FailsToKeep : {D : Type 0} → Ghosts D → (List ℕ → D → Type 0) → List (List ℕ) →
-    Option (List ℕ) → Option (List ℕ) → Option (List ℕ) → Option (List ℕ) → Type 0
-FailsToKeep disks is_named words left left' held held' =
-    WithTheLog words (λ mode s name told digest. KeepsAFront disks is_named mode s name told left left' held held')
+pub record FailsToKeep (words : List (List ℕ)) (t : Streams) (old new : Files) : Type 0 where
+  pub run : KeptRun
+  pub asked : AskForAKeptRun words run
+  pub front : KeepsAFront run t old.mixes (IsTrue new.is_clean) (change_of old new run.name)
+  pub others : OthersStay old new run.name
 
 -- the words ask what a log has
 abbrev pub AskForALog : List (List ℕ) → Type 0
 AskForALog words = (name : List ℕ) × AskForTheLog words name
 
 -- and it was told
-abbrev pub HasShown : {R : Type 0} → (R → Option (List ℕ)) → (List ℕ → R → Type 0) → List (List ℕ) → Option (List ℕ) → Option (List ℕ) → Type 0
-HasShown remaining reads words held held' = (name : List ℕ) × AskForTheLog words name × TellsOfTheLog remaining reads name held held'
+abbrev pub HasShown : List (List ℕ) → Streams → Files → Files → Type 0
+HasShown words t old new =
+    (name : List ℕ) × AskForTheLog words name × IfKept new (TellsOfTheLog (old.bytes name) t.held t.held')
 
 -- they ask for a log that begins with the books of another, and it does
-abbrev pub HasCarried : {D : Type 0} → Ghosts D → (List ℕ → D → Type 0) → List (List ℕ) → Type 0
-HasCarried disks is_named words = (from : List ℕ) × (to : List ℕ) × (digest : Option (List ℕ)) × AskForTheNext words from to digest
-    × Carries disks is_named from to digest
+abbrev pub HasCarried : List (List ℕ) → Files → Files → Type 0
+HasCarried words old new =
+    (from : List ℕ) × (to : List ℕ) × (digest : Option (List ℕ)) × AskForTheNext words from to digest × Carries from to digest old new
+
+-- or it doesn't
+abbrev pub HasSparedBoth : List (List ℕ) → Files → Files → Type 0
+HasSparedBoth words old new =
+    (from : List ℕ) × (to : List ℕ) × (digest : Option (List ℕ)) × AskForTheNext words from to digest × SparesBoth from to old new
 
 -- a fault's number and name, what it usually means, and what to do
 abbrev pub explanation_text : ℕ → List ℕ → List ℕ → List ℕ → List ℕ
@@ -178,9 +180,60 @@ abbrev pub AskForAnExplanation : List (List ℕ) → Type 0
 AskForAnExplanation words = (word : List ℕ) × AskToExplain words word × ((fault : AnyFault) × IsNamed word fault)
 
 -- they ask for one, and the writer got it
-abbrev pub HasExplained : List (List ℕ) → Option (List ℕ) → Option (List ℕ) → Type 0
-HasExplained words held held' = (word : List ℕ) × AskToExplain words word × Explains word held held'
+abbrev pub HasExplained : List (List ℕ) → Streams → Type 0
+HasExplained words t = (word : List ℕ) × AskToExplain words word × Explains word t.held t.held'
 
 -- the words ask for the fault of a number or a name that no fault has
 abbrev pub NameNoFault : List (List ℕ) → Type 0
 NameNoFault words = (word : List ℕ) × AskToExplain words word × ((fault : AnyFault) → ¬ (IsNamed word fault))
+
+-- What the words ask for is done: lines were answered, without a log or with one, or checked, a hub was drilled, it was told
+-- what a log has, the next one was made, a fault was explained, or help was given. Nothing else happened to a file.
+pub data Done (words : List (List ℕ)) (t : Streams) (old new : Files) : Type 0 where
+  Answered : Serves words t → Stay old new → Done words t old new
+  Kept : HasKept words t old new → Done words t old new
+  Checked : HasChecked words t → Stay old new → Done words t old new
+  Drilled : t.unread → HasDrilled words t → Stay old new → Done words t old new
+  Shown : t.unread → HasShown words t old new → Stay old new → Done words t old new
+  Carried : t.unread → t.unwritten → HasCarried words old new → Done words t old new
+  Explained : t.unread → HasExplained words t → Stay old new → Done words t old new
+  Helped : t.unread → AskForHelp words → Stay old new → Done words t old new
+
+-- Why it isn't done: the words are wrong, or they are whole and choose no settings that a hub can have and do the task
+-- with, or describe a log badly, or name a fault that there isn't. Or another program has the log open, or it is none that
+-- the run takes, or none at all. Then no file changes; and where the next log isn't made, the two are spared.
+pub data Refusal (words : List (List ℕ)) (old new : Files) : Type 0 where
+  Wrong : AreWrong words → Stay old new → Refusal words old new
+  Unfit : AreRefused words → Stay old new → Refusal words old new
+  BadLog : NameABadLog words → Stay old new → Refusal words old new
+  Unnamed : NameNoFault words → Stay old new → Refusal words old new
+  InUse : (run : KeptRun) → AskForAKeptRun words run → new.in_use run.name → Stay old new → Refusal words old new
+  Untaken : (run : KeptRun) → AskForAKeptRun words run → IfKept new (¬ (IsGoodFor run (old.bytes run.name))) → Stay old new → Refusal words old new
+  Unshown : (name : List ℕ) → AskForTheLog words name → IfKept new (¬ (IsGoodLog (old.bytes name))) → Stay old new → Refusal words old new
+  Uncarried : (from to : List ℕ) (digest : Option (List ℕ)) → AskForTheNext words from to digest → IsUncarried from to digest old new
+      → SparesBoth from to old new → Refusal words old new
+
+-- nothing was read or written
+pub record Refused (words : List (List ℕ)) (t : Streams) (old new : Files) : Type 0 where
+  pub unread : t.unread
+  pub unwritten : t.unwritten
+  pub why : Refusal words old new
+
+-- It failed: before it began, as lines were answered or told of, without a log or with one, in a drill or an explanation, as
+-- it was told what a log has, the next one was made, or help was given.
+pub data Failed (words : List (List ℕ)) (t : Streams) (old new : Files) : Type 0 where
+  Unbegun : t.unread → t.unwritten → Stay old new → Failed words t old new
+  AtLines : (fault : Fault) → FailsAtLines words t fault → Stay old new → Failed words t old new
+  Keeping : FailsToKeep words t old new → Failed words t old new
+  Drilling : t.unread → AskForADrill words → Stay old new → Failed words t old new
+  Explaining : t.unread → AskForAnExplanation words → Stay old new → Failed words t old new
+  Showing : t.unread → AskForALog words → Stay old new → Failed words t old new
+  Carrying : t.unread → t.unwritten → HasSparedBoth words old new → Failed words t old new
+  Helping : t.unread → AskForHelp words → Stay old new → Failed words t old new
+
+-- the program ends with this exit status
+pub record Ends (words : List (List ℕ)) (t : Streams) (old new : Files) (status : ℕ) : Type 0 where
+  pub known : (status ≡ 0) ⊎ ((status ≡ 2) ⊎ (status ≡ 3))
+  pub done : status ≡ 0 → Done words t old new
+  pub refused : status ≡ 2 → Refused words t old new
+  pub failed : status ≡ 3 → Failed words t old new

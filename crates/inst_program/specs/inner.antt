@@ -1,2 +1,5 @@
+pub mod Carrying
 pub mod Ending
+pub mod Finding
 pub mod Showing
+pub mod Visiting

@@ -1,111 +1,235 @@
 //! The next opening: the log that begins with the books of another one.
-ghost use Rattle.std.specs.Prelude.{◌≡◌, List, ℕ, Option, option_map, IsTrue, OnOk, IfErr};
+ghost use Rattle.std.specs.Prelude.{◌≡◌, ◌<◌, List, ℕ, Option, option_map, length, IsTrue, IfErr, IfOk, OnOk, OnErr};
 ghost use Rattle.sqlite_disk.specs.Disk.{Only};
+ghost use Rattle.inst_log.specs.Layout.{recovered};
+ghost use Rattle.inst_world.specs.HasRun.{settings_of};
 ghost use Rattle.inst_world.specs.NextOpening.{CanOpenFrom};
 ghost use Rattle.inst_logged.specs.Header.{header_from};
+ghost use Rattle.inst_logged.specs.Running.{HasKeptFaith, IsLeft};
 ghost use Rattle.inst_logged.specs.declared.version.Version.TheVariants.{Two};
-ghost use Rattle.inst_program.specs.Keeping.{AsksFor, BeginsLog, BeginsNext, Carries};
-ghost use Rattle.inst_program.specs.inner.Ending.{IsUnkept};
+ghost use Rattle.inst_program.specs.Files.{AllAreIn, IfKept, change_of, change_on};
+ghost use Rattle.inst_program.specs.Keeping.{AsksFor, Carries, CarriesBooks, IsBegun, IsSafe, IsUncarried, SparesBoth};
+ghost use Rattle.inst_program.specs.inner.Carrying.{IsRead, IsUnbegun, IsUnclosed, ReadsBeginning};
+ghost use Rattle.inst_program.specs.inner.Ending.{status_of_ending};
+ghost use Rattle.inst_program.specs.inner.Visiting.{IsVisited};
 
-use crate::ending::{Ending, ending_of, told_ending};
+use crate::ending::{Ending, ending_of, or_ending, told_ending};
 use crate::keeping::wanted_of;
 use crate::logs::Logs;
+use inst_agenda::Runner;
+use inst_base::Fault;
 use inst_chain::Digest;
 use inst_faults::LogFault;
 use inst_journal::Journal;
 use inst_lines::Mode;
 use inst_log::read_lines;
-use inst_logged::{Beginning, LoggedError, LoggedHub, Version, read_beginning};
+use inst_logged::{Beginning, LoggedError, NewHub, Version, read_beginning};
 use inst_settings::Settings;
 use sqlite_disk::Disk;
 use std::alloc::Global;
 use std::io::Write;
 
+/// What the hub of a log was when it was closed, and its books.
+#[derive(Drop)]
+struct Closed {
+    mode: Mode,
+    runner: Runner,
+    journals: Vec<Journal>,
+}
+
 /// Closes the hub of the log of the first name, and makes the log of the second name, which begins with its books. One
 /// that begins so already is left as it is. The first log must have the mark with the digest, if one is given. Where it is
 /// damaged, `errors` gets how far it is right.
 pub(crate) fn next<L: Logs, E: Write>(
-    logs: &L,
+    logs: &mut L,
     alloc: Global,
     from: &str,
     to: &str,
     digest: Option<&str>,
     errors: &mut E,
 ) -> Result<(), Ending>
-    ensures ok { OnOk result (Carries L.Log.Disk (L.is_named logs.now) from.now to.now (option_map (λ d. d.now) digest.entry)) }
-    ensures err { IfErr result (IsUnkept (Unit {0})) }
+    requires none_out { AllAreIn (L.files logs.old) }
+    ensures ok { OnOk result (Carries from.now to.now (option_map (λ d. d.now) digest.entry) (L.files logs.old) (L.files logs.new)) }
+    ensures err { OnErr result (SparesBoth from.now to.now (L.files logs.old) (L.files logs.new)) }
+    ensures refused { IfErr result (λ ending. status_of_ending ending ≡ 2
+        → IsUncarried from.now to.now (option_map (λ d. d.now) digest.entry) (L.files logs.old) (L.files logs.new)) }
+    ensures all_in { AllAreIn (L.files logs.new) }
 {
     if !logs.has(from)? {
         return Err(Ending::Log(LogFault::NoLog));
     }
     let wanted = wanted_of(digest)?;
-    let mut disk = logs.open(from)?;
-    match beginning_of(alloc, &mut disk)? {
-        Some(Beginning { mode, settings, .. }) => {
-            carry(logs, alloc, mode, &settings, disk, to, wanted, errors)
+    if from == to {
+        return Err(Ending::Log(LogFault::LogInUse));
+    }
+    let closed = close(logs, alloc, from, wanted, errors)?;
+    begin(logs, alloc, &closed, to)
+}
+
+/// Closes the hub of the log of this name.
+fn close<L: Logs, E: Write>(
+    logs: &mut L,
+    alloc: Global,
+    from: &str,
+    wanted: Option<Digest>,
+    errors: &mut E,
+) -> Result<Closed, Ending>
+    requires none_out { AllAreIn (L.files logs.old) }
+    ensures ok { IfOk result (λ closed. IfKept (L.files logs.new) ((digest : Option (List ℕ)) → AsksFor digest wanted
+        → CarriesBooks digest ((d : L.Log) → IsTrue (L.Log.Disk.is_mixing d))
+        (header_from Two closed.mode (settings_of closed.runner.world) closed.journals.items)
+        (change_of (L.files logs.old) (L.files logs.new) from.now))) }
+    ensures can { IfOk result (λ closed. CanOpenFrom (settings_of closed.runner.world) closed.journals.items) }
+    ensures err { OnErr result (IsSafe ((d : L.Log) → IsTrue (L.Log.Disk.is_mixing d)) (IsTrue (L.files logs.new).is_clean)
+        (change_of (L.files logs.old) (L.files logs.new) from.now)) }
+    ensures refused { IfErr result (λ ending. status_of_ending ending ≡ 2 → IsUnclosed ((L.files logs.new).in_use from.now)
+        (IsTrue (L.files logs.new).is_clean) wanted ((L.files logs.old).bytes from.now)) }
+    ensures visited { IsVisited (L.files logs.old) (L.files logs.new) from.now }
+{
+    let disk = logs.open(from)?;
+    let (outcome, disk) = close_on(alloc, wanted, disk, errors);
+    logs.close(disk);
+    outcome
+}
+
+/// Closes the hub of the log on this disk, and gives the disk back.
+fn close_on<D: Disk + Drop, E: Write>(
+    alloc: Global,
+    wanted: Option<Digest>,
+    mut disk: D,
+    errors: &mut E,
+) -> (Result<Closed, Ending>, D)
+    requires usable { IsTrue (D.Disk.is_usable disk) }
+    requires known { HasKeptFaith D.Disk disk → Only (D.Disk.seen disk) (D.Disk.may_leave disk) }
+    ensures ok { IfOk result.0 (λ closed. HasKeptFaith D.Disk result.1 → (digest : Option (List ℕ)) → AsksFor digest wanted
+        → CarriesBooks digest ((d : D) → IsTrue (D.Disk.is_mixing d))
+        (header_from Two closed.mode (settings_of closed.runner.world) closed.journals.items)
+        (change_on D.Disk disk result.1)) }
+    ensures can { IfOk result.0 (λ closed. CanOpenFrom (settings_of closed.runner.world) closed.journals.items) }
+    ensures err { OnErr result.0 (IsSafe ((d : D) → IsTrue (D.Disk.is_mixing d)) (HasKeptFaith D.Disk result.1)
+        (change_on D.Disk disk result.1)) }
+    ensures refused { IfErr result.0 (λ ending. status_of_ending ending ≡ 2
+        → IsUnclosed ⊥ (HasKeptFaith D.Disk result.1) wanted (D.Disk.seen disk)) }
+{
+    match beginning_of(alloc, &mut disk) {
+        Ok(Some(Beginning { mode, settings, .. })) => {
+            close_hub(alloc, mode, &settings, wanted, disk, errors)
         }
-        None => Err(Ending::Log(LogFault::NoLog)),
+        Ok(None) => (Err(Ending::Log(LogFault::NoLog)), disk),
+        Err(ending) => (Err(ending), disk),
     }
 }
 
-/// Closes the hub of the log on this disk, and makes the log of this name with its books.
-fn carry<L: Logs, E: Write>(
-    logs: &L,
+/// Closes the hub of these settings whose log is on this disk, and gives the disk back.
+fn close_hub<D: Disk + Drop, E: Write>(
     alloc: Global,
     mode: Mode,
     settings: &Settings,
-    disk: L::Log,
-    to: &str,
     wanted: Option<Digest>,
+    mut disk: D,
     errors: &mut E,
-) -> Result<(), Ending>
-    requires usable { IsTrue (L.Log.Disk.is_usable disk) }
-    requires known { IsTrue (L.Log.Disk.is_clean disk) → Only (L.Log.Disk.seen disk) (L.Log.Disk.may_leave disk) }
-    ensures ok { OnOk result ((digest : Option (List ℕ)) → AsksFor digest wanted
-        → BeginsNext L.Log.Disk (L.is_named logs.now) digest (L.Log.Disk.seen disk) to.now) }
-    ensures err { IfErr result (IsUnkept (Unit {0})) }
+) -> (Result<Closed, Ending>, D)
+    requires usable { IsTrue (D.Disk.is_usable disk) }
+    requires known { HasKeptFaith D.Disk disk → Only (D.Disk.seen disk) (D.Disk.may_leave disk) }
+    requires there { HasKeptFaith D.Disk disk → 0 < length (recovered (D.Disk.seen disk)) }
+    requires read { HasKeptFaith D.Disk disk → IsRead mode settings.now (D.Disk.seen disk) }
+    ensures ok { IfOk result.0 (λ closed. HasKeptFaith D.Disk result.1 → (digest : Option (List ℕ)) → AsksFor digest wanted
+        → CarriesBooks digest ((d : D) → IsTrue (D.Disk.is_mixing d))
+        (header_from Two closed.mode (settings_of closed.runner.world) closed.journals.items)
+        (change_on D.Disk disk result.1)) }
+    ensures can { IfOk result.0 (λ closed. CanOpenFrom (settings_of closed.runner.world) closed.journals.items) }
+    ensures err { OnErr result.0 (IsSafe ((d : D) → IsTrue (D.Disk.is_mixing d)) (HasKeptFaith D.Disk result.1)
+        (change_on D.Disk disk result.1)) }
+    ensures refused { IfErr result.0 (λ ending. status_of_ending ending ≡ 2
+        → IsUnclosed ⊥ (HasKeptFaith D.Disk result.1) wanted (D.Disk.seen disk)) }
 {
-    let mut hub = match LoggedHub::of_log(alloc, mode, settings, disk) {
+    let hub = match NewHub::of_log(alloc, mode, settings, &mut disk) {
         Ok(hub) => hub,
-        Err(error) => return Err(told_ending(error, errors)),
+        Err(error) => return (Err(told_ending(error, errors)), disk),
     };
-    let books = match hub.close(alloc, wanted) {
-        Ok(books) => books,
-        Err(error) => return Err(told_ending(error, errors)),
-    };
+    let mut hub = hub.with_disk(alloc, disk);
+    let books = hub.close(alloc, wanted);
+    let (runner, disk) = hub.into_parts();
     match books {
-        Some(books) => begin(alloc, mode, hub.settings(), &books, logs.open(to)?),
-        None => Err(Ending::Log(LogFault::LastOpening)),
+        Ok(Some(journals)) => (
+            Ok(Closed {
+                mode,
+                runner,
+                journals,
+            }),
+            disk,
+        ),
+        Ok(None) => (Err(Ending::Log(LogFault::LastOpening)), disk),
+        Err(error) => (Err(told_ending(error, errors)), disk),
     }
 }
 
-/// Makes the log of a hub that opens from these journals on this disk.
-fn begin<D: Disk + Drop>(
+/// Makes the log of this name, of a hub that opens with the books of the closed one.
+fn begin<L: Logs>(logs: &mut L, alloc: Global, closed: &Closed, to: &str) -> Result<(), Ending>
+    requires none_out { AllAreIn (L.files logs.old) }
+    requires can { CanOpenFrom (settings_of closed.now.runner.world) closed.now.journals.items }
+    ensures ok { OnOk result (IfKept (L.files logs.new) (IsBegun
+        (header_from Two closed.now.mode (settings_of closed.now.runner.world) closed.now.journals.items)
+        (change_of (L.files logs.old) (L.files logs.new) to.now))) }
+    ensures err { OnErr result (IsSafe ((d : L.Log) → IsTrue (L.Log.Disk.is_mixing d)) (IsTrue (L.files logs.new).is_clean)
+        (change_of (L.files logs.old) (L.files logs.new) to.now)) }
+    ensures refused { IfErr result (λ ending. status_of_ending ending ≡ 2 → IsUnbegun ((L.files logs.new).in_use to.now)
+        (IsTrue (L.files logs.new).is_clean)
+        (header_from Two closed.now.mode (settings_of closed.now.runner.world) closed.now.journals.items)
+        ((L.files logs.old).bytes to.now)) }
+    ensures visited { IsVisited (L.files logs.old) (L.files logs.new) to.now }
+{
+    let disk = logs.open(to)?;
+    let (outcome, disk) = begin_on(
+        alloc,
+        closed.mode,
+        closed.runner.settings(),
+        &closed.journals,
+        disk,
+    );
+    logs.close(disk);
+    outcome
+}
+
+/// Makes the log of a hub that opens from these journals on this disk, and gives the disk back.
+fn begin_on<D: Disk + Drop>(
     alloc: Global,
     mode: Mode,
     settings: &Settings,
     journals: &[Journal],
     disk: D,
-) -> Result<(), Ending>
+) -> (Result<(), Ending>, D)
     requires journals { CanOpenFrom settings.now journals.now }
     requires usable { IsTrue (D.Disk.is_usable disk) }
-    requires known { IsTrue (D.Disk.is_clean disk) → Only (D.Disk.seen disk) (D.Disk.may_leave disk) }
-    ensures ok { OnOk result (BeginsLog D.Disk (header_from Two mode settings.now journals.now) disk) }
-    ensures err { IfErr result (IsUnkept (Unit {0})) }
+    requires known { HasKeptFaith D.Disk disk → Only (D.Disk.seen disk) (D.Disk.may_leave disk) }
+    ensures ok { OnOk result.0 (HasKeptFaith D.Disk result.1
+        → IsBegun (header_from Two mode settings.now journals.now) (change_on D.Disk disk result.1)) }
+    ensures err { OnErr result.0 (IsSafe ((d : D) → IsTrue (D.Disk.is_mixing d)) (HasKeptFaith D.Disk result.1)
+        (change_on D.Disk disk result.1)) }
+    ensures refused { IfErr result.0 (λ ending. status_of_ending ending ≡ 2 → IsUnbegun ⊥ (HasKeptFaith D.Disk result.1)
+        (header_from Two mode settings.now journals.now) (D.Disk.seen disk)) }
 {
-    let mut hub = LoggedHub::new_from(alloc, Version::Two, mode, settings, journals, disk)?;
-    hub.open(alloc, None).map_err(ending_of)
+    let Ok(hub) = NewHub::open_from(alloc, Version::Two, mode, settings, journals) else {
+        return (Err(Ending::Fault(Fault::Memory)), disk);
+    };
+    let mut hub = hub.with_disk(alloc, disk);
+    let outcome = or_ending(hub.open(alloc, None));
+    let (_, disk) = hub.into_parts();
+    (outcome, disk)
 }
 
-/// What the first line of a log says.
-fn beginning_of<D: Disk + Drop>(alloc: Global, disk: &mut D) -> Result<Option<Beginning>, Ending>
+/// What the first line of a log says. The log is left as it is.
+fn beginning_of<D: Disk>(alloc: Global, disk: &mut D) -> Result<Option<Beginning>, Ending>
     requires usable { IsTrue (D.Disk.is_usable disk.old) }
-    ensures err { IfErr result (IsUnkept (Unit {0})) }
-    ensures seen { D.Disk.seen disk.new ≡ D.Disk.seen disk.old }
-    ensures crash { (c : List ℕ) → D.Disk.may_leave disk.new c → D.Disk.may_leave disk.old c }
+    ensures there { IfOk result (λ beginning. HasKeptFaith D.Disk disk.new → 0 < length (recovered (D.Disk.seen disk.old))) }
+    ensures read { HasKeptFaith D.Disk disk.new → ReadsBeginning (D.Disk.seen disk.old) result }
+    ensures left { IsLeft D.Disk disk.old disk.new }
     ensures usable { IsTrue (D.Disk.is_usable disk.new) }
-    ensures clean { IsTrue (D.Disk.is_clean disk.new) → IsTrue (D.Disk.is_clean disk.old) }
+    ensures clean { HasKeptFaith D.Disk disk.new → HasKeptFaith D.Disk disk.old }
 {
     let first = read_lines(alloc, disk, 1).map_err(|error| ending_of(LoggedError::Log(error)))?;
+    if first.is_empty() {
+        return Err(Ending::Log(LogFault::NoLog));
+    }
     Ok(read_beginning(alloc, &first)?)
 }

@@ -1,6 +1,6 @@
-ghost use Rattle.std.specs.Prelude.{◌≡◌};
+ghost use Rattle.std.specs.Prelude.{◌≡◌, is_ok, IfErr};
 ghost use Rattle.inst_logged.specs.Refused.{IsRefused};
-ghost use Rattle.inst_program.specs.inner.Ending.{IsUnkept};
+ghost use Rattle.inst_program.specs.inner.Ending.{status_of_ending};
 
 use crate::logs::LogsError;
 use inst_base::Fault;
@@ -58,7 +58,7 @@ impl From<LogsError> for Ending {
 
 /// How a program ends by this error of a hub with a log.
 pub(crate) fn ending_of(error: LoggedError) -> Ending
-    ensures { IsUnkept (IsRefused error) result }
+    ensures { status_of_ending result ≡ 2 → IsRefused error }
 {
     match error {
         LoggedError::Read => Ending::Fault(Fault::ReadFault),
@@ -75,9 +75,20 @@ pub(crate) fn ending_of(error: LoggedError) -> Ending
     }
 }
 
+/// How a program ends by what came of a hub with a log.
+pub(crate) fn or_ending(outcome: Result<(), LoggedError>) -> Result<(), Ending>
+    ensures variant { is_ok result ≡ is_ok outcome }
+    ensures refused { IfErr outcome (λ error. IfErr result (λ ending. status_of_ending ending ≡ 2 → IsRefused error)) }
+{
+    match outcome {
+        Ok(()) => Ok(()),
+        Err(error) => Err(ending_of(error)),
+    }
+}
+
 /// How a program ends by this error of a hub with a log. Where the log is damaged, `errors` gets how far it is right.
 pub(crate) fn told_ending<E: Write>(error: LoggedError, errors: &mut E) -> Ending
-    ensures { IsUnkept (IsRefused error) result }
+    ensures { status_of_ending result ≡ 2 → IsRefused error }
 {
     if let LoggedError::Damaged(right) = error {
         tell_damage(right, errors);

@@ -1,16 +1,28 @@
 //! Runs with a log.
-ghost use Rattle.std.specs.Prelude.{◌≡◌, ◌⊎◌, option_map, IfOk, OnOk, OnErr, IfErr};
-ghost use Rattle.inst_program.specs.Keeping.{AsksFor, KeepsAFront, KeepsLines};
-ghost use Rattle.inst_program.specs.inner.Ending.{IsUnkept};
+ghost use Rattle.std.specs.Prelude.{◌≡◌, ◌<◌, [], true, length, option_map, IsTrue, IfOk, OnOk, IfErr, MatchBool};
+ghost use Rattle.sqlite_disk.specs.Disk.{Only};
+ghost use Rattle.inst_log.specs.Layout.{recovered};
+ghost use Rattle.inst_logged.specs.Header.{header};
+ghost use Rattle.inst_logged.specs.Logged.{HasBegun, IsUnbegun};
+ghost use Rattle.inst_logged.specs.Refused.{IsRefused};
+ghost use Rattle.inst_logged.specs.Running.{HasKeptFaith, IsLeft};
+ghost use Rattle.inst_logged.specs.Streams.{streams};
+ghost use Rattle.inst_logged.specs.declared.version.Version.TheVariants.{Two};
+ghost use Rattle.inst_program.specs.Files.{AllAreIn, IfKept, IsUntouched, OthersStay, change_of, change_on};
+ghost use Rattle.inst_program.specs.Logs.{IsLogsError};
+ghost use Rattle.inst_program.specs.Keeping.{AsksFor, KeepsLines, kept_run};
+ghost use Rattle.inst_program.specs.inner.Ending.{status_of_ending, IsUnkept};
+ghost use Rattle.inst_program.specs.inner.Finding.{FindsGood};
 
 use crate::ending::{Ending, told_ending};
-use crate::logs::Logs;
+use crate::logs::{Logs, LogsError};
 use crate::summary::sum_up;
+use inst_agenda::Runner;
 use inst_chain::Digest;
 use inst_faults::{LogFault, excerpt};
 use inst_lines::Mode;
 use inst_log::{LogError, lines_len, read_lines};
-use inst_logged::{LoggedError, LoggedHub, Version, first_batch, read_beginning, version_of};
+use inst_logged::{LoggedError, NewHub, Version, first_batch, read_beginning, version_of};
 use inst_options::LogOptions;
 use inst_settings::Settings;
 use sqlite_disk::Disk;
@@ -22,9 +34,9 @@ use std::io::{Read, Write};
 ///
 /// # Errors
 ///
-/// `NoLog` if the log must be there and no file of that name is; none is made then.
+/// `NoLog` if the log must be there and no file of that name is, or an empty one; none is made then.
 pub(crate) fn keep<L: Logs, R: Read, W: Write, E: Write>(
-    logs: &L,
+    logs: &mut L,
     alloc: Global,
     mode: Mode,
     settings: &Settings,
@@ -34,75 +46,176 @@ pub(crate) fn keep<L: Logs, R: Read, W: Write, E: Write>(
     writer: &mut W,
     errors: &mut E,
 ) -> Result<(), Ending>
-    ensures ok { OnOk result (KeepsLines L.Log.Disk (L.is_named logs.now)
-        mode settings.now log.entry.path.now log.entry.told (option_map (λ d. d.now) log.entry.digest)
-        (R.remaining reader.old) (R.remaining reader.new) (W.contents writer.old) (W.contents writer.new)) }
-    ensures err { IfErr result (IsUnkept ((reader.new ≡ reader.old) × (writer.new ≡ writer.old))) }
-    ensures front { OnErr result (((reader.new ≡ reader.old) × (writer.new ≡ writer.old))
-        ⊎ KeepsAFront L.Log.Disk (L.is_named logs.now)
-        mode settings.now log.entry.path.now log.entry.told
-        (R.remaining reader.old) (R.remaining reader.new) (W.contents writer.old) (W.contents writer.new)) }
+    requires none_out { AllAreIn (L.files logs.old) }
+    ensures ok { OnOk result (KeepsLines (kept_run mode settings.now log.entry)
+        (streams R.Read W.Write reader.old reader.new writer.old writer.new)
+        (IsTrue (L.files logs.new).is_clean) (change_of (L.files logs.old) (L.files logs.new) log.entry.path.now)) }
+    ensures err { IfErr result (λ ending. IsUnkept (kept_run mode settings.now log.entry)
+        (streams R.Read W.Write reader.old reader.new writer.old writer.new) (L.files logs.old).mixes
+        ((L.files logs.new).in_use log.entry.path.now) (IsTrue (L.files logs.new).is_clean) (change_of (L.files logs.old) (L.files logs.new) log.entry.path.now)
+        (status_of_ending ending)) }
+    ensures others { OthersStay (L.files logs.old) (L.files logs.new) log.entry.path.now }
+    ensures all_in { AllAreIn (L.files logs.new) }
 {
-    if log.resume && !logs.has(log.path)? {
+    if is_missing(logs, log)? {
         return Err(Ending::Log(LogFault::NoLog));
     }
     let wanted = wanted_of(log.digest)?;
     let disk = logs.open(log.path)?;
-    let mut hub = match LoggedHub::of_log(alloc, mode, settings, disk) {
+    let (outcome, disk) = keep_on(
+        alloc, mode, settings, log, wanted, disk, reader, writer, errors,
+    );
+    logs.close(disk);
+    let mut runner = outcome?;
+    if sums {
+        sum_up(&mut runner, None, errors);
+    }
+    Ok(())
+}
+
+/// Returns `true` if the log must be there and isn't.
+fn is_missing<L: Logs>(logs: &mut L, log: LogOptions<'_>) -> Result<bool, LogsError>
+    ensures missing { IfOk result (λ missing. missing ≡ true → (log.entry.resume ≡ true)
+        × IfKept (L.files logs.new) ((L.files logs.new).bytes log.entry.path.now ≡ [])) }
+    ensures cause { IfErr result (IsLogsError ⊥ ⊥) }
+    ensures untouched { IsUntouched (L.files logs.old) (L.files logs.new) }
+{
+    if !log.resume {
+        return Ok(false);
+    }
+    let is_there = logs.has(log.path)?;
+    Ok(!is_there)
+}
+
+/// Answers the lines of `reader`, each once it is in the log on this disk, and gives the disk back.
+fn keep_on<D: Disk + Drop, R: Read, W: Write, E: Write>(
+    alloc: Global,
+    mode: Mode,
+    settings: &Settings,
+    log: LogOptions<'_>,
+    wanted: Option<Digest>,
+    mut disk: D,
+    reader: &mut R,
+    writer: &mut W,
+    errors: &mut E,
+) -> (Result<Runner, Ending>, D)
+    requires wanted { AsksFor (option_map (λ d. d.now) log.digest) wanted }
+    requires usable { IsTrue (D.Disk.is_usable disk) }
+    requires known { HasKeptFaith D.Disk disk → Only (D.Disk.seen disk) (D.Disk.may_leave disk) }
+    ensures ok { OnOk result.0 (KeepsLines (kept_run mode settings.now log.entry)
+        (streams R.Read W.Write reader.old reader.new writer.old writer.new)
+        (HasKeptFaith D.Disk result.1) (change_on D.Disk disk result.1)) }
+    ensures err { IfErr result.0 (λ ending. IsUnkept (kept_run mode settings.now log.entry)
+        (streams R.Read W.Write reader.old reader.new writer.old writer.new) ((d : D) → IsTrue (D.Disk.is_mixing d))
+        ⊥ (HasKeptFaith D.Disk result.1) (change_on D.Disk disk result.1) (status_of_ending ending)) }
+{
+    let hub = match find_hub(alloc, mode, settings, log.resume, &mut disk) {
         Ok(hub) => hub,
-        Err(error) => return Err(told_ending(error, errors)),
+        Err(error) => return (Err(told_ending(error, errors)), disk),
     };
+    let mut hub = hub.with_disk(alloc, disk);
     match hub.run(alloc, log.told, wanted, reader, writer) {
         Ok(()) => {
-            sum_run(hub, sums, errors);
-            Ok(())
+            let (runner, disk) = hub.into_parts();
+            (Ok(runner), disk)
         }
         Err(error) => {
-            if let LoggedError::Log(LogError::OtherSettings) = error {
-                tell_settings(alloc, mode, settings, hub.into_disk(), errors);
-            }
-            Err(told_ending(error, errors))
+            let (_, mut disk) = hub.into_parts();
+            tell_failure(alloc, mode, settings, error, &mut disk, errors);
+            (Err(told_ending(error, errors)), disk)
         }
     }
 }
 
+/// Returns the hub that the log on this disk is of, which has a line if it `must_be_there`.
+fn find_hub<D: Disk>(
+    alloc: Global,
+    mode: Mode,
+    settings: &Settings,
+    must_be_there: bool,
+    disk: &mut D,
+) -> Result<NewHub, LoggedError>
+    requires usable { IsTrue (D.Disk.is_usable disk.old) }
+    ensures begun { IfOk result (λ hub. HasBegun hub.version mode settings.now hub.heading.batch.items hub.answers
+        × IsUnbegun hub.version hub.heading.batch.items hub.heading.marker hub.intake) }
+    ensures first { IfOk result (λ hub. HasKeptFaith D.Disk disk.new → recovered (D.Disk.seen disk.old) ≡ []
+        → (hub.version ≡ Two) × (hub.heading.batch.items ≡ header Two mode settings.now)) }
+    ensures there { OnOk result (HasKeptFaith D.Disk disk.new → must_be_there ≡ true → 0 < length (recovered (D.Disk.seen disk.old))) }
+    ensures found { HasKeptFaith D.Disk disk.new → FindsGood mode settings.now must_be_there (D.Disk.seen disk.old) result }
+    ensures left { IsLeft D.Disk disk.old disk.new }
+    ensures usable { IsTrue (D.Disk.is_usable disk.new) }
+    ensures clean { HasKeptFaith D.Disk disk.new → HasKeptFaith D.Disk disk.old }
+{
+    if is_absent(alloc, must_be_there, disk)? {
+        return Err(LoggedError::Log(LogError::NoLog));
+    }
+    NewHub::of_log(alloc, mode, settings, disk)
+}
+
+/// Returns `true` if the log on this disk `must_be_there` and has no line.
+fn is_absent<D: Disk>(alloc: Global, must_be_there: bool, disk: &mut D) -> Result<bool, LoggedError>
+    requires usable { IsTrue (D.Disk.is_usable disk.old) }
+    ensures absent { IfOk result (λ absent. HasKeptFaith D.Disk disk.new
+        → MatchBool absent ((must_be_there ≡ true) × (recovered (D.Disk.seen disk.old) ≡ []))
+        (must_be_there ≡ true → 0 < length (recovered (D.Disk.seen disk.old)))) }
+    ensures unrefused { IfErr result (λ error. ¬ IsRefused error) }
+    ensures left { IsLeft D.Disk disk.old disk.new }
+    ensures usable { IsTrue (D.Disk.is_usable disk.new) }
+    ensures clean { HasKeptFaith D.Disk disk.new → HasKeptFaith D.Disk disk.old }
+{
+    if !must_be_there {
+        return Ok(false);
+    }
+    let first = read_lines(alloc, disk, 1)?;
+    Ok(first.is_empty())
+}
+
 /// Returns the digest that a log must have, if one is given.
-///
-/// # Errors
-///
-/// `OtherDigest` for a text of another length: no log has it.
-pub(crate) fn wanted_of(digest: Option<&str>) -> Result<Option<Digest>, Ending>
-    ensures ok { IfOk result (AsksFor (option_map (λ d. d.now) digest.entry)) }
-    ensures err { IfErr result (IsUnkept (Unit {0})) }
+pub(crate) fn wanted_of(digest: Option<&str>) -> Result<Option<Digest>, AllocError>
+    ensures { IfOk result (AsksFor (option_map (λ d. d.now) digest.entry)) }
 {
     let Some(text) = digest else {
         return Ok(None);
     };
     match Digest::of(text) {
         Some(digest) => Ok(Some(digest)),
-        None => Err(Ending::Log(LogFault::OtherDigest)),
+        // No digest that options give has another length: this is never reached.
+        None => Err(AllocError),
     }
 }
 
-/// Sums up the run of this hub where `sums` says so.
-fn sum_run<D: Disk + Drop, E: Write>(hub: LoggedHub<D>, sums: bool, errors: &mut E) {
-    if sums {
-        sum_up(&mut hub.into_runner(), None, errors);
+/// Tells what this error of a run is about: the settings, where its log begins with others. The log is left as it is.
+fn tell_failure<D: Disk, E: Write>(
+    alloc: Global,
+    mode: Mode,
+    settings: &Settings,
+    error: LoggedError,
+    disk: &mut D,
+    errors: &mut E,
+)
+    ensures left { IsLeft D.Disk disk.old disk.new }
+    ensures clean { HasKeptFaith D.Disk disk.new → HasKeptFaith D.Disk disk.old }
+{
+    if let LoggedError::Log(LogError::OtherSettings) = error {
+        tell_settings(alloc, mode, settings, disk, errors);
     }
 }
 
 /// Tells with which settings a log begins, and which are given. Nothing is told where that can't be read.
-fn tell_settings<D: Disk + Drop, E: Write>(
+fn tell_settings<D: Disk, E: Write>(
     alloc: Global,
     mode: Mode,
     settings: &Settings,
-    mut log: D,
+    disk: &mut D,
     errors: &mut E,
-) {
-    if !log.may_be_used() {
+)
+    ensures left { IsLeft D.Disk disk.old disk.new }
+    ensures clean { HasKeptFaith D.Disk disk.new → HasKeptFaith D.Disk disk.old }
+{
+    if !disk.may_be_used() {
         return;
     }
-    let Ok(first) = read_lines(alloc, &mut log, 1) else {
+    let Ok(first) = read_lines(alloc, disk, 1) else {
         return;
     };
     if let Ok(text) = shown_line(alloc, &first) {

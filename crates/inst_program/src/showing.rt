@@ -1,8 +1,10 @@
 //! What a log has.
-ghost use Rattle.std.specs.Prelude.{◌≡◌, IfOk, OnOk, IfErr, string_bytes};
+ghost use Rattle.std.specs.Prelude.{◌≡◌, ◌≢◌, Err, IfOk, OnOk, IfErr, string_bytes};
 ghost use Rattle.std.specs.Io.KnownBytes.{Appends};
-ghost use Rattle.inst_program.specs.Keeping.{TellsOfTheLog, digest_line, log_text};
-ghost use Rattle.inst_program.specs.inner.Ending.{IsUnkept};
+ghost use Rattle.inst_logged.specs.declared.version.Version.TheVariants.{Two};
+ghost use Rattle.inst_program.specs.Files.{IfKept, IsUntouched};
+ghost use Rattle.inst_program.specs.Keeping.{IsGoodLog, TellsOfTheLog, digest_line, log_text};
+ghost use Rattle.inst_program.specs.inner.Ending.{status_of_ending};
 ghost use Rattle.inst_program.specs.inner.Showing.{HasDigest};
 
 use crate::ending::{Ending, ending_of, tell_damage};
@@ -18,15 +20,17 @@ use std::io::Write;
 /// of its last mark, if it has marks. The log is only read, also while a hub runs on it. Where it is damaged, `errors`
 /// gets how far it is right.
 pub(crate) fn show<L: Logs, W: Write, E: Write>(
-    logs: &L,
+    logs: &mut L,
     alloc: Global,
     path: &str,
     writer: &mut W,
     errors: &mut E,
 ) -> Result<(), Ending>
-    ensures ok { OnOk result (TellsOfTheLog L.Reader.Read.remaining (L.reads logs.now) path.now
-        (W.contents writer.old) (W.contents writer.new)) }
-    ensures err { IfErr result (IsUnkept (writer.new ≡ writer.old)) }
+    ensures ok { OnOk result (IfKept (L.files logs.new)
+        (TellsOfTheLog ((L.files logs.old).bytes path.now) (W.contents writer.old) (W.contents writer.new))) }
+    ensures err { IfErr result (λ ending. status_of_ending ending ≡ 2 → (writer.new ≡ writer.old)
+        × IfKept (L.files logs.new) (¬ (IsGoodLog ((L.files logs.old).bytes path.now)))) }
+    ensures untouched { IsUntouched (L.files logs.old) (L.files logs.new) }
 {
     let mut reader = logs.read(path)?;
     let summary = match summarize(alloc, &mut reader) {
@@ -57,7 +61,8 @@ pub(crate) fn show<L: Logs, W: Write, E: Write>(
 ///
 /// A mark is missing or wrong: the lines up to the last mark that is right.
 fn digest_of(version: Version, chain: &Result<Digest, Prefix>) -> Result<Option<Digest>, Prefix>
-    ensures { IfOk result (HasDigest version chain.now) }
+    ensures digest { IfOk result (HasDigest version chain.now) }
+    ensures none { IfErr result (λ right. (version ≡ Two) × (chain.now ≡ Err right)) }
 {
     match (version, chain) {
         (Version::One, _) => Ok(None),
@@ -75,7 +80,7 @@ fn tell<W: Write>(
     writer: &mut W,
 ) -> Result<(), Ending>
     ensures ok { OnOk result (Appends (W.contents writer.old) (W.contents writer.new) (log_text first.now lines digest)) }
-    ensures err { IfErr result (IsUnkept (writer.new ≡ writer.old)) }
+    ensures err { IfErr result (λ ending. status_of_ending ending ≢ 2) }
 {
     let first = String::from_utf8_lossy(alloc, first)?;
     let digest = digest_line(alloc, digest)?;

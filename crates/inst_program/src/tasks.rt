@@ -1,20 +1,14 @@
 //! What the program does with the words of its command line, and which exit status that comes to.
 ghost use Rattle.std.specs.Prelude.{◌≡◌, ◌≢◌, ◌⊎◌, ℕ, List, map, string_bytes, OnOk, IfErr};
 ghost use Rattle.std.specs.IoError.{error_kind};
-ghost use Rattle.inst_base.specs.declared.fault.Fault.{Fault as SomeFault};
 ghost use Rattle.inst_lines.specs.Answering.{answering, opened};
 ghost use Rattle.inst_lines.specs.Session.{FailsAfter};
-ghost use Rattle.inst_options.specs.Asking.{AskForHelp, AreWrong, IsWished, NameALog};
-ghost use Rattle.inst_program.specs.Keeping.{KeepsAFront, KeepsLines};
-ghost use Rattle.inst_program.specs.Program.{status_of};
+ghost use Rattle.inst_logged.specs.Streams.{streams};
+ghost use Rattle.inst_options.specs.Asking.{IsWished};
+ghost use Rattle.inst_program.specs.Files.{AllAreIn};
+ghost use Rattle.inst_program.specs.Program.{status_of, Answers, Checks, Done, Drills, Ends, Explains};
 ghost use Rattle.inst_program.specs.inner.Ending.{IsErrorStatus, status_of_error, status_of_ending};
-ghost use Rattle.inst_program.specs.Program.{Answers, Serves, Checks, HasKept, HasChecked, HasDrilled, HasExplained};
-ghost use Rattle.inst_program.specs.Program.{FailsAtLines, FailsToKeep};
-ghost use Rattle.inst_program.specs.Program.{AreRefused, AskForADrill, AskForAnExplanation, NameNoFault};
-ghost use Rattle.inst_program.specs.Program.{AskForALog, HasCarried, HasShown};
-ghost use Rattle.inst_program.specs.inner.Ending.{IsServed, IsEnding};
-ghost use Rattle.inst_program.specs.Program.{Drills, Explains};
-ghost use Rattle.inst_program.specs.inner.Ending.{IsAnswered, IsUnanswered, IsUndrilled, IsUnchecked, IsUnexplained};
+ghost use Rattle.inst_program.specs.inner.Ending.{IsAnswered, IsUnanswered, IsUnchecked, IsUndone, IsUndrilled, IsUnexplained};
 
 use crate::carrying::next;
 use crate::ending::Ending;
@@ -48,7 +42,7 @@ use std::thread::Threads;
 /// lost. Its time is in the bytes of the input and of the log.
 pub fn program<H: Threads + Wait + Sync, L: Logs, R: Read, W: Write, E: Write>(
     rt: &H,
-    logs: &L,
+    logs: &mut L,
     alloc: Global,
     words: Vec<String>,
     reader: &mut R,
@@ -56,41 +50,12 @@ pub fn program<H: Threads + Wait + Sync, L: Logs, R: Read, W: Write, E: Write>(
     errors: &mut E,
     is_watched: bool,
 ) -> u8
-    ensures status { (result ≡ 0) ⊎ ((result ≡ 2) ⊎ (result ≡ 3)) }
-
-    // All the input is answered, or what no hub takes of it is told, or none is read: the words ask for a help text, for
-    // a drill, for what a log has or the next one, or for an explanation, and it is done.
-    ensures served { result ≡ 0 → Serves (map string_bytes words.items)
-        (R.remaining reader.old) (R.remaining reader.new) (W.contents writer.old) (W.contents writer.new)
-        ⊎ (HasKept L.Log.Disk (L.is_named logs.now)
-        (map string_bytes words.items)
-        (R.remaining reader.old) (R.remaining reader.new) (W.contents writer.old) (W.contents writer.new)
-        ⊎ (HasChecked (map string_bytes words.items)
-        (R.remaining reader.old) (R.remaining reader.new) (W.contents writer.old) (W.contents writer.new)
-        ⊎ ((reader.new ≡ reader.old) × (AskForHelp (map string_bytes words.items)
-        ⊎ (HasDrilled (map string_bytes words.items) (W.contents writer.old) (W.contents writer.new)
-        ⊎ (HasShown L.Reader.Read.remaining (L.reads logs.now) (map string_bytes words.items)
-        (W.contents writer.old) (W.contents writer.new)
-        ⊎ (HasCarried L.Log.Disk (L.is_named logs.now) (map string_bytes words.items)
-        ⊎ HasExplained (map string_bytes words.items) (W.contents writer.old) (W.contents writer.new)))))))) }
-
-    // The words are wrong, or they are whole and choose no settings that a hub can have and do the task with, or they
-    // speak of a log, or name a fault that there isn't.
-    ensures refused { result ≡ 2 → (reader.new ≡ reader.old) × (writer.new ≡ writer.old)
-        × (AreWrong (map string_bytes words.items) ⊎ (AreRefused (map string_bytes words.items)
-        ⊎ (NameALog (map string_bytes words.items) ⊎ NameNoFault (map string_bytes words.items)))) }
-
-    // Nothing was read or written, or a run has failed, without a log or with one, or what reads nothing: a drill, an
-    // explanation, the telling of what a log has, or a help text.
-    ensures failed { result ≡ 3 → ((reader.new ≡ reader.old) × (writer.new ≡ writer.old))
-        ⊎ (((fault : SomeFault) × FailsAtLines (map string_bytes words.items)
-        (R.remaining reader.old) (R.remaining reader.new) (W.contents writer.old) (W.contents writer.new) fault)
-        ⊎ (FailsToKeep L.Log.Disk (L.is_named logs.now)
-        (map string_bytes words.items)
-        (R.remaining reader.old) (R.remaining reader.new) (W.contents writer.old) (W.contents writer.new)
-        ⊎ ((reader.new ≡ reader.old) × (AskForADrill (map string_bytes words.items)
-        ⊎ (AskForAnExplanation (map string_bytes words.items)
-        ⊎ (AskForALog (map string_bytes words.items) ⊎ AskForHelp (map string_bytes words.items))))))) }
+    requires none_out { AllAreIn (L.files logs.old) }
+    // What the words ask for is done, is refused, or has failed.
+    ensures ends { Ends (map string_bytes words.items) (streams R.Read W.Write reader.old reader.new writer.old writer.new)
+        (L.files logs.old) (L.files logs.new) result }
+    // Each log that was opened is closed.
+    ensures all_in { AllAreIn (L.files logs.new) }
 {
     match wished(alloc, &words) {
         Ok(wish) => match serve(rt, logs, alloc, wish, reader, writer, errors, is_watched) {
@@ -200,7 +165,7 @@ fn tell<E: Write>(fault: Fault, errors: &mut E) -> u8
 /// Does what words ask for.
 fn serve<H: Threads + Wait + Sync, L: Logs, R: Read, W: Write, E: Write>(
     rt: &H,
-    logs: &L,
+    logs: &mut L,
     alloc: Global,
     wish: Wish<'_>,
     reader: &mut R,
@@ -208,17 +173,13 @@ fn serve<H: Threads + Wait + Sync, L: Logs, R: Read, W: Write, E: Write>(
     errors: &mut E,
     is_watched: bool,
 ) -> Result<(), Ending>
-    ensures ok { (words : List (List ℕ)) → IsWished words wish.entry → OnOk result (IsServed words (reader.new ≡ reader.old)
-        (HasKept L.Log.Disk (L.is_named logs.now) words
-        (R.remaining reader.old) (R.remaining reader.new) (W.contents writer.old) (W.contents writer.new))
-        (HasShown L.Reader.Read.remaining (L.reads logs.now) words (W.contents writer.old) (W.contents writer.new))
-        (HasCarried L.Log.Disk (L.is_named logs.now) words)
-        (R.remaining reader.old) (R.remaining reader.new) (W.contents writer.old) (W.contents writer.new)) }
-    ensures err { (words : List (List ℕ)) → IsWished words wish.entry → IfErr result (IsEnding words
-        (reader.new ≡ reader.old) (writer.new ≡ writer.old)
-        (FailsAtLines words (R.remaining reader.old) (R.remaining reader.new) (W.contents writer.old) (W.contents writer.new))
-        (FailsToKeep L.Log.Disk (L.is_named logs.now) words
-        (R.remaining reader.old) (R.remaining reader.new) (W.contents writer.old) (W.contents writer.new))) }
+    requires none_out { AllAreIn (L.files logs.old) }
+    ensures ok { (words : List (List ℕ)) → IsWished words wish.entry → OnOk result (Done words
+        (streams R.Read W.Write reader.old reader.new writer.old writer.new) (L.files logs.old) (L.files logs.new)) }
+    ensures err { (words : List (List ℕ)) → IsWished words wish.entry → IfErr result (λ ending. IsUndone words
+        (streams R.Read W.Write reader.old reader.new writer.old writer.new) (L.files logs.old) (L.files logs.new)
+        (status_of_ending ending)) }
+    ensures all_in { AllAreIn (L.files logs.new) }
 {
     match wish {
         Wish::Run(settings, log, sums) => answer(
@@ -258,7 +219,7 @@ fn serve<H: Threads + Wait + Sync, L: Logs, R: Read, W: Write, E: Write>(
 
 /// Answers the lines of `reader` at a hub of these settings, with a log or without, and sums up what `sums` asks for.
 fn answer<L: Logs, R: Read, W: Write, E: Write>(
-    logs: &L,
+    logs: &mut L,
     alloc: Global,
     mode: Mode,
     settings: &Settings,
@@ -268,14 +229,12 @@ fn answer<L: Logs, R: Read, W: Write, E: Write>(
     writer: &mut W,
     errors: &mut E,
 ) -> Result<(), Ending>
-    ensures ok { OnOk result (IsAnswered mode settings.now
-        (λ name told digest. KeepsLines L.Log.Disk (L.is_named logs.now) mode settings.now name told digest
-        (R.remaining reader.old) (R.remaining reader.new) (W.contents writer.old) (W.contents writer.new)) log.entry
-        (R.remaining reader.old) (R.remaining reader.new) (W.contents writer.old) (W.contents writer.new)) }
-    ensures err { IfErr result (IsUnanswered mode settings.now ((reader.new ≡ reader.old) × (writer.new ≡ writer.old))
-        (λ name told digest. KeepsAFront L.Log.Disk (L.is_named logs.now) mode settings.now name told
-        (R.remaining reader.old) (R.remaining reader.new) (W.contents writer.old) (W.contents writer.new)) log.entry
-        (R.remaining reader.old) (R.remaining reader.new) (W.contents writer.old) (W.contents writer.new)) }
+    requires none_out { AllAreIn (L.files logs.old) }
+    ensures ok { OnOk result (IsAnswered mode settings.now log.entry
+        (streams R.Read W.Write reader.old reader.new writer.old writer.new) (L.files logs.old) (L.files logs.new)) }
+    ensures err { IfErr result (IsUnanswered mode settings.now log.entry
+        (streams R.Read W.Write reader.old reader.new writer.old writer.new) (L.files logs.old) (L.files logs.new)) }
+    ensures all_in { AllAreIn (L.files logs.new) }
 {
     match log {
         Some(log) => keep(
@@ -299,7 +258,7 @@ fn answer_unkept<R: Read, W: Write, E: Write>(
     errors: &mut E,
 ) -> Result<(), Fault>
     ensures ok { OnOk result (Answers mode settings.now
-        (R.remaining reader.old) (R.remaining reader.new) (W.contents writer.old) (W.contents writer.new)) }
+        (streams R.Read W.Write reader.old reader.new writer.old writer.new)) }
     ensures err { IfErr result (FailsAfter (answering mode) (opened settings.now)
         (W.contents writer.old) (W.contents writer.new) (R.remaining reader.old) (R.remaining reader.new)) }
 {
@@ -338,7 +297,7 @@ fn check<R: Read, W: Write>(
     writer: &mut W,
 ) -> Result<(), Ending>
     ensures ok { OnOk result (Checks settings.now
-        (R.remaining reader.old) (R.remaining reader.new) (W.contents writer.old) (W.contents writer.new)) }
+        (streams R.Read W.Write reader.old reader.new writer.old writer.new)) }
     ensures err { IfErr result (IsUnchecked settings.now
         (R.remaining reader.old) (W.contents writer.old) (W.contents writer.new)) }
 {

@@ -9,7 +9,7 @@ ghost use Rattle.inst_log_restart.specs.Restart.{Begins};
 use inst_lines::Mode;
 use inst_log::{Answers, Log, LogError, close_batch, push_line};
 use inst_log_restart::run_twice;
-use inst_logged::{LoggedError, LoggedHub, Version};
+use inst_logged::{LoggedError, NewHub, Version};
 use inst_settings::Settings;
 use sqlite_disk::{Crash, Disk};
 use std::alloc::Global;
@@ -69,7 +69,7 @@ pub fn logged<D: Disk + Drop, R: Read, W: Write>(
     requires usable { IsTrue (D.Disk.is_usable disk) }
     requires known { IsTrue (D.Disk.is_clean disk) → Only (D.Disk.seen disk) (D.Disk.may_leave disk) }
 {
-    let mut hub = LoggedHub::new(alloc, Version::Two, Mode::Run, settings, disk)?;
+    let mut hub = NewHub::open(alloc, Version::Two, Mode::Run, settings)?.with_disk(alloc, disk);
     hub.run(alloc, None, None, reader, writer)?; // all replies of the log were received, and it may have any digest
     Ok(())
 }

@@ -1,1 +1,2 @@
 mod Echoes
+mod Ready

@@ -1,11 +1,11 @@
 -- What a file was found to have before it is opened.
-use Rattle.std.specs.Prelude.{◌≡◌, true, List, ℕ, [], Option, MatchOption}
+use Rattle.std.specs.Prelude.{◌≡◌, List, ℕ, [], Option, MatchOption}
 use Rattle.inst_log.specs.Layout.{recovered}
 use Rattle.inst_log.specs.Pieces.{IsExtent}
-use Rattle.inst_chain.specs.Chain.{has_wanted}
 use Rattle.inst_chain.specs.Verifying.{SealedBy}
 use Rattle.inst_chain.specs.declared.digest.Digest.{Digest}
 use Rattle.inst_chain.specs.declared.marker.Marker.{Marker}
+use Rattle.inst_logged.specs.Refused.{HasWanted}
 use Rattle.inst_logged.specs.declared.version.Version.{Version}
 use Rattle.inst_logged.specs.declared.version.Version.TheVariants.{One, Two}
 use Rattle.inst_logged.specs.declared.hub.examining.Found.{Found}
@@ -19,4 +19,4 @@ IsVerified Two file found = MatchOption found (recovered file ≡ []) (λ marker
 pub record Finds (version : Version) (wanted : Option Digest) (file : List ℕ) (found : Found) : Type 0 where
   pub extent : IsExtent file found.extent
   pub verified : IsVerified version file found.marker
-  pub digest : has_wanted wanted (recovered file) ≡ true
+  pub digest : HasWanted version wanted file

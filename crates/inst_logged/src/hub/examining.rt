@@ -1,7 +1,9 @@
 //! A log is examined before anything is written to it.
-ghost use Rattle.std.specs.Prelude.{◌≡◌, List, ℕ, Option, IsTrue, IfOk, IfErr};
+ghost use Rattle.std.specs.Prelude.{List, ℕ, Option, IsTrue, IfOk, IfErr};
 ghost use Rattle.inst_logged.specs.declared.version.Version.TheVariants as version;
 ghost use Rattle.inst_logged.specs.Refused.{IsCause};
+ghost use Rattle.inst_logged.specs.Running.{IsLeft};
+ghost use Rattle.inst_logged.specs.inner.Failing.{FailsBy};
 ghost use Rattle.inst_logged.specs.inner.Finding.{Finds};
 
 use crate::{LoggedError, Version};
@@ -34,8 +36,8 @@ pub(crate) fn examine<D: Disk>(
     ensures found { IfOk result (λ found. IsTrue (D.Disk.is_clean disk.new) → Finds version wanted (D.Disk.seen disk.old) found) }
     ensures cause { IfErr result (λ error. IsTrue (D.Disk.is_clean disk.new) → (header : List ℕ) (told : Option ℕ)
         → IsCause version header told wanted (D.Disk.seen disk.old) error) }
-    ensures seen { D.Disk.seen disk.new ≡ D.Disk.seen disk.old }
-    ensures crash { (c : List ℕ) → D.Disk.may_leave disk.new c → D.Disk.may_leave disk.old c }
+    ensures failure { FailsBy D.Disk disk.old disk.new ⊥ ⊥ result }
+    ensures left { IsLeft D.Disk disk.old disk.new }
     ensures usable { IsTrue (D.Disk.is_usable disk.new) }
     ensures clean { IsTrue (D.Disk.is_clean disk.new) → IsTrue (D.Disk.is_clean disk.old) }
 {
@@ -55,8 +57,8 @@ fn examine_unmarked<D: Disk>(
     ensures found { IfOk result (λ found. IsTrue (D.Disk.is_clean disk.new) → Finds version.One wanted (D.Disk.seen disk.old) found) }
     ensures cause { IfErr result (λ error. IsTrue (D.Disk.is_clean disk.new) → (header : List ℕ) (told : Option ℕ)
         → IsCause version.One header told wanted (D.Disk.seen disk.old) error) }
-    ensures seen { D.Disk.seen disk.new ≡ D.Disk.seen disk.old }
-    ensures crash { (c : List ℕ) → D.Disk.may_leave disk.new c → D.Disk.may_leave disk.old c }
+    ensures failure { FailsBy D.Disk disk.old disk.new ⊥ ⊥ result }
+    ensures left { IsLeft D.Disk disk.old disk.new }
     ensures usable { IsTrue (D.Disk.is_usable disk.new) }
     ensures clean { IsTrue (D.Disk.is_clean disk.new) → IsTrue (D.Disk.is_clean disk.old) }
 {
@@ -80,8 +82,8 @@ fn examine_marked<D: Disk>(
     ensures found { IfOk result (λ found. IsTrue (D.Disk.is_clean disk.new) → Finds version.Two wanted (D.Disk.seen disk.old) found) }
     ensures cause { IfErr result (λ error. IsTrue (D.Disk.is_clean disk.new) → (header : List ℕ) (told : Option ℕ)
         → IsCause version.Two header told wanted (D.Disk.seen disk.old) error) }
-    ensures seen { D.Disk.seen disk.new ≡ D.Disk.seen disk.old }
-    ensures crash { (c : List ℕ) → D.Disk.may_leave disk.new c → D.Disk.may_leave disk.old c }
+    ensures failure { FailsBy D.Disk disk.old disk.new ⊥ ⊥ result }
+    ensures left { IsLeft D.Disk disk.old disk.new }
     ensures usable { IsTrue (D.Disk.is_usable disk.new) }
     ensures clean { IsTrue (D.Disk.is_clean disk.new) → IsTrue (D.Disk.is_clean disk.old) }
 {

@@ -1,13 +1,20 @@
 //! Which hub a log is of.
-ghost use Rattle.std.specs.Prelude.{◌≡◌, ◌≤◌, List, [], ℕ, length, IsTrue, IfOk, IfSome, None};
-ghost use Rattle.sqlite_disk.specs.Disk.{Only};
+ghost use Rattle.std.specs.Prelude.{◌≡◌, ◌≤◌, ◌++◌, List, [], ℕ, length, take, true, IsTrue, IfErr, IfOk, IfSome, None, Some, option_map};
+ghost use Rattle.inst_journal.specs.History.{History};
 ghost use Rattle.inst_log.specs.Layout.{recovered};
 ghost use Rattle.inst_world.specs.NextOpening.{CanOpenFrom};
-ghost use Rattle.inst_logged.specs.Header.{header};
+ghost use Rattle.inst_books.specs.Books.{all_events, books_text};
+ghost use Rattle.inst_books.specs.declared.fault.BookFault.TheVariants.{Memory};
+ghost use Rattle.inst_chain.specs.Chain.{mark_of};
+ghost use Rattle.inst_logged.specs.Header.{header, lines_of_books, CanBeginFrom};
+ghost use Rattle.inst_logged.specs.Finding.{FindsLog, Unrefused};
 ghost use Rattle.inst_logged.specs.Logged.{IsUnbegun, HasBegun};
+ghost use Rattle.inst_logged.specs.Refused.{IsRefused};
+ghost use Rattle.inst_logged.specs.Running.{HasKeptFaith, IsLeft};
+ghost use Rattle.inst_logged.specs.inner.Books.{HasBooks, FindsBooks};
 ghost use Rattle.inst_logged.specs.declared.version.Version.TheVariants.{Two};
 
-use super::LoggedHub;
+use super::NewHub;
 use crate::beginning::{books_behind, version_of};
 use crate::{LoggedError, Version};
 use inst_audit::can_open;
@@ -20,42 +27,40 @@ use inst_settings::Settings;
 use sqlite_disk::Disk;
 use std::alloc::Global;
 
-impl<D: Disk + Drop> LoggedHub<D> {
+impl NewHub {
     /// Returns the hub that the log on this disk is of: one that opens again from the books that follow the log's settings,
-    /// or for the first time if none do. It has answered nothing. The log is of the version that its first line tells.
-    /// Reads the log's first lines, with its books.
+    /// or for the first time if none do. The log is of the version that its first line tells. Reads the log's first lines,
+    /// with its books, and changes nothing.
     ///
     /// # Errors
     ///
     /// `NoLog` if no log begins as this file does, `Damaged` if the books have another digest than their mark, `Books` if a
     /// hub of these settings can't open from them.
-    pub fn of_log(
+    pub fn of_log<D: Disk>(
         alloc: Global,
         mode: Mode,
         settings: &Settings,
-        mut disk: D,
-    ) -> Result<LoggedHub<D>, LoggedError>
-        requires usable { IsTrue (D.Disk.is_usable disk) }
-        requires known { IsTrue (D.Disk.is_clean disk) → Only (D.Disk.seen disk) (D.Disk.may_leave disk) }
-        ensures unbegun { IfOk result (λ hub. IsUnbegun hub.version hub.header.items hub.marker hub.intake) }
-        ensures begun { IfOk result (λ hub. HasBegun hub.version mode settings.now hub.header.items hub.recorder.answers) }
+        disk: &mut D,
+    ) -> Result<NewHub, LoggedError>
+        requires usable { IsTrue (D.Disk.is_usable disk.old) }
+        ensures begun { IfOk result (λ hub. HasBegun hub.version mode settings.now hub.heading.batch.items hub.answers
+            × IsUnbegun hub.version hub.heading.batch.items hub.heading.marker hub.intake) }
         // A log that has no line yet will have marks, and no books.
-        ensures first { IfOk result (λ hub. IsTrue (D.Disk.is_clean hub.recorder.log.disk) → recovered (D.Disk.seen disk) ≡ []
-            → (hub.version ≡ Two) × (hub.header.items ≡ header Two mode settings.now)) }
-        ensures seen { IfOk result (λ hub. D.Disk.seen hub.recorder.log.disk ≡ D.Disk.seen disk) }
-        ensures usable { IfOk result (λ hub. IsTrue (D.Disk.is_usable hub.recorder.log.disk)) }
-        ensures known { IfOk result (λ hub. IsTrue (D.Disk.is_clean hub.recorder.log.disk)
-            → Only (D.Disk.seen hub.recorder.log.disk) (D.Disk.may_leave hub.recorder.log.disk)) }
+        ensures first { IfOk result (λ hub. HasKeptFaith D.Disk disk.new → recovered (D.Disk.seen disk.old) ≡ []
+            → (hub.version ≡ Two) × (hub.heading.batch.items ≡ header Two mode settings.now)) }
+        ensures found { HasKeptFaith D.Disk disk.new → FindsLog mode settings.now (D.Disk.seen disk.old) result }
+        ensures new { HasKeptFaith D.Disk disk.new → recovered (D.Disk.seen disk.old) ≡ [] → IfErr result (λ error. ¬ IsRefused error) }
+        ensures left { IsLeft D.Disk disk.old disk.new }
+        ensures usable { IsTrue (D.Disk.is_usable disk.new) }
+        ensures clean { HasKeptFaith D.Disk disk.new → HasKeptFaith D.Disk disk.old }
     {
-        let first = read_lines(alloc, &mut disk, 1)?;
+        let first = read_lines(alloc, disk, 1)?;
         let Some(version) = version_of(alloc, &first)? else {
             return Err(LoggedError::Log(LogError::NoLog));
         };
-        match books_on(alloc, version, mode, settings, &first, &mut disk)? {
-            Some(journals) => Ok(LoggedHub::new_from(
-                alloc, version, mode, settings, &journals, disk,
-            )?),
-            None => Ok(LoggedHub::new(alloc, version, mode, settings, disk)?),
+        match books_on(alloc, version, mode, settings, &first, disk)? {
+            Some(journals) => Ok(NewHub::open_from(alloc, version, mode, settings, &journals)?),
+            None => Ok(NewHub::open(alloc, version, mode, settings)?),
         }
     }
 }
@@ -71,11 +76,11 @@ fn books_on<D: Disk>(
 ) -> Result<Option<Vec<Journal>>, LoggedError>
     requires usable { IsTrue (D.Disk.is_usable disk.old) }
     ensures journals { IfOk result (λ books. IfSome books (λ journals. CanOpenFrom settings.now journals.items)) }
-    ensures none { first.now ≡ [] → IfOk result (λ books. books ≡ None) }
-    ensures seen { D.Disk.seen disk.new ≡ D.Disk.seen disk.old }
-    ensures crash { (c : List ℕ) → D.Disk.may_leave disk.new c → D.Disk.may_leave disk.old c }
+    ensures none { first.now ≡ [] → Unrefused (λ books. books ≡ None) result }
+    ensures found { HasKeptFaith D.Disk disk.new → FindsBooks (λ journals. all_events journals.items) version mode settings.now first.now (D.Disk.seen disk.old) result }
+    ensures left { IsLeft D.Disk disk.old disk.new }
     ensures usable { IsTrue (D.Disk.is_usable disk.new) }
-    ensures clean { IsTrue (D.Disk.is_clean disk.new) → IsTrue (D.Disk.is_clean disk.old) }
+    ensures clean { HasKeptFaith D.Disk disk.new → HasKeptFaith D.Disk disk.old }
 {
     let Some(count) = books_behind(alloc, version, mode, settings, first)? else {
         return Ok(None);
@@ -93,7 +98,10 @@ fn journals_in(
     text: &[u8],
     count: u64,
 ) -> Result<Option<Vec<Journal>>, LoggedError>
-    ensures { IfOk result (λ books. IfSome books (λ journals. CanOpenFrom settings.now journals.items)) }
+    ensures journals { IfOk result (λ books. IfSome books (λ journals. CanOpenFrom settings.now journals.items)) }
+    ensures found { (journals : List History) → CanBeginFrom settings.now journals → HasBooks version settings.now journals text.now
+        → count ≡ length (lines_of_books settings.now journals)
+        → Unrefused (λ found. option_map (λ books. all_events books.items) found ≡ Some (all_events journals)) result }
 {
     let begin = lines_len(text, 1);
     let books = &text[begin..];
@@ -110,6 +118,7 @@ fn journals_in(
 /// Whether the mark of the first bytes of a log, so many, follows them.
 fn has_mark_at(text: &[u8], end: usize) -> bool
     requires { end ≤ length text.now }
+    ensures { (rest : List ℕ) → text.now ≡ take end text.now ++ (mark_of (take end text.now) ++ rest) → result ≡ true }
 {
     let mut marker = Marker::new();
     marker.add(&text[..end]);
@@ -119,7 +128,9 @@ fn has_mark_at(text: &[u8], end: usize) -> bool
 
 /// The journals that the text of books tells, from which a hub can open.
 fn journals_of(alloc: Global, settings: &Settings, text: &[u8]) -> Result<Vec<Journal>, LoggedError>
-    ensures { IfOk result (λ journals. CanOpenFrom settings.now journals.items) }
+    ensures journals { IfOk result (λ journals. CanOpenFrom settings.now journals.items) }
+    ensures found { (journals : List History) → CanBeginFrom settings.now journals → text.now ≡ books_text settings.now (all_events journals)
+        → Unrefused (λ found. all_events found.items ≡ all_events journals) result }
 {
     let journals = read_books(alloc, settings, text).map_err(unread)?;
     if !can_open(alloc, settings, &journals)? {
@@ -129,7 +140,9 @@ fn journals_of(alloc: Global, settings: &Settings, text: &[u8]) -> Result<Vec<Jo
 }
 
 /// Why books weren't read.
-fn unread(fault: BookFault) -> LoggedError {
+fn unread(fault: BookFault) -> LoggedError
+    ensures { fault ≡ Memory → ¬ IsRefused result }
+{
     match fault {
         BookFault::BadLine => LoggedError::Books,
         BookFault::Memory => LoggedError::Log(LogError::Memory),

@@ -1,14 +1,14 @@
 //! The size of a log's file is compared before each write.
-ghost use Rattle.std.specs.Prelude.{◌≡◌, ◌≢◌, ◌++◌, List, ℕ, length, IsTrue, IfOk, IfErr, OnOk};
+ghost use Rattle.std.specs.Prelude.{◌≡◌, ◌≤◌, ◌^◌, ◌++◌, List, ℕ, length, IsTrue, IfOk, IfErr, OnOk};
 ghost use Rattle.sqlite_disk.specs.Disk.{Only};
-ghost use Rattle.inst_log.specs.Layout.{recovered, IsBatch, IsWhole, IsShut, EndsWell};
+ghost use Rattle.inst_log.specs.Layout.{recovered, blocks, IsBatch, IsWhole, IsShut, EndsWell};
 ghost use Rattle.inst_log.specs.Log.{IsSettled, IsBeforeOrAfter};
 ghost use Rattle.inst_log.specs.Opening.{kept, OpensAlike, IsSameOrBegun};
 ghost use Rattle.inst_log.specs.Pieces.{IsExtent, Starts};
 ghost use Rattle.inst_log.specs.Serving.{Tells, TellsKept, SaysOn};
 ghost use Rattle.inst_logged.specs.Answering.{SaysLines};
 ghost use Rattle.inst_logged.specs.Refused.{IsRefused};
-ghost use Rattle.inst_logged.specs.declared.error.LoggedError.TheVariants.{Changed};
+ghost use Rattle.inst_logged.specs.inner.Failing.{FailsBy};
 
 use crate::{LineAnswers, LoggedError};
 use inst_log::{Extent, Log, Recorder, Start};
@@ -43,7 +43,7 @@ pub(crate) fn open_measured<D: Disk>(
         → EndsWell (D.Disk.seen log.old.disk) → (c : List ℕ) → D.Disk.may_leave log.new.disk c → EndsWell c }
     ensures size { IfOk result (λ size. IsTrue (D.Disk.is_clean log.new.disk) → size ≡ length (D.Disk.seen log.new.disk)) }
     ensures unrefused { IfErr result (λ error. ¬ IsRefused error) }
-    ensures unchanged { IfErr result (λ error. IsTrue (D.Disk.is_clean log.new.disk) → error ≢ Changed) }
+    ensures failure { FailsBy D.Disk log.old.disk log.new.disk ⊥ ⊥ result }
     ensures usable { OnOk result (IsTrue (D.Disk.is_usable log.new.disk)) }
     ensures clean { IsTrue (D.Disk.is_clean log.new.disk) → IsTrue (D.Disk.is_clean log.old.disk) }
 {
@@ -86,7 +86,9 @@ pub(crate) fn serve_measured<D: Disk, W: Write>(
         → IsShut (D.Disk.seen recorder.old.log.disk) → IsShut (D.Disk.seen recorder.new.log.disk)) }
     ensures size { OnOk result (IsTrue (D.Disk.is_clean recorder.new.log.disk) → size.new ≡ length (D.Disk.seen recorder.new.log.disk)) }
     ensures unrefused { IfErr result (λ error. ¬ IsRefused error) }
-    ensures unchanged { IfErr result (λ error. IsTrue (D.Disk.is_clean recorder.new.log.disk) → error ≢ Changed) }
+    ensures failure { FailsBy D.Disk recorder.old.log.disk recorder.new.log.disk
+        (2 ^ 62 ≤ length (blocks (recovered (D.Disk.seen recorder.new.log.disk))))
+        (IsSettled D.Disk.seen D.Disk.may_leave recorder.new.log) result }
     ensures usable { OnOk result (IsTrue (D.Disk.is_usable recorder.new.log.disk)) }
     ensures clean { IsTrue (D.Disk.is_clean recorder.new.log.disk) → IsTrue (D.Disk.is_clean recorder.old.log.disk) }
 {
@@ -110,7 +112,7 @@ fn measure<D: Disk>(log: &mut Log<D>) -> Result<usize, LoggedError>
     ensures same { (D.Disk.seen log.new.disk ≡ D.Disk.seen log.old.disk) × (log.new.end ≡ log.old.end) }
     ensures crash { (c : List ℕ) → D.Disk.may_leave log.new.disk c → D.Disk.may_leave log.old.disk c }
     ensures unrefused { IfErr result (λ error. ¬ IsRefused error) }
-    ensures unchanged { IfErr result (λ error. IsTrue (D.Disk.is_clean log.new.disk) → error ≢ Changed) }
+    ensures failure { FailsBy D.Disk log.old.disk log.new.disk ⊥ ⊥ result }
     ensures usable { IsTrue (D.Disk.is_usable log.new.disk) }
     ensures clean { IsTrue (D.Disk.is_clean log.new.disk) → IsTrue (D.Disk.is_clean log.old.disk) }
 {

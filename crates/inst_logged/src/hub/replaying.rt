@@ -1,18 +1,19 @@
 //! The lines of a log are answered again, piece by piece.
-ghost use Rattle.std.specs.Prelude.{◌≡◌, ◌≢◌, ◌<◌, [], List, ℕ, Some, length, IsTrue, IfOk, IfErr, OnOk};
+ghost use Rattle.std.specs.Prelude.{◌≡◌, ◌⊎◌, ◌<◌, ◌≤◌, [], List, ℕ, Some, length, IsTrue, IfOk, IfErr, OnOk, OnErr, ⊤};
 ghost use Rattle.inst_bytes.specs.Handing.{WritesPart};
 ghost use Rattle.inst_log.specs.Layout.{recovered, IsBatch};
 ghost use Rattle.inst_log.specs.Opening.{kept, Begins};
 ghost use Rattle.inst_log.specs.Pieces.{Starts};
 ghost use Rattle.inst_log.specs.inner.Serving.{TellsPart};
-ghost use Rattle.inst_chain.specs.Chain.{kept_said};
+ghost use Rattle.inst_chain.specs.Chain.{kept_said, said};
 ghost use Rattle.inst_lines.specs.Answering.{Past, Keeps};
 ghost use Rattle.inst_logged.specs.Answering.{told_of};
 ghost use Rattle.inst_logged.specs.Logged.{Are, owed};
 ghost use Rattle.inst_logged.specs.Refused.{IsRefused};
-ghost use Rattle.inst_logged.specs.declared.error.LoggedError.TheVariants.{Log, Changed};
+ghost use Rattle.inst_logged.specs.declared.error.LoggedError.TheVariants.{Log};
 ghost use Rattle.inst_log.specs.declared.error.LogError.TheVariants.{Told};
 ghost use Rattle.inst_logged.specs.inner.Answering.{AnswersAgain, debt};
+ghost use Rattle.inst_logged.specs.inner.Failing.{Fails, FailsBy};
 ghost use Rattle.inst_logged.specs.inner.Replaying.{IsReplayed};
 
 use crate::{LineAnswers, LoggedError};
@@ -49,7 +50,11 @@ pub(crate) fn start_again<D: Disk, W: Write>(
     ensures refused { IfErr result (λ error. IsRefused error → (error ≡ Log Told) × (writer.new ≡ writer.old)
         × (IsTrue (D.Disk.is_clean recorder.new.log.disk) → length (kept_said header.now (D.Disk.seen recorder.old.log.disk))
         < told_of told (kept_said header.now (D.Disk.seen recorder.old.log.disk)))) }
-    ensures unchanged { IfErr result (λ error. error ≢ Changed) }
+    // Nothing was handed out, or enough lines are there.
+    ensures begun { OnErr result (IsTrue (D.Disk.is_clean recorder.new.log.disk) → (writer.new ≡ writer.old)
+        ⊎ (told_of told (kept_said header.now (D.Disk.seen recorder.old.log.disk))
+        ≤ length (kept_said header.now (D.Disk.seen recorder.old.log.disk)))) }
+    ensures failure { FailsBy D.Disk recorder.old.log.disk recorder.new.log.disk ⊥ ⊤ result }
     ensures mode { recorder.new.answers.mode ≡ recorder.old.answers.mode }
     ensures end { recorder.new.log.end ≡ recorder.old.log.end }
     ensures seen { D.Disk.seen recorder.new.log.disk ≡ D.Disk.seen recorder.old.log.disk }
@@ -90,7 +95,11 @@ fn replay<D: Disk, W: Write>(
     ensures refused { IfErr result (λ error. IsRefused error → (error ≡ Log Told) × (writer.new ≡ writer.old)
         × (IsTrue (D.Disk.is_clean recorder.new.log.disk) → length (kept_said header.now (D.Disk.seen recorder.old.log.disk))
         < told_of told (kept_said header.now (D.Disk.seen recorder.old.log.disk)))) }
-    ensures unchanged { IfErr result (λ error. error ≢ Changed) }
+    // Nothing was handed out, or enough lines are there.
+    ensures begun { OnErr result (IsTrue (D.Disk.is_clean recorder.new.log.disk) → (writer.new ≡ writer.old)
+        ⊎ (told_of told (kept_said header.now (D.Disk.seen recorder.old.log.disk))
+        ≤ length (kept_said header.now (D.Disk.seen recorder.old.log.disk)))) }
+    ensures failure { FailsBy D.Disk recorder.old.log.disk recorder.new.log.disk ⊥ ⊤ result }
     ensures mode { recorder.new.answers.mode ≡ recorder.old.answers.mode }
     ensures end { recorder.new.log.end ≡ recorder.old.log.end }
     ensures seen { D.Disk.seen recorder.new.log.disk ≡ D.Disk.seen recorder.old.log.disk }
@@ -138,8 +147,10 @@ fn answer_again<W: Write>(
     ensures untouched { IfOk result (λ left. (left ≡ Some 0 → ⊥) → writer.new ≡ writer.old) }
     ensures part { (past : Past) → Keeps answers.old.mode past answers.old.runner
         → WritesPart (W.contents writer.old) (W.contents writer.new) (debt answers.old.mode past told (recovered lines.now)) }
+    ensures begun { OnErr result ((writer.new ≡ writer.old)
+        ⊎ (told_of told (said (recovered lines.now)) ≤ length (said (recovered lines.now)))) }
     ensures unrefused { IfErr result (λ error. ¬ IsRefused error) }
-    ensures unchanged { IfErr result (λ error. error ≢ Changed) }
+    ensures failure { IfErr result (Fails ⊥ ⊥ ⊤) }
     ensures mode { answers.new.mode ≡ answers.old.mode }
 {
     out.clear();

@@ -6,7 +6,7 @@ use Rattle.clap.specs.declared.error.kind.ErrorKind.TheVariants.{OutOfMemory}
 use Rattle.inst_base.specs.declared.fault.Fault.{Fault}
 use Rattle.inst_base.specs.declared.fault.Fault.TheVariants.{BadSettings, Memory}
 use Rattle.inst_options.specs.Asking.{IsRefusal}
-use Rattle.inst_options.specs.Options.{SpeaksOfALog}
+use Rattle.inst_options.specs.Options.{AreOfNoLog}
 use Rattle.inst_options.specs.inner.Options.{AskForNone, IsWish}
 use Rattle.inst_options.specs.declared.error.WordsError.{WordsError}
 use Rattle.inst_options.specs.declared.error.WordsError.TheVariants as error
@@ -33,4 +33,4 @@ IsAsked (Some (name, rows)) wish = IsWish name rows wish
 abbrev pub IsUnasked : Option (Text × List Row) → WordsError → Type 0
 IsUnasked None e = e ≡ error.Fault BadSettings
 IsUnasked (Some (name, rows)) e =
-    (fault : Fault) × IsRefusedBy rows fault e × IsRefusal (AskForNone name rows ⊎ SpeaksOfALog name rows) fault
+    (fault : Fault) × IsRefusedBy rows fault e × IsRefusal (AskForNone name rows ⊎ AreOfNoLog rows) fault

@@ -7,21 +7,13 @@ use Rattle.inst_options.specs.declared.wish.LogOptions.{LogOptions}
 use Rattle.inst_options.specs.declared.wish.Wish.{Wish}
 use Rattle.inst_options.specs.declared.wish.Wish.TheVariants as wish
 use Rattle.inst_options.specs.Options.{Task, HasAHub, NamesNoLog, NamesTheLog, IsText, IsFlag, IsTask, Chooses, HasSmallNumbers}
-use Rattle.inst_options.specs.Options.{DescribesALog, GivesDigest, is_digest}
+use Rattle.inst_options.specs.Options.{GivesDigest}
 use Rattle.inst_options.specs.Options.Task.{Run, Play, Drill, Check}
 
 -- the options name this log, or none
 abbrev pub GivesLog : List Row → Option LogOptions → Type 0
 GivesLog rows None = NamesNoLog rows
 GivesLog rows (Some log) = NamesTheLog rows log.path.now log.told log.resume (option_map (λ d. d.now) log.digest)
-
--- the text of the option is no digest
-abbrev pub GivesNoDigest : List Row → Type 0
-GivesNoDigest rows = (text : Text) × (first_of (codes "digest") rows ≡ Some text) × (is_digest text ≡ false)
-
--- the options say something of a log, and name none, or what they give as its digest is none
-abbrev pub AreOfNoLog : List Row → Type 0
-AreOfNoLog rows = GivesNoDigest rows ⊎ (NamesNoLog rows × DescribesALog rows)
 
 -- the options choose no settings that a hub can have
 abbrev pub ChooseNone : List Row → Type 0

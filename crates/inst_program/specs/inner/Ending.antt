@@ -1,6 +1,6 @@
 -- How what the words ask for is done, or ends, in each of the parts that the program's run has. Exit statuses are this
 -- hub's own choice.
-use Rattle.std.specs.Prelude.{◌≡◌, ◌≢◌, ◌⊎◌, ℕ, List, Option, Some, None, option_map, IfSome}
+use Rattle.std.specs.Prelude.{◌≡◌, ◌≢◌, ◌⊎◌, ℕ, List, Option, Some, None, IfSome, IsTrue}
 use Rattle.clap.specs.Words.{kind_of}
 use Rattle.clap.specs.declared.error.kind.ErrorKind.{ErrorKind}
 use Rattle.clap.specs.declared.error.kind.ErrorKind.TheVariants.{DisplayHelp, DisplayVersion}
@@ -15,7 +15,6 @@ use Rattle.inst_drill.specs.Plan.{MayDrill}
 use Rattle.inst_faults.specs.AnyFault.{IsNamed}
 use Rattle.inst_faults.specs.LogFault.{status_of_log}
 use Rattle.inst_faults.specs.declared.any_fault.AnyFault.{AnyFault}
-use Rattle.inst_options.specs.Asking.{NameALog}
 use Rattle.inst_options.specs.declared.error.WordsError.{WordsError}
 use Rattle.inst_options.specs.declared.error.WordsError.TheVariants as error
 use Rattle.inst_options.specs.declared.wish.LogOptions.{LogOptions}
@@ -23,7 +22,10 @@ use Rattle.inst_program.specs.declared.ending.Ending.{Ending}
 use Rattle.inst_program.specs.declared.ending.Ending.TheVariants as ending
 use Rattle.inst_program.specs.declared.logs.LogsError.{LogsError}
 use Rattle.inst_program.specs.declared.logs.LogsError.TheVariants as opening
-use Rattle.inst_program.specs.Program.{status_of, AskForADrill, AskForALog, AreRefused, Answers, Serves, HasChecked, HasDrilled, AskForAnExplanation, HasExplained, NameNoFault}
+use Rattle.inst_logged.specs.Streams.{Streams}
+use Rattle.inst_program.specs.Files.{Change, Files, IsAsItWas, OthersStay, Stay, change_of}
+use Rattle.inst_program.specs.Keeping.{IsGoodFor, KeepsAFront, KeepsLines, KeptRun, kept_run}
+use Rattle.inst_program.specs.Program.{status_of, Answers, Failed, Refused}
 
 -- for words that ask for nothing that can be done: 0 where they ask for a text
 abbrev pub status_of_kind : ErrorKind → ℕ
@@ -57,29 +59,27 @@ IsUnexplained word unwritten (ending.Fault fault) = (fault ≡ WriteFault) × ((
 IsUnexplained word unwritten (ending.Log fault) = ⊥
 IsUnexplained word unwritten ending.Unexplained = unwritten × ((fault : AnyFault) → ¬ (IsNamed word fault))
 
--- how a run with a log ends by itself, the telling of one or the making of the next: where it isn't taken, all is untouched
-abbrev pub IsUnkept : Type 0 → Ending → Type 0
-IsUnkept untouched (ending.Fault fault) = fault ≢ BadSettings
-IsUnkept untouched (ending.Log fault) = status_of_log fault ≡ 2 → untouched
-IsUnkept untouched ending.Unexplained = ⊥
+-- a run with a log ends with this exit status: the log isn't taken, and nothing was done, or some lines were answered
+-- in_use: another program has it open
+pub record IsUnkept (run : KeptRun) (t : Streams) (mixes in_use faith : Type 0) (c : Change) (status : ℕ) : Type 0 where
+  pub refused : status ≡ 2 → t.unread × t.unwritten × (faith → IsAsItWas c) × (in_use ⊎ (faith → ¬ (IsGoodFor run c.was)))
+  pub front : KeepsAFront run t mixes faith c
 
 -- the lines of the reader are answered at a hub of these settings, with this log
--- keeps: so it is with the log of a name, of whose lines so many were told, and which must have this digest, if any
-abbrev pub IsAnswered : Mode → HubSettings → (List ℕ → Option ℕ → Option (List ℕ) → Type 0) → Option LogOptions →
-    Option (List ℕ) → Option (List ℕ) → Option (List ℕ) → Option (List ℕ) → Type 0
-IsAnswered mode s keeps None left left' held held' = Answers mode s left left' held held'
-IsAnswered mode s keeps (Some log) left left' held held' = keeps log.path.now log.told (option_map (λ d. d.now) log.digest)
+abbrev pub IsAnswered : Mode → HubSettings → Option LogOptions → Streams → Files → Files → Type 0
+IsAnswered mode s None t old new = Answers mode s t × Stay old new
+IsAnswered mode s (Some log) t old new =
+    KeepsLines (kept_run mode s log) t (IsTrue new.is_clean) (change_of old new log.path.now) × OthersStay old new log.path.now
 
 -- they are not, and the program ends so
--- front: so it is where some of them are
-abbrev pub IsUnanswered : Mode → HubSettings → Type 0 → (List ℕ → Option ℕ → Option (List ℕ) → Type 0) → Option LogOptions →
-    Option (List ℕ) → Option (List ℕ) → Option (List ℕ) → Option (List ℕ) → Ending → Type 0
-IsUnanswered mode s untouched front None left left' held held' (ending.Fault fault) =
-    FailsAfter (answering mode) (opened s) held held' left left' fault
-IsUnanswered mode s untouched front None left left' held held' (ending.Log fault) = ⊥
-IsUnanswered mode s untouched front None left left' held held' ending.Unexplained = ⊥
-IsUnanswered mode s untouched front (Some log) left left' held held' e =
-    IsUnkept untouched e × (untouched ⊎ front log.path.now log.told (option_map (λ d. d.now) log.digest))
+abbrev pub IsUnanswered : Mode → HubSettings → Option LogOptions → Streams → Files → Files → Ending → Type 0
+IsUnanswered mode s None t old new (ending.Fault fault) =
+    FailsAfter (answering mode) (opened s) t.held t.held' t.left t.left' fault × Stay old new
+IsUnanswered mode s None t old new (ending.Log fault) = ⊥
+IsUnanswered mode s None t old new ending.Unexplained = ⊥
+IsUnanswered mode s (Some log) t old new e =
+    IsUnkept (kept_run mode s log) t old.mixes (new.in_use log.path.now) (IsTrue new.is_clean) (change_of old new log.path.now) (status_of_ending e)
+    × OthersStay old new log.path.now
 
 -- a check is ended by this fault, when no more than a front was told
 abbrev pub IsUnchecked : HubSettings → Option (List ℕ) → Option (List ℕ) → Option (List ℕ) → Ending → Type 0
@@ -93,28 +93,7 @@ abbrev pub IsUndrilled : HubSettings → ℕ → ℕ → Type 0 → Fault → Ty
 IsUndrilled s transfers openings unwritten fault =
     ((fault ≡ BadSettings) × unwritten × ¬ (MayDrill s transfers openings)) ⊎ ((fault ≡ Memory) ⊎ (fault ≡ WriteFault))
 
--- what the words ask for is done
--- unread: the reader is as it was
--- kept, shown, carried: so it is with a log
-abbrev pub IsServed : List (List ℕ) → Type 0 → Type 0 → Type 0 → Type 0 →
-    Option (List ℕ) → Option (List ℕ) → Option (List ℕ) → Option (List ℕ) → Type 0
-IsServed words unread kept shown carried left left' held held' =
-    Serves words left left' held held'
-    ⊎ (kept
-    ⊎ (HasChecked words left left' held held'
-    ⊎ (unread × (HasDrilled words held held' ⊎ (shown ⊎ (carried ⊎ HasExplained words held held'))))))
-
--- something with a log failed: nothing was read or written, or some lines were answered, or it tells what a log has
-abbrev pub FailsWithALog : List (List ℕ) → Type 0 → Type 0 → Type 0 → Type 0
-FailsWithALog words unread unwritten front = (unread × unwritten) ⊎ (front ⊎ (unread × AskForALog words))
-
--- a hub can't do the drill and all is untouched, or a run has failed, or what reads nothing
-abbrev pub IsEnding : List (List ℕ) → Type 0 → Type 0 → (Fault → Type 0) → Type 0 → Ending → Type 0
-IsEnding words unread unwritten fails front (ending.Fault fault) =
-    ((fault ≡ BadSettings) × unread × unwritten × AreRefused words)
-    ⊎ (fails fault
-    ⊎ ((((fault ≡ Memory) ⊎ (fault ≡ WriteFault)) × unread × (AskForADrill words ⊎ AskForAnExplanation words))
-    ⊎ ((fault ≢ BadSettings) × FailsWithALog words unread unwritten front)))
-IsEnding words unread unwritten fails front (ending.Log fault) =
-    NameALog words × (status_of_log fault ≡ 2 → unread × unwritten) × FailsWithALog words unread unwritten front
-IsEnding words unread unwritten fails front ending.Unexplained = unread × unwritten × NameNoFault words
+-- the words' task isn't done, and this is the exit status
+pub record IsUndone (words : List (List ℕ)) (t : Streams) (old new : Files) (status : ℕ) : Type 0 where
+  pub refused : status ≡ 2 → Refused words t old new
+  pub failed : status ≡ 3 → Failed words t old new

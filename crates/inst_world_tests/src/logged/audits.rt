@@ -4,7 +4,7 @@ use crate::disks::filled;
 use crate::logged::keeping::text_of;
 use inst_lines::Mode;
 use inst_log::LogError;
-use inst_logged::{LoggedError, LoggedHub};
+use inst_logged::{LoggedError, NewHub};
 use inst_rows::settings;
 use inst_settings::Settings;
 use sqlite_disk::Memory;
@@ -113,10 +113,13 @@ fn open(
     books: &[&[u8]],
 ) -> Result<Result<(), LoggedError>, Fail> {
     let log = log_with(alloc, books)?;
-    let disk = filled(Memory::new(alloc), &log)?;
+    let mut disk = filled(Memory::new(alloc), &log)?;
     let mut reader: &[u8] = b"";
-    match LoggedHub::of_log(alloc, Mode::Run, settings, disk) {
-        Ok(mut hub) => Ok(hub.run(alloc, None, None, &mut reader, &mut Vec::new(alloc))),
+    match NewHub::of_log(alloc, Mode::Run, settings, &mut disk) {
+        Ok(hub) => {
+            let mut hub = hub.with_disk(alloc, disk);
+            Ok(hub.run(alloc, None, None, &mut reader, &mut Vec::new(alloc)))
+        }
         Err(error) => Ok(Err(error)),
     }
 }

@@ -1,7 +1,6 @@
 //! Logs of which a byte or a line was changed: a run and a close refuse them, and they are left as they are.
 ghost use Rattle.std.specs.Prelude.{◌<◌, length, IsTrue};
-ghost use Rattle.sqlite_disk.specs.Disk.{Only};
-ghost use Rattle.inst_logged.specs.Logged.{IsUnbegun};
+ghost use Rattle.inst_logged.specs.Running.{IsReady};
 
 use crate::comparing::{same, same_at};
 use crate::disks::filled;
@@ -11,7 +10,7 @@ use crate::logged::vector;
 use inst_chain::{Digest, Prefix};
 use inst_lines::Mode;
 use inst_log::{LogError, count_lines};
-use inst_logged::{LoggedError, LoggedHub};
+use inst_logged::{LoggedError, LoggedHub, NewHub};
 use inst_settings::Settings;
 use sqlite_disk::{Disk, Memory};
 use std::alloc::{AllocError, Global};
@@ -34,10 +33,7 @@ fn run_hub<D: Disk + Drop>(
     wanted: Option<Digest>,
     written: &mut Vec<u8>,
 ) -> Result<(), LoggedError>
-    requires unbegun { IsUnbegun hub.old.version hub.old.header.items hub.old.marker hub.old.intake }
-    requires usable { IsTrue (D.Disk.is_usable hub.old.recorder.log.disk) }
-    requires known { IsTrue (D.Disk.is_clean hub.old.recorder.log.disk)
-        → Only (D.Disk.seen hub.old.recorder.log.disk) (D.Disk.may_leave hub.old.recorder.log.disk) }
+    requires ready { IsReady D.Disk hub.old }
 {
     let mut reader: &[u8] = b"";
     hub.run(alloc, Some(0), wanted, &mut reader, written)
@@ -49,10 +45,7 @@ fn close_hub<D: Disk + Drop>(
     hub: &mut LoggedHub<D>,
     wanted: Option<Digest>,
 ) -> Result<(), LoggedError>
-    requires unbegun { IsUnbegun hub.old.version hub.old.header.items hub.old.marker hub.old.intake }
-    requires usable { IsTrue (D.Disk.is_usable hub.old.recorder.log.disk) }
-    requires known { IsTrue (D.Disk.is_clean hub.old.recorder.log.disk)
-        → Only (D.Disk.seen hub.old.recorder.log.disk) (D.Disk.may_leave hub.old.recorder.log.disk) }
+    requires ready { IsReady D.Disk hub.old }
 {
     hub.close(alloc, wanted)?;
     Ok(())
@@ -76,8 +69,8 @@ pub(crate) fn use_log(
     wanted: Option<Digest>,
 ) -> Result<Ended, Fail> {
     let mut written = Vec::new(alloc);
-    let disk = filled(Memory::new(alloc), log)?;
-    let mut hub = match LoggedHub::of_log(alloc, Mode::Run, settings, disk) {
+    let mut disk = filled(Memory::new(alloc), log)?;
+    let hub = match NewHub::of_log(alloc, Mode::Run, settings, &mut disk) {
         Ok(hub) => hub,
         Err(error) => {
             return Ok(Ended {
@@ -87,13 +80,14 @@ pub(crate) fn use_log(
             });
         }
     };
+    let mut hub = hub.with_disk(alloc, disk);
     let outcome = match how {
         Use::Run => run_hub(alloc, &mut hub, wanted, &mut written),
         Use::Close => close_hub(alloc, &mut hub, wanted),
     };
     Ok(Ended {
         outcome,
-        log: hub.into_disk().bytes().to_vec(alloc)?,
+        log: hub.into_parts().1.bytes().to_vec(alloc)?,
         written,
     })
 }

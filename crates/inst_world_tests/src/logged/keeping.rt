@@ -6,7 +6,7 @@ use crate::disks::filled;
 use crate::lines::serving::written;
 use inst_bytes::find_newline;
 use inst_lines::Mode;
-use inst_logged::{LoggedError, LoggedHub, Version};
+use inst_logged::{LoggedError, NewHub, Version};
 use inst_rows::settings;
 use inst_settings::Settings;
 use sqlite_disk::{Disk, Memory};
@@ -113,11 +113,11 @@ pub(crate) fn serve_on<D: Disk + Drop, R: Read>(
     requires usable { IsTrue (D.Disk.is_usable disk) }
     requires known { Only (D.Disk.seen disk) (D.Disk.may_leave disk) }
 {
-    let mut hub = LoggedHub::new(alloc, Version::Two, mode, settings, disk)?;
+    let mut hub = NewHub::open(alloc, Version::Two, mode, settings)?.with_disk(alloc, disk);
     let outcome = hub.run(alloc, told, None, reader, written);
     Ok(Ended {
         outcome,
-        disk: hub.into_disk(),
+        disk: hub.into_parts().1,
     })
 }
 

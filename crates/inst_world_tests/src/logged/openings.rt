@@ -1,15 +1,14 @@
 //! Logs that begin with the books of others.
 ghost use Rattle.std.specs.Prelude.{IsTrue};
-ghost use Rattle.sqlite_disk.specs.Disk.{Only};
 ghost use Rattle.inst_world.specs.NextOpening.{CanOpenFrom};
-ghost use Rattle.inst_logged.specs.Logged.{IsUnbegun};
+ghost use Rattle.inst_logged.specs.Running.{IsReady};
 
 use crate::comparing::{same, same_at};
 use crate::disks::filled;
 use crate::logged::keeping::text_of;
 use inst_journal::Journal;
 use inst_lines::Mode;
-use inst_logged::{LoggedHub, Version};
+use inst_logged::{LoggedHub, NewHub, Version};
 use inst_rows::settings;
 use inst_settings::Settings;
 use sqlite_disk::{Disk, Memory};
@@ -89,14 +88,11 @@ fn run_through<D: Disk + Drop>(
     input: &[u8],
     written: &mut Vec<u8>,
 ) -> Result<D, Fail>
-    requires unbegun { IsUnbegun hub.version hub.header.items hub.marker hub.intake }
-    requires usable { IsTrue (D.Disk.is_usable hub.recorder.log.disk) }
-    requires known { IsTrue (D.Disk.is_clean hub.recorder.log.disk)
-        → Only (D.Disk.seen hub.recorder.log.disk) (D.Disk.may_leave hub.recorder.log.disk) }
+    requires ready { IsReady D.Disk hub }
 {
     let mut reader = input;
     let outcome = hub.run(alloc, None, None, &mut reader, written);
-    let disk = hub.into_disk();
+    let (_, disk) = hub.into_parts();
     outcome?;
     Ok(disk)
 }
@@ -109,9 +105,9 @@ pub(crate) fn run_on(
     input: &[u8],
     written: &mut Vec<u8>,
 ) -> Result<Vec<u8>, Fail> {
-    let disk = filled(Memory::new(alloc), log)?;
-    let hub = LoggedHub::of_log(alloc, Mode::Run, settings, disk)?;
-    let disk = run_through(alloc, hub, input, written)?;
+    let mut disk = filled(Memory::new(alloc), log)?;
+    let hub = NewHub::of_log(alloc, Mode::Run, settings, &mut disk)?;
+    let disk = run_through(alloc, hub.with_disk(alloc, disk), input, written)?;
     Ok(disk.bytes().to_vec(alloc)?)
 }
 
@@ -124,17 +120,14 @@ pub(crate) fn begun_from(
     requires { CanOpenFrom settings.now books.now }
 {
     let disk = filled(Memory::new(alloc), b"")?;
-    let hub = LoggedHub::new_from(alloc, Version::Two, Mode::Run, settings, books, disk)?;
-    let disk = run_through(alloc, hub, b"", &mut Vec::new(alloc))?;
+    let hub = NewHub::open_from(alloc, Version::Two, Mode::Run, settings, books)?;
+    let disk = run_through(alloc, hub.with_disk(alloc, disk), b"", &mut Vec::new(alloc))?;
     Ok(disk.bytes().to_vec(alloc)?)
 }
 
 /// The log that begins with the books that this hub leaves.
 fn next_of<D: Disk + Drop>(alloc: Global, hub: &mut LoggedHub<D>) -> Result<Option<Vec<u8>>, Fail>
-    requires unbegun { IsUnbegun hub.old.version hub.old.header.items hub.old.marker hub.old.intake }
-    requires usable { IsTrue (D.Disk.is_usable hub.old.recorder.log.disk) }
-    requires known { IsTrue (D.Disk.is_clean hub.old.recorder.log.disk)
-        → Only (D.Disk.seen hub.old.recorder.log.disk) (D.Disk.may_leave hub.old.recorder.log.disk) }
+    requires ready { IsReady D.Disk hub.old }
 {
     match hub.close(alloc, None)? {
         Some(books) => Ok(Some(begun_from(alloc, hub.settings(), &books)?)),
@@ -148,9 +141,9 @@ pub(crate) fn next(
     settings: &Settings,
     log: &[u8],
 ) -> Result<Option<Vec<u8>>, Fail> {
-    let disk = filled(Memory::new(alloc), log)?;
-    let mut hub = LoggedHub::of_log(alloc, Mode::Run, settings, disk)?;
-    next_of(alloc, &mut hub)
+    let mut disk = filled(Memory::new(alloc), log)?;
+    let hub = NewHub::of_log(alloc, Mode::Run, settings, &mut disk)?;
+    next_of(alloc, &mut hub.with_disk(alloc, disk))
 }
 
 /// The log that the lines of the first opening leave.

@@ -1,5 +1,6 @@
 use Rattle.std.proofs.Common.{[], ◌++◌, List, ℕ, refl, ◌∙◌, sym, ap, subst, arith}
 use Rattle.std.proofs.lemmas.Result.{IfOk-weaker, IfErr-weaker, err_from_is_err_and}
+use Rattle.sqlite_disk.specs.Disk.{MoreFaults}
 use Rattle.inst_log.specs.Layout.{recovered}
 use Rattle.inst_log.specs.Pieces.{IsReading}
 use Rattle.inst_log.proofs.Pieces.{file_lines, all_cut, through}
@@ -19,12 +20,13 @@ loop-wanted-init g c = record {
   fits = c.in_ok-lines.ensures.fits;
   seen = c.new.ensures.seen;
   crash = c.new.ensures.crash;
+  calm = c.in_ok-lines.ensures.calm;
   usable = c.new.ensures.usable;
   clean = c.new.ensures.clean;
 }
 
-pub returns-in-Err-clause-damaged : goal.returns-in-Err-clause-damaged
-returns-in-Err-clause-damaged g c clean =
+pub returns-in-Err-clause-cause : goal.returns-in-Err-clause-cause
+returns-in-Err-clause-cause g c clean =
     let i = c.loop-wanted.invariant in
     let file = g.D.Disk.seen c.args.disk.now in
     let piece = c.in_ok-piece.piece.items in
@@ -52,18 +54,23 @@ returns-clause-wanted g c =
     let all = all_cut file c.loop-wanted.lines.cutter r.0 r.1.cut (through file c.loop-wanted.lines r.0 r.1 (sym c.has_more.ensures ∙ c.loop-wanted-test.false)) in
     is ∙ r.3 ∙ ap (has_wanted c.args.wanted) (sym all)) c.end.ensures.wanted
 
-pub returns-clause-damaged : goal.returns-clause-damaged
-returns-clause-damaged g c =
+pub returns-clause-cause : goal.returns-clause-cause
+returns-clause-cause g c =
     let i = c.loop-wanted.invariant in
     let file = g.D.Disk.seen c.args.disk.now in
-    damaged_err file _ c.end.result c.end.ensures.only (λ clean.
+    damaged_err file _ _ _ c.end.result i.calm c.end.ensures.only (λ clean.
     IfErr-weaker c.end.result _ _ (λ error damaged.
     damaged file (checked file c.loop-wanted.lines c.loop-wanted.checker (i.reading clean).0 (i.reading clean).1 (i.reading clean).2 (sym c.has_more.ensures ∙ c.loop-wanted-test.false) i.fits)) c.end.ensures.damaged)
 
-pub returns-in_err-lines-clause-damaged : goal.returns-in_err-lines-clause-damaged
-returns-in_err-lines-clause-damaged g c =
-    log_failed (g.D.Disk.seen c.args.disk.now) _ _ _ c.from_residual.result _ (err_from_is_err_and c.from_residual.result c.from_residual.ensures.1) c.in_err-lines.ensures.cause
+pub returns-in_err-lines-clause-cause : goal.returns-in_err-lines-clause-cause
+returns-in_err-lines-clause-cause g c =
+    log_failed (g.D.Disk.seen c.args.disk.now) _ _ _ _ _ c.from_residual.result _ (err_from_is_err_and c.from_residual.result c.from_residual.ensures.1) (λ failed clean. failed) c.in_err-lines.ensures.cause
 
-pub returns-in_err-piece-clause-damaged : goal.returns-in_err-piece-clause-damaged
-returns-in_err-piece-clause-damaged g c =
-    log_failed (g.D.Disk.seen c.args.disk.now) _ _ _ c.from_residual-in_err-piece.result _ (err_from_is_err_and c.from_residual-in_err-piece.result c.from_residual-in_err-piece.ensures.1) c.in_err-piece.ensures.cause
+pub returns-in_err-piece-clause-cause : goal.returns-in_err-piece-clause-cause
+returns-in_err-piece-clause-cause g c =
+    let i = c.loop-wanted.invariant in
+    let new = g.D.Disk.faults c.next.new.disk in
+    log_failed (g.D.Disk.seen c.args.disk.now) _ _ _ _ _ c.from_residual-in_err-piece.result _ (err_from_is_err_and c.from_residual-in_err-piece.result c.from_residual-in_err-piece.ensures.1)
+    (λ failed clean.
+    let before = i.reading (c.next.ensures.clean clean) in
+    subst (λ (n : ℕ). MoreFaults n new) i.calm (failed clean before.0 (subst (λ (f : List ℕ). IsReading f c.loop-wanted.lines before.0) (sym i.seen) before.1))) c.in_err-piece.ensures.cause

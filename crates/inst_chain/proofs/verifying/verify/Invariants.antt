@@ -12,6 +12,7 @@ invariant-loop-wanted g l =
       fits : l.lines.len < 2 ^ 64;
       seen : g.D.Disk.seen l.disk ≡ g.D.Disk.seen l.fn.disk;
       crash : (c : List ℕ) → g.D.Disk.may_leave l.disk c → g.D.Disk.may_leave l.fn.disk c;
+      calm : g.D.Disk.faults l.disk ≡ g.D.Disk.faults l.fn.disk;
       usable : IsTrue (g.D.Disk.is_usable l.disk);
       clean : IsTrue (g.D.Disk.is_clean l.disk) → IsTrue (g.D.Disk.is_clean l.fn.disk);
     }

@@ -1,7 +1,10 @@
 use Rattle.std.proofs.Common.{◌≡◌, ◌++◌, [], List, ℕ, length, take, refl, ◌∙◌, sym, ap, subst, arith, length-append, rules}
+use Rattle.std.proofs.lemmas.Result.{err_from_is_err_and}
+use Rattle.sqlite_disk.specs.Disk.{MoreFaults}
 use Rattle.inst_log.specs.Layout.{recovered, blocks, IsWhole}
 use Rattle.inst_log.specs.Pieces.{IsReading}
 use Rattle.inst_log.proofs.Pieces.{lines_short, lines_more, whole_more, first_of, enough_lines, all_cut, through}
+use Rattle.inst_log.proofs.Causes.{counts_passed}
 use Rattle.inst_log.proofs.reading.read_lines.Goals.{then-loop-found-test+else-has_more, else-loop-found-test}
 use Rattle.inst_log.proofs.reading.read_lines.Goals as goal
 
@@ -16,6 +19,7 @@ loop-found-init g c =
       found = ap (λ (l : List ℕ). length (recovered l)) (sym none);
       seen = c.new.ensures.seen;
       crash = c.new.ensures.crash;
+      calm = c.in_ok-lines.ensures.calm;
       usable = c.new.ensures.usable;
       clean = c.new.ensures.clean;
     }
@@ -50,6 +54,7 @@ loop-found-preserved g c =
       found = omega (arith, i.found, counted, ap length lines, length-append (recovered text) (recovered piece));
       seen = c.next.ensures.seen ∙ i.seen;
       crash = λ left may. i.crash left (c.next.ensures.crash left may);
+      calm = c.in_ok-piece.ensures.calm ∙ i.calm;
       usable = c.next.ensures.usable;
       clean = λ clean. i.clean (c.next.ensures.clean clean);
     }
@@ -70,3 +75,13 @@ returns-clause-lines g c clean =
           enough_lines file c.loop-found.lines.cutter (recovered text) c.args.count reading.cut (omega (arith, w.loop-found-test.false, i.found))
     ] in
     cut ∙ first_of text c.args.count c.lines_len.result i.whole size ∙ ap blocks (sym enough)
+
+pub returns-in_err-piece-clause-cause : goal.returns-in_err-piece-clause-cause
+returns-in_err-piece-clause-cause g c =
+    let i = c.loop-found.invariant in
+    let old = g.D.Disk.faults c.args.disk.now in
+    let new = g.D.Disk.faults c.next.new.disk in
+    let done = recovered c.loop-found.text.items in
+    counts_passed _ _ _ c.from_residual-in_err-piece.result _ (err_from_is_err_and c.from_residual-in_err-piece.result c.from_residual-in_err-piece.ensures.1)
+    (λ failed clean. subst (λ (n : ℕ). MoreFaults n new) i.calm
+    (failed clean done (subst (λ (f : List ℕ). IsReading f c.loop-found.lines done) (sym i.seen) (i.reading (c.next.ensures.clean clean))))) c.in_err-piece.ensures.cause

@@ -6,6 +6,7 @@ loop-lines-init g c = record {
   reading = λ clean. ([], c.in_ok-lines.ensures.reading clean [] (g.D.Disk.seen c.args.disk.now) refl refl refl);
   seen = c.new.ensures.seen;
   crash = c.new.ensures.crash;
+  calm = c.in_ok-lines.ensures.calm;
   usable = c.new.ensures.usable;
   clean = c.new.ensures.clean;
 }

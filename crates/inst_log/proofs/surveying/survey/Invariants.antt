@@ -8,6 +8,7 @@ invariant-loop-lines g l =
       reading : IsTrue (g.D.Disk.is_clean l.disk) → (done : List (List ℕ)) × IsReading (g.D.Disk.seen l.fn.disk) l.lines done;
       seen : g.D.Disk.seen l.disk ≡ g.D.Disk.seen l.fn.disk;
       crash : (c : List ℕ) → g.D.Disk.may_leave l.disk c → g.D.Disk.may_leave l.fn.disk c;
+      calm : g.D.Disk.faults l.disk ≡ g.D.Disk.faults l.fn.disk;
       usable : IsTrue (g.D.Disk.is_usable l.disk);
       clean : IsTrue (g.D.Disk.is_clean l.disk) → IsTrue (g.D.Disk.is_clean l.fn.disk);
     }

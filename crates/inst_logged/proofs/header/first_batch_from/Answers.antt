@@ -1,9 +1,10 @@
-use Rattle.std.proofs.Common.{◌≡◌, ◌∙◌, Some, List, ℕ, ◌∷◌, ◌++◌, length, ap}
+use Rattle.std.proofs.Common.{◌≡◌, ◌<◌, ◌^◌, ◌∙◌, arith, Some, List, ℕ, ◌∷◌, ◌++◌, length, ap}
 use Rattle.std.proofs.lemmas.Result.{IfOk-weaker}
 use Rattle.inst_log.specs.Layout.{recovered, at_rest}
 use Rattle.inst_log.specs.Escape.{raw_of}
 use Rattle.inst_books.specs.Books.{all_events, books_text}
-use Rattle.inst_logged.specs.Header.{header_from, header_line, marked}
+use Rattle.inst_logged.specs.Header.{header_from, header_line, marked, lines_of_books}
+use Rattle.inst_log.proofs.Pieces.{lines_short}
 use Rattle.inst_logged.proofs.Headings.{behind_lines, behind_whole, behind_some}
 use Rattle.inst_logged.proofs.Written.{can_be_written}
 use Rattle.inst_logged.proofs.header.first_batch_from.Goals as goal
@@ -38,3 +39,16 @@ returns-clause-items c =
     is ∙ ap (λ (ls : List (List ℕ)). at_rest (marked version ls)) lines
     ∙ ap (λ (l : List ℕ). at_rest (marked version (line ∷ recovered l))) (c.deref-2.ensures.value ∙ written)
     ∙ ap (λ (n : ℕ). at_rest (marked version (raw_of (header_line version mode s (Some n)) ∷ recovered text))) counted) c.close_heading.ensures.items
+
+pub returns-clause-again : goal.returns-clause-again
+returns-clause-again c =
+    let s = c.args.settings.now in
+    let text : List ℕ = books_text s (all_events c.args.journals.now) in
+    let written : c.append_books.new.out.items ≡ text = c.in_ok-append_books.ensures.text ∙ ap (λ (l : List ℕ). l ++ text) c.new-books.ensures.items in
+    let few : length (lines_of_books s c.args.journals.now) < 2 ^ 63 =
+    omega (arith, c.append_books.new.out.ok.0, c.append_books.new.out.small, ap length written, lines_short text) in
+    IfOk-weaker c.close_heading.result _ _ (λ heading is lawful. record {
+      can = c.requires;
+      books = c.in_ok-append_books.ensures.books lawful;
+      few = few;
+    }) c.close_heading.ensures.items

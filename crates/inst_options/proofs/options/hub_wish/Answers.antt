@@ -1,9 +1,9 @@
 use Rattle.std.proofs.Common.{◌≡◌, ◌⊎◌, ◌∙◌, true, codes, inl, inr, refl, sym}
 use Rattle.clap.specs.Words.{found_of, rows_of}
 use Rattle.inst_settings.specs.Settings.{same_text}
-use Rattle.inst_options.specs.Options.{SpeaksOfALog}
+use Rattle.inst_options.specs.Options.{AreOfNoLog}
 use Rattle.inst_options.specs.inner.Options.{AskForNone, ChooseNone}
-use Rattle.inst_options.proofs.Refused.{no_other, none_of_all, numberless, of_a_log, passed_more, passed_on}
+use Rattle.inst_options.proofs.Refused.{no_other, none_of_all, numberless, passed_more, passed_on}
 use Rattle.inst_options.proofs.options.hub_wish.Goals as goal
 
 pub returns-in_err-settings-clause-fault : goal.returns-in_err-settings-clause-fault
@@ -11,7 +11,7 @@ returns-in_err-settings-clause-fault c =
     let name = c.args.name.now in
     let rows = rows_of (found_of c.args.options.now) in
     let told = c.from_residual-in_err-settings in
-    passed_more (AskForNone name rows ⊎ SpeaksOfALog name rows) (ChooseNone rows) told.result c.in_err-settings.field-0.0
+    passed_more (AskForNone name rows ⊎ AreOfNoLog rows) (ChooseNone rows) told.result c.in_err-settings.field-0.0
     told.ensures.1 (λ none. inl (none_of_all name rows c.requires.hub none)) c.in_err-settings.ensures.fault
 
 pub returns-in_err-log-clause-fault : goal.returns-in_err-log-clause-fault
@@ -20,8 +20,8 @@ returns-in_err-log-clause-fault c =
     let rows = rows_of (found_of c.args.options.now) in
     let told = c.from_residual-in_err-log in
     let log = c.in_err-log.ensures in
-    passed_on (AskForNone name rows ⊎ SpeaksOfALog name rows) told.result c.in_err-log.field-0.0 told.ensures.1
-    log.fault (inr (inr (inr (of_a_log rows log.none))))
+    passed_on (AskForNone name rows ⊎ AreOfNoLog rows) told.result c.in_err-log.field-0.0 told.ensures.1
+    log.fault (inr log.none)
 
 pub returns-in_err-transfers-clause-fault : goal.returns-in_err-transfers-clause-fault
 returns-in_err-transfers-clause-fault c =

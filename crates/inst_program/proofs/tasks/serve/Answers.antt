@@ -1,76 +1,79 @@
-use Rattle.std.proofs.Common.{◌≡◌, ℕ, List, Bor, option_map, inl, inr, refl}
+use Rattle.std.proofs.Common.{ℕ, List, Bor, option_map, refl}
 use Rattle.std.proofs.lemmas.Result.{on_ok_weaker}
 use Rattle.inst_options.specs.Asking.{AskForTheNext}
+use Rattle.inst_program.specs.Program.Done.{Carried, Explained, Shown}
 use Rattle.inst_program.proofs.Doing.{answered, checked, drilled, unanswered_err, uncarried_err, unchecked_err, undrilled_err, unexplained_err, unshown_err}
+use Rattle.inst_program.proofs.Visiting.{nothing_happened}
 use Rattle.inst_program.proofs.tasks.serve.Goals as goal
 
 pub returns-in-Run-clause-ok : goal.returns-in-Run-clause-ok
 returns-in-Run-clause-ok g c words wished =
     let is = rw c.in-Run.is at wished in
-    on_ok_weaker c.answer.result (λ done. answered g.L.Log.Disk (g.L.Logs.is_named c.args.logs.now) words _ c.in-Run.settings c.in-Run.log (c.answer.new.reader ≡ c.args.reader.now) _ _ _ _ _ _ is.0 is.1 is.2 is.3 done) c.answer.ensures.ok
+    on_ok_weaker c.answer.result (answered words _ _ _ _ c.in-Run.settings c.in-Run.log is.0 is.1 is.2 is.3) c.answer.ensures.ok
 
 pub returns-in-Run-clause-err : goal.returns-in-Run-clause-err
 returns-in-Run-clause-err g c words wished =
     let is = rw c.in-Run.is at wished in
-    unanswered_err g.L.Log.Disk (g.L.Logs.is_named c.args.logs.now) words _ c.in-Run.settings c.in-Run.log (c.answer.new.reader ≡ c.args.reader.now) (c.answer.new.writer ≡ c.args.writer.now) _ _ _ _
-    c.answer.result is.0 is.1 is.2 is.3 c.answer.ensures.err
+    unanswered_err words _ _ _ _ c.in-Run.settings c.in-Run.log c.answer.result is.0 is.1 is.2 is.3 c.answer.ensures.err
 
 pub returns-in-Play-clause-ok : goal.returns-in-Play-clause-ok
 returns-in-Play-clause-ok g c words wished =
     let is = rw c.in-Play.is at wished in
-    on_ok_weaker c.answer-in-Play.result (λ done. answered g.L.Log.Disk (g.L.Logs.is_named c.args.logs.now) words _ c.in-Play.settings c.in-Play.log (c.answer-in-Play.new.reader ≡ c.args.reader.now) _ _ _ _ _ _ is.0 is.1 is.2 is.3 done) c.answer-in-Play.ensures.ok
+    on_ok_weaker c.answer-in-Play.result (answered words _ _ _ _ c.in-Play.settings c.in-Play.log is.0 is.1 is.2 is.3) c.answer-in-Play.ensures.ok
 
 pub returns-in-Play-clause-err : goal.returns-in-Play-clause-err
 returns-in-Play-clause-err g c words wished =
     let is = rw c.in-Play.is at wished in
-    unanswered_err g.L.Log.Disk (g.L.Logs.is_named c.args.logs.now) words _ c.in-Play.settings c.in-Play.log (c.answer-in-Play.new.reader ≡ c.args.reader.now) (c.answer-in-Play.new.writer ≡ c.args.writer.now) _ _ _ _
-    c.answer-in-Play.result is.0 is.1 is.2 is.3 c.answer-in-Play.ensures.err
+    unanswered_err words _ _ _ _ c.in-Play.settings c.in-Play.log c.answer-in-Play.result is.0 is.1 is.2 is.3 c.answer-in-Play.ensures.err
 
 pub returns-in_ok-drill_hub-in-Drill-clause-ok : goal.returns-in_ok-drill_hub-in-Drill-clause-ok
 returns-in_ok-drill_hub-in-Drill-clause-ok g c words wished =
     let is = rw c.in-Drill.is at wished in
-    drilled words c.in-Drill.settings c.in-Drill.transfers c.in-Drill.openings (c.args.reader.now ≡ c.args.reader.now) _ _ _ _ _ _ _ is.0 is.1 is.2 refl
-    c.in_ok-drill_hub-in-Drill.ensures.ok
+    drilled words _ _ _ c.in-Drill.settings c.in-Drill.transfers c.in-Drill.openings is.0 is.1 is.2 refl (nothing_happened (g.L.Logs.files c.args.logs.now)) c.in_ok-drill_hub-in-Drill.ensures.ok
 
 pub returns-in_err-drill_hub-in-Drill-clause-err : goal.returns-in_err-drill_hub-in-Drill-clause-err
 returns-in_err-drill_hub-in-Drill-clause-err g c words wished =
     let is = rw c.in-Drill.is at wished in
-    undrilled_err words c.in-Drill.settings c.in-Drill.transfers c.in-Drill.openings (c.args.reader.now ≡ c.args.reader.now) (c.drill_hub.new.writer ≡ c.args.writer.now) _ _
-    c.from_residual.result c.in_err-drill_hub-in-Drill.field-0.0 c.from_residual.ensures.1 is.0 is.1 is.2 refl c.in_err-drill_hub-in-Drill.ensures.err
+    undrilled_err words _ _ _ c.in-Drill.settings c.in-Drill.transfers c.in-Drill.openings
+    c.from_residual.result c.in_err-drill_hub-in-Drill.field-0.0 c.from_residual.ensures.1 is.0 is.1 is.2 refl (nothing_happened (g.L.Logs.files c.args.logs.now)) c.in_err-drill_hub-in-Drill.ensures.err
 
 pub returns-in-Log-clause-ok : goal.returns-in-Log-clause-ok
 returns-in-Log-clause-ok g c words wished =
     let is = rw c.in-Log.is at wished in
-    on_ok_weaker c.show.result (λ done. inr (inr (inr (refl, inr (inl (c.in-Log.path.now, is, done)))))) c.show.ensures.ok
+    on_ok_weaker c.show.result (λ done. Shown refl (c.in-Log.path.now, is, done) c.show.ensures.untouched.all) c.show.ensures.ok
 
 pub returns-in-Log-clause-err : goal.returns-in-Log-clause-err
 returns-in-Log-clause-err g c words wished =
     let is = rw c.in-Log.is at wished in
-    unshown_err words c.in-Log.path.now (c.args.reader.now ≡ c.args.reader.now) (c.show.new.writer ≡ c.args.writer.now) _ _ c.show.result is refl c.show.ensures.err
+    unshown_err words _ _ _ c.in-Log.path.now c.show.result is refl c.show.ensures.untouched.all c.show.ensures.err
 
 pub returns-in-Next-clause-ok : goal.returns-in-Next-clause-ok
 returns-in-Next-clause-ok g c words wished =
     let digest = option_map (λ (d : Bor (List ℕ)). d.now) c.in-Next.digest in
     let is : AskForTheNext words c.in-Next.from.now c.in-Next.to.now digest = rw c.in-Next.is at wished in
-    on_ok_weaker c.next.result (λ done. inr (inr (inr (refl, inr (inr (inl (c.in-Next.from.now, c.in-Next.to.now, digest, is, done))))))) c.next.ensures.ok
+    on_ok_weaker c.next.result (λ done. Carried refl refl (c.in-Next.from.now, c.in-Next.to.now, digest, is, done)) c.next.ensures.ok
 
 pub returns-in-Next-clause-err : goal.returns-in-Next-clause-err
 returns-in-Next-clause-err g c words wished =
     let is = rw c.in-Next.is at wished in
-    uncarried_err words c.in-Next.from.now c.in-Next.to.now (option_map (λ (d : Bor (List ℕ)). d.now) c.in-Next.digest) (c.args.reader.now ≡ c.args.reader.now) (c.args.writer.now ≡ c.args.writer.now) _ _ c.next.result is refl refl c.next.ensures.err
+    uncarried_err words _ _ _ c.in-Next.from.now c.in-Next.to.now (option_map (λ (d : Bor (List ℕ)). d.now) c.in-Next.digest) c.next.result is refl refl c.next.ensures.err c.next.ensures.refused
+
+pub returns-in-Explain-clause-ok : goal.returns-in-Explain-clause-ok
+returns-in-Explain-clause-ok g c words wished =
+    let is = rw c.in-Explain.is at wished in
+    on_ok_weaker c.explain.result (λ done. Explained refl (c.in-Explain.word.now, is, done) (nothing_happened (g.L.Logs.files c.args.logs.now))) c.explain.ensures.ok
 
 pub returns-in-Explain-clause-err : goal.returns-in-Explain-clause-err
 returns-in-Explain-clause-err g c words wished =
     let is = rw c.in-Explain.is at wished in
-    unexplained_err words c.in-Explain.word.now (c.args.reader.now ≡ c.args.reader.now) (c.explain.new.writer ≡ c.args.writer.now) _ _ c.explain.result is refl c.explain.ensures.err
+    unexplained_err words _ _ _ c.in-Explain.word.now c.explain.result is refl (nothing_happened (g.L.Logs.files c.args.logs.now)) c.explain.ensures.err
 
 pub returns-in-Check-clause-ok : goal.returns-in-Check-clause-ok
 returns-in-Check-clause-ok g c words wished =
     let is = rw c.in-Check.is at wished in
-    on_ok_weaker c.check.result (λ done. checked words c.in-Check.settings (c.check.new.reader ≡ c.args.reader.now) _ _ _ _ _ _ _ is.0 is.1 is.2 done) c.check.ensures.ok
+    on_ok_weaker c.check.result (checked words _ _ _ c.in-Check.settings is.0 is.1 is.2 (nothing_happened (g.L.Logs.files c.args.logs.now))) c.check.ensures.ok
 
 pub returns-in-Check-clause-err : goal.returns-in-Check-clause-err
 returns-in-Check-clause-err g c words wished =
     let is = rw c.in-Check.is at wished in
-    unchecked_err words c.in-Check.settings (c.check.new.reader ≡ c.args.reader.now) (c.check.new.writer ≡ c.args.writer.now) _ _ _ _ _
-    c.check.result is.0 is.1 is.2 c.check.ensures.err
+    unchecked_err words _ _ _ c.in-Check.settings c.check.result is.0 is.1 is.2 (nothing_happened (g.L.Logs.files c.args.logs.now)) c.check.ensures.err

@@ -1,10 +1,12 @@
-use Rattle.std.proofs.Common.{[], ◌∙◌, refl, sym, subst}
+use Rattle.std.proofs.Common.{inl, inr, [], ◌∙◌, refl, sym, subst, arith}
+use Rattle.std.proofs.lemmas.Result.{err_from_is_err_and}
 use Rattle.std.proofs.lemmas.Bool.{MatchBool-at_true, MatchBool-at_false}
 use Rattle.inst_bytes.specs.Newline.{NoNewline}
 use Rattle.inst_logged.specs.inner.Input.{rest_from}
-use Rattle.inst_logged.proofs.Coming.{come_none, come_more, come_end, come_kept, come_so_far, served_as}
+use Rattle.inst_logged.proofs.Coming.{come_none, come_more, come_longer, come_end, come_kept, come_so_far, served_as}
 use Rattle.inst_logged.specs.Marking.{IsIntact, IsIntactBy}
 use Rattle.inst_logged.specs.declared.version.Version.{Version}
+use Rattle.inst_logged.proofs.Failing.{fails_passed, fails_so, more_faults}
 use Rattle.inst_logged.proofs.Intact.{same_intact}
 use Rattle.inst_logged.proofs.hub.LoggedHub.serve_all.Goals as goal
 
@@ -12,6 +14,8 @@ pub loop-init : goal.loop-init
 loop-init g c =
     record {
       come = come_none g.D.Disk.seen g.D.Disk.may_leave c.args.self.now.recorder _ _ _ c.args.self.now.intake c.requires.settled c.requires.nothing;
+      turns = omega arith;
+      calm = refl;
       usable = c.requires.usable;
       clean = λ clean. clean;
       size = c.requires.size;
@@ -48,10 +52,13 @@ returns-then-not-branch-clause-end g c =
 pub loop-preserved : goal.loop-preserved
 loop-preserved g c =
     let h = c.loop.invariant.come in
+    let on = served_as g.D.Disk.seen g.D.Disk.may_leave c.loop.self.recorder (g.R.Read.remaining c.loop.reader) _ _ _ _ c.turn.new.self.recorder _ (λ lines. MatchBool-at_true _ _ c.if-not-branch.false)
+    (c.in_ok-turn.ensures.ok (rest_from [] h.bytes) h.held_is) in
     record {
-      come = come_more g.D.Disk.seen g.D.Disk.may_leave c.args.self.now.recorder _ _ _ _ c.loop.self.recorder c.turn.new.self.recorder c.loop.self.intake c.turn.new.self.intake _ _ _ _ c.turn.ensures.clean h
-          (served_as g.D.Disk.seen g.D.Disk.may_leave c.loop.self.recorder (g.R.Read.remaining c.loop.reader) _ _ _ _ c.turn.new.self.recorder _ (λ lines. MatchBool-at_true _ _ c.if-not-branch.false)
-          (c.in_ok-turn.ensures.ok (rest_from [] h.bytes) h.held_is));
+      come = come_more g.D.Disk.seen g.D.Disk.may_leave c.args.self.now.recorder _ _ _ _ c.loop.self.recorder c.turn.new.self.recorder c.loop.self.intake c.turn.new.self.intake _ _ _ _ c.turn.ensures.clean h on;
+      turns = come_longer g.D.Disk.seen g.D.Disk.may_leave c.args.self.now.recorder _ _ _ _ c.loop.self.recorder c.turn.new.self.recorder c.loop.self.intake c.turn.new.self.intake _ _ _ _ c.turn.ensures.clean h on
+          c.loop.counter c.loop.invariant.turns;
+      calm = c.in_ok-turn.ensures.failure ∙ c.loop.invariant.calm;
       usable = c.in_ok-turn.ensures.usable;
       clean = λ clean. c.loop.invariant.clean (c.turn.ensures.clean clean);
       size = c.in_ok-turn.ensures.size;
@@ -85,3 +92,15 @@ returns-then-not-branch-clause-intact_now g c clean =
 pub returns-clause-intact : goal.returns-clause-intact
 returns-clause-intact g c mixes clean left may =
     same_intact c.args.self.now.version _ left c.loop.self.marker (c.loop.invariant.intact clean) (c.loop.invariant.durable clean left may)
+
+-- the log failed
+
+pub returns-in_err-turn-clause-failure : goal.returns-in_err-turn-clause-failure
+returns-in_err-turn-clause-failure g c =
+    fails_passed _ _ c.from_residual.result _ (err_from_is_err_and c.from_residual.result c.from_residual.ensures.1)
+    (λ clean. fails_so _ _ _ _ _ _ c.in_err-turn.field-0.0 (λ failed. more_faults _ _ _ c.loop.invariant.calm failed) (λ full. inl full) (λ is. is) (c.in_err-turn.ensures.failure clean))
+
+pub returns-clause-failure : goal.returns-clause-failure
+returns-clause-failure g c clean =
+    let h = c.loop.invariant.come in
+    ((λ is. cc is), inr (h.bytes, h.consumes, omega (arith, c.loop.invariant.turns, c.loop-test.false)))

@@ -1,4 +1,4 @@
-use Rattle.std.proofs.Common.{◌≡◌, length, IsTrue}
+use Rattle.std.proofs.Common.{◌≡◌, ◌≤◌, length, IsTrue}
 use Rattle.inst_bytes.specs.Newline.{NoNewline}
 use Rattle.inst_logged.specs.Intake.{held}
 use Rattle.sqlite_disk.specs.Disk.{Only}
@@ -10,6 +10,8 @@ abbrev pub invariant-loop : goal.invariant-loop
 invariant-loop g l = record {
   come : HasCome g.D.Disk.seen g.D.Disk.may_leave (IsTrue (g.D.Disk.is_clean l.self.recorder.log.disk)) l.fn.self.recorder l.self.recorder
       l.self.intake (g.R.Read.remaining l.fn.reader) (g.R.Read.remaining l.reader) (g.W.Write.contents l.fn.writer) (g.W.Write.contents l.writer);
+  turns : l.counter ≤ length come.bytes;
+  calm : g.D.Disk.faults l.self.recorder.log.disk ≡ g.D.Disk.faults l.fn.self.recorder.log.disk;
   usable : IsTrue (g.D.Disk.is_usable l.self.recorder.log.disk);
   clean : IsTrue (g.D.Disk.is_clean l.self.recorder.log.disk) → IsTrue (g.D.Disk.is_clean l.fn.self.recorder.log.disk);
   size : IsTrue (g.D.Disk.is_clean l.self.recorder.log.disk) → l.self.size ≡ length (g.D.Disk.seen l.self.recorder.log.disk);

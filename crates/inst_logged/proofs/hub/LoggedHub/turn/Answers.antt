@@ -1,4 +1,5 @@
 use Rattle.std.proofs.Common.{inl, sym, ◌∙◌, ap, subst, [], map, List, ℕ}
+use Rattle.std.proofs.lemmas.Result.{err_from_is_err_and}
 use Rattle.std.specs.Prelude.{MatchBool}
 use Rattle.inst_log.specs.Layout.{recovered}
 use Rattle.inst_log.proofs.Serve.{kept_before}
@@ -7,6 +8,7 @@ use Rattle.inst_chain.proofs.Said.{said_plain}
 use Rattle.inst_logged.specs.Input.{logged}
 use Rattle.inst_logged.specs.inner.Input.{lines_from}
 use Rattle.inst_logged.specs.inner.Logged.{Came, Turned, Ended}
+use Rattle.inst_logged.proofs.Failing.{fails_passed, fails_so}
 use Rattle.inst_logged.proofs.Turning.{turned_of, came_of, plain_logged}
 use Rattle.inst_logged.proofs.Intact.{same_intact, writing_intact, now_intact}
 use Rattle.inst_logged.proofs.hub.LoggedHub.turn.Goals as goal
@@ -101,3 +103,19 @@ returns-clause-intact_now g c clean =
     now_intact c.args.self.now.version (g.D.Disk.seen c.args.self.now.recorder.log.disk) (g.D.Disk.seen c.serve_measured.new.recorder.log.disk) c.args.self.now.marker c.mark_batch.new.marker (c.requires.intact before)
     (c.in_ok-serve_measured.ensures.shut_now clean)
     (λ shut. c.in_ok-mark_batch.ensures.intact plain _ _ (c.requires.intact before) (c.in_ok-serve_measured.ensures.acknowledged clean).1 shut)
+
+-- the log failed
+
+pub returns-in_err-more-clause-failure : goal.returns-in_err-more-clause-failure
+returns-in_err-more-clause-failure g c =
+    fails_passed _ _ c.from_residual.result _ (err_from_is_err_and c.from_residual.result c.from_residual.ensures.1)
+    (λ clean. fails_so _ _ _ _ _ _ c.in_err-more.field-0.0 (λ no. absurd no) (λ no. absurd no) (λ no. absurd no) c.in_err-more.ensures.failure)
+
+pub returns-in_err-mark_batch-clause-failure : goal.returns-in_err-mark_batch-clause-failure
+returns-in_err-mark_batch-clause-failure g c =
+    fails_passed _ _ c.from_residual-in_err-mark_batch.result _ (err_from_is_err_and c.from_residual-in_err-mark_batch.result c.from_residual-in_err-mark_batch.ensures.1) (λ clean. ((λ is. cc is), tt))
+
+pub returns-in_err-serve_measured-clause-failure : goal.returns-in_err-serve_measured-clause-failure
+returns-in_err-serve_measured-clause-failure g c =
+    fails_passed _ _ c.from_residual-in_err-serve_measured.result _ (err_from_is_err_and c.from_residual-in_err-serve_measured.result c.from_residual-in_err-serve_measured.ensures.1)
+    c.in_err-serve_measured.ensures.failure

@@ -1,10 +1,17 @@
-use Rattle.std.proofs.Common.{[], ℕ, Option, Some, drop, sym, ◌∙◌, ap, subst, arith}
+use Rattle.std.proofs.Common.{inr, [], ℕ, Option, Some, drop, sym, ◌∙◌, ap, subst, arith}
 use Rattle.std.proofs.lemmas.List.{take_rest}
+use Rattle.std.proofs.lemmas.Result.{err_from_is_err_and}
 use Rattle.std.specs.Io.KnownBytes.{Appends}
 use Rattle.inst_bytes.specs.Handing.{WritesPart}
 use Rattle.inst_log.specs.Layout.{recovered}
+use Rattle.std.specs.Prelude.{⊤}
+use Rattle.inst_log.specs.declared.error.LogError.{LogError}
+use Rattle.inst_logged.specs.declared.error.LoggedError.TheVariants.{Log}
+use Rattle.inst_logged.specs.inner.Failing.{Fails}
 use Rattle.inst_logged.specs.inner.Answering.{AnswersLines, AnswersAgain, debt}
 use Rattle.inst_logged.proofs.Debt.{again_few, again_rest, rest_out}
+use Rattle.inst_logged.proofs.Enough.{AreEnough, enough_first, on_err_all}
+use Rattle.inst_logged.proofs.Examined.{passed}
 use Rattle.inst_logged.proofs.hub.replaying.answer_again.Goals as goal
 
 -- all of these lines have been told
@@ -45,3 +52,22 @@ returns-clause-part g c past keeps =
     _ c.answer_first.ensures.mode keeps c.in_ok-start.ensures.ok (omega (arith, c.if-left-gt0.false)) answered in
     subst (WritesPart (g.W.Write.contents c.args.writer.now) (g.W.Write.contents c.deliver.new.writer))
     (c.deref.ensures.value ∙ out ∙ ap (λ (o : Option ℕ). debt a.mode past o (recovered c.args.lines.now)) (sym c.in-Some.is)) c.deliver.ensures.part
+
+pub returns-in_err-deliver-clause-begun : goal.returns-in_err-deliver-clause-begun
+returns-in_err-deliver-clause-begun g c =
+    on_err_all c.from_residual-in_err-deliver.result _ (inr (subst (λ (o : Option ℕ). AreEnough o (recovered c.args.lines.now)) (sym c.in-Some.is)
+    (enough_first _ _ _ _ _ c.args.lines.now c.in_ok-start.start c.in-Some.count c.in_ok-start.left c.in_ok-start.ensures.ok (omega (arith, c.if-left-gt0.false)))))
+
+pub returns-in_err-answer_all-clause-failure : goal.returns-in_err-answer_all-clause-failure
+returns-in_err-answer_all-clause-failure g c = passed _ c.from_residual.result _ (err_from_is_err_and c.from_residual.result c.from_residual.ensures.1) ((λ is. cc is), tt)
+
+pub returns-in_err-start-clause-failure : goal.returns-in_err-start-clause-failure
+returns-in_err-start-clause-failure g c = passed _ c.from_residual-in_err-start.result _ (err_from_is_err_and c.from_residual-in_err-start.result c.from_residual-in_err-start.ensures.1) ((λ is. cc is), tt)
+
+pub returns-in_err-answer_all-2-clause-failure : goal.returns-in_err-answer_all-2-clause-failure
+returns-in_err-answer_all-2-clause-failure g c = passed _ c.from_residual-in_err-answer_all-2.result _ (err_from_is_err_and c.from_residual-in_err-answer_all-2.result c.from_residual-in_err-answer_all-2.ensures.1) ((λ is. cc is), tt)
+
+pub returns-in_err-deliver-clause-failure : goal.returns-in_err-deliver-clause-failure
+returns-in_err-deliver-clause-failure g c =
+    passed _ c.from_residual-in_err-deliver.result _ (err_from_is_err_and c.from_residual-in_err-deliver.result c.from_residual-in_err-deliver.ensures.1)
+    (subst (λ (e : LogError). Fails ⊥ ⊥ ⊤ (Log e)) (sym c.in_err-deliver.ensures.only) ((λ is. cc is), tt))

@@ -1,11 +1,14 @@
-use Rattle.std.proofs.Common.{◌++◌, [], List, ℕ, refl, sym, ◌∙◌, ap, subst}
-use Rattle.std.proofs.lemmas.Result.{on_ok_weaker, IfErr-weaker}
+use Rattle.std.proofs.Common.{◌++◌, [], List, ℕ, refl, sym, ◌∙◌, ap, subst, append-nil}
+use Rattle.std.proofs.lemmas.Result.{err_from_is_err_and, on_ok_weaker, IfErr-weaker}
 use Rattle.inst_bytes.specs.Handing.{WritesPart}
 use Rattle.inst_log.specs.Layout.{recovered}
+use Rattle.inst_log.specs.Pieces.{IsReading}
 use Rattle.inst_chain.specs.Chain.{said}
 use Rattle.inst_logged.specs.inner.Answering.{AnswersAgain, debt}
 use Rattle.inst_logged.specs.inner.Replaying.{IsReplayed}
 use Rattle.inst_logged.proofs.Debt.{again_none, again_more, replayed, part_so_far, part_more, too_few, kept_so_far, kept_at_end, reading_none, reading_more, still_told, not_zero}
+use Rattle.inst_logged.proofs.Enough.{begun_so_far, begun_more, on_err_all}
+use Rattle.inst_logged.proofs.Failing.{fails_passed, fails_so, fails_told, log_fails, more_faults}
 use Rattle.inst_logged.proofs.hub.replaying.replay.Goals as goal
 
 pub loop-lines-init : goal.loop-lines-init
@@ -21,6 +24,7 @@ loop-lines-init g c =
       end = refl;
       seen = c.new.ensures.seen;
       crash = c.new.ensures.crash;
+      calm = c.in_ok-lines.ensures.calm;
       usable = c.new.ensures.usable;
       clean = c.new.ensures.clean;
     }
@@ -61,6 +65,7 @@ loop-lines-preserved g c =
       end = i.end;
       seen = c.next.ensures.seen ∙ i.seen;
       crash = λ left may. i.crash left (c.next.ensures.crash left may);
+      calm = c.in_ok-piece.ensures.calm ∙ i.calm;
       usable = c.next.ensures.usable;
       clean = λ clean. i.clean (c.next.ensures.clean clean);
     }
@@ -93,3 +98,50 @@ returns-clause-refused g c =
           let all = kept_at_end c.args.header.now file c.loop-lines.lines i.done (i.reading clean) (sym c.has_more.ensures ∙ c.loop-lines-test.false) in
           rw all (too_few mode c.args.told c.loop-lines.left i.done e.1 i.again.left_is e.2 e.3),
     )) c.require_none.ensures.some
+
+pub returns-in_err-piece-clause-begun : goal.returns-in_err-piece-clause-begun
+returns-in_err-piece-clause-begun g c =
+    let i = c.loop-lines.invariant in
+    let file = g.D.Disk.seen c.args.recorder.now.log.disk in
+    on_err_all c.from_residual-in_err-piece.result _ (λ clean.
+    begun_so_far c.args.told c.loop-lines.left _ i.done _ _ i.again.left_is (kept_so_far c.args.header.now file c.loop-lines.lines i.done (i.reading (c.next.ensures.clean clean))) i.untouched)
+
+pub returns-in_err-left-clause-begun : goal.returns-in_err-left-clause-begun
+returns-in_err-left-clause-begun g c =
+    let i = c.loop-lines.invariant in
+    let file = g.D.Disk.seen c.args.recorder.now.log.disk in
+    let piece = recovered c.in_ok-piece.piece.items in
+    on_err_all c.from_residual-in_err-left.result _ (λ clean.
+    let reading = reading_more c.args.header.now file (g.D.Disk.seen c.loop-lines.recorder.log.disk) c.loop-lines.lines c.next.new.self i.done piece i.seen (i.reading (c.next.ensures.clean clean)) (c.in_ok-piece.ensures.reading clean) in
+    begun_more c.args.told c.loop-lines.left _ i.done piece _ _ _ _ i.again.left_is (kept_so_far c.args.header.now file c.next.new.self (i.done ++ piece) reading) i.untouched
+    (rw c.deref.ensures.value at c.in_err-left.ensures.begun) (λ before now. now ∙ before))
+
+pub returns-clause-begun : goal.returns-clause-begun
+returns-clause-begun g c =
+    let i = c.loop-lines.invariant in
+    let file = g.D.Disk.seen c.args.recorder.now.log.disk in
+    on_err_all c.require_none.result _ (λ clean.
+    begun_so_far c.args.told c.loop-lines.left _ i.done [] _ i.again.left_is
+    (kept_at_end c.args.header.now file c.loop-lines.lines i.done (i.reading clean) (sym c.has_more.ensures ∙ c.loop-lines-test.false) ∙ sym (append-nil i.done)) i.untouched)
+
+-- the log failed
+
+pub returns-in_err-lines-clause-failure : goal.returns-in_err-lines-clause-failure
+returns-in_err-lines-clause-failure g c =
+    fails_passed _ _ c.from_residual.result _ (err_from_is_err_and c.from_residual.result c.from_residual.ensures.1) (λ clean. log_fails _ _ _ _ _ c.in_err-lines.field-0.0 (λ failed. failed) c.in_err-lines.ensures.cause)
+
+pub returns-in_err-piece-clause-failure : goal.returns-in_err-piece-clause-failure
+returns-in_err-piece-clause-failure g c =
+    let i = c.loop-lines.invariant in
+    let done = recovered c.args.header.now ++ i.done in
+    fails_passed _ _ c.from_residual-in_err-piece.result _ (err_from_is_err_and c.from_residual-in_err-piece.result c.from_residual-in_err-piece.ensures.1)
+    (λ clean. log_fails _ _ _ _ _ c.in_err-piece.field-0.0
+    (λ failed. more_faults _ _ _ i.calm (failed clean done (subst (λ (f : List ℕ). IsReading f c.loop-lines.lines done) (sym i.seen) (i.reading (c.next.ensures.clean clean))))) c.in_err-piece.ensures.cause)
+
+pub returns-in_err-left-clause-failure : goal.returns-in_err-left-clause-failure
+returns-in_err-left-clause-failure g c =
+    fails_passed _ _ c.from_residual-in_err-left.result _ (err_from_is_err_and c.from_residual-in_err-left.result c.from_residual-in_err-left.ensures.1)
+    (λ clean. fails_so _ _ _ _ _ _ c.in_err-left.field-0.0 (λ no. absurd no) (λ no. no) (λ is. is) c.in_err-left.ensures.failure)
+
+pub returns-clause-failure : goal.returns-clause-failure
+returns-clause-failure g c = fails_told _ _ _ _ _ c.require_none.result c.loop-lines.invariant.calm (IfErr-weaker c.require_none.result _ _ (λ _ told. told.0) c.require_none.ensures.some)

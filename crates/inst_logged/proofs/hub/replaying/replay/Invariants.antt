@@ -16,6 +16,7 @@ invariant-loop-lines g l =
       end : l.recorder.log.end ≡ l.fn.recorder.log.end;
       seen : g.D.Disk.seen l.recorder.log.disk ≡ g.D.Disk.seen l.fn.recorder.log.disk;
       crash : (c : List ℕ) → g.D.Disk.may_leave l.recorder.log.disk c → g.D.Disk.may_leave l.fn.recorder.log.disk c;
+      calm : g.D.Disk.faults l.recorder.log.disk ≡ g.D.Disk.faults l.fn.recorder.log.disk;
       usable : IsTrue (g.D.Disk.is_usable l.recorder.log.disk);
       clean : IsTrue (g.D.Disk.is_clean l.recorder.log.disk) → IsTrue (g.D.Disk.is_clean l.fn.recorder.log.disk);
     }

@@ -3,6 +3,7 @@ use Rattle.std.proofs.lemmas.Result.{on_ok_weaker, IfErr-weaker}
 use Rattle.inst_chain.specs.Chain.{said}
 use Rattle.inst_logged.specs.inner.Replaying.{IsReplayed}
 use Rattle.inst_logged.proofs.Debt.{again_none, replayed, part_so_far, too_few, left_start, kept_none}
+use Rattle.inst_logged.proofs.Failing.{fails_told}
 use Rattle.inst_logged.proofs.hub.replaying.start_again.Goals as goal
 
 pub replay-requires-clause-begins : goal.replay-requires-clause-begins
@@ -38,3 +39,6 @@ returns-in-New-clause-refused g c =
           let starts = rw c.in-New.is at (c.requires.starts clean) in
           rw (kept_none c.args.header.now file starts.1) (too_few mode c.args.told c.args.told [] e.1 (left_start mode c.args.told) e.2 e.3),
     )) c.require_none.ensures.some
+
+pub returns-in-New-clause-failure : goal.returns-in-New-clause-failure
+returns-in-New-clause-failure g c = fails_told _ _ _ _ _ c.require_none.result refl (IfErr-weaker c.require_none.result _ _ (λ _ told. told.0) c.require_none.ensures.some)

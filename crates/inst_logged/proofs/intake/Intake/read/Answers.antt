@@ -1,13 +1,16 @@
-use Rattle.std.proofs.Common.{◌≡◌, ◌+◌, ◌-◌, ◌≤◌, ℕ, [], ◌++◌, List, map, length, take, ◌∙◌, ap, arith}
+use Rattle.std.proofs.Common.{◌≡◌, ◌+◌, ◌-◌, ◌≤◌, ℕ, [], ◌++◌, List, map, length, take, ◌∙◌, sym, subst, ap, arith}
 use Rattle.std.proofs.lemmas.Grind.{common_steps}
 use Rattle.std.proofs.lemmas.List.{with_items_is, length-take-le, length-drop}
+use Rattle.std.proofs.lemmas.Result.{err_from_is_err_and}
 use borrow.Rule.Slice.PartMut.{put_mid}
 use Rattle.inst_lines.proofs.BufferLemmas.{length-put_mid}
 use Rattle.inst_log.specs.Layout.{recovered}
 use Rattle.inst_logged.specs.Input.{cut, logged}
 use Rattle.inst_logged.specs.inner.Input.{lines_from, rest_from}
 use Rattle.inst_logged.specs.Intake.{held}
+use Rattle.inst_logged.specs.inner.Failing.{Fails}
 use Rattle.inst_logged.proofs.Cutting.{quiet_held}
+use Rattle.inst_logged.proofs.Examined.{passed}
 use Rattle.inst_logged.proofs.Intaking.{read_behind, lines_taken, rest_taken}
 use Rattle.inst_logged.proofs.Turning.{plain_more, plain_raw, plain_logged}
 use Rattle.inst_logged.proofs.intake.Intake.read.Goals as goal
@@ -65,3 +68,14 @@ returns-then-count-eq0-clause-plain g c = λ plain. plain_more _ _ _ c.in_ok-tak
 
 pub returns-clause-plain : goal.returns-clause-plain
 returns-clause-plain g c = λ plain. plain_more _ _ _ c.in_ok-take_lines.ensures.lines (plain_logged _) plain
+
+pub returns-in_err-count-clause-failure : goal.returns-in_err-count-clause-failure
+returns-in_err-count-clause-failure g c =
+    passed _ c.from_residual.result _ (err_from_is_err_and c.from_residual.result c.from_residual.ensures.1)
+    (subst (Fails ⊥ ⊥ ⊥) (sym c.in_err-count.ensures.fault) ((λ is. cc is), tt))
+
+pub returns-in_err-take_last-clause-failure : goal.returns-in_err-take_last-clause-failure
+returns-in_err-take_last-clause-failure g c = passed _ c.from_residual-in_err-take_last.result _ (err_from_is_err_and c.from_residual-in_err-take_last.result c.from_residual-in_err-take_last.ensures.1) ((λ is. cc is), tt)
+
+pub returns-in_err-take_lines-clause-failure : goal.returns-in_err-take_lines-clause-failure
+returns-in_err-take_lines-clause-failure g c = passed _ c.from_residual-in_err-take_lines.result _ (err_from_is_err_and c.from_residual-in_err-take_lines.result c.from_residual-in_err-take_lines.ensures.1) ((λ is. cc is), tt)

@@ -1,0 +1,448 @@
+-- The first line of a log reads back.
+use Rattle.std.proofs.Common.{◌≡◌, ◌⊎◌, inl, inr, ◌-◌, take, drop, MatchOption, true≢false, subst, length-append, ◌<◌, ◌^◌, ◌==◌, ℕ, zero, suc, ◌+◌, ◌/◌, ◌%◌, Bool, true, false, cond, ◌||◌, not, List, [], ◌∷◌, ◌++◌, length, map, codes, decimal, Option, Some, None, IfSome, option_map, Result, Ok, Err, ok_or, append_assoc, refl, sym, ◌∙◌, ap, arith}
+use Rattle.std.specs.Prelude.{bytes_eq, unwrap_or}
+use Rattle.std.specs.List.{list_all}
+use Rattle.std.proofs.Math.Seq.{take-append_seam, drop-append_seam}
+use Rattle.std.proofs.lemmas.List.{append-nil, take-append-drop}
+use Rattle.std.proofs.lemmas.Slice.Eq.{bytes_eq-Decides}
+use Rattle.serde_json.specs.View.{view, items_view}
+use Rattle.serde_json.specs.declared.value.Value.{Value}
+use Rattle.std.specs.Str.{IsUtf8}
+use Rattle.std.specs.Fmt.{digits, digits_onto, digit_glyph}
+use Rattle.std.proofs.lemmas.Bool.{and_parts}
+use Rattle.std.proofs.lemmas.Bool.Decides.{nat_tests, not_from_Decides}
+use Rattle.std.proofs.lemmas.Str.{IsUtf8-from_ascii}
+use Rattle.json.specs.Tree as tree
+use Rattle.json.specs.Print.{escape, escape_byte}
+use Rattle.json.proofs.Printed.Decimals.{IsNumber-decimal}
+use Rattle.serde_json.specs.Data.{Data, object, array, string}
+use Rattle.serde_json.specs.Read.{read, of_items}
+use Rattle.serde_json.specs.Written.{compact_text, items_text, items_outline}
+use Rattle.serde_json.proofs.Numbers.{number_of-decimal}
+use Rattle.serde_json.proofs.OnLiterals.{serde_json_on_literals}
+use Rattle.inst_base.specs.declared.fault.Fault.{Fault}
+use Rattle.inst_base.specs.declared.fault.Fault.TheVariants.{NotJson}
+use Rattle.inst_base.specs.Text.{is_code, is_code_character}
+use Rattle.inst_base.proofs.Ascii.{IsAscii-from_each}
+use Rattle.inst_settings.specs.Settings.{HubSettings}
+use Rattle.inst_settings.specs.Lawful.{AreOfAHub}
+use Rattle.inst_json.specs.Lines.{json_of}
+use Rattle.inst_json.specs.Replies.{items, members, whole}
+use Rattle.inst_json.proofs.Json.{json_of-value}
+use Rattle.inst_json.proofs.Plain.{escape-code}
+use Rattle.inst_json.proofs.Reading.{ReadsBack, from_parts}
+use Rattle.inst_bytes.specs.Newline.{newline, NoNewline}
+use Rattle.inst_books.specs.Laws.{is_printable}
+use Rattle.inst_books.proofs.Printable.{Printable, joined}
+use Rattle.inst_books.proofs.Back.{quiet}
+use Rattle.inst_lines.specs.declared.mode.Mode.{Mode}
+use Rattle.inst_lines.specs.declared.mode.Mode.TheVariants.{Run, Play}
+use Rattle.inst_logged.specs.declared.version.Version.{Version}
+use Rattle.inst_logged.specs.declared.version.Version.TheVariants.{One, Two}
+use Rattle.inst_logged.specs.Beginning.{IsHeaderLine}
+use Rattle.inst_logged.specs.Header.{header_line, version_word, field, books_field, mode_field, participants_field, mode_word, listed, comma_if, quoted}
+use Rattle.inst_logged.specs.inner.Beginning.{Says, number_of}
+
+-- ---- the line as an object
+
+abbrev Row : Type 0
+Row = List ℕ × Data
+
+abbrev books_row : Option ℕ → List Row → List Row
+books_row None rows = rows
+books_row (Some count) rows = (codes "books", whole count) ∷ rows
+
+abbrev header_data : Version → Mode → HubSettings → Option ℕ → Data
+header_data version mode s books = object (members (
+    (codes "ahead", whole s.ahead)
+    ∷ (codes "base", whole s.base)
+    ∷ books_row books (
+    (codes "ceiling", whole s.ceiling)
+    ∷ (codes "fundings", whole s.fundings)
+    ∷ (codes "limit", whole s.limit)
+    ∷ (codes "log", string (mode_word mode))
+    ∷ (codes "margin", whole s.margin)
+    ∷ (codes "participants", array (items (map string s.codes)))
+    ∷ (codes "places", whole s.places)
+    ∷ (codes "version", whole (number_of version)) ∷ [])))
+
+header_says : (version : Version) (mode : Mode) (s : HubSettings) (books : Option ℕ) → Says version mode s books (header_data version mode s books)
+header_says version mode s None = record {
+  version_is = refl;
+  mode_is = refl;
+  books_are = refl;
+  settings = record { participants = refl; places = refl; fundings = refl; limit = refl; margin = refl; ahead = refl; ceiling = refl; base = refl };
+}
+header_says version mode s (Some count) = record {
+  version_is = refl;
+  mode_is = refl;
+  books_are = refl;
+  settings = record { participants = refl; places = refl; fundings = refl; limit = refl; margin = refl; ahead = refl; ceiling = refl; base = refl };
+}
+
+-- ---- its text
+
+listed_text : (later : Bool) (cs : List (List ℕ)) (tail : List ℕ) → list_all is_code cs ≡ true → listed later cs ++ 93 ∷ tail ≡ items_text later (items (map string cs)) ++ tail
+listed_text later [] tail formed = refl
+listed_text later (c ∷ cs) tail formed =
+    let parts = and_parts (is_code c) (list_all is_code cs) formed in
+    let rest : List ℕ = items_text true (items (map string cs)) in
+    append_assoc (comma_if later ++ quoted c) (listed true cs) (93 ∷ tail)
+    ∙ ap (λ (l : List ℕ). (comma_if later ++ quoted c) ++ l) (listed_text true cs tail parts.1)
+    ∙ ap (λ (l : List ℕ). (comma_if later ++ quoted l) ++ (rest ++ tail)) (sym (escape-code c parts.0))
+    ∙ sym (append_assoc (comma_if later ++ quoted (escape c)) rest tail)
+    ∙ ap (λ (l : List ℕ). l ++ tail) (append_assoc (comma_if later) (quoted (escape c)) rest)
+
+mode_plain : (mode : Mode) → escape (mode_word mode) ≡ mode_word mode
+unfolding escape_byte
+mode_plain Run = refl
+mode_plain Play = refl
+
+version_text : (version : Version) → version_word version ≡ codes "\"version\":" ++ (decimal (number_of version) ++ 125 ∷ [])
+unfolding digits
+version_text One = refl
+version_text Two = refl
+
+-- eleven pieces, one behind the other
+flat : (a b c d e f g h i j k : List ℕ) → a ++ b ++ c ++ d ++ e ++ f ++ g ++ h ++ i ++ j ++ k ≡ a ++ (b ++ (c ++ (d ++ (e ++ (f ++ (g ++ (h ++ (i ++ (j ++ k)))))))))
+flat a b c d e f g h i j k = simp append_assoc
+
+module _ (version : Version) (mode : Mode) (s : HubSettings) (formed : list_all is_code s.codes ≡ true) where
+  abbrev after_codes : List ℕ
+  after_codes = codes ",\"places\":" ++ (decimal s.places ++ 44 ∷ version_word version)
+
+  codes_text : (listed false s.codes ++ 93 ∷ []) ++ after_codes ≡ items_text false (items (map string s.codes)) ++ after_codes
+  codes_text = append_assoc (listed false s.codes) (93 ∷ []) after_codes ∙ listed_text false s.codes after_codes formed
+
+  line_is : (books : Option ℕ) → header_line version mode s books ≡ compact_text (header_data version mode s books)
+  unfolding serde_json_on_literals
+  line_is None =
+      flat (field (codes "{\"ahead\":") s.ahead) (field (codes ",\"base\":") s.base) [] (field (codes ",\"ceiling\":") s.ceiling) (field (codes ",\"fundings\":") s.fundings)
+      (field (codes ",\"limit\":") s.limit) (mode_field mode) (field (codes ",\"margin\":") s.margin) (participants_field s.codes) (field (codes ",\"places\":") s.places) (44 ∷ version_word version)
+      ∙ rw (codes_text, version_text version, mode_plain mode) refl
+  line_is (Some count) =
+      flat (field (codes "{\"ahead\":") s.ahead) (field (codes ",\"base\":") s.base) (field (codes ",\"books\":") count) (field (codes ",\"ceiling\":") s.ceiling) (field (codes ",\"fundings\":") s.fundings)
+      (field (codes ",\"limit\":") s.limit) (mode_field mode) (field (codes ",\"margin\":") s.margin) (participants_field s.codes) (field (codes ",\"places\":") s.places) (44 ∷ version_word version)
+      ∙ rw (codes_text, version_text version, mode_plain mode) refl
+
+-- ---- it reads back
+
+abbrev IsSmall : ℕ → Type 0
+IsSmall n = n < 2 ^ 64
+
+texts_numbers : (texts : List (List ℕ)) → tree.ItemsHaveNumbers (items_outline (items (map string texts)))
+texts_numbers [] = tt
+texts_numbers (text ∷ texts) = (tt, texts_numbers texts)
+
+texts_again : (texts : List (List ℕ)) → of_items (items_outline (items (map string texts))) ≡ Some (items (map string texts))
+texts_again [] = refl
+texts_again (text ∷ texts) = rw (texts_again texts) refl
+
+texts_depth : (texts : List (List ℕ)) → tree.items_depth (items_outline (items (map string texts))) ≡ 0
+texts_depth [] = refl
+texts_depth (text ∷ texts) = omega (arith, texts_depth texts)
+
+version_small : (version : Version) → IsSmall (number_of version)
+version_small One = omega arith
+version_small Two = omega arith
+
+module _ (version : Version) (mode : Mode) (s : HubSettings) (of : AreOfAHub s) where
+  ahead : IsSmall s.ahead
+  ahead = omega (arith, of.lawful.ahead_most)
+
+  base : IsSmall s.base
+  base = omega (arith, of.lawful.base_most)
+
+  ceiling : IsSmall s.ceiling
+  ceiling = omega (arith, of.lawful.ceiling_most)
+
+  fundings : IsSmall s.fundings
+  fundings = omega (arith, of.lawful.fundings_most)
+
+  limit : IsSmall s.limit
+  limit = omega (arith, of.lawful.limit_most)
+
+  margin : IsSmall s.margin
+  margin = omega (arith, of.lawful.limit_most, of.lawful.margin_below)
+
+  places : IsSmall s.places
+  places = omega (arith, of.lawful.places_most)
+
+  told : IsSmall (number_of version)
+  told = version_small version
+
+  data_reads : (books : Option ℕ) → IfSome books IsSmall → ReadsBack (header_data version mode s books)
+  unfolding serde_json_on_literals
+  data_reads None small =
+      record {
+        numbers = (
+          IsNumber-decimal s.ahead ahead,
+          (
+            IsNumber-decimal s.base base,
+            (
+              IsNumber-decimal s.ceiling ceiling,
+              (
+                IsNumber-decimal s.fundings fundings,
+                (
+                  IsNumber-decimal s.limit limit,
+                  (tt, (IsNumber-decimal s.margin margin, (texts_numbers s.codes, (IsNumber-decimal s.places places, (IsNumber-decimal (number_of version) told, tt))))),
+                ),
+              ),
+            ),
+          ),
+        );
+        again = rw (
+          number_of-decimal s.ahead ahead,
+          number_of-decimal s.base base,
+          number_of-decimal s.ceiling ceiling,
+          number_of-decimal s.fundings fundings,
+          number_of-decimal s.limit limit,
+          number_of-decimal s.margin margin,
+          texts_again s.codes,
+          number_of-decimal s.places places,
+          number_of-decimal (number_of version) told,
+        ) refl;
+        shallow = omega (arith, texts_depth s.codes);
+      }
+  data_reads (Some count) small =
+      record {
+        numbers = (
+          IsNumber-decimal s.ahead ahead,
+          (
+            IsNumber-decimal s.base base,
+            (
+              IsNumber-decimal count small,
+              (
+                IsNumber-decimal s.ceiling ceiling,
+                (
+                  IsNumber-decimal s.fundings fundings,
+                  (
+                    IsNumber-decimal s.limit limit,
+                    (tt, (IsNumber-decimal s.margin margin, (texts_numbers s.codes, (IsNumber-decimal s.places places, (IsNumber-decimal (number_of version) told, tt))))),
+                  ),
+                ),
+              ),
+            ),
+          ),
+        );
+        again = rw (
+          number_of-decimal s.ahead ahead,
+          number_of-decimal s.base base,
+          number_of-decimal count small,
+          number_of-decimal s.ceiling ceiling,
+          number_of-decimal s.fundings fundings,
+          number_of-decimal s.limit limit,
+          number_of-decimal s.margin margin,
+          texts_again s.codes,
+          number_of-decimal s.places places,
+          number_of-decimal (number_of version) told,
+        ) refl;
+        shallow = omega (arith, texts_depth s.codes);
+      }
+
+-- ---- its bytes
+
+each : (text : List ℕ) → list_all is_code_character text ≡ true → Printable text
+each [] h = refl
+each (x ∷ text) h =
+    let parts = and_parts (is_code_character x) (list_all is_code_character text) h in
+    rw (one x parts.0, each text parts.1) refl
+  where
+    one : (x : ℕ) → is_code_character x ≡ true → is_printable x ≡ true
+    one x h = grind (arith, nat_tests)
+
+digit : (d : ℕ) → d < 10 → is_printable (digit_glyph false d) ≡ true
+digit d h = grind (arith, nat_tests)
+
+onto : (k n : ℕ) (acc : List ℕ) → Printable acc → Printable (digits_onto k 10 false n acc)
+onto zero n acc h = h
+onto (suc k) n acc h =
+    let last = digit (n % 10) (omega arith) in
+    elim (n / 10 == 0) as (λ b. Printable (cond b (digit_glyph false (n % 10) ∷ acc) (digits_onto k 10 false (n / 10) (digit_glyph false (n % 10) ∷ acc)))) [
+      | true ↦ rw (last, h) refl
+      | false ↦ onto k (n / 10) (digit_glyph false (n % 10) ∷ acc) (rw (last, h) refl)
+    ]
+
+printed : (name : List ℕ) (n : ℕ) → Printable name → Printable (field name n)
+unfolding digits
+printed name n h = joined name (decimal n) h (onto 64 n [] refl)
+
+printed_books : (books : Option ℕ) → Printable (books_field books)
+printed_books None = refl
+printed_books (Some count) = printed (codes ",\"books\":") count refl
+
+printed_mode : (mode : Mode) → Printable (mode_field mode)
+printed_mode Run = refl
+printed_mode Play = refl
+
+printed_version : (version : Version) → Printable (44 ∷ version_word version)
+printed_version One = refl
+printed_version Two = refl
+
+printed_comma : (later : Bool) → Printable (comma_if later)
+printed_comma true = refl
+printed_comma false = refl
+
+printed_codes : (later : Bool) (cs : List (List ℕ)) → list_all is_code cs ≡ true → Printable (listed later cs)
+printed_codes later [] formed = refl
+printed_codes later (c ∷ cs) formed =
+    let parts = and_parts (is_code c) (list_all is_code cs) formed in
+    let code : Printable c = each c (and_parts (length c == 8 || length c == 11) (list_all is_code_character c) parts.0).1 in
+    joined (comma_if later ++ quoted c) (listed true cs) (joined (comma_if later) (quoted c) (printed_comma later) (joined c (34 ∷ []) code refl)) (printed_codes true cs parts.1)
+
+printed_participants : (cs : List (List ℕ)) → list_all is_code cs ≡ true → Printable (participants_field cs)
+printed_participants cs formed =
+    joined (codes ",\"participants\":[" ++ listed false cs) (codes "]") (joined (codes ",\"participants\":[") (listed false cs) refl (printed_codes false cs formed)) refl
+
+pub line_printed : (version : Version) (mode : Mode) (s : HubSettings) (books : Option ℕ) → list_all is_code s.codes ≡ true → Printable (header_line version mode s books)
+line_printed version mode s books formed =
+    let x1 : List ℕ = field (codes "{\"ahead\":") s.ahead in
+    let x2 = x1 ++ field (codes ",\"base\":") s.base in
+    let x3 = x2 ++ books_field books in
+    let x4 = x3 ++ field (codes ",\"ceiling\":") s.ceiling in
+    let x5 = x4 ++ field (codes ",\"fundings\":") s.fundings in
+    let x6 = x5 ++ field (codes ",\"limit\":") s.limit in
+    let x7 = x6 ++ mode_field mode in
+    let x8 = x7 ++ field (codes ",\"margin\":") s.margin in
+    let x9 = x8 ++ participants_field s.codes in
+    let x10 = x9 ++ field (codes ",\"places\":") s.places in
+    joined x10 (44 ∷ version_word version) (
+    joined x9 (field (codes ",\"places\":") s.places) (
+    joined x8 (participants_field s.codes) (
+    joined x7 (field (codes ",\"margin\":") s.margin) (
+    joined x6 (mode_field mode) (
+    joined x5 (field (codes ",\"limit\":") s.limit) (
+    joined x4 (field (codes ",\"fundings\":") s.fundings) (
+    joined x3 (field (codes ",\"ceiling\":") s.ceiling) (
+    joined x2 (books_field books) (
+    joined x1 (field (codes ",\"base\":") s.base)
+    (printed (codes "{\"ahead\":") s.ahead refl) (printed (codes ",\"base\":") s.base refl))
+    (printed_books books)) (printed (codes ",\"ceiling\":") s.ceiling refl)) (printed (codes ",\"fundings\":") s.fundings refl)) (printed (codes ",\"limit\":") s.limit refl))
+    (printed_mode mode)) (printed (codes ",\"margin\":") s.margin refl)) (printed_participants s.codes formed)) (printed (codes ",\"places\":") s.places refl)) (printed_version version)
+
+low : (x : ℕ) → is_printable x ≡ true → x < 128
+low x h = grind (arith, nat_tests)
+
+abbrev as_json : Option Value → Result Data Fault
+as_json read = ok_or (option_map view read) NotJson
+
+-- what is read of a first line whose newline is gone
+module _ (version : Version) (mode : Mode) (s : HubSettings) (books : Option ℕ) {bytes line : List ℕ} (first : IsHeaderLine version mode s books bytes)
+    (bare : (text : List ℕ) → NoNewline text → (bytes ≡ text) ⊎ (bytes ≡ text ++ newline ∷ []) → line ≡ text) where
+  pub bare_line : line ≡ header_line version mode s books
+  bare_line =
+      let text = header_line version mode s books in
+      bare text (quiet text (line_printed version mode s books first.settings.codes_formed)) first.line
+
+  its_json : Ok (header_data version mode s books) ≡ json_of line
+  its_json =
+      let text = header_line version mode s books in
+      let d = header_data version mode s books in
+      let formed = first.settings.codes_formed in
+      let utf8 : IsUtf8 text = IsUtf8-from_ascii text (IsAscii-from_each is_printable low text (line_printed version mode s books formed)) in
+      let again : read text ≡ Some d = ap read (line_is version mode s formed books) ∙ from_parts d (data_reads version mode s first.settings books first.word) in
+      json_of-value text d utf8 again ∙ ap json_of (sym bare_line)
+
+  pub says : (read : Option Value) (value : Value) → as_json read ≡ json_of line → read ≡ Some value → Says version mode s books (view value)
+  says read value json is =
+      let same : Ok (header_data version mode s books) ≡ Ok (view value) = its_json ∙ sym json ∙ ap as_json is in
+      let here : header_data version mode s books ≡ view value = cc same in
+      subst (Says version mode s books) here (header_says version mode s books)
+
+  pub no_json : (read : Option Value) → as_json read ≡ json_of line → read ≡ None → ⊥
+  no_json read json is =
+      let same : Ok (header_data version mode s books) ≡ Err NotJson = its_json ∙ sym json ∙ ap as_json is in
+      cc same
+
+-- ---- codes that are read one by one
+
+-- these codes were found, and the values have the others
+pub record CodesLeft (named found : List (List ℕ)) (values : List Value) : Type 0 where
+  pub rest : List (List ℕ)
+  pub formed : list_all is_code rest ≡ true
+  pub view_is : items_view values ≡ items (map string rest)
+  pub split : found ++ rest ≡ named
+
+pub all_left : (named : List (List ℕ)) (values : List Value) → list_all is_code named ≡ true → items_view values ≡ items (map string named) → CodesLeft named [] values
+all_left named values formed is = record { rest = named; formed = formed; view_is = is; split = refl }
+
+-- what is read of a value
+abbrev pub ReadsCode : Value → Option (List ℕ) → Type 0
+ReadsCode value read = (code : List ℕ) → is_code code ≡ true → view value ≡ string code → read ≡ Some code
+
+first_left : (value : Value) (values : List Value) (rest : List (List ℕ)) → list_all is_code rest ≡ true → items_view (value ∷ values) ≡ items (map string rest)
+    → (code : List ℕ) × (others : List (List ℕ)) × (rest ≡ code ∷ others) × (is_code code ≡ true) × (list_all is_code others ≡ true) × (view value ≡ string code) × (items_view values ≡ items (map string others))
+first_left value values [] formed is = absurd (cc is)
+first_left value values (code ∷ others) formed is =
+    let parts = and_parts (is_code code) (list_all is_code others) formed in
+    let here : view value ≡ string code = cc is in
+    let later : items_view values ≡ items (map string others) = cc is in
+    (code, others, refl, parts.0, parts.1, here, later)
+
+pub none_read : (named found : List (List ℕ)) (value : Value) (values : List Value) (read : Option (List ℕ)) → CodesLeft named found (value ∷ values) → ReadsCode value read → read ≡ None → ⊥
+none_read named found value values read left reads none =
+    let (code, others, same, formed, more, here, later) = first_left value values left.rest left.formed left.view_is in
+    let one : Some code ≡ None = sym (reads code formed here) ∙ none in
+    cc one
+
+pub one_read : (named found : List (List ℕ)) (value : Value) (values : List Value) (read : Option (List ℕ)) (code : List ℕ) → CodesLeft named found (value ∷ values) → ReadsCode value read → read ≡ Some code
+    → CodesLeft named (found ++ code ∷ []) values
+one_read named found value values read code left reads some =
+    let (first, others, same, formed, more, here, later) = first_left value values left.rest left.formed left.view_is in
+    let one : Some first ≡ Some code = sym (reads first formed here) ∙ some in
+    let is : first ≡ code = cc one in record {
+      rest = others;
+      formed = more;
+      view_is = later;
+      split = append_assoc found (code ∷ []) others ∙ ap (λ (c : List ℕ). found ++ c ∷ others) (sym is) ∙ ap (λ (l : List (List ℕ)). found ++ l) (sym same) ∙ left.split;
+    }
+
+pub all_read : (named found : List (List ℕ)) → CodesLeft named found [] → found ≡ named
+all_read named found left = sym (append-nil found) ∙ ap (λ (l : List (List ℕ)). found ++ l) (sym (none_more left.rest left.view_is)) ∙ left.split
+  where
+    none_more : (rest : List (List ℕ)) → items_view [] ≡ items (map string rest) → rest ≡ []
+    none_more [] is = refl
+    none_more (code ∷ rest) is = absurd (cc is)
+
+-- ---- a line without its newline
+
+quiet_end : (text : List ℕ) → NoNewline (text ++ newline ∷ []) → ⊥
+quiet_end [] quiet = quiet.0 refl
+quiet_end (b ∷ text) quiet = quiet_end text quiet.1
+
+abbrev ends : List ℕ → Bool
+ends line = bytes_eq (drop (length line - 1) line) (newline ∷ [])
+
+ends_so : (text : List ℕ) → ends (text ++ newline ∷ []) ≡ true
+ends_so text =
+    let size : length (text ++ newline ∷ []) - 1 ≡ length text = omega (arith, length-append text (newline ∷ [])) in
+    ap (λ (n : ℕ). bytes_eq (drop n (text ++ newline ∷ [])) (newline ∷ [])) size ∙ ap (λ (l : List ℕ). bytes_eq l (newline ∷ [])) (drop-append_seam text (newline ∷ []))
+
+not_so : (text : List ℕ) → NoNewline text → ends text ≡ true → ⊥
+not_so text quiet so =
+    let last : drop (length text - 1) text ≡ newline ∷ [] = (bytes_eq-Decides (drop (length text - 1) text) (newline ∷ [])).0 so in
+    let split : text ≡ take (length text - 1) text ++ newline ∷ [] = sym (take-append-drop (length text - 1) text) ∙ ap (λ (l : List ℕ). take (length text - 1) text ++ l) last in
+    quiet_end (take (length text - 1) text) (subst NoNewline split quiet)
+
+module _ {R : Type 0} (now : R → List ℕ) (line : R) (text : List ℕ) (quiet : NoNewline text) where
+  pub stripped : (found : Option R) → MatchOption found (ends (now line) ≡ false) (λ x. (ends (now line) ≡ true) × (now x ≡ take (length (now line) - 1) (now line)) × (length (now x) + 1 ≡ length (now line)))
+      → (now line ≡ text) ⊎ (now line ≡ text ++ newline ∷ []) → now (unwrap_or found line) ≡ text
+  stripped None cases (inl is) = is
+  stripped None cases (inr is) = absurd (true≢false (sym (ap ends is ∙ ends_so text) ∙ cases))
+  stripped (Some x) cases (inl is) = absurd (not_so text quiet (sym (ap ends is) ∙ cases.0))
+  stripped (Some x) cases (inr is) =
+      let size : length (now line) - 1 ≡ length text = omega (arith, ap length is, length-append text (newline ∷ [])) in
+      cases.1 ∙ ap (λ (n : ℕ). take n (now line)) size ∙ ap (take (length text)) is ∙ take-append_seam text (newline ∷ [])
+
+-- ---- a text beside itself
+
+pub itself : (a : List ℕ) → bytes_eq a a ≡ true
+itself a = decided (bytes_eq a a) refl
+  where
+    decided : (t : Bool) → bytes_eq a a ≡ t → bytes_eq a a ≡ true
+    decided true is = is
+    decided false is = absurd (not_from_Decides (bytes_eq a a) (bytes_eq-Decides a a) is refl)
+
+-- texts that are the same do not differ
+pub alike : (a b : List ℕ) → a ≡ b → not (bytes_eq a b) ≡ true → ⊥
+alike a b same differ = true≢false (sym differ ∙ ap not (ap (bytes_eq a) (sym same) ∙ itself a))

@@ -1,0 +1,5 @@
+use Rattle.inst_logged.proofs.Causes.{not_taken}
+use Rattle.inst_logged.proofs.laws.a_refused_log_is_not_taken.Goals as goal
+
+pub returns : goal.returns
+returns c = not_taken

@@ -1,0 +1,18 @@
+-- Why a log isn't opened or read. This hub's own choice.
+use Rattle.inst_faults.specs.declared.log_fault.LogFault.TheVariants.{DiskFault, OtherSettings, NoLog, ToldAhead, LogInUse, BadBooks, LastOpening, DamagedLog, OtherDigest, ChangedLog}
+use Rattle.inst_program.specs.declared.logs.LogsError.{LogsError}
+use Rattle.inst_program.specs.declared.logs.LogsError.TheVariants.{Memory, Log}
+
+-- memory was wanting, the disk failed, another program has it open (`in_use`), or it isn't there (`none`)
+abbrev pub IsLogsError : Type 0 → Type 0 → LogsError → Type 0
+IsLogsError in_use none Memory = Unit {0}
+IsLogsError in_use none (Log DiskFault) = Unit {0}
+IsLogsError in_use none (Log LogInUse) = in_use
+IsLogsError in_use none (Log NoLog) = none
+IsLogsError in_use none (Log OtherSettings) = ⊥
+IsLogsError in_use none (Log ToldAhead) = ⊥
+IsLogsError in_use none (Log BadBooks) = ⊥
+IsLogsError in_use none (Log LastOpening) = ⊥
+IsLogsError in_use none (Log DamagedLog) = ⊥
+IsLogsError in_use none (Log OtherDigest) = ⊥
+IsLogsError in_use none (Log ChangedLog) = ⊥

@@ -1,0 +1,39 @@
+//! A run writes a log, the task `log` shows it, and the task `next` makes the log of the next opening.
+use crate::memory_logs::MemoryLogs;
+use crate::scene::{LINES, NEXT, REPLIES, RUN, run_to};
+use std::test::Fail;
+
+/// What the task `log` writes of the first log. `sha256sum` prints the digest for the bytes from the first mark up to the
+/// second one.
+const SHOWN: &[u8] =
+    b"settings {\"ahead\":1000,\"base\":0,\"ceiling\":99999999999,\"fundings\":256,\"limit\":10000,\
+    \"log\":\"run\",\"margin\":0,\"participants\":[\"AAAADEFF\",\"BBBBFRPP\",\"CCCCITMM\"],\
+    \"places\":256,\"version\":2}\n\
+    lines 6\n\
+    digest 1780d313eb39dd9f546721740fcec8a8be9d0629917cad333181a497411d20b5\n";
+
+/// A run with its log in the second file.
+const RUN_SECOND: &str = "run --participants AAAADEFF,BBBBFRPP,CCCCITMM --log b";
+
+/// The lines of the second opening. The transfer is submitted and confirmed again, and gets the replies that it had.
+const SECOND_LINES: &[u8] =
+    b"{\"at\":3000,\"cents\":20000,\"cmd\":\"submit\",\"id\":\"T1\",\"stamp\":1000,\"to\":\"BBBBFRPP\",\
+    \"who\":\"AAAADEFF\"}\n\
+    {\"at\":3000,\"cmd\":\"confirm\",\"from\":\"AAAADEFF\",\"id\":\"T1\",\"who\":\"BBBBFRPP\"}\n\
+    {\"at\":3000,\"cmd\":\"position\",\"who\":\"AAAADEFF\"}\n\
+    {\"at\":3000,\"cmd\":\"position\",\"who\":\"BBBBFRPP\"}\n";
+
+const SECOND_REPLIES: &[u8] = b"{\"deadline\":11000,\"id\":\"T1\",\"reply\":\"taken\"}\n\
+    {\"from\":\"AAAADEFF\",\"id\":\"T1\",\"reply\":\"state\",\"state\":\"accepted\"}\n\
+    {\"available\":30000,\"position\":30000,\"reply\":\"position\",\"reserved\":0}\n\
+    {\"available\":20000,\"position\":20000,\"reply\":\"position\",\"reserved\":0}\n";
+
+#[test]
+fn the_next_log_begins_with_the_books(rt: HostRuntime) -> Result<(), Fail> {
+    let mut logs = MemoryLogs::new(rt.alloc());
+    run_to(&rt, &mut logs, RUN, LINES, (0, REPLIES, b""))?;
+    run_to(&rt, &mut logs, "log a", b"", (0, SHOWN, b""))?;
+    run_to(&rt, &mut logs, NEXT, b"", (0, b"", b""))?;
+    let wanted = (0, SECOND_REPLIES, b"".as_slice());
+    run_to(&rt, &mut logs, RUN_SECOND, SECOND_LINES, wanted)
+}

@@ -1,0 +1,67 @@
+//! Logs that are refused, and left as they are.
+ghost use Rattle.std.specs.Prelude.{◌≡◌, None};
+
+use crate::memory_logs::{MemoryLogs, Which};
+use crate::scene::{LINES, NEXT, REPLIES, RUN, run_to};
+use std::process::Abort;
+use std::sync::Wait;
+use std::test::Fail;
+use std::thread::Threads;
+
+/// A run that must find its log.
+const RESUME: &str = "run --participants AAAADEFF,BBBBFRPP,CCCCITMM --log a --resume";
+
+const NO_LOG: &[u8] = b"fault 21 NoLog\n";
+
+#[test]
+fn a_log_that_is_not_there_is_not_made(rt: HostRuntime) -> Result<(), Fail> {
+    let mut logs = MemoryLogs::new(rt.alloc());
+    run_to(&rt, &mut logs, RESUME, LINES, (2, b"", NO_LOG))?;
+    assert!(rt; !logs.is_made(Which::First));
+    Ok(())
+}
+
+#[test]
+fn an_empty_log_stays_empty(rt: HostRuntime) -> Result<(), Fail> {
+    let mut logs = MemoryLogs::new(rt.alloc());
+    logs.put_first(b"")?;
+    run_to(&rt, &mut logs, RESUME, LINES, (2, b"", NO_LOG))?;
+    assert!(rt; logs.bytes(Which::First).is_empty());
+    Ok(())
+}
+
+/// Runs a task that refuses the damaged log. It leaves the log as it is, and makes no second one.
+fn is_refused<H: Threads + Wait + Sync + AllocGlobal + Abort>(
+    rt: &H,
+    logs: &mut MemoryLogs,
+    words: &str,
+    errors: &[u8],
+    damaged: &[u8],
+) -> Result<(), Fail>
+    requires { logs.old.out ≡ None }
+    ensures { logs.new.out ≡ None }
+{
+    run_to(rt, logs, words, LINES, (2, b"", errors))?;
+    assert_eq!(rt; logs.bytes(Which::First), damaged);
+    assert!(rt; !logs.is_made(Which::Second));
+    Ok(())
+}
+
+/// Where a log has the amount of the first line. The settings and their mark are 241 bytes.
+const AMOUNT: usize = 241 + 16;
+
+#[test]
+fn a_damaged_log_stays_as_it_is(rt: HostRuntime) -> Result<(), Fail> {
+    let mut logs = MemoryLogs::new(rt.alloc());
+    run_to(&rt, &mut logs, RUN, LINES, (0, REPLIES, b""))?;
+    let mut damaged = logs.bytes(Which::First).to_vec(rt.alloc())?;
+    assert_eq!(rt; damaged.get(AMOUNT), Some(&b'5'));
+    if let Some(byte) = damaged.get_mut(AMOUNT) {
+        *byte = b'6';
+    }
+    logs.put_first(&damaged)?;
+    let errors = b"the log is damaged after line 2, byte 241\nfault 26 DamagedLog\n";
+    is_refused(&rt, &mut logs, RUN, errors, &damaged)?;
+    is_refused(&rt, &mut logs, "log a", errors, &damaged)?;
+    is_refused(&rt, &mut logs, NEXT, errors, &damaged)
+}
