@@ -1,3 +1,4 @@
 pub mod Tally
 pub mod Locks
 pub mod Seeing
+pub mod Latest

@@ -2,7 +2,7 @@
 use Rattle.std.proofs.Common.{◌≡◌, ℕ, eqb, cond, zero, suc, ◌+◌, ◌<◌, ◌≤◌, ◌≢◌, ◌⊎◌, Bool, List, [], ◌∷◌, ◌++◌, length, get_or, set, inl, inr, ⊎_elim, sym, refl, ap, ◌∙◌, subst, arith, length-set, replicate, get_or-set_same, eq-eqb, ne_eqb, Some, None}
 use Rattle.std.specs.Prelude.{Contains, Option, slice_get, map}
 use Rattle.std.proofs.lemmas.List.{append-nil, append_assoc, length-map}
-use Rattle.std.proofs.lemmas.List.Elements.{Contains-append_cases}
+use Rattle.std.proofs.lemmas.List.Elements.{Contains-append_left, Contains-append_right, Contains-append_cases}
 use Rattle.std.proofs.lemmas.Option.{slice_get-get_or, get_or_from_slice_get}
 use mathlib.Core.Option.{none, some, some-injective, some-ne-none}
 use mathlib.Core.List.{IsPrefix}
@@ -16,8 +16,9 @@ use Rattle.inst_row.specs.declared.view.Front.{Front}
 use Rattle.inst_row.specs.declared.view.View.{View}
 use Rattle.inst_row.specs.Place.{place}
 use Rattle.inst_row.specs.View.{front, count, held, fronts_of, first_view, took, behind, gave, told, left_of, parts, united, nobody}
-use Rattle.inst_row.specs.Rule.{Guarded, takers}
+use Rattle.inst_row.specs.Rule.{Guarded, IsSeen, takers}
 use Rattle.inst_row.specs.Steps.{takes_lock, gives_lock, tells_nothing}
+use Rattle.inst_row.proofs.Latest.{seen_set, seen_told, seen_united, seen_here, first_seen}
 use Rattle.inst_row.proofs.Tally.{count-append, held-set, held-snoc, held_one, parts-set, parts-snoc, parts_two, none_held}
 
 get_or-set_else : (l : List ℕ) (i j n : ℕ) → j ≢ i → get_or (set l i n) j 0 ≡ get_or l j 0
@@ -148,6 +149,10 @@ module _ {T E K : Type 0} (law : K → ℕ → T → Type 0) (history : T → Li
           home = λ q below. word_by s.words p m long (λ n. n ≡ 0 → (y : T) × (get_elem? (set s.homes (place p) none) (place q) ≡ some (some (Some y))) × law key q y × (history y ≡ r.latest q)) q
               (λ e z. absurd (omega arith))
               (λ ne z. let longer : place q < length s.words = subst (λ n. place q < n) (length-set s.words (place p) m) below in let h = r.home q longer z in (h.0, set_else s.homes (place p) (place q) none (apart p q ne) ∙ h.1, h.2, h.3));
+          seen = λ q below. word_by s.words p m long (λ n. n ≡ 0 → IsSeen (set s.views id w) q (r.latest q)) q
+              (λ e z. absurd (omega arith))
+              (λ ne z. seen_set s.views id me.0 w q (r.latest q) at (λ had. had) (λ f c. Contains-append_left me.0.fronts (front p (history x) ∷ []) f c)
+              (r.seen q (subst (λ n. place q < n) (length-set s.words (place p) m) below) z));
           known = each_set s.views id w (λ v. (m : Front E) → Contains v.fronts m → IsPrefix m.history (r.latest m.lock))
               (λ m c. ⊎_elim (λ old. r.known id me.0 at m old)
               (λ new. of_front (λ q h. IsPrefix h (r.latest q)) p (history x) m (one_of_one _ m new) (whole_prefix _ _ is))
@@ -178,6 +183,7 @@ module _ {T E K : Type 0} (law : K → ℕ → T → Type 0) (history : T → Li
         let found : h ≡ r.latest p = r.mine id v at (front p h) (subst (λ (l : List (Front E)). Contains l (front p h)) (sym mine) (0, omega arith, refl)) in
         let mine_one : is_at p p ≡ 1 = at_one p p refl in
         let free : held p views ≡ 0 = (let a = adds p in let b = before p in let c = after p in let d : held p s.views ≡ takers (get_or s.words (place p) 0) = r.counted p in let f = most_takers (get_or s.words (place p) 0) in omega arith) in
+        let part : 0 < v.parts = positive v.parts (λ z. let none : v.held ≡ [] = r.holder id v at z in let no : ⊥ = cc in no) in
         let not_p : (i : ℕ) (u : View E K) → get_elem? views i ≡ some u → (m : Front E) → Contains u.held m → m.lock ≢ p =
         λ i u e m c is. (let one = held_one p views i u e in let more = counts_in p u.held m c is in absurd (omega arith)) in
         let seen : (m : Front E) → IsPrefix m.history (r.latest m.lock) → IsPrefix m.history (latest m.lock) = λ m pre. dite (ℕ_discrete m.lock p)
@@ -195,6 +201,12 @@ module _ {T E K : Type 0} (law : K → ℕ → T → Type 0) (history : T → Li
           home = λ q below. word_by s.words p 0 long (λ n. n ≡ 0 → (x : T) × (get_elem? (set s.homes (place p) (some (Some y))) (place q) ≡ some (some (Some x))) × law key q x × (history x ≡ latest q)) q
               (λ e z. (y, ap (λ i. get_elem? (set s.homes (place p) (some (Some y))) (place i)) e ∙ set_here s.homes (place p) (some (Some y)) (omega arith), subst (λ i. law key i y) (sym e) lawful, sym (latest_here q e)))
               (λ ne z. let longer : place q < length s.words = subst (λ n. place q < n) (length-set s.words (place p) 0) below in let f = r.home q longer z in (f.0, set_else s.homes (place p) (place q) (some (Some y)) (apart p q ne) ∙ f.1, f.2, f.3 ∙ sym (latest_else q ne)));
+          seen = λ q below. word_by s.words p 0 long (λ n. n ≡ 0 → IsSeen views q (latest q)) q
+              (λ e z. subst (λ l. IsSeen views q l) (sym (latest_here q e)) (subst (λ i. IsSeen views i (history y)) (sym e)
+              (seen_here s.views id v w p (history y) at part (Contains-append_right v.fronts (front p (history y) ∷ []) (front p (history y)) (0, omega arith, refl)))))
+              (λ ne z. subst (λ l. IsSeen views q l) (sym (latest_else q ne))
+              (seen_set s.views id v w q (r.latest q) at (λ had. had) (λ f c. Contains-append_left v.fronts (front p (history y) ∷ []) f c)
+              (r.seen q (subst (λ n. place q < n) (length-set s.words (place p) 0) below) z)));
           known = each_set s.views id w (λ u. (m : Front E) → Contains u.fronts m → IsPrefix m.history (latest m.lock))
               (λ m c. ⊎_elim (λ old. seen m (r.known id v at m old))
               (λ new. of_front (λ q l. IsPrefix l (latest q)) p (history y) m (one_of_one _ m new) (whole_prefix _ _ (sym (latest_here p refl))))
@@ -220,6 +232,9 @@ module _ {T E K : Type 0} (law : K → ℕ → T → Type 0) (history : T → Li
           home = λ q below. word_by s.words p m long (λ n. n ≡ 0 → (y : T) × (get_elem? s.homes (place q) ≡ some (some (Some y))) × law key q y × (history y ≡ r.latest q)) q
               (λ e z. r.home q (subst (λ n. place q < n) (length-set s.words (place p) m) below) (is_free _ (here q e ∙ ap takers z)))
               (λ ne z. r.home q (subst (λ n. place q < n) (length-set s.words (place p) m) below) z);
+          seen = λ q below. word_by s.words p m long (λ n. n ≡ 0 → IsSeen s.views q (r.latest q)) q
+              (λ e z. r.seen q (subst (λ n. place q < n) (length-set s.words (place p) m) below) (is_free _ (here q e ∙ ap takers z)))
+              (λ ne z. r.seen q (subst (λ n. place q < n) (length-set s.words (place p) m) below) z);
           known = r.known;
           mine = r.mine;
           dealt = r.dealt;
@@ -283,6 +298,7 @@ module _ {T E K : Type 0} (law : K → ℕ → T → Type 0) (history : T → Li
         sized = r.sized;
         counted = λ q. let a = held-snoc q (set s.views id (left_of v)) (told v) in let b = held-set q s.views id v (left_of v) at in let c : held q s.views ≡ takers (get_or s.words (place q) 0) = r.counted q in omega arith;
         home = r.home;
+        seen = λ q below z. seen_told s.views id v q (r.latest q) at (r.seen q below z);
         known = each (λ u. (m : Front E) → Contains u.fronts m → IsPrefix m.history (r.latest m.lock)) (r.known id v at) (r.known id v at) r.known;
         mine = each (λ u. (m : Front E) → Contains u.held m → m.history ≡ r.latest m.lock) (r.mine id v at) (λ m c. absurd (let z = c.1 in omega arith)) r.mine;
         dealt = (let a = parts-snoc (set s.views id (left_of v)) (told v) in let b = parts-set s.views id v (left_of v) at in let c : parts s.views ≡ 16 = r.dealt in omega arith);
@@ -302,6 +318,7 @@ module _ {T E K : Type 0} (law : K → ℕ → T → Type 0) (history : T → Li
         counted = λ q. let a = held-set q s.views id v both at in let b = held-set q (set s.views id both) other w nobody at' in let e = count-append q v.held w.held in
             let c : held q s.views ≡ takers (get_or s.words (place q) 0) = r.counted q in omega arith;
         home = r.home;
+        seen = λ q below z. seen_united s.views id other v w q (r.latest q) ne at at' (r.seen q below z);
         known = each (λ u. (m : Front E) → Contains u.fronts m → IsPrefix m.history (r.latest m.lock))
             (λ m c. ⊎_elim (λ l. r.known id v at m l) (λ rt. r.known other w there m rt) (Contains-append_cases v.fronts w.fronts m c)) (λ m c. absurd (let z = c.1 in omega arith)) r.known;
         mine = each (λ u. (m : Front E) → Contains u.held m → m.history ≡ r.latest m.lock)
@@ -352,6 +369,13 @@ module _ {T E K : Type 0} (law : K → ℕ → T → Type 0) (history : T → Li
         sized = length-map slots some ∙ same;
         counted = λ q. sym (ap takers (zeros (place q)));
         home = λ q below z. let within : q < length xs = omega arith in let a = all q within in (a.0, slice_some slots (place q) (Some a.0) (slice_get-get_or slots (place q) None (omega arith) ∙ ap Some (lie q within ∙ get_or_from_slice_get xs q (Some a.0) None a.1)), a.2, sym (ap start_of a.1));
+        seen = λ q below z. let within : q < length xs = omega arith in let a = all q within in record {
+          id = 0;
+          view = first;
+          there = refl;
+          part = omega arith;
+          sees = subst (λ h. Contains first.fronts (front q h)) (sym (ap start_of a.1)) (subst (λ n. Contains first.fronts (front n (history a.0))) (omega arith) (first_seen history 0 xs q a.0 a.1));
+        };
         known = only (λ u. (m : Front E) → Contains u.fronts m → IsPrefix m.history (start_of (slice_get xs m.lock))) (λ m c. let f = front_at 0 xs m c in let at : m.lock ≡ f.index = f.lock_is ∙ omega arith in whole_prefix _ _ (f.history_is ∙ sym (ap start_of (ap (slice_get xs) at ∙ f.there))));
         mine = only (λ u. (m : Front E) → Contains u.held m → m.history ≡ start_of (slice_get xs m.lock)) (λ m c. absurd (let z = c.1 in omega arith));
         dealt = refl;
@@ -364,16 +388,20 @@ module _ {T E K : Type 0} (law : K → ℕ → T → Type 0) (history : T → Li
       → G (opening words slots (first_view history key ys))
   starts_with words slots xs ys e long same zeros lie all = subst (λ (zs : List (Option T)). G (opening words slots (first_view history key zs))) (sym e) (starts words slots xs long same zeros lie all)
 
-  -- who has all parts, and no lock, knows that each value is at home
+  -- who has all parts, and no lock, knows that each value is at home, with a history that it has seen
   pub all_home : (s : St) (r : G s) (id : ℕ) (v : View E K) → get_elem? s.views id ≡ some v → v.parts ≡ 16 → v.held ≡ []
-      → (p : ℕ) → place p < length s.words → (x : T) × (get_elem? s.homes (place p) ≡ some (some (Some x))) × law key p x × ((h : List E) → Contains v.fronts (front p h) → IsPrefix h (history x))
+      → (p : ℕ) → place p < length s.words → (x : T) × (get_elem? s.homes (place p) ≡ some (some (Some x))) × law key p x × ((h : List E) → Contains v.fronts (front p h) → IsPrefix h (history x)) × Contains v.fronts (front p (history x))
   all_home s r id v at all idle p below =
       let dealt : parts s.views ≡ 16 = r.dealt in
       let none : held p s.views ≡ 0 = none_held p s.views (λ i u e. dite (ℕ_discrete i id)
       (λ same. (let is : v ≡ u = some-injective v u (sym at ∙ (ap (get_elem? s.views) (sym same) ∙ e)) in subst (λ (z : View E K). z.held ≡ []) is idle))
       (λ other. r.holder i u e (let two = parts_two s.views id i v u at e other in omega arith))) in
-      let h = r.home p below (is_free _ (sym (r.counted p) ∙ none)) in
-      (h.0, h.1, h.2, λ l c. subst (λ m. IsPrefix l m) (sym h.3) (r.known id v at (front p l) c))
+      let free = is_free _ (sym (r.counted p) ∙ none) in
+      let h = r.home p below free in
+      let last : Contains v.fronts (front p (r.latest p)) = (let w = r.seen p below free in dite (ℕ_discrete w.id id)
+      (λ same. (let is : v ≡ w.view = some-injective v w.view (sym at ∙ (ap (get_elem? s.views) (sym same) ∙ w.there)) in subst (λ (z : View E K). Contains z.fronts (front p (r.latest p))) (sym is) w.sees))
+      (λ other. absurd (let two = parts_two s.views id w.id v w.view at w.there other in let some_part = w.part in omega arith))) in
+      (h.0, h.1, h.2, (λ l c. subst (λ m. IsPrefix l m) (sym h.3) (r.known id v at (front p l) c)), subst (λ l. Contains v.fronts (front p l)) (sym h.3) last)
 
 pub refront : {T : Type 0} (p : ℕ) (y : T) (cs ds : List (ℕ × T)) → ds ≡ (p, y) ∷ cs → ds ≡ (p, y) ∷ rest ds
 refront {T} p y cs ds e = e ∙ ap (λ (l : List (ℕ × T)). (p, y) ∷ l) (sym (ap rest e))

@@ -8,7 +8,7 @@ use Rattle.atomic_table.specs.Table.{State}
 use Rattle.inst_row.specs.declared.view.Front.{Front}
 use Rattle.inst_row.specs.declared.view.View.{View}
 use Rattle.inst_row.specs.Place.{place}
-use Rattle.inst_row.specs.View.{held, parts}
+use Rattle.inst_row.specs.View.{front, held, parts}
 use Rattle.inst_row.specs.declared.row.TheConstants.{PARTS}
 
 -- how many seats have a lock whose word is this: it is free at 0, and else one has it, at 2 while others may sleep until
@@ -17,10 +17,19 @@ abbrev pub takers : ℕ → ℕ
 takers zero = 0
 takers (suc n) = 1
 
+-- a seat that has a part has seen this beginning of the history behind the lock p
+pub record IsSeen {E K : Type 0} (views : List (View E K)) (p : ℕ) (h : List E) : Type 0 where
+  pub id : ℕ
+  pub view : View E K
+  pub there : get_elem? views id ≡ some view
+  pub part : 0 < view.parts
+  pub sees : Contains view.fronts (front p h)
+
 -- Each lock has a latest history.
 -- sized: there is a slot for each word
 -- counted: one seat has a lock, where its word isn't 0, and else none
 -- home: where no seat has it, the value lies in its slot, keeps its law, and has the latest history
+-- seen: a seat has seen that history, since it left the value there
 -- known: what a seat has seen is a beginning of the latest history
 -- mine: who has a lock found its latest history
 -- dealt: all seats together have all parts
@@ -33,6 +42,7 @@ pub record Guarded {T E K : Type 0} (law : K → ℕ → T → Type 0) (history 
   pub counted : (p : ℕ) → held p s.views ≡ takers (slice_index s.words (place p))
   pub home : (p : ℕ) → place p < length s.words → slice_index s.words (place p) ≡ 0 →
       (x : T) × (get_elem? s.homes (place p) ≡ some (some (Some x))) × law key p x × (history x ≡ latest p)
+  pub seen : (p : ℕ) → place p < length s.words → slice_index s.words (place p) ≡ 0 → IsSeen s.views p (latest p)
   pub known : (id : ℕ) (v : View E K) → get_elem? s.views id ≡ some v → (f : Front E) → Contains v.fronts f →
       IsPrefix f.history (latest f.lock)
   pub mine : (id : ℕ) (v : View E K) → get_elem? s.views id ≡ some v → (f : Front E) → Contains v.held f →

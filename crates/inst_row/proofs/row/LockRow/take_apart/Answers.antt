@@ -23,4 +23,5 @@ returns-clause-values g c = λ p below.
       },
       h.2,
       h.3,
+      h.4,
     )
