@@ -14,7 +14,6 @@ use Rattle.std.specs.Global.{Box}
 use Rattle.std.specs.declared.alloc.AllocError.{AllocError}
 use Rattle.inst_hub.specs.declared.outset.Outset.{Outset}
 use Rattle.inst_cell.specs.declared.sight.Sight.{Sight}
-use Rattle.inst_cell.specs.declared.shared_board.SharedBoard.{SharedBoard}
 use Rattle.inst_cell.specs.Seen.{sees}
 use Rattle.inst_journal.specs.declared.event.Event.{Event}
 use Rattle.inst_journal.specs.Sound.{IsSound}
@@ -26,30 +25,31 @@ use Rattle.inst_row.specs.Seated.{view_of, Has, HasSeen, GoesOn, Sees}
 use Rattle.inst_participant.specs.declared.participant.Participant.{Participant}
 use Rattle.inst_hub.specs.declared.hub.Hub.{Hub}
 use Rattle.inst_hub.specs.declared.teller.Teller.{Teller}
-use Rattle.inst_participant.specs.Behind.{IsBehind, IsLater}
+use Rattle.inst_participant.specs.Behind.{IsLater}
 use Rattle.inst_participant.specs.Answers.{Answered, IsSubmitted, IsTicket}
 use Rattle.inst_participant.specs.declared.follow_up.FollowUp.{FollowUp}
 use Rattle.inst_participant.specs.Following.{follow_up_of, Does}
 use Rattle.inst_participant.specs.Serving.{Serves}
 use Rattle.inst_hub.specs.Calls.{IsCall, Calls, IsLeft, KnowsMore, IsFollowed, knows_of, fronts_seen}
+use Rattle.inst_hub.specs.Founding.{IsSince}
 use Rattle.inst_hub.specs.inner.Calls.{Asks, Follows}
 
 abbrev Seat : Type 0
 Seat = RowSeat (Box Participant) Event Outset
 
 -- what was found behind the lock p: it keeps the law, and the seat has it and has seen its history
-pub record IsFound (w : SharedBoard) (p : ℕ) (s mid : Seat) (x : Participant) : Type 0 where
-  pub law : IsBehind w p x
+pub record IsFound (key : Outset) (p : ℕ) (s mid : Seat) (x : Participant) : Type 0 where
+  pub law : IsSince key p x
   pub goes_on : GoesOn p x.slot.events s
   pub has : Has p x.slot.events mid
   pub sees : Sees p x.slot.events s mid
 
 -- the same out of its box
-pub out_of_box : (w : SharedBoard) (p : ℕ) (s mid : Seat) (b : Box Participant) (x : Participant) → x ≡ b.value → IsBehind w p b.value → GoesOn p b.value.slot.events s
-    → Has p b.value.slot.events mid → Sees p b.value.slot.events s mid → IsFound w p s mid x
-out_of_box w p s mid b x is law goes_on has sees =
-    let found : IsFound w p s mid b.value = record { law = law; goes_on = goes_on; has = has; sees = sees } in
-    subst (λ (y : Participant). IsFound w p s mid y) (sym is) found
+pub out_of_box : (key : Outset) (p : ℕ) (s mid : Seat) (b : Box Participant) (x : Participant) → x ≡ b.value → IsSince key p b.value → GoesOn p b.value.slot.events s
+    → Has p b.value.slot.events mid → Sees p b.value.slot.events s mid → IsFound key p s mid x
+out_of_box key p s mid b x is law goes_on has sees =
+    let found : IsFound key p s mid b.value = record { law = law; goes_on = goes_on; has = has; sees = sees } in
+    subst (λ (y : Participant). IsFound key p s mid y) (sym is) found
 
 module _ {T E K : Type 0} where
   pub seen_still : (p q : ℕ) (h l : List E) (s t : RowSeat T E K) → Sees p h s t → HasSeen q l s → HasSeen q l t
@@ -66,7 +66,7 @@ still_knows t mid sight last p h l kept first second = record {
 }
 
 -- what was answered under the lock of the asker
-pub call_of : (h : Hub) (t u : Teller) (ask : Ask) (answer : Reply × Option Place) (x y : Participant) → IsBehind (key_of h.row).words.value ask.who x
+pub call_of : (h : Hub) (t u : Teller) (ask : Ask) (answer : Reply × Option Place) (x y : Participant) → IsSince (key_of h.row) ask.who x
     → GoesOn ask.who x.slot.events t.seat → fronts_seen u ≡ fronts_seen t ++ front ask.who x.slot.events ∷ front ask.who y.slot.events ∷ []
     → IsSound x.slot.settings x.slot.who x.slot.events
     → Serves x ask (Ok answer.0) y
@@ -74,22 +74,22 @@ pub call_of : (h : Hub) (t u : Teller) (ask : Ask) (answer : Reply × Option Pla
     → IsTicket (sees u.sight) x.slot.settings x.slot.who ask.command y.slot.events answer.0 answer.1
     → IsCall h t ask answer [] u
 call_of h t u ask answer x y behind goes_on seen sound serves answered ticket =
-    let settled : x.slot.settings ≡ h.settings = sym behind.ready.lawful.same_settings ∙ (behind.one.1 ∙ h.same) in record {
+    let settled : x.slot.settings ≡ h.settings = sym behind.behind.ready.lawful.same_settings ∙ (behind.behind.one.1 ∙ h.same) in record {
       found = x;
       left = y;
       behind = behind;
-      sound = subst (λ (s : HubSettings). IsSound s ask.who x.slot.events) settled (subst (λ (n : ℕ). IsSound x.slot.settings n x.slot.events) behind.who sound);
+      sound = subst (λ (s : HubSettings). IsSound s ask.who x.slot.events) settled (subst (λ (n : ℕ). IsSound x.slot.settings n x.slot.events) behind.behind.who sound);
       goes_on = goes_on;
       seen = seen;
       serves = serves;
       answered = subst (λ (s : HubSettings). Answered s ask.who x.slot.events ask answer.0 y.slot.events) settled
-          (subst (λ (n : ℕ). Answered x.slot.settings n x.slot.events ask answer.0 y.slot.events) behind.who answered);
+          (subst (λ (n : ℕ). Answered x.slot.settings n x.slot.events ask answer.0 y.slot.events) behind.behind.who answered);
       ticket = subst (λ (s : HubSettings). IsTicket (sees u.sight) s ask.who ask.command y.slot.events answer.0 answer.1) settled
-          (subst (λ (n : ℕ). IsTicket (sees u.sight) x.slot.settings n ask.command y.slot.events answer.0 answer.1) behind.who ticket);
+          (subst (λ (n : ℕ). IsTicket (sees u.sight) x.slot.settings n ask.command y.slot.events answer.0 answer.1) behind.behind.who ticket);
     }
 
 -- the same at the lock p, which is the asker's
-pub call_at : (h : Hub) (t u : Teller) (ask : Ask) (answer : Reply × Option Place) (x y : Participant) (p : ℕ) → p ≡ ask.who → IsBehind (key_of h.row).words.value p x
+pub call_at : (h : Hub) (t u : Teller) (ask : Ask) (answer : Reply × Option Place) (x y : Participant) (p : ℕ) → p ≡ ask.who → IsSince (key_of h.row) p x
     → GoesOn p x.slot.events t.seat → fronts_seen u ≡ fronts_seen t ++ front p x.slot.events ∷ front p y.slot.events ∷ []
     → IsSound x.slot.settings x.slot.who x.slot.events
     → Serves x ask (Ok answer.0) y
@@ -97,11 +97,11 @@ pub call_at : (h : Hub) (t u : Teller) (ask : Ask) (answer : Reply × Option Pla
     → IsTicket (sees u.sight) x.slot.settings x.slot.who ask.command y.slot.events answer.0 answer.1
     → IsCall h t ask answer [] u
 call_at h t u ask answer x y p is behind goes_on seen sound serves answered ticket =
-    call_of h t u ask answer x y (subst (λ (n : ℕ). IsBehind (key_of h.row).words.value n x) is behind) (subst (λ (n : ℕ). GoesOn n x.slot.events t.seat) is goes_on)
+    call_of h t u ask answer x y (subst (λ (n : ℕ). IsSince (key_of h.row) n x) is behind) (subst (λ (n : ℕ). GoesOn n x.slot.events t.seat) is goes_on)
     (subst (λ (n : ℕ). fronts_seen u ≡ fronts_seen t ++ front n x.slot.events ∷ front n y.slot.events ∷ []) is seen) sound serves answered ticket
 
 -- the same, with what is to follow
-pub asks_at : (h : Hub) (t u : Teller) (ask : Ask) (answer : Reply × Option Place) (f : Option FollowUp) (x y : Participant) (p : ℕ) → p ≡ ask.who → IsBehind (key_of h.row).words.value p x
+pub asks_at : (h : Hub) (t u : Teller) (ask : Ask) (answer : Reply × Option Place) (f : Option FollowUp) (x y : Participant) (p : ℕ) → p ≡ ask.who → IsSince (key_of h.row) p x
     → GoesOn p x.slot.events t.seat → fronts_seen u ≡ fronts_seen t ++ front p x.slot.events ∷ front p y.slot.events ∷ []
     → IsSound x.slot.settings x.slot.who x.slot.events
     → Serves x ask (Ok answer.0) y
@@ -113,21 +113,21 @@ asks_at h t u ask answer f x y p is behind goes_on seen sound serves answered ti
     (call_at h t u ask answer x y p is behind goes_on seen sound serves answered ticket, follows)
 
 -- who follows up is one of the hub's participants, and so has a lock
-pub lock_of : (h : Hub) (p : ℕ) (x y : Participant) (f : Option FollowUp) → IsBehind (key_of h.row).words.value p x → IsLater x y → IfSome f (λ g. is_participant y.slot.settings g.who ≡ true) → IfSome f (λ g. g.who < size h.row)
+pub lock_of : (h : Hub) (p : ℕ) (x y : Participant) (f : Option FollowUp) → IsSince (key_of h.row) p x → IsLater x y → IfSome f (λ g. is_participant y.slot.settings g.who ≡ true) → IfSome f (λ g. g.who < size h.row)
 lock_of h p x y None behind later fits = tt
 lock_of h p x y (Some g) behind later fits =
-    let same : y.slot.settings ≡ h.settings = later.settings ∙ (sym behind.ready.lawful.same_settings ∙ (behind.one.1 ∙ h.same)) in
+    let same : y.slot.settings ≡ h.settings = later.settings ∙ (sym behind.behind.ready.lawful.same_settings ∙ (behind.behind.one.1 ∙ h.same)) in
     let below : g.who < participants h.settings = ltb-true g.who (participants h.settings) (ap (λ (s : HubSettings). is_participant s g.who) (sym same) ∙ fits) in
     subst (λ (n : ℕ). g.who < n) (sym h.sized) below
 
 -- what was left where memory was refused
-pub left_at : (h : Hub) (t u : Teller) (ask : Ask) (x y : Participant) (p : ℕ) → p ≡ ask.who → IsBehind (key_of h.row).words.value p x
+pub left_at : (h : Hub) (t u : Teller) (ask : Ask) (x y : Participant) (p : ℕ) → p ≡ ask.who → IsSince (key_of h.row) p x
     → GoesOn p x.slot.events t.seat → fronts_seen u ≡ fronts_seen t ++ front p x.slot.events ∷ front p y.slot.events ∷ []
     → Serves x ask (Err alloc_error) y → y.slot ≡ x.slot → IsLeft h t ask u
 left_at h t u ask x y p is behind goes_on seen serves same = record {
   found = x;
   left = y;
-  behind = subst (λ (n : ℕ). IsBehind (key_of h.row).words.value n x) is behind;
+  behind = subst (λ (n : ℕ). IsSince (key_of h.row) n x) is behind;
   goes_on = subst (λ (n : ℕ). GoesOn n x.slot.events t.seat) is goes_on;
   seen = subst (λ (n : ℕ). fronts_seen u ≡ fronts_seen t ++ front n x.slot.events ∷ front n y.slot.events ∷ []) is seen;
   serves = serves;
@@ -139,7 +139,7 @@ pub seen_both : (s mid last : Seat) (p : ℕ) (h l : List Event) → Sees p h s 
 seen_both s mid last p h l first second =
     second.seen ∙ (ap (λ (fs : List (Front Event)). fs ++ front p l ∷ []) first.seen ∙ append_assoc (view_of s).fronts (front p h ∷ []) (front p l ∷ []))
 
-pub follows_one : (h : Hub) (f : FollowUp) (t : Teller) (mid last : Seat) (x y : Participant) (result : Result Bool AllocError) → IsBehind (key_of h.row).words.value f.who x
+pub follows_one : (h : Hub) (f : FollowUp) (t : Teller) (mid last : Seat) (x y : Participant) (result : Result Bool AllocError) → IsSince (key_of h.row) f.who x
     → GoesOn f.who x.slot.events t.seat → Sees f.who x.slot.events t.seat mid → Sees f.who y.slot.events mid last → Does f.errand x f.place result y
     → Follows h (Some f) t record { sight = t.sight; seat = last }
 follows_one h f t mid last x y result behind goes_on first second does = record {

@@ -1,11 +1,11 @@
 -- The seats of all tellers are joined to one, and what lay behind the locks is taken out, one after the other.
 use Rattle.std.proofs.Common.{◌≡◌, ℕ, ◌+◌, arith, List, [], ◌∷◌, ◌++◌, length, length-append, append_assoc, append-nil, inl, inr, ◌⊎◌, ⊎_elim, refl, sym, ap, ◌∙◌, subst, Some}
-use Rattle.std.specs.Prelude.{slice_get, map}
+use Rattle.std.specs.Prelude.{◌↔◌, slice_get, map}
 use Rattle.std.specs.Global.{Box}
 use Rattle.std.proofs.lemmas.List.{map-append}
 use Rattle.std.proofs.lemmas.Option.{slice_get_within}
 use Rattle.atomic_table.specs.Seated.{TableId}
-use Rattle.inst_base.proofs.Lists.{snoc_cases}
+use Rattle.inst_base.proofs.Lists.{last_at, snoc_cases}
 use Rattle.inst_hub.specs.declared.outset.Outset.{Outset}
 use Rattle.inst_cell.specs.declared.shared_board.SharedBoard.{SharedBoard}
 use Rattle.inst_cell.specs.declared.sight.Sight.{Sight}
@@ -15,10 +15,11 @@ use Rattle.inst_row.specs.Seated.{IsOn, IsIdle, HasAll, HasSeen, SeesBoth, view_
 use Rattle.inst_slot.specs.Book.{Book}
 use Rattle.inst_participant.specs.declared.participant.Participant.{Participant}
 use Rattle.inst_hub.specs.declared.teller.Teller.{Teller}
+use Rattle.inst_hub.specs.Closing.{OneHasSeen}
 use Rattle.inst_hub.specs.inner.Closing.{IsSeated, AreSeated, IsTakenOut, AreTakenOut}
 use Rattle.inst_hub.specs.Opening.{parts_of}
 use Rattle.inst_hub.proofs.Starting.{parts_more}
-use Rattle.inst_parts.proofs.Joining.{got_last, got_only}
+use Rattle.inst_parts.proofs.Joining.{got_last, got_more, got_only}
 
 abbrev pub Seat : Type 0
 Seat = RowSeat (Box Participant) Event Outset
@@ -32,7 +33,7 @@ pub record Gathered (id : TableId) (key : Outset) (all done rest : List Teller) 
   pub on : IsOn id key seat
   pub idle : IsIdle seat
   pub parts : (view_of seat).parts ≡ parts_of done
-  pub seen : (i : ℕ) (t : Teller) (p : ℕ) (h : List Event) → slice_get done i ≡ Some t → HasSeen p h t.seat → HasSeen p h seat
+  pub seen : (p : ℕ) (h : List Event) → HasSeen p h seat ↔ OneHasSeen done p h
   pub sights_are : sights ≡ map sight_of done
 
 pub first_gathered : (id : TableId) (key : Outset) (all rest : List Teller) (t : Teller) (sights new : List Sight) → AreSeated id key all → all ≡ t ∷ rest → sights ≡ [] → new ≡ sights ++ t.sight ∷ [] → Gathered id key all (t ∷ []) rest t.seat new
@@ -43,7 +44,10 @@ first_gathered id key all rest t sights new seated e none pushed =
       on = s.on;
       idle = s.free.idle;
       parts = (let p = parts_more [] t in let none : parts_of [] ≡ 0 = refl in omega (arith, p, none));
-      seen = λ i u p h at seen. subst (λ (v : Teller). HasSeen p h v.seat) (sym (got_only t u i at)) seen;
+      seen = λ p h. (
+        λ seen. (0, t, refl, seen),
+        λ one. subst (λ (v : Teller). HasSeen p h v.seat) (sym (got_only t one.1 one.0 one.2)) one.3,
+      );
       sights_are = pushed ∙ ap (λ (l : List Sight). l ++ t.sight ∷ []) none;
     }
 
@@ -58,10 +62,16 @@ more_gathered id key all done rest left t seat new sights more e so on idle part
   on = on;
   idle = idle;
   parts = parts ∙ (ap (λ (n : ℕ). n + (view_of t.seat).parts) so.parts ∙ sym (parts_more done t));
-  seen = λ i u p h at seen. ⊎_elim
-      (λ old. (sees p h).1 (inl (so.seen i u p h old seen)))
-      (λ last. (sees p h).1 (inr (subst (λ (v : Teller). HasSeen p h v.seat) (sym last.1) seen)))
-      (snoc_cases done t u i at);
+  seen = λ p h. (
+    λ seen. ⊎_elim
+        (λ old. let o = (so.seen p h).0 old in (o.0, o.1, got_more done t o.1 o.0 o.2, o.3))
+        (λ last. (length done, t, last_at done t, last))
+        ((sees p h).0 seen),
+    λ o. ⊎_elim
+        (λ old. (sees p h).1 (inl ((so.seen p h).1 (o.0, o.1, old, o.3))))
+        (λ last. (sees p h).1 (inr (subst (λ (v : Teller). HasSeen p h v.seat) (sym last.1) o.3)))
+        (snoc_cases done t o.1 o.0 o.2),
+  );
   sights_are = pushed ∙ (ap (λ (l : List Sight). l ++ t.sight ∷ []) so.sights_are ∙ sym (map-append sight_of done (t ∷ [])));
 }
 
@@ -74,8 +84,8 @@ all_gathered id key all done rest seat sights none parts so =
     record { free = record { idle = so.idle; part = omega (arith, sixteen) }; parts = sixteen }
 
 pub all_seen : (id : TableId) (key : Outset) (all done rest : List Teller) (seat : Seat) (sights : List Sight) → rest ≡ [] → Gathered id key all done rest seat sights
-    → (i : ℕ) (t : Teller) (p : ℕ) (h : List Event) → slice_get all i ≡ Some t → HasSeen p h t.seat → HasSeen p h seat
-all_seen id key all done rest seat sights none so i t p h at seen = so.seen i t p h (ap (λ (l : List Teller). slice_get l i) (whole id key all done rest seat sights none so) ∙ at) seen
+    → (p : ℕ) (h : List Event) → HasSeen p h seat ↔ OneHasSeen all p h
+all_seen id key all done rest seat sights none so p h = subst (λ (l : List Teller). HasSeen p h seat ↔ OneHasSeen l p h) (whole id key all done rest seat sights none so) (so.seen p h)
 
 pub all_sights : (id : TableId) (key : Outset) (all done rest : List Teller) (seat : Seat) (sights : List Sight) → rest ≡ [] → Gathered id key all done rest seat sights → sights ≡ map sight_of all
 all_sights id key all done rest seat sights none so = so.sights_are ∙ ap (map sight_of) (whole id key all done rest seat sights none so)

@@ -77,8 +77,10 @@ module _ (h : Hub) (seat : Seat) (slots : List Book) (boards : List SharedBoard)
         };
   }
 
-  pub goes_on : (p : ℕ) → p < size h.row → (x : Book) × (histories slots p ≡ x.events) × ((seen : List Event) → HasSeen p seen seat → IsPrefix seen x.events)
+  -- the history of the participant p is the last one that the seat has seen
+  pub goes_on : (p : ℕ) → p < size h.row → (x : Book) × (histories slots p ≡ x.events) × ((seen : List Event) → HasSeen p seen seat → IsPrefix seen x.events) × HasSeen p x.events seat
   goes_on p below =
       let x = slice_get_at slots p (omega (arith, below, taken.enough.0)) in
       let b = slice_get_at boards p (omega (arith, below, taken.enough.1)) in
-      (x.0, ap events_of x.1, (taken.each p x.0 b.0 x.1 b.1).goes_on)
+      let out = taken.each p x.0 b.0 x.1 b.1 in
+      (x.0, ap events_of x.1, out.goes_on, out.seen)

@@ -17,9 +17,9 @@ use Rattle.inst_row.specs.Seated.{IsOn, IsFree, HasSeen, GoesOn, view_of}
 use Rattle.inst_hub.specs.declared.hub.Hub.{Hub}
 use Rattle.inst_participant.specs.declared.participant.Participant.{Participant}
 use Rattle.inst_hub.specs.declared.teller.Teller.{Teller}
+use Rattle.inst_hub.specs.Founding.{IsSince}
 use Rattle.inst_participant.specs.declared.follow_up.FollowUp.{FollowUp}
 use Rattle.inst_participant.specs.Answers.{Answered, IsTicket}
-use Rattle.inst_participant.specs.Behind.{IsBehind}
 use Rattle.inst_participant.specs.Following.{follow_up_of, Does}
 use Rattle.inst_participant.specs.Serving.{Serves}
 
@@ -54,13 +54,14 @@ fronts_seen t = (view_of t.seat).fronts
 
 -- The follow-up was done, under one lock, and nothing else
 -- found, left: what was found behind that lock, and what was left there
+-- behind: it is its participant's, and there was no opening since the hub's
 -- goes_on: the history that was found goes on from all that the teller had seen of it
 -- does: what was left is what was found, with the place gone to as the follow-up says
 -- seen: the teller has seen these two histories
 pub record IsDone (h : Hub) (f : FollowUp) (t : Teller) (fronts : List (Front Event)) : Type 0 where
   pub found : Participant
   pub left : Participant
-  pub behind : IsBehind (key_of h.row).words.value f.who found
+  pub behind : IsSince (key_of h.row) f.who found
   pub goes_on : GoesOn f.who found.slot.events t.seat
   pub does : (result : Result Bool AllocError) × Does f.errand found f.place result left
   pub seen : fronts ≡ front f.who found.slot.events ∷ front f.who left.slot.events ∷ []
@@ -72,6 +73,7 @@ IsFollowed h (Some f) t fronts = IsDone h f t fronts
 
 -- A call of the ask is answered
 -- found, left: what was found behind the asker's lock, and what was left there
+-- behind: it is the asker's, and there was no opening since the hub's
 -- goes_on: the history that was found goes on from all that the teller had seen of it
 -- seen: the teller has seen these two histories, then what followed, and nothing else
 -- serves: what was left is what was found, after its slot was asked, and nothing else was done to it
@@ -79,7 +81,7 @@ IsFollowed h (Some f) t fronts = IsDone h f t fronts
 pub record IsCall (h : Hub) (t : Teller) (ask : Ask) (answer : Reply × Option Place) (fronts : List (Front Event)) (u : Teller) : Type 0 where
   pub found : Participant
   pub left : Participant
-  pub behind : IsBehind (key_of h.row).words.value ask.who found
+  pub behind : IsSince (key_of h.row) ask.who found
   pub sound : IsSound h.settings ask.who found.slot.events
   pub goes_on : GoesOn ask.who found.slot.events t.seat
   pub seen : fronts_seen u ≡ fronts_seen t ++ front ask.who found.slot.events ∷ front ask.who left.slot.events ∷ fronts
@@ -92,12 +94,12 @@ abbrev pub Calls : Hub → Teller → Ask → Reply × Option Place → Teller �
 Calls h t ask answer u = (fronts : List (Front Event)) × (call : IsCall h t ask answer fronts u)
     × IsFollowed h (follow_up_of call.left.slot.events ask.command answer.0 answer.1) t fronts
 
--- A call that memory was refused for: the asker's slot was found, and left as it was; at most the place that the ask
--- decides was looked at
+-- A call that memory was refused for: the asker's slot was found, with no opening since the hub's, and left as it was; at
+-- most the place that the ask decides was looked at
 pub record IsLeft (h : Hub) (t : Teller) (ask : Ask) (u : Teller) : Type 0 where
   pub found : Participant
   pub left : Participant
-  pub behind : IsBehind (key_of h.row).words.value ask.who found
+  pub behind : IsSince (key_of h.row) ask.who found
   pub goes_on : GoesOn ask.who found.slot.events t.seat
   pub seen : fronts_seen u ≡ fronts_seen t ++ front ask.who found.slot.events ∷ front ask.who left.slot.events ∷ []
   pub serves : Serves found ask (Err alloc_error) left

@@ -3,6 +3,7 @@ use Rattle.std.proofs.Common.{◌≡◌, ◌≢◌, ℕ, zero, suc, ◌+◌, ◌
 use Rattle.std.specs.Prelude.{slice_get, ◌↔◌}
 use Rattle.std.proofs.lemmas.Bool.{cases_eq}
 use Rattle.std.proofs.lemmas.Option.{slice_get_within}
+use Rattle.inst_base.proofs.Lists.{last_at}
 use Rattle.inst_base.specs.TimeLimit.{deadline_of}
 use Rattle.inst_settings.specs.Settings.{HubSettings, participants}
 use Rattle.inst_board.specs.declared.about.About.TheVariants.{Opened, HasTerms, Decided}
@@ -21,7 +22,7 @@ use Rattle.inst_slot.proofs.Growing.{slice_get_at}
 use Rattle.inst_slot.proofs.Keeping.{kept_opening}
 use Rattle.inst_together.specs.Together.{IsMember, AreTogether}
 use Rattle.inst_parts.specs.Parts.{AreParts}
-use Rattle.inst_parts.specs.Uniting.{IsSeparate, AreSeparate, AreAtOne, AreSights}
+use Rattle.inst_parts.specs.Uniting.{IsSeparate, AreSeparate, AreAtOne, AreSights, OneKnows, OneSees}
 use Rattle.inst_parts.specs.inner.Uniting.{AreJoined, IsToldMore}
 
 -- from the board a to one that knows what a and the other knew
@@ -66,6 +67,11 @@ pub got_last : {A : Type 0} (done rest : List A) (x : A) (all : List A) → done
 got_last [] rest x all e = ap (λ l. slice_get l 0) (sym e)
 got_last (y ∷ done) rest x all e = ap (λ l. slice_get l (suc (length done))) (sym e) ∙ got_last done rest x (done ++ x ∷ rest) refl
 
+pub got_more : {A : Type 0} (done : List A) (x y : A) (p : ℕ) → slice_get done p ≡ Some y → slice_get (done ++ x ∷ []) p ≡ Some y
+got_more [] x y p e = absurd (let no : ⊥ = cc in no)
+got_more (z ∷ done) x y zero e = e
+got_more (z ∷ done) x y (suc p) e = got_more done x y p e
+
 got_snoc : {A : Type 0} (done : List A) (x y : A) (p : ℕ) → slice_get (done ++ x ∷ []) p ≡ Some y → (slice_get done p ≡ Some y) ⊎ ((p ≡ length done) × (x ≡ y))
 got_snoc [] x y zero e = let is : x ≡ y = cc in inr (refl, is)
 got_snoc [] x y (suc p) e = let no : ⊥ = cc in absurd no
@@ -83,7 +89,7 @@ swapped a b c both f = (λ h. ⊎_elim (λ x. inr x) (λ y. inl y) ((both f).0 h
 pub record SoFar (s : HubSettings) (slots : List Book) (all done rest : List SharedBoard) (whole : SharedBoard) : Type 0 where
   pub split : done ++ rest ≡ all
   pub joined : (words : SharedBoard) (O : Opening) → AreSeparate words O s slots all → AreJoined words O s slots done whole
-  pub knows_all : (p : ℕ) (b : SharedBoard) (f : Fact) → slice_get done p ≡ Some b → knows b f → knows whole f
+  pub known : (f : Fact) → knows whole f ↔ OneKnows done f
   pub one : (words : SharedBoard) → AreAtOne words s slots all → AtOneTable words whole
 
 pub first_so_far : (s : HubSettings) (slots : List Book) (all rest : List SharedBoard) (b : SharedBoard) → all ≡ b ∷ rest → SoFar s slots all (b ∷ []) rest b
@@ -101,7 +107,10 @@ first_so_far s slots all rest b e = record {
         member = λ p x below at. let zero_is : p ≡ 0 = omega (arith, below) in
             subst (λ (q : ℕ). IsMember settings_of knows has_role b s O q x) (sym zero_is) (one_slot x (ap (slice_get slots) (sym zero_is) ∙ at)).member;
       };
-  knows_all = λ p c f at kn. subst (λ (d : SharedBoard). knows d f) (sym (got_only b c p at)) kn;
+  known = λ f. (
+    λ kn. (0, b, refl, kn),
+    λ one. subst (λ (d : SharedBoard). knows d f) (sym (got_only b one.1 one.0 one.2)) one.3,
+  );
   one = λ words at_one. at_one.each 0 b (ap (λ (l : List SharedBoard). slice_get l 0) e);
 }
 
@@ -135,10 +144,16 @@ more_so_far s slots all done rest left a b new e so both truth vouches role one 
               member_joined a b new both truth vouches.0 one.1 O s p x (λ q h. (role q).1 (inl h)) (was.member p x (less p (length done) (omega (arith, below, long)) other) at)
         ];
       };
-  knows_all = λ p c f at kn. ⊎_elim
-      (λ old. (both f).1 (inl (so.knows_all p c f old kn)))
-      (λ last. (both f).1 (inr (subst (λ (d : SharedBoard). knows d f) (sym last.1) kn)))
-      (got_snoc done b c p at);
+  known = λ f. (
+    λ kn. ⊎_elim
+        (λ old. let o = (so.known f).0 old in (o.0, o.1, got_more done b o.1 o.0 o.2, o.3))
+        (λ last. (length done, b, last_at done b, last))
+        ((both f).0 kn),
+    λ o. ⊎_elim
+        (λ old. (both f).1 (inl ((so.known f).1 (o.0, o.1, old, o.3))))
+        (λ last. (both f).1 (inr (subst (λ (d : SharedBoard). knows d f) (sym last.1) o.3)))
+        (got_snoc done b o.1 o.0 o.2),
+  );
   one = λ words at_one. let was = so.one words at_one in (one.0 ∙ was.0, one.1 ∙ was.1);
 }
   where
@@ -159,16 +174,16 @@ all_joined s slots all done rest a none so words O sep =
     whole : (s : HubSettings) (slots : List Book) (all done rest : List SharedBoard) (a : SharedBoard) → rest ≡ [] → SoFar s slots all done rest a → done ≡ all
     whole s slots all done rest a none so = sym (append-nil done) ∙ (ap (λ (l : List SharedBoard). done ++ l) (sym none) ∙ so.split)
 
-pub all_known : (s : HubSettings) (slots : List Book) (all done rest : List SharedBoard) (a : SharedBoard) → rest ≡ [] → SoFar s slots all done rest a → (p : ℕ) (b : SharedBoard) (f : Fact) → slice_get all p ≡ Some b → knows b f → knows a f
-all_known s slots all done rest a none so p b f at kn =
-    let whole : all ≡ done = sym so.split ∙ (ap (λ (l : List SharedBoard). done ++ l) none ∙ append-nil done) in
-    so.knows_all p b f (ap (λ (l : List SharedBoard). slice_get l p) (sym whole) ∙ at) kn
+pub all_known : (s : HubSettings) (slots : List Book) (all done rest : List SharedBoard) (a : SharedBoard) → rest ≡ [] → SoFar s slots all done rest a → (f : Fact) → knows a f ↔ OneKnows all f
+all_known s slots all done rest a none so f =
+    let whole : done ≡ all = sym (append-nil done) ∙ (ap (λ (l : List SharedBoard). done ++ l) (sym none) ∙ so.split) in
+    subst (λ (l : List SharedBoard). knows a f ↔ OneKnows l f) whole (so.known f)
 
 -- what tellers told so far
 pub record ToldSoFar (first : SharedBoard) (all done rest : List Sight) (whole : SharedBoard) : Type 0 where
   pub split : done ++ rest ≡ all
   pub more : IsToldMore first whole
-  pub seen : (i : ℕ) (t : Sight) (f : Fact) → slice_get done i ≡ Some t → sees t f → knows whole f
+  pub known : (f : Fact) → knows whole f ↔ (knows first f ⊎ OneSees done f)
 
 pub more_told : (first : SharedBoard) (all done rest left : List Sight) (a new : SharedBoard) (t : Sight) → rest ≡ t ∷ left → ToldSoFar first all done rest a → KnowsBoth a (board_of t) new → KnowsTruth new → Vouches a (board_of t) → Stays a new → ToldSoFar first all (done ++ t ∷ []) left new
 more_told first all done rest left a new t e so both truth vouches stays = record {
@@ -178,10 +193,22 @@ more_told first all done rest left a new t e so both truth vouches stays = recor
     kept = λ f h. (both f).1 (inl (so.more.kept f h));
     lawful = λ x was. lawful_joined a (board_of t) new both truth vouches stays.settings x (λ h. (roles_same a new x.who stays).0 h) (so.more.lawful x was);
   };
-  seen = λ i u f at kn. ⊎_elim
-      (λ old. (both f).1 (inl (so.seen i u f old kn)))
-      (λ last. (both f).1 (inr (subst (λ (v : Sight). sees v f) (sym last.1) kn)))
-      (got_snoc done t u i at);
+  known = λ f. (
+    λ kn. ⊎_elim
+        (λ old. ⊎_elim
+        (λ was. inl was)
+        (λ o. inr (o.0, o.1, got_more done t o.1 o.0 o.2, o.3))
+        ((so.known f).0 old))
+        (λ last. inr (length done, t, last_at done t, last))
+        ((both f).0 kn),
+    λ one. ⊎_elim
+        (λ was. (both f).1 (inl ((so.known f).1 (inl was))))
+        (λ o. ⊎_elim
+        (λ old. (both f).1 (inl ((so.known f).1 (inr (o.0, o.1, old, o.3)))))
+        (λ last. (both f).1 (inr (subst (λ (v : Sight). sees v f) (sym last.1) o.3)))
+        (got_snoc done t o.1 o.0 o.2))
+        one,
+  );
 }
 
 pub teller_table : (first : SharedBoard) (all done rest left : List Sight) (a : SharedBoard) (t : Sight) → rest ≡ t ∷ left → AreSights first all → ToldSoFar first all done rest a → AtOneTable a (board_of t)
@@ -189,10 +216,10 @@ teller_table first all done rest left a t e sights so =
     let at = sights (length done) t (got_last done left t all (ap (λ (l : List Sight). done ++ l) (sym e) ∙ so.split)) in
     (at.0 ∙ sym so.more.stays.table, at.1 ∙ sym so.more.stays.settings)
 
-pub all_told : (first : SharedBoard) (all done rest : List Sight) (a : SharedBoard) → rest ≡ [] → ToldSoFar first all done rest a → (i : ℕ) (t : Sight) (f : Fact) → slice_get all i ≡ Some t → sees t f → knows a f
-all_told first all done rest a none so i t f at kn =
-    let whole : all ≡ done = sym so.split ∙ (ap (λ (l : List Sight). done ++ l) none ∙ append-nil done) in
-    so.seen i t f (ap (λ (l : List Sight). slice_get l i) (sym whole) ∙ at) kn
+pub all_told : (first : SharedBoard) (all done rest : List Sight) (a : SharedBoard) → rest ≡ [] → ToldSoFar first all done rest a → (f : Fact) → knows a f ↔ (knows first f ⊎ OneSees all f)
+all_told first all done rest a none so f =
+    let whole : done ≡ all = sym (append-nil done) ∙ (ap (λ (l : List Sight). done ++ l) (sym none) ∙ so.split) in
+    subst (λ (l : List Sight). knows a f ↔ (knows first f ⊎ OneSees l f)) whole (so.known f)
 
 -- what was joined and told makes the parts of a hub
 pub parts_made : (words : SharedBoard) (O : Opening) (s : HubSettings) (slots : List Book) (all : List SharedBoard) (a b : SharedBoard) → AreSeparate words O s slots all → AreJoined words O s slots all a → IsToldMore a b

@@ -2,10 +2,11 @@
 -- to one. This hub's own choice.
 use Rattle.std.specs.Prelude.{◌≡◌, ℕ, List, length, slice_get, Some}
 use Rattle.inst_settings.specs.Settings.{HubSettings, participants}
+use Rattle.inst_board.specs.declared.about.Fact.{Fact}
 use Rattle.inst_cell.specs.declared.shared_board.SharedBoard.{SharedBoard}
 use Rattle.inst_cell.specs.declared.sight.Sight.{Sight}
 use Rattle.inst_cell.specs.Held.{settings_of, knows, has_role, AtOneTable}
-use Rattle.inst_cell.specs.Seen.{board_of}
+use Rattle.inst_cell.specs.Seen.{board_of, sees}
 use Rattle.inst_model.specs.Opening.{Opening, IsOpening}
 use Rattle.inst_slot.specs.Book.{Book}
 use Rattle.inst_together.specs.Together.{IsMember}
@@ -33,3 +34,11 @@ pub record AreAtOne (words : SharedBoard) (s : HubSettings) (slots : List Book) 
 -- tellers that see these words
 abbrev pub AreSights : SharedBoard → List Sight → Type 0
 AreSights words sights = (i : ℕ) (t : Sight) → slice_get sights i ≡ Some t → AtOneTable words (board_of t)
+
+-- one of these boards knows it
+abbrev pub OneKnows : List SharedBoard → Fact → Type 0
+OneKnows boards f = (p : ℕ) × (b : SharedBoard) × (slice_get boards p ≡ Some b) × knows b f
+
+-- one of these tellers sees it
+abbrev pub OneSees : List Sight → Fact → Type 0
+OneSees sights f = (i : ℕ) × (t : Sight) × (slice_get sights i ≡ Some t) × sees t f

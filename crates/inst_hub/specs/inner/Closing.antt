@@ -8,7 +8,7 @@ use Rattle.inst_journal.specs.Sound.{IsSound}
 use Rattle.inst_journal.specs.declared.event.Event.{Event}
 use Rattle.std.specs.Global.{Box}
 use Rattle.inst_row.specs.declared.seat.RowSeat.{RowSeat}
-use Rattle.inst_row.specs.Seated.{IsOn, IsFree, GoesOn}
+use Rattle.inst_row.specs.Seated.{IsOn, IsFree, HasSeen, GoesOn}
 use Rattle.inst_slot.specs.Book.{Book}
 use Rattle.inst_participant.specs.declared.participant.Participant.{Participant}
 use Rattle.inst_hub.specs.declared.teller.Teller.{Teller}
@@ -23,11 +23,13 @@ pub record IsSeated (id : TableId) (key : Outset) (t : Teller) : Type 0 where
 abbrev pub AreSeated : TableId → Outset → List Teller → Type 0
 AreSeated id key tellers = (i : ℕ) (t : Teller) → slice_get tellers i ≡ Some t → IsSeated id key t
 
--- what lay behind a lock, as the seat had seen it
+-- What lay behind a lock
+-- goes_on, seen: the seat has seen its history, and nothing beyond it
 pub record IsTakenOut (key : Outset) (seat : RowSeat (Box Participant) Event Outset) (p : ℕ) (x : Book) (b : SharedBoard) : Type 0 where
   pub since : IsSince key p (seated x b)
   pub sound : IsSound x.settings x.who x.events
   pub goes_on : GoesOn p x.events seat
+  pub seen : HasSeen p x.events seat
 
 -- so many slots and boards, by number
 pub record AreTakenOut (key : Outset) (n : ℕ) (seat : RowSeat (Box Participant) Event Outset) (slots : List Book) (boards : List SharedBoard) : Type 0 where

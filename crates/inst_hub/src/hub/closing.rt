@@ -1,5 +1,5 @@
 //! How a hub is taken apart when it closes.
-ghost use Rattle.std.specs.Prelude.{◌≡◌, ℕ, ◌<◌, ◌≤◌, [], List, map, length, slice_get, Some, IfOk, IfErr, vec_capacity};
+ghost use Rattle.std.specs.Prelude.{◌≡◌, ◌↔◌, ℕ, ◌<◌, ◌≤◌, [], List, map, length, slice_get, Some, IfOk, IfErr, vec_capacity};
 ghost use mathlib.Core.List.{IsPrefix};
 ghost use Rattle.inst_board.specs.declared.about.Fact.{Fact};
 ghost use Rattle.inst_cell.specs.Held.{knows};
@@ -13,7 +13,7 @@ ghost use Rattle.inst_hub.specs.Calls.{AreOf, knows_of};
 ghost use Rattle.inst_hub.specs.Opening.{HaveAllParts};
 ghost use Rattle.inst_settings.specs.Settings.{participants};
 ghost use Rattle.inst_hub.specs.Founding.{HasOpened};
-ghost use Rattle.inst_hub.specs.Closing.{HandsBack};
+ghost use Rattle.inst_hub.specs.Closing.{OneHasSeen, HandsBack};
 ghost use Rattle.inst_hub.specs.inner.Closing.{AreSeated, AreTakenOut};
 
 use super::Hub;
@@ -51,8 +51,8 @@ impl fmt::Debug for TakeFault {
     }
 }
 
-/// One seat with the parts of all tellers' seats, which has seen what each of them had; what the tellers see with goes
-/// into a list with room for it.
+/// One seat with the parts of all tellers' seats, which has seen exactly what one of them had; what the tellers see with
+/// goes into a list with room for it.
 fn gather(row: &Row, tellers: Vec<Teller>, sights: &mut Vec<inst_cell::Sight>) -> Seat
     requires some { 0 < size row.now }
     requires seated { AreSeated (row_id row.now) (key_of row.now) tellers.items }
@@ -61,7 +61,7 @@ fn gather(row: &Row, tellers: Vec<Teller>, sights: &mut Vec<inst_cell::Sight>) -
     requires room { length tellers.items ≤ vec_capacity sights.old }
     ensures on { IsOn (row_id row.now) (key_of row.now) result }
     ensures all { HasAll result }
-    ensures seen { (i : ℕ) (t : Teller) (p : ℕ) (h : List Event) → slice_get tellers.items i ≡ Some t → HasSeen p h t.seat → HasSeen p h result }
+    ensures seen { (p : ℕ) (h : List Event) → HasSeen p h result ↔ OneHasSeen tellers.items p h }
     ensures sights { sights.new.items ≡ map (λ t. t.sight) tellers.items }
 {
     let mut tellers = tellers.into_iter();
@@ -99,15 +99,16 @@ fn empty(row: Row, seat: Seat, slots: &mut Vec<Slot>, boards: &mut Vec<SharedBoa
 }
 
 impl Hub {
-    /// The parts of the hub: the slots of its participants, whose histories go on from all that a teller has seen, over
-    /// one board with the roles of all that knows what each teller knew. It waits for no lock, since nobody else has the
-    /// hub. Where memory is refused it hands the hub and its tellers back as they were.
+    /// The parts of the hub: the slots of its participants, each with the last history that a teller has seen, over one
+    /// board with the roles of all that knows what each teller knew. It waits for no lock, since nobody else has the hub.
+    /// Where memory is refused it hands the hub and its tellers back as they were.
     pub fn take_apart(self, alloc: Global, tellers: Vec<Teller>) -> Result<Parts, TakeFault>
         requires of { AreOf self tellers.items }
         requires parts { HaveAllParts tellers.items }
         ensures settings { IfOk result (λ parts. hub_of parts ≡ self.settings) }
         ensures parts { IfOk result (λ parts. (O : Opening) → IsOpening self.settings O → HasOpened O self → IsPartsOf O parts) }
         ensures goes_on { IfOk result (λ parts. (i : ℕ) (t : Teller) (p : ℕ) (h : List Event) → slice_get tellers.items i ≡ Some t → p < participants self.settings → HasSeen p h t.seat → IsPrefix h (histories_of parts p)) }
+        ensures last { IfOk result (λ parts. (p : ℕ) → p < participants self.settings → OneHasSeen tellers.items p (histories_of parts p)) }
         ensures knows { IfOk result (λ parts. (i : ℕ) (t : Teller) (f : Fact) → slice_get tellers.items i ≡ Some t → knows_of t f → knows (board_of parts) f) }
         ensures err { IfErr result (HandsBack self tellers.items) }
     {

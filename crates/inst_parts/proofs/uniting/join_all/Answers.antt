@@ -39,8 +39,8 @@ returns-clause-joined c =
     let i = c.loop-board.invariant.2 in
     all_joined c.args.settings.now c.args.slots.now c.args.boards.items i.0 (into_iter_items c.loop-board.board-iterator) c.loop-board.whole (nil_from_length (into_iter_items c.loop-board.board-iterator) (omega (arith, c.loop-board.board-iterator.rest.ok, c.in-None.ensures.steps.0))) i.1
 
-pub returns-clause-boards : goal.returns-clause-boards
-returns-clause-boards c =
+pub returns-clause-known : goal.returns-clause-known
+returns-clause-known c =
     let i = c.loop-board.invariant.2 in
     all_known c.args.settings.now c.args.slots.now c.args.boards.items i.0 (into_iter_items c.loop-board.board-iterator) c.loop-board.whole (nil_from_length (into_iter_items c.loop-board.board-iterator) (omega (arith, c.loop-board.board-iterator.rest.ok, c.in-None.ensures.steps.0))) i.1
 

@@ -22,7 +22,7 @@ loop-sight-preserved c =
       ),
     )
 
-pub returns-clause-sights : goal.returns-clause-sights
-returns-clause-sights c =
+pub returns-clause-known : goal.returns-clause-known
+returns-clause-known c =
     let i = c.loop-sight.invariant.2 in
     all_told c.args.whole c.args.sights.items i.0 (into_iter_items c.loop-sight.sight-iterator) c.loop-sight.whole (nil_from_length (into_iter_items c.loop-sight.sight-iterator) (omega (arith, c.loop-sight.sight-iterator.rest.ok, c.in-None.ensures.steps.0))) i.1

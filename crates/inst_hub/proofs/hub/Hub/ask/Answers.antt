@@ -20,17 +20,17 @@ use Rattle.inst_hub.proofs.hub.Hub.ask.Goals as goal
 pub give-requires-clause-has : goal.give-requires-clause-has
 give-requires-clause-has g c =
     let x = c.deref_mut.result.now in
-    let found = out_of_box (key_of c.args.self.now.row).words.value c.from-lock.result c.args.teller.now.seat c.take-participant.new.seat c.take-participant.result x c.deref_mut.ensures.value
-    c.take-participant.ensures.law.behind c.take-participant.ensures.goes_on c.take-participant.ensures.has c.take-participant.ensures.sees in
+    let found = out_of_box (key_of c.args.self.now.row) c.from-lock.result c.args.teller.now.seat c.take-participant.new.seat c.take-participant.result x c.deref_mut.ensures.value
+    c.take-participant.ensures.law c.take-participant.ensures.goes_on c.take-participant.ensures.has c.take-participant.ensures.sees in
     (x.slot.events, found.has, c.serve-answer.ensures.grows)
 
 pub give-requires-clause-law : goal.give-requires-clause-law
 give-requires-clause-law g c =
     let x = c.deref_mut.result.now in
-    let found = out_of_box (key_of c.args.self.now.row).words.value c.from-lock.result c.args.teller.now.seat c.take-participant.new.seat c.take-participant.result x c.deref_mut.ensures.value
-    c.take-participant.ensures.law.behind c.take-participant.ensures.goes_on c.take-participant.ensures.has c.take-participant.ensures.sees in
+    let found = out_of_box (key_of c.args.self.now.row) c.from-lock.result c.args.teller.now.seat c.take-participant.new.seat c.take-participant.result x c.deref_mut.ensures.value
+    c.take-participant.ensures.law c.take-participant.ensures.goes_on c.take-participant.ensures.has c.take-participant.ensures.sees in
     since_later (key_of c.args.self.now.row) c.from-lock.result c.take-participant.result x c.serve-answer.new.self c.deref_mut.ensures.value c.take-participant.ensures.law
-    (behind_later (key_of c.args.self.now.row).words.value c.from-lock.result x c.serve-answer.new.self found.law c.serve-answer.ensures.later c.serve-answer.ensures.ready)
+    (behind_later (key_of c.args.self.now.row).words.value c.from-lock.result x c.serve-answer.new.self found.law.behind c.serve-answer.ensures.later c.serve-answer.ensures.ready)
     (serve_carries c.args.ask.now x c.serve-answer.new.self c.serve-answer.result c.serve-answer.ensures.answered c.serve-answer.ensures.err)
 
 pub returns-in_err-answer-clause-knows : goal.returns-in_err-answer-clause-knows
@@ -40,8 +40,8 @@ returns-in_err-answer-clause-knows g c = still_knows c.args.teller.now c.take-pa
 pub returns-in_err-answer-clause-left : goal.returns-in_err-answer-clause-left
 returns-in_err-answer-clause-left g c =
     let x = c.deref_mut.result.now in
-    let found = out_of_box (key_of c.args.self.now.row).words.value c.from-lock.result c.args.teller.now.seat c.take-participant.new.seat c.take-participant.result x c.deref_mut.ensures.value
-    c.take-participant.ensures.law.behind c.take-participant.ensures.goes_on c.take-participant.ensures.has c.take-participant.ensures.sees in
+    let found = out_of_box (key_of c.args.self.now.row) c.from-lock.result c.args.teller.now.seat c.take-participant.new.seat c.take-participant.result x c.deref_mut.ensures.value
+    c.take-participant.ensures.law c.take-participant.ensures.goes_on c.take-participant.ensures.has c.take-participant.ensures.sees in
     let y = c.serve-answer.new.self in
     let same = subst (λ (r : Result (Reply × Option Place) AllocError). OnErr r (y.slot ≡ x.slot)) c.in_err-answer.was c.serve-answer.ensures.err in
     let serves = subst (λ (r : Result (Reply × Option Place) AllocError). OnErr r (Serves x c.args.ask.now (Err alloc_error) y)) c.in_err-answer.was c.serve-answer.ensures.left in
@@ -58,8 +58,8 @@ returns-clause-knows g c = still_knows c.args.teller.now c.take-participant.new.
 pub returns-clause-call : goal.returns-clause-call
 returns-clause-call g c =
     let x = c.deref_mut.result.now in
-    let found = out_of_box (key_of c.args.self.now.row).words.value c.from-lock.result c.args.teller.now.seat c.take-participant.new.seat c.take-participant.result x c.deref_mut.ensures.value
-    c.take-participant.ensures.law.behind c.take-participant.ensures.goes_on c.take-participant.ensures.has c.take-participant.ensures.sees in
+    let found = out_of_box (key_of c.args.self.now.row) c.from-lock.result c.args.teller.now.seat c.take-participant.new.seat c.take-participant.result x c.deref_mut.ensures.value
+    c.take-participant.ensures.law c.take-participant.ensures.goes_on c.take-participant.ensures.has c.take-participant.ensures.sees in
     let y = c.serve-answer.new.self in
     let ask = c.args.ask.now in
     let serves = subst (λ (r : Result (Reply × Option Place) AllocError). IfOk r (λ answer. Serves x ask (Ok answer.0) y)) c.in_ok-answer.was c.serve-answer.ensures.serves in
@@ -75,7 +75,7 @@ returns-clause-call g c =
 pub returns-clause-lock : goal.returns-clause-lock
 returns-clause-lock g c =
     let x = c.deref_mut.result.now in
-    let found = out_of_box (key_of c.args.self.now.row).words.value c.from-lock.result c.args.teller.now.seat c.take-participant.new.seat c.take-participant.result x c.deref_mut.ensures.value
-    c.take-participant.ensures.law.behind c.take-participant.ensures.goes_on c.take-participant.ensures.has c.take-participant.ensures.sees in
+    let found = out_of_box (key_of c.args.self.now.row) c.from-lock.result c.args.teller.now.seat c.take-participant.new.seat c.take-participant.result x c.deref_mut.ensures.value
+    c.take-participant.ensures.law c.take-participant.ensures.goes_on c.take-participant.ensures.has c.take-participant.ensures.sees in
     lock_of c.args.self.now c.from-lock.result x c.serve-answer.new.self c.follow_up-follow_up.result found.law c.serve-answer.ensures.later
     (subst (λ (z : Participant). IfSome c.follow_up-follow_up.result (λ f. is_participant z.slot.settings f.who ≡ true)) c.deref.ensures c.follow_up-follow_up.ensures.participant)

@@ -1,4 +1,4 @@
-use Rattle.std.proofs.Common.{ℕ, ◌<◌, ◌≡◌, sym, ap, ◌∙◌, subst, List}
+use Rattle.std.proofs.Common.{ℕ, ◌<◌, ◌≡◌, sym, ap, ◌∙◌, subst, List, inr}
 use mathlib.Core.List.{IsPrefix}
 use Rattle.inst_journal.specs.declared.event.Event.{Event}
 use Rattle.inst_row.specs.Row.{key_of}
@@ -6,6 +6,7 @@ use Rattle.inst_slot.specs.Book.{Book}
 use Rattle.inst_cell.specs.declared.sight.Sight.{Sight}
 use Rattle.std.specs.Prelude.{slice_get}
 use Rattle.inst_together.specs.Together.{histories}
+use Rattle.inst_hub.specs.Closing.{OneHasSeen}
 use Rattle.inst_hub.proofs.TakingApart.{at_one, sights_of_words, separate, goes_on, map_got}
 use Rattle.inst_hub.proofs.Gathering.{sight_of}
 use Rattle.inst_hub.proofs.hub.Hub.take_apart.Goals as goal
@@ -32,8 +33,15 @@ returns-clause-goes_on c = λ i t p seen at below saw.
     let h = c.args.self in
     let g = goes_on h c.gather-seat.result c.empty.new.slots.items c.empty.new.boards.items c.empty.ensures.taken p (subst (λ (n : ℕ). p < n) (sym h.sized) below) in
     let whole : histories c.unite.result.slots.items p ≡ g.0.events = ap (λ (l : List Book). histories l p) c.unite.ensures.slots ∙ g.1 in
-    subst (λ (J : List Event). IsPrefix seen J) (sym whole) (g.2 seen (c.gather-seat.ensures.seen i t p seen at saw))
+    subst (λ (J : List Event). IsPrefix seen J) (sym whole) (g.2 seen ((c.gather-seat.ensures.seen p seen).1 (i, t, at, saw)))
+
+pub returns-clause-last : goal.returns-clause-last
+returns-clause-last c = λ p below.
+    let h = c.args.self in
+    let g = goes_on h c.gather-seat.result c.empty.new.slots.items c.empty.new.boards.items c.empty.ensures.taken p (subst (λ (n : ℕ). p < n) (sym h.sized) below) in
+    let whole : histories c.unite.result.slots.items p ≡ g.0.events = ap (λ (l : List Book). histories l p) c.unite.ensures.slots ∙ g.1 in
+    subst (λ (J : List Event). OneHasSeen c.args.tellers.items p J) (sym whole) ((c.gather-seat.ensures.seen p g.0.events).0 g.3)
 
 pub returns-clause-knows : goal.returns-clause-knows
 returns-clause-knows c = λ i t f at kn.
-    c.unite.ensures.sights i t.sight f (ap (λ (l : List Sight). slice_get l i) c.gather-seat.ensures.sights ∙ map_got sight_of c.args.tellers.items i t at) kn
+    (c.unite.ensures.known f).1 (inr (i, t.sight, ap (λ (l : List Sight). slice_get l i) c.gather-seat.ensures.sights ∙ map_got sight_of c.args.tellers.items i t at, kn))

@@ -7,7 +7,7 @@ use Rattle.inst_journal.specs.Sound.{IsSound}
 use Rattle.inst_row.specs.declared.ended.Ended.{Ended}
 use Rattle.inst_row.specs.Ended.{Lies, IsOut}
 use Rattle.inst_row.specs.Row.{key_of, size}
-use Rattle.inst_row.specs.Seated.{GoesOn}
+use Rattle.inst_row.specs.Seated.{HasSeen, GoesOn}
 use Rattle.inst_hub.specs.Founding.{IsSince}
 use Rattle.inst_hub.specs.inner.Closing.{IsTakenOut}
 use Rattle.inst_participant.specs.declared.participant.Participant.{Participant}
@@ -38,8 +38,9 @@ loop-lock-preserved c =
     let value : v.0.value ≡ x = ap (λ (b : Box Participant). b.value) same ∙ sym inner in
     let since : IsSince (key_of c.args.row) p x = subst (λ (z : Participant). IsSince (key_of c.args.row) p z) value v.2 in
     let goes_on : GoesOn p x.slot.events c.args.seat = subst (λ (z : Participant). GoesOn p z.slot.events c.args.seat) value v.3 in
+    let seen : HasSeen p x.slot.events c.args.seat = subst (λ (z : Participant). HasSeen p z.slot.events c.args.seat) value v.4 in
     let sound : IsSound x.slot.settings x.slot.who x.slot.events = subst (λ (J : List Event). IsSound x.slot.settings x.slot.who J) c.journal.ensures.events c.journal.ensures.sound in
-    let new : IsTakenOut (key_of c.args.row) c.args.seat p x.slot x.board = record { since = since; sound = sound; goes_on = goes_on } in
+    let new : IsTakenOut (key_of c.args.row) c.args.seat p x.slot x.board = record { since = since; sound = sound; goes_on = goes_on; seen = seen } in
     record {
       locks = took.locks ∙ inv.locks;
       left = λ k y from lies. took.others k y (λ here. absurd (omega (arith, from, here))) (inv.left k y (omega (arith, from)) lies);

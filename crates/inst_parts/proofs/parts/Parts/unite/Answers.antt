@@ -1,4 +1,4 @@
-use Rattle.std.proofs.Common.{◌∙◌, sym, subst, List}
+use Rattle.std.proofs.Common.{◌∙◌, sym, subst, List, inl, inr, ⊎_elim}
 use Rattle.inst_slot.specs.Book.{Book}
 use Rattle.inst_cell.specs.Held.{settings_of, knows, has_role}
 use Rattle.inst_parts.specs.Parts.{AreParts}
@@ -24,5 +24,8 @@ returns-clause-parts c = λ words O sep.
     let m = parts_made words O c.args.settings c.deref.result.now c.args.boards.items c.join_all.result c.tell_all-board.result sep_too joined c.tell_all-board.ensures.told in
     record { settings_are = m.0; books = subst (λ (l : List Book). AreParts settings_of knows has_role c.tell_all-board.result O l) c.deref.ensures.value m.1 }
 
-pub returns-clause-boards : goal.returns-clause-boards
-returns-clause-boards c = λ p b f at kn. c.tell_all-board.ensures.told.kept f (c.join_all.ensures.boards p b f at kn)
+pub returns-clause-known : goal.returns-clause-known
+returns-clause-known c = λ f. (
+  λ kn. ⊎_elim (λ one. inl ((c.join_all.ensures.known f).0 one)) (λ seen. inr seen) ((c.tell_all-board.ensures.known f).0 kn),
+  λ one. (c.tell_all-board.ensures.known f).1 (⊎_elim (λ had. inl ((c.join_all.ensures.known f).1 had)) (λ seen. inr seen) one),
+)
