@@ -1,11 +1,13 @@
 -- The hub that was opened from copies of the books is the next one.
-use Rattle.std.proofs.Common.{◌≡◌, ℕ, arith, length, List, inl, inr, sym, ap, ◌∙◌, subst, ltb-false}
+use Rattle.std.proofs.Common.{◌≡◌, ℕ, arith, length, List, [], ◌∷◌, ◌++◌, inl, inr, sym, ap, ◌∙◌, subst, ltb-false}
 use Rattle.std.specs.Prelude.{nat_lt, Result, Ok, Err, IfOk}
 use Rattle.std.proofs.lemmas.Bool.{cases_Bool, ltb-true}
 use Rattle.inst_base.specs.declared.fault.Fault.{Fault}
 use Rattle.inst_base.specs.declared.fault.Fault.TheVariants.{BadSettings}
-use Rattle.inst_settings.specs.Settings.{HubSettings}
+use Rattle.inst_settings.specs.Settings.{HubSettings, participants}
 use Rattle.inst_cell.specs.Opening.{MayOpen}
+use Rattle.inst_journal.specs.declared.event.Event.{Event}
+use Rattle.inst_journal.specs.declared.event.Event.TheVariants.{Opened}
 use Rattle.inst_journal.specs.History.{History}
 use Rattle.inst_journal.specs.Opened.{HasOpeningsLeft}
 use Rattle.inst_model.specs.Opening.{BooksCanOpen}
@@ -14,16 +16,25 @@ use Rattle.inst_slot.specs.Book.{Book}
 use Rattle.inst_world.specs.NextOpening.{books_of, CanOpenFrom}
 use Rattle.inst_together.specs.Together.{histories}
 use Rattle.inst_together.specs.Wider.{widened}
+use Rattle.inst_row.specs.declared.view.Front.{Front}
+use Rattle.inst_row.specs.Row.{row_id, key_of}
 use Rattle.inst_hub.specs.declared.hub.Hub.{Hub}
+use Rattle.inst_hub.specs.declared.teller.Teller.{Teller}
+use Rattle.inst_hub.specs.Calls.{AreOf}
 use Rattle.inst_hub.specs.Founding.{HasOpened}
+use Rattle.inst_hub.specs.NextOpening.{histories_from}
+use Rattle.inst_hub.specs.Opening.{AreNew, HaveAllParts, first_fronts}
 use Rattle.inst_close.specs.ClosedHub.{ClosedHub, IsClosed}
-use Rattle.inst_close.specs.Closing.{IsNextOf}
+use Rattle.inst_close.specs.Closing.{IsNextOf, AreNextTellers, next_fronts}
 use Rattle.inst_close.specs.inner.NextOpening.{AreCopiesAnd}
 use Rattle.inst_close.proofs.Copying.{can_open_wider}
 
 pub if_both : {A E : Type 0} (r : Result A E) (P Q R : A → Type 0) → ((v : A) → P v → Q v → R v) → IfOk r P → IfOk r Q → IfOk r R
 if_both (Ok v) P Q R f p q = f v p q
 if_both (Err e) P Q R f p q = tt
+
+pub both : {A E : Type 0} (r : Result A E) (P Q : A → Type 0) → IfOk r P → IfOk r Q → IfOk r (λ v. P v × Q v)
+both r P Q p q = if_both r P Q (λ v. P v × Q v) (λ v x y. (x, y)) p q
 
 -- the settings and the copies, as they were handed on, and what they were made of
 pub widened_as : (closed : ClosedHub) (codes given : List (List ℕ)) (base s : HubSettings) → base ≡ closed.settings → given ≡ codes → s ≡ widened base given → s ≡ widened closed.settings codes
@@ -42,6 +53,13 @@ next_is books journals s h can same settings_are opened = record {
   same = same;
   opened = (subst (λ (t : HubSettings). BooksCanOpen t (books_of journals)) (sym settings_are) can.books, opened);
 }
+
+pub next_tellers : (books : List Book) (journals : List History) (s : HubSettings) (h : Hub) (tellers : List Teller) → ((p : ℕ) → books_of journals p ≡ histories books p) → h.settings ≡ s
+    → AreOf h tellers → HaveAllParts tellers → AreNew (row_id h.row) (key_of h.row) (first_fronts (participants s) (histories_from journals)) tellers → AreNextTellers books h tellers
+next_tellers books journals s h tellers same settings_are of parts new =
+    let fronts : first_fronts (participants s) (histories_from journals) ≡ next_fronts books (participants s) = λ k. first_fronts (participants s) (λ p. same p k ++ Opened ∷ []) in
+    let those : first_fronts (participants s) (histories_from journals) ≡ next_fronts books (participants h.settings) = fronts ∙ ap (λ (t : HubSettings). next_fronts books (participants t)) (sym settings_are) in
+    record { of = of; parts = parts; new = subst (λ (fs : List (Front Event)). AreNew (row_id h.row) (key_of h.row) fs tellers) those new }
 
 pub seats_if_ok : {A : Type 0} (r : Result A Fault) (tellers : ℕ) → ((MayOpen tellers → ⊥) → r ≡ Err BadSettings) → IfOk r (λ v. MayOpen tellers)
 seats_if_ok (Err e) tellers bad = tt

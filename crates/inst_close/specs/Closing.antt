@@ -1,6 +1,6 @@
--- What is left of a hub when it closes, seen from its tellers: the books go on from all that they have seen, and tell all
--- that they knew. This hub's own choice.
-use Rattle.std.specs.Prelude.{◌≡◌, ◌≢◌, ℕ, ◌<◌, List, slice_get, Some}
+-- What is left of a hub when it closes, seen from its tellers: the books go on from all that they have seen, with nothing
+-- but deliveries and learnings, and tell all that they knew. This hub's own choice.
+use Rattle.std.specs.Prelude.{◌≡◌, ◌≢◌, ℕ, ◌<◌, List, [], ◌∷◌, ◌++◌, slice_get, Some}
 use mathlib.Core.List.{IsPrefix}
 use Rattle.inst_settings.specs.Settings.{participants}
 use Rattle.inst_command.specs.declared.outcome.Outcome.{Outcome}
@@ -12,10 +12,14 @@ use Rattle.inst_board.specs.declared.about.Fact.{Fact}
 use Rattle.inst_board.specs.Standing.{about}
 use Rattle.inst_cell.specs.Held.{knows}
 use Rattle.inst_journal.specs.declared.event.Event.{Event}
+use Rattle.inst_journal.specs.declared.event.Event.TheVariants.{Opened as AnOpening}
 use Rattle.inst_journal.specs.Opened.{carried}
+use Rattle.inst_model.specs.Closing.{OnlyTold}
 use Rattle.inst_model.specs.Opening.{Opening, FromBooks, IsOpening, beginning}
 use Rattle.inst_slot.specs.Book.{Book}
 use Rattle.inst_together.specs.Together.{histories}
+use Rattle.inst_row.specs.declared.view.Front.{Front}
+use Rattle.inst_row.specs.Row.{row_id, key_of}
 use Rattle.inst_row.specs.Seated.{HasSeen}
 use Rattle.inst_together.specs.Told.{told, IsTakenWith}
 use Rattle.inst_parts.specs.declared.parts.Parts.{Parts}
@@ -23,7 +27,8 @@ use Rattle.inst_parts.specs.Apart.{IsPartsOf, histories_of, board_of, hub_of}
 use Rattle.inst_hub.specs.declared.hub.Hub.{Hub}
 use Rattle.inst_hub.specs.declared.teller.Teller.{Teller}
 use Rattle.inst_hub.specs.Calls.{knows_of, AreOf}
-use Rattle.inst_hub.specs.Opening.{HaveAllParts}
+use Rattle.inst_hub.specs.Closing.{OneHasSeen}
+use Rattle.inst_hub.specs.Opening.{HaveAllParts, AreNew, first_fronts}
 use Rattle.inst_hub.specs.Founding.{HasOpened}
 use Rattle.inst_close.specs.declared.closing.Rest.{Rest}
 use Rattle.inst_close.specs.declared.closing.Rest.TheVariants.{Whole, Apart}
@@ -44,6 +49,10 @@ abbrev pub GoOnFrom : List Teller → ℕ → (ℕ → List Event) → Type 0
 GoOnFrom tellers n J = (i : ℕ) (t : Teller) (p : ℕ) (h : List Event) → slice_get tellers i ≡ Some t → p < n →
     HasSeen p h t.seat → IsPrefix h (J p)
 
+-- each history of n participants is one that one of the tellers has seen, and then deliveries and learnings alone
+abbrev pub AreOnlyTold : List Teller → ℕ → (ℕ → List Event) → Type 0
+AreOnlyTold tellers n J = (p : ℕ) → p < n → (h : List Event) × OneHasSeen tellers p h × OnlyTold h (J p)
+
 -- the books tell all that the teller knew of the place
 pub record IsToldAs (t : Teller) (J : ℕ → List Event) (k : Place) : Type 0 where
   pub used : told J k ≢ Unused
@@ -59,6 +68,7 @@ pub record AreOfHub (h : Hub) (tellers : List Teller) (parts : Parts) : Type 0 w
   pub settings : hub_of parts ≡ h.settings
   pub opened : (O : Opening) → IsOpenedSo O h → IsPartsOf O parts
   pub goes_on : GoOnFrom tellers (participants h.settings) (histories_of parts)
+  pub only_told : AreOnlyTold tellers (participants h.settings) (histories_of parts)
   pub knows : (i : ℕ) (t : Teller) (f : Fact) → slice_get tellers i ≡ Some t → knows_of t f → knows (board_of parts) f
 
 -- what is left of the hub with these tellers: they as they were, or its parts
@@ -79,6 +89,7 @@ pub record IsClosedFrom (h : Hub) (tellers : List Teller) (books : ClosedHub) : 
   pub settings : books.settings ≡ h.settings
   pub opened : (O : Opening) → IsOpenedSo O h → HaveOpened O books
   pub goes_on : GoOnFrom tellers (participants h.settings) (histories books.books)
+  pub only_told : AreOnlyTold tellers (participants h.settings) (histories books.books)
   pub told : TellAll tellers (histories books.books)
 
 -- the hub was opened from these books
@@ -86,3 +97,14 @@ pub record IsNextOf (books : List Book) (h : Hub) : Type 0 where
   pub from : ℕ → List Event
   pub same : (p : ℕ) → from p ≡ histories books p
   pub opened : IsOpenedSo (FromBooks from) h
+
+-- what is seen of the books once n participants have opened again
+abbrev pub next_fronts : List Book → ℕ → List (Front Event)
+next_fronts books n = first_fronts n (λ p. histories books p ++ AnOpening ∷ [])
+
+-- the tellers of a hub that was opened from these books: they have all parts of its row, have seen each book with an
+-- opening, and know of no place
+pub record AreNextTellers (books : List Book) (h : Hub) (tellers : List Teller) : Type 0 where
+  pub of : AreOf h tellers
+  pub parts : HaveAllParts tellers
+  pub new : AreNew (row_id h.row) (key_of h.row) (next_fronts books (participants h.settings)) tellers

@@ -14,7 +14,7 @@ ghost use Rattle.inst_hub.specs.declared.teller.Teller.{Teller};
 ghost use Rattle.inst_hub.specs.Calls.{AreOf};
 ghost use Rattle.inst_hub.specs.Opening.{HaveAllParts};
 ghost use Rattle.inst_parts.specs.Apart.{IsPartsOf, histories_of, board_of, hub_of};
-ghost use Rattle.inst_close.specs.Closing.{IsOpenedSo, HaveOpened, GoOnFrom, TellAll, IsLeftOf, MayClose, IsClosedFrom, rest_of};
+ghost use Rattle.inst_close.specs.Closing.{IsOpenedSo, HaveOpened, GoOnFrom, AreOnlyTold, TellAll, IsLeftOf, MayClose, IsClosedFrom, rest_of};
 ghost use Rattle.inst_close.specs.inner.Closing.{IsPartly};
 
 use crate::Books;
@@ -48,9 +48,9 @@ impl fmt::Debug for CloseFault {
     }
 }
 
-/// The books of the hub, once each participant has booked and got what there is for it. They were opened as the hub was,
-/// go on from all that the tellers have seen, and tell all that these knew. It waits for no lock, since nobody else has
-/// the hub. `Memory` hands back what is left of the hub.
+/// The books of the hub, once each participant has booked and got what there is for it, and nothing else. They were opened
+/// as the hub was, go on from all that the tellers have seen, and tell all that these knew. It waits for no lock, since
+/// nobody else has the hub. `Memory` hands back what is left of the hub.
 pub fn close(alloc: Global, hub: Hub, tellers: Vec<Teller>) -> Result<Books, CloseFault>
     requires of { AreOf hub tellers.items }
     requires parts { HaveAllParts tellers.items }
@@ -58,9 +58,9 @@ pub fn close(alloc: Global, hub: Hub, tellers: Vec<Teller>) -> Result<Books, Clo
     ensures settings { IfOk result (λ books. books.settings ≡ hub.settings) }
     ensures opened { IfOk result (λ books. (O : Opening) → IsOpenedSo O hub → HaveOpened O books) }
     ensures goes_on { IfOk result (λ books. GoOnFrom tellers.items (participants hub.settings) (histories books.books)) }
+    ensures only_told { IfOk result (λ books. AreOnlyTold tellers.items (participants hub.settings) (histories books.books)) }
     ensures told { IfOk result (λ books. TellAll tellers.items (histories books.books)) }
-    ensures left { IfErr result (λ e. IsLeftOf hub tellers.items (rest_of e)) }
-    ensures again { IfErr result (λ e. MayClose (rest_of e)) }
+    ensures left { IfErr result (λ e. IsLeftOf hub tellers.items (rest_of e) × MayClose (rest_of e)) }
 {
     match hub.take_apart(alloc, tellers) {
         Ok(parts) => close_parts(parts),

@@ -3,11 +3,9 @@ ghost use Rattle.std.specs.Prelude.{◌≡◌, ◌⊎◌, [], ℕ, true, false, 
 ghost use Rattle.inst_journal.specs.Opened.{HasOpeningsLeft};
 ghost use Rattle.inst_together.specs.Together.{histories};
 ghost use Rattle.inst_together.specs.Wider.{widened};
-ghost use Rattle.inst_hub.specs.Calls.{AreOf};
-ghost use Rattle.inst_hub.specs.Opening.{HaveAllParts};
 ghost use Rattle.inst_close.specs.NextOpening.{MayOpenWider};
 ghost use Rattle.inst_close.specs.inner.NextOpening.{AreCopies, AreCopiesAnd};
-ghost use Rattle.inst_close.specs.Closing.{IsNextOf};
+ghost use Rattle.inst_close.specs.Closing.{IsNextOf, AreNextTellers};
 
 use crate::Books;
 use crate::widening::widened;
@@ -52,14 +50,12 @@ impl Books {
         true
     }
 
-    /// The hub of the next opening, with as many tellers as are wanted: what was pending goes on, what was decided gives
-    /// its place back. The books stay as they are. `BadSettings` where the tellers are not 1 to 16 or a book can't be
-    /// opened from once more, `Memory` where there is no room.
+    /// The hub of the next opening, with as many tellers as are wanted, which have seen each book with an opening after it.
+    /// What was pending goes on, what was decided gives its place back. The books stay as they are. `BadSettings` where the
+    /// tellers are not 1 to 16 or a book can't be opened from once more, `Memory` where there is no room.
     pub fn open_next(&self, alloc: Global, tellers: u8) -> Result<(Hub, Vec<Teller>), Fault>
         ensures settings { IfOk result (λ r. r.0.settings ≡ self.now.settings) }
-        ensures enough { IfOk result (λ r. length r.1.items ≡ tellers) }
-        ensures of { IfOk result (λ r. AreOf r.0 r.1.items) }
-        ensures parts { IfOk result (λ r. HaveAllParts r.1.items) }
+        ensures tellers { IfOk result (λ r. (length r.1.items ≡ tellers) × AreNextTellers self.now.books r.0 r.1.items) }
         ensures opened { IfOk result (λ r. IsNextOf self.now.books r.0) }
         ensures may { IfOk result (λ r. MayOpenWider self.now [] tellers) }
         ensures bad { result ≡ Err Fault.BadSettings → ¬ MayOpenWider self.now [] tellers }
@@ -78,9 +74,7 @@ impl Books {
         tellers: u8,
     ) -> Result<(Hub, Vec<Teller>), Fault>
         ensures settings { IfOk result (λ r. r.0.settings ≡ widened self.now.settings codes.items) }
-        ensures enough { IfOk result (λ r. length r.1.items ≡ tellers) }
-        ensures of { IfOk result (λ r. AreOf r.0 r.1.items) }
-        ensures parts { IfOk result (λ r. HaveAllParts r.1.items) }
+        ensures tellers { IfOk result (λ r. (length r.1.items ≡ tellers) × AreNextTellers self.now.books r.0 r.1.items) }
         ensures opened { IfOk result (λ r. IsNextOf self.now.books r.0) }
         ensures may { IfOk result (λ r. MayOpenWider self.now codes.items tellers) }
         ensures bad { result ≡ Err Fault.BadSettings → ¬ MayOpenWider self.now codes.items tellers }

@@ -8,9 +8,9 @@ use Rattle.inst_world.specs.NextOpening.{CanOpenFrom, books_of}
 use Rattle.inst_together.specs.Together.{histories}
 use Rattle.inst_parts.proofs.Parted.{if_ok}
 use Rattle.inst_together.specs.Wider.{widened}
-use Rattle.inst_close.specs.Closing.{IsNextOf}
+use Rattle.inst_close.specs.Closing.{IsNextOf, AreNextTellers}
 use Rattle.inst_close.specs.NextOpening.{MayOpenWider}
-use Rattle.inst_close.proofs.Reopened.{if_both, widened_as, can_open_as, next_is, seats_if_ok}
+use Rattle.inst_close.proofs.Reopened.{if_both, both, widened_as, can_open_as, next_is, next_tellers, seats_if_ok}
 use Rattle.inst_close.proofs.books.Books.open_wider.Goals as goal
 use Rattle.inst_close.proofs.books.Books.open_wider.Goals.{After-deref-2}
 
@@ -27,11 +27,25 @@ can_open c =
 pub open_from-requires : goal.open_from-requires
 open_from-requires c = record { journals = can_open c }
 
+copied : (c : After-deref-2) (p : ℕ) → books_of c.deref-2.result.now p ≡ histories c.args.self.now.books p
+copied c p = ap (λ (l : List History). books_of l p) c.deref-2.ensures.value ∙ c.in_ok-journals.ensures.ok.same p
+
+pub returns-clause-tellers : goal.returns-clause-tellers
+returns-clause-tellers c =
+    let here = (goal.at.returns-clause-tellers c).After-deref-2 in
+    if_both c.open_from.result _ _ (λ r. (length r.1.items ≡ c.args.tellers) × AreNextTellers c.args.self.now.books r.0 r.1.items)
+    (λ r enough rest. (enough, rest))
+    c.open_from.ensures.enough
+    (if_both c.open_from.result _ _ (λ r. AreNextTellers c.args.self.now.books r.0 r.1.items)
+    (λ r settings_are rest. next_tellers c.args.self.now.books c.deref-2.result.now c.in_ok-settings.settings r.0 r.1.items (copied here) settings_are rest.0 rest.1.0 rest.1.1)
+    c.open_from.ensures.settings
+    (both c.open_from.result _ _ c.open_from.ensures.of (both c.open_from.result _ _ c.open_from.ensures.parts c.open_from.ensures.new)))
+
 pub returns-clause-opened : goal.returns-clause-opened
 returns-clause-opened c =
     let books = c.args.self.now.books in
     let journals = c.deref-2.result.now in
-    let same : (p : ℕ) → books_of journals p ≡ histories books p = λ p. ap (λ (l : List History). books_of l p) c.deref-2.ensures.value ∙ c.in_ok-journals.ensures.ok.same p in
+    let same = copied (goal.at.returns-clause-opened c).After-deref-2 in
     if_both c.open_from.result _ _ (λ r. IsNextOf books r.0)
     (λ r settings_are opened. next_is books journals c.in_ok-settings.settings r.0 (can_open (goal.at.returns-clause-opened c).After-deref-2) same settings_are opened)
     c.open_from.ensures.settings c.open_from.ensures.opened
