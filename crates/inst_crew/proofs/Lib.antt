@@ -1,4 +1,5 @@
 pub mod Seeing
+pub mod Serving
 pub mod Working
 pub mod Pairing
 pub mod Gathered

@@ -17,7 +17,8 @@ use Rattle.inst_crew.specs.declared.worker.Worker.{Worker}
 use Rattle.inst_crew.specs.Crew.{fitting, answered_between}
 use Rattle.inst_crew.specs.Later.{Pairs, IsLaterHand, IsLaterTeller}
 use Rattle.inst_crew.specs.Seen.{IsSeen, AreSeenByOne}
-use Rattle.inst_crew.specs.inner.Workers.{hands_of, tellers_of, states_of, IsReady, AreReady, Works, AllWork}
+use Rattle.inst_crew.specs.Served.{AreServed}
+use Rattle.inst_crew.specs.inner.Workers.{hands_of, tellers_of, states_of, IsReady, AreReady, Works, HasEnded, AllWork}
 use Rattle.inst_crew.proofs.Working.{fitting_both, fitting_prefix}
 
 pub first_is : {X : Type 0} (xs : List X) (x y : X) → slice_get (x ∷ xs) 0 ≡ Some y → x ≡ y
@@ -42,7 +43,7 @@ all_ready hub d (x ∷ xs) hands tellers zero w at = subst (λ (y : Worker). IsR
 all_ready hub d (x ∷ xs) hands tellers (suc i) w at = all_ready hub d xs (λ j h e. hands (suc j) h e) (λ j t e. tellers (suc j) t e) i w at
 
 -- the results of workers that all came to their end
-pub pairs_from : (hub : Hub) (d : Desk) (ws : List Worker) (ss : List Shift) → AllWork hub d ws (map Ok ss) → Pairs (Works hub d) ws ss
+pub pairs_from : (hub : Hub) (d : Desk) (ws : List Worker) (ss : List Shift) → AllWork hub d ws (map Ok ss) → Pairs (HasEnded hub d) ws ss
 pairs_from hub d [] [] all = tt
 pairs_from hub d [] (s ∷ ss) all = let e = all.enough in absurd (omega arith)
 pairs_from hub d (w ∷ ws) [] all = let e = all.enough in absurd (omega arith)
@@ -50,6 +51,28 @@ pairs_from hub d (w ∷ ws) (s ∷ ss) all = (
   all.each 0 w (Ok s) refl refl,
   pairs_from hub d ws ss record { enough = (let e = all.enough in omega arith); each = λ i v r at at'. all.each (suc i) v r at at' },
 )
+
+-- what they did until their end
+pub pairs_work : (hub : Hub) (d : Desk) (ws : List Worker) (ss : List Shift) → Pairs (HasEnded hub d) ws ss → Pairs (Works hub d) ws ss
+pairs_work hub d [] [] p = tt
+pairs_work hub d [] (s ∷ ss) p = absurd p
+pairs_work hub d (w ∷ ws) [] p = absurd p
+pairs_work hub d (w ∷ ws) (s ∷ ss) p = (p.0.works, pairs_work hub d ws ss p.1)
+
+-- the jobs that they served, where there may be more tellers
+pub all_served : (hub : Hub) (d : Desk) (ws : List Worker) (ss : List Shift) (more : List Teller) → Pairs (HasEnded hub d) ws ss
+    → AreServed hub (hands_of ws) (map (λ s. s.hand) ss) (tellers_of ws) (map (λ s. s.teller) ss ++ more) (states_of ss)
+all_served hub d [] [] more p = refl
+all_served hub d [] (s ∷ ss) more p = absurd p
+all_served hub d (w ∷ ws) [] more p = absurd p
+all_served hub d (w ∷ ws) (s ∷ ss) more p =
+    let served = p.0.works.served in (
+      s.states.items,
+      states_of ss,
+      refl,
+      record { jobs = served.0; taken = served.1; serves = served.2; emptied = p.0.emptied },
+      all_served hub d ws ss more p.1,
+    )
 
 pub pairs_hands : (hub : Hub) (d : Desk) (ws : List Worker) (ss : List Shift) → Pairs (Works hub d) ws ss → Pairs (IsLaterHand d) (hands_of ws) (map (λ s. s.hand) ss)
 pairs_hands hub d [] [] p = tt

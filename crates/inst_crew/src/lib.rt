@@ -4,6 +4,7 @@
 
 mod crew;
 mod gathering;
+mod meeting;
 mod running;
 mod shift;
 mod sweep;

@@ -4,12 +4,12 @@ ghost use Rattle.inst_desk.specs.Desk.{AreHandsOf, parts_of};
 ghost use Rattle.inst_hub.specs.Calls.{AreOf};
 ghost use Rattle.inst_hub.specs.Opening.{parts_of as parts_of_tellers};
 ghost use Rattle.inst_crew.specs.Later.{Pairs, IsLaterHand, IsLaterTeller};
-ghost use Rattle.inst_crew.specs.Crew.{MaySweep, sweeper_of, answered_between};
-ghost use Rattle.inst_crew.specs.Seen.{AreSeenByOne};
-ghost use Rattle.inst_crew.specs.inner.Workers.{IsReady, AreReady, Works, AllWork};
+ghost use Rattle.inst_crew.specs.Crew.{MaySweep, sweeper_of, IsSwept, HasWorked};
+ghost use Rattle.inst_crew.specs.inner.Workers.{IsReady, AreReady, HasEnded, AllWork};
 
 use crate::crew::Crew;
 use crate::gathering::gather;
+use crate::meeting::Meeting;
 use crate::shift::{Shift, work};
 use crate::sweep::{Sweep, sweep_if};
 use crate::worker::{Worker, workers};
@@ -26,6 +26,7 @@ fn work_all<R: Threads + Wait + Sync, G: Gate + Sync>(
     hub: &Hub,
     desk: &Desk,
     gate: &G,
+    meeting: &Meeting,
     workers: Vec<Worker>,
 ) -> Result<Vec<Result<Shift, AllocError>>, AllocError>
     requires { AreReady hub.now desk.now workers.items }
@@ -36,8 +37,8 @@ fn work_all<R: Threads + Wait + Sync, G: Gate + Sync>(
         workers,
         &|worker: Worker| -> Result<Shift, AllocError>
             requires { IsReady hub.now desk.now worker }
-            ensures works { IfOk result (Works hub.entry.now desk.entry.now worker) }
-        { work(rt, alloc, hub, desk, gate, worker) },
+            ensures { IfOk result (HasEnded hub.entry.now desk.entry.now worker) }
+        { work(rt, alloc, hub, desk, gate, meeting, worker) },
     )
 }
 
@@ -48,6 +49,7 @@ fn start<R: Threads + Wait + Sync, G: Gate + Sync>(
     hub: &Hub,
     desk: &Desk,
     gate: &G,
+    meeting: &Meeting,
     workers: Vec<Worker>,
     sweep: Option<Sweep>,
 ) -> (
@@ -57,18 +59,18 @@ fn start<R: Threads + Wait + Sync, G: Gate + Sync>(
     requires ready { AreReady hub.now desk.now workers.items }
     requires sweep { IfSome sweep (MaySweep hub.now) }
     ensures worked { IfOk result.0 (λ all. AllWork hub.now desk.now workers.items all.items) }
-    ensures swept { IfOk result.1 (λ teller. Pairs (IsLaterTeller hub.now) (sweeper_of sweep) (option_to_list teller)) }
+    ensures swept { IfOk result.1 (IsSwept hub.now sweep) }
 {
     thread::join(
         rt,
         move || -> Result<Vec<Result<Shift, AllocError>>, AllocError>
             requires { AreReady hub.now desk.now workers.items }
             ensures all { IfOk result (λ all. AllWork hub.entry.now desk.entry.now workers.items all.items) }
-        { work_all(rt, alloc, hub, desk, gate, workers) },
+        { work_all(rt, alloc, hub, desk, gate, meeting, workers) },
         move || -> Result<Option<Teller>, AllocError>
             requires { IfSome sweep (MaySweep hub.now) }
-            ensures later { IfOk result (λ teller. Pairs (IsLaterTeller hub.entry.now) (sweeper_of sweep) (option_to_list teller)) }
-        { sweep_if(rt, hub, sweep) },
+            ensures { IfOk result (IsSwept hub.entry.now sweep) }
+        { sweep_if(rt, hub, meeting, sweep) },
     )
 }
 
@@ -110,13 +112,13 @@ pub fn run_crew<R: Threads + Wait + Sync, G: Gate + Sync>(
     ensures tellers { IfOk result (λ crew. Pairs (IsLaterTeller hub.now) (tellers.items ++ sweeper_of sweep) crew.tellers.items) }
     ensures of { IfOk result (λ crew. AreHandsOf desk.now crew.hands.items × AreOf hub.now crew.tellers.items) }
     ensures enough { IfOk result (λ crew. (length crew.hands.items ≡ length hands.items) × (length crew.tellers.items ≡ length tellers.items + length (sweeper_of sweep))) }
-    ensures parts { IfOk result (λ crew. sum_by parts_of crew.hands.items ≡ sum_by parts_of hands.items) }
-    ensures row { IfOk result (λ crew. parts_of_tellers crew.tellers.items ≡ parts_of_tellers (tellers.items ++ sweeper_of sweep)) }
-    ensures answered { IfOk result (λ crew. crew.answered ≡ answered_between hub.now.settings hands.items crew.hands.items) }
-    ensures states { IfOk result (λ crew. AreSeenByOne crew.tellers.items crew.states.items) }
+    ensures parts { IfOk result (λ crew. (sum_by parts_of crew.hands.items ≡ sum_by parts_of hands.items)
+        × (parts_of_tellers crew.tellers.items ≡ parts_of_tellers (tellers.items ++ sweeper_of sweep))) }
+    ensures worked { IfOk result (HasWorked hub.now hands.items tellers.items sweep) }
 {
     let workers = workers(alloc, hands, tellers)?;
-    let (worked, swept) = start(rt, alloc, hub, desk, gate, workers, sweep);
+    let meeting = Meeting::new(&sweep);
+    let (worked, swept) = start(rt, alloc, hub, desk, gate, &meeting, workers, sweep);
     let results = worked?;
     let crew = gather(alloc, results)?;
     let sweeper = swept?;

@@ -1,14 +1,16 @@
 //! What a worker of a crew does.
-ghost use Rattle.std.specs.Prelude.{◌≡◌, ◌+◌, ◌^◌, ◌-◌, min, true, [], IfOk, OnOk};
+ghost use Rattle.std.specs.Prelude.{◌≡◌, ◌+◌, ◌^◌, ◌-◌, ◌∷◌, ◌++◌, min, true, false, [], Ok, IfOk, OnOk};
 ghost use Rattle.inst_command.specs.Ask.{ask_fits};
 ghost use Rattle.inst_board.specs.declared.about.About.TheVariants.{Opened};
 ghost use Rattle.inst_board.specs.Standing.{about};
-ghost use Rattle.inst_desk.specs.Desk.{IsHandOf};
+ghost use Rattle.inst_command.specs.declared.outcome.State.{State as SomeState};
+ghost use Rattle.inst_desk.specs.Desk.{IsHandOf, WasEmpty};
 ghost use Rattle.inst_hub.specs.Calls.{IsOf, KnowsMore, knows_of};
 ghost use Rattle.inst_crew.specs.declared.worker.Worker.{Worker};
 ghost use Rattle.inst_crew.specs.inner.Seen.{AreSeen};
-ghost use Rattle.inst_crew.specs.inner.Workers.{IsReady, Works};
+ghost use Rattle.inst_crew.specs.inner.Workers.{IsReady, Works, HasEnded, ServesOne};
 
+use crate::meeting::Meeting;
 use crate::worker::Worker;
 use inst_base::mention;
 use inst_command::{Ask, Outcome, State};
@@ -52,6 +54,7 @@ impl Shift {
         ensures knows { KnowsMore self.old.teller self.new.teller }
         ensures answered { self.new.answered ≡ self.old.answered }
         ensures seen { OnOk result (AreSeen self.new.teller self.new.states.items) }
+        ensures noted { OnOk result ((state : SomeState) × (self.new.states.items ≡ self.old.states.items ++ (ticket, state) ∷ [])) }
     {
         mention::<Outcome>();
         let state = self.teller.peek(&ticket);
@@ -74,6 +77,7 @@ impl Shift {
         ensures knows { KnowsMore self.old.teller self.new.teller }
         ensures answered { OnOk result (self.new.answered ≡ min (self.old.answered + 1) (2 ^ 64 - 1)) }
         ensures seen { OnOk result (AreSeen self.new.teller self.new.states.items) }
+        ensures served { OnOk result (ServesOne hub.now ask.now self.old self.new) }
     {
         let (_, ticket) = hub.call_with(rt, &mut self.teller, ask, gate)?;
         self.answered = self.answered.saturating_add(1);
@@ -90,17 +94,21 @@ impl Shift {
         hub: &Hub,
         desk: &Desk,
         gate: &G,
+        meeting: &Meeting,
     ) -> Result<bool, AllocError>
         requires hand { IsHandOf desk.now self.old.hand }
         requires teller { IsOf hub.now self.old.teller }
         requires seen { AreSeen self.old.teller self.old.states.items }
         ensures works { OnOk result ((w : Worker) → Works hub.now desk.now w self.old → Works hub.now desk.now w self.new) }
+        ensures emptied { result ≡ Ok false → WasEmpty self.new.hand }
     {
         let Some(job) = desk.take(rt, &mut self.hand) else {
             return Ok(false);
         };
         if job.ask.fits(hub.settings()) {
+            meeting.come();
             self.serve(rt, hub, &job.ask, gate)?;
+            meeting.count();
         }
         Ok(true)
     }
@@ -113,14 +121,15 @@ pub(crate) fn work<R: Wait, G: Gate>(
     hub: &Hub,
     desk: &Desk,
     gate: &G,
+    meeting: &Meeting,
     worker: Worker,
 ) -> Result<Shift, AllocError>
     requires { IsReady hub.now desk.now worker }
-    ensures works { IfOk result (Works hub.now desk.now worker) }
+    ensures { IfOk result (HasEnded hub.now desk.now worker) }
 {
     let mut shift = Shift::begin(alloc, worker);
     for _ in rt.forever() {
-        if !shift.turn(rt, hub, desk, gate)? {
+        if !shift.turn(rt, hub, desk, gate, meeting)? {
             return Ok(shift);
         }
     }

@@ -5,7 +5,9 @@ use Rattle.inst_board.specs.declared.place.Place.{Place}
 use Rattle.inst_command.specs.declared.outcome.State.{State}
 use Rattle.inst_desk.specs.declared.desk.Desk.{Desk}
 use Rattle.inst_desk.specs.declared.hand.Hand.{Hand}
-use Rattle.inst_desk.specs.Desk.{IsHandOf, taken_of}
+use Rattle.inst_command.specs.declared.ask.Ask.{Ask}
+use Rattle.inst_desk.specs.declared.job.Job.{Job}
+use Rattle.inst_desk.specs.Desk.{IsHandOf, taken_of, WasEmpty}
 use Rattle.inst_hub.specs.declared.hub.Hub.{Hub}
 use Rattle.inst_hub.specs.declared.teller.Teller.{Teller}
 use Rattle.inst_hub.specs.Calls.{IsOf}
@@ -14,6 +16,7 @@ use Rattle.inst_crew.specs.declared.shift.Shift.{Shift}
 use Rattle.inst_crew.specs.declared.worker.Worker.{Worker}
 use Rattle.inst_crew.specs.Crew.{fitting}
 use Rattle.inst_crew.specs.Later.{IsLaterHand, IsLaterTeller}
+use Rattle.inst_crew.specs.Served.{IsServed, Serves}
 use Rattle.inst_crew.specs.inner.Seen.{AreSeen}
 
 abbrev pub hands_of : List Worker → List Hand
@@ -30,17 +33,31 @@ pub record IsReady (hub : Hub) (d : Desk) (w : Worker) : Type 0 where
 abbrev pub AreReady : Hub → Desk → List Worker → Type 0
 AreReady hub d workers = (i : ℕ) (w : Worker) → slice_get workers i ≡ Some w → IsReady hub d w
 
+-- from s to r the ask was put to the hub, and what was seen of its transfer kept
+abbrev pub ServesOne : Hub → Ask → Shift → Shift → Type 0
+ServesOne hub ask s r = (more : List (Place × State)) × (r.states.items ≡ s.states.items ++ more) × IsServed hub ask s.teller r.teller more
+
+-- the jobs that the worker's hand took more were served
+abbrev pub ServesAll : Hub → Worker → Shift → Type 0
+ServesAll hub w s = (jobs : List Job) × (taken_of s.hand ≡ taken_of w.hand ++ jobs) × Serves hub jobs w.teller s.teller s.states.items
+
 -- from this worker on, this was done: the jobs that its hand took more and that fit are answered, and what it saw is known
 pub record Works (hub : Hub) (d : Desk) (w : Worker) (s : Shift) : Type 0 where
   pub hand : IsLaterHand d w.hand s.hand
   pub teller : IsLaterTeller hub w.teller s.teller
   pub answered : s.answered ≡ min (fitting hub.settings (taken_of s.hand) - fitting hub.settings (taken_of w.hand)) (2 ^ 64 - 1)
   pub states : AreSeen s.teller s.states.items
+  pub served : ServesAll hub w s
+
+-- the same, and then the desk was empty
+pub record HasEnded (hub : Hub) (d : Desk) (w : Worker) (s : Shift) : Type 0 where
+  pub works : Works hub d w s
+  pub emptied : WasEmpty s.hand
 
 -- each of these worked, in order, unless memory was refused to it
 pub record AllWork (hub : Hub) (d : Desk) (workers : List Worker) (results : List (Result Shift AllocError)) : Type 0 where
   pub enough : length results ≡ length workers
-  pub each : (i : ℕ) (w : Worker) (r : Result Shift AllocError) → slice_get workers i ≡ Some w → slice_get results i ≡ Some r → IfOk r (Works hub d w)
+  pub each : (i : ℕ) (w : Worker) (r : Result Shift AllocError) → slice_get workers i ≡ Some w → slice_get results i ≡ Some r → IfOk r (HasEnded hub d w)
 
 -- the states of all of these
 abbrev pub states_of : List Shift → List (Place × State)

@@ -11,3 +11,6 @@ returns-clause-seen c =
     subst (λ (l : List (Place × State)). AreSeen c.peek-state.new.self l) (sym c.in_ok-push.ensures.items)
     (one_more_seen _ _ _ (all_seen_more _ _ _ p.knows c.requires.seen)
     record { opened = p.knows.facts _ c.requires.opened; used = p.opened c.requires.opened; outcome = λ o e. p.shown o e })
+
+pub returns-clause-noted : goal.returns-clause-noted
+returns-clause-noted c = (c.peek-state.result, c.in_ok-push.ensures.items)
