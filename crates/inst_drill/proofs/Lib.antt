@@ -1,3 +1,4 @@
+pub mod Ends
 pub mod Naming
 pub mod Counted
 pub mod Seen

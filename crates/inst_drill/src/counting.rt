@@ -1,20 +1,33 @@
 //! What the books of a closed hub say of what was seen of its transfers.
-ghost use Rattle.std.specs.Prelude.{◌≡◌, true, false};
+ghost use Rattle.std.specs.Prelude.{◌≡◌, ◌+◌, ◌≤◌, true, false, length};
+ghost use Rattle.std.specs.List.{count_by};
+ghost use Rattle.inst_command.specs.declared.outcome.Outcome.TheVariants.{Accepted, TimedOut};
 ghost use Rattle.inst_together.specs.Together.{histories};
-ghost use Rattle.inst_drill.specs.inner.Report.{Contradicts, NoneContradicts};
+ghost use Rattle.inst_drill.specs.inner.Report.{Contradicts, NoneContradicts, is_told_so};
 
 use inst_base::mention;
 use inst_close::Books;
 use inst_command::{Outcome, State};
 use inst_hub::Ticket;
 
-/// How many of these transfers the books tell as decided.
-pub(crate) fn decided(books: &Books, states: &[(Ticket, State)]) -> u64 {
-    mention::<Outcome>();
-    states
-        .iter()
-        .filter(|(ticket, _)| matches!(books.told(ticket), State::Decided(_)))
-        .count() as u64
+/// Of how many of these transfers the books tell that they were accepted, and of how many that they timed out.
+pub(crate) fn ends(books: &Books, states: &[(Ticket, State)]) -> (u64, u64)
+    ensures accepted { result.0 ≡ count_by (is_told_so (histories books.now.books) Accepted) states.now }
+    ensures timed_out { result.1 ≡ count_by (is_told_so (histories books.now.books) TimedOut) states.now }
+    ensures enough { result.0 + result.1 ≤ length states.now }
+{
+    let mut accepted = 0u64;
+    let mut timed_out = 0u64;
+    for (ticket, _) in states {
+        match books.told(ticket) {
+            State::Decided(Outcome::Accepted) => accepted += 1,
+            State::Decided(Outcome::TimedOut) => timed_out += 1,
+            State::Decided(Outcome::Rejected(_)) => {}
+            State::Pending => {}
+            State::Unused => {}
+        }
+    }
+    (accepted, timed_out)
 }
 
 /// Whether an outcome was seen that the books don't tell.

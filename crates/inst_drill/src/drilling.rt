@@ -1,5 +1,5 @@
 //! All openings of a drill, one after the other.
-ghost use Rattle.std.specs.Prelude.{◌≡◌, ◌⊎◌, ◌↔◌, ◌≤◌, ℕ, suc, false, List, length, All, OnOk, IfOk, IfErr, IsOkUnless, Err};
+ghost use Rattle.std.specs.Prelude.{◌≡◌, ◌⊎◌, ◌↔◌, ◌<◌, ◌≤◌, ℕ, suc, List, length, All, OnOk, IfOk, IfErr, IsOkUnless, Err};
 ghost use Rattle.std.specs.Io.KnownBytes.{Appends};
 ghost use Rattle.inst_hub.specs.Calls.{AreOf};
 ghost use Rattle.inst_hub.specs.Opening.{HaveAllParts};
@@ -7,7 +7,7 @@ ghost use Rattle.inst_drill.specs.declared.report.Report.{Report as SomeReport};
 ghost use Rattle.inst_drill.specs.declared.plan.TheConstants.{MOST_DRILL_OPENINGS};
 ghost use Rattle.inst_drill.specs.inner.Chain.{AreAfter, IsOpenedAt};
 ghost use Rattle.inst_drill.specs.Plan.{MayDrill};
-ghost use Rattle.inst_drill.specs.Report.{IsUnited, report_text, reports_text};
+ghost use Rattle.inst_drill.specs.Report.{IsUnited, report_text, reports_text, ends_text};
 
 use crate::opening::run_opening;
 use crate::plan::Plan;
@@ -50,6 +50,7 @@ fn open(
 fn tell<W: Write>(alloc: Global, report: &Report, writer: &mut W) -> Result<(), Fault>
     ensures ok { OnOk result (Appends (W.contents writer.old) (W.contents writer.new) (report_text report.now)) }
     ensures only { IfErr result (λ e. (e ≡ Fault.Memory) ⊎ (e ≡ Fault.WriteFault)) }
+    ensures none { result ≡ Err Fault.Memory → writer.new ≡ writer.old }
 {
     let text = report.text(alloc)?;
     writer
@@ -58,13 +59,28 @@ fn tell<W: Write>(alloc: Global, report: &Report, writer: &mut W) -> Result<(), 
     writer.flush().map_err(|_| Fault::WriteFault)
 }
 
+/// Writes how the transfers of an opening ended.
+fn tell_ends<P: Write>(alloc: Global, report: &Report, progress: &mut P) -> Result<(), Fault>
+    ensures { OnOk result (Appends (P.contents progress.old) (P.contents progress.new) (ends_text report.now)) }
+{
+    let text = report.ends(alloc)?;
+    progress
+        .write_all(text.as_bytes())
+        .map_err(|_| Fault::WriteFault)
+}
+
 /// Opens a hub so often, 1 to 10 times, the first time with nothing and then from the books of the opening before. In
-/// each opening participant 0 is funded and submits so many transfers of 100 cents to participant 1 by two threads; two
-/// threads confirm them at the last moment, while a third one sweeps at their deadline, so that each ends in one of two
-/// ways; the hub is closed, and `writer` gets the four lines of a `Report`. Where `is_watched`, `progress` is told of
-/// each opening; what it doesn't take is lost. The books of the last opening are answered. `BadSettings` where there are
-/// fewer than two participants, no transfer or more of them than places, or more cents than the ceiling, and where the
-/// openings are not 1 to 10; `Memory` and `WriteFault` leave the lines of the openings before.
+/// each opening participant 0 is funded and submits so many transfers of 100 cents to participant 1 by two threads. Two
+/// threads confirm them at the last moment in time; when half of them are confirmed, a third one begins to sweep at
+/// their deadline beside them, so that the others are accepted or time out as the threads race. Then the hub is closed,
+/// `writer` gets the four lines of a `Report`, and `progress` the line `accepted A timed_out T`. Where `is_watched`,
+/// `progress` gets a line also as an opening begins; what it doesn't take is lost. Returns the books of the last
+/// opening.
+///
+/// # Errors
+///
+/// `BadSettings` if there are fewer than two participants, no transfer or more of them than places, more cents than the
+/// ceiling, or openings that are not 1 to 10. `Memory`, where `writer` has the lines of the openings before. `WriteFault`.
 pub fn drill<R: Threads + Wait + Sync, G: Gate + Sync, W: Write, P: Write>(
     rt: &R,
     alloc: Global,
@@ -82,7 +98,8 @@ pub fn drill<R: Threads + Wait + Sync, G: Gate + Sync, W: Write, P: Write>(
     ensures settings { IfOk result (λ books. books.settings ≡ settings) }
     ensures only { IfErr result (λ e. (e ≡ Fault.BadSettings) ⊎ ((e ≡ Fault.Memory) ⊎ (e ≡ Fault.WriteFault))) }
     ensures untouched { result ≡ Err Fault.BadSettings → writer.new ≡ writer.old }
-    ensures unwatched { is_watched ≡ false → progress.new ≡ progress.old }
+    ensures memory { result ≡ Err Fault.Memory → ((reports : List SomeReport) × (length reports < openings) × All IsUnited reports
+        × Appends (W.contents writer.old) (W.contents writer.new) (reports_text reports)) }
 {
     let plan = Plan::of(&settings, transfers, openings)?;
     let mut books = None;
@@ -94,6 +111,7 @@ pub fn drill<R: Threads + Wait + Sync, G: Gate + Sync, W: Write, P: Write>(
         let (hub, tellers) = open(alloc, &settings, &books)?;
         let (report, closed) = run_opening(rt, alloc, hub, tellers, &plan, opening, gate)?;
         tell(alloc, &report, writer)?;
+        let _ = tell_ends(alloc, &report, progress);
         books = Some(closed);
     }
     match books {

@@ -8,7 +8,7 @@ ghost use Rattle.inst_close.specs.Closing.{IsOpenedSo, HaveOpened};
 ghost use Rattle.inst_drill.specs.inner.Plan.{IsPlan};
 ghost use Rattle.inst_drill.specs.Report.{IsUnited};
 
-use crate::counting::{contradicted, decided};
+use crate::counting::{contradicted, ends};
 use crate::plan::Plan;
 use crate::report::Report;
 use crate::staff::{STAFF, Staff};
@@ -102,10 +102,13 @@ pub(crate) fn run_opening<R: Threads + Wait + Sync, G: Gate + Sync>(
     let Ok(books) = close(alloc, hub, tellers) else {
         return Err(Fault::Memory);
     };
+    let (accepted, timed_out) = ends(&books, &submitted);
     let report = Report {
         jobs,
         answered,
-        decided: decided(&books, &submitted),
+        decided: accepted + timed_out,
+        accepted,
+        timed_out,
         disagree: contradicted(&books, &submitted).saturating_add(contradicted(&books, &confirmed)),
         net: books.net(),
         sum: books.sum(),

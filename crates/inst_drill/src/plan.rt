@@ -1,16 +1,19 @@
 //! What a drill asks of a hub: participant 0 is funded and submits transfers to participant 1, which confirms them.
-ghost use Rattle.std.specs.Prelude.{◌≡◌, ◌≤◌, true, length, IfOk, IsOkUnless, Err};
+ghost use Rattle.std.specs.Prelude.{◌≡◌, ◌≤◌, ◌++◌, true, length, IfOk, IsOkUnless, Err};
 ghost use Rattle.std.specs.List.{list_all};
+ghost use Rattle.std.specs.Fmt.{decimal};
 ghost use Rattle.inst_base.specs.Text.{is_latin};
 ghost use Rattle.inst_base.specs.declared.cents.TheConstants.{MOST_CENTS};
 ghost use Rattle.inst_base.specs.declared.moment.TheConstants.{LAST};
 ghost use Rattle.inst_settings.specs.Settings.{HubSettings};
 ghost use Rattle.inst_command.specs.Ask.{ask_fits};
 ghost use Rattle.inst_drill.specs.Plan.{MayDrill};
-ghost use Rattle.inst_drill.specs.inner.Plan.{IsPlan};
+ghost use Rattle.inst_drill.specs.inner.Plan.{IsPlan, IsSweepOf, submission_of, confirmation_of};
 
 use inst_base::{Cents, Fault, Ident, Moment};
 use inst_command::{Ask, Command, Submission};
+use inst_crew::Sweep;
+use inst_hub::Teller;
 use inst_settings::Settings;
 use std::alloc::{AllocError, Global};
 
@@ -56,6 +59,7 @@ fn moment(past_base: u64) -> Moment
 /// The letter and the number.
 fn name(alloc: Global, letter: &str, number: u32) -> Result<Ident, AllocError>
     requires { (length letter.now ≡ 1) × (list_all is_latin letter.now ≡ true) }
+    ensures { IfOk result (λ id. id ≡ letter.now ++ decimal number) }
 {
     let digits = number.to_string(alloc)?;
     let text = format!(in alloc; "{letter}{digits}")?;
@@ -109,7 +113,9 @@ impl Plan {
     }
 
     /// Participant 0 submits the transfer of this number.
-    pub(crate) fn submission(&self, alloc: Global, number: u32) -> Result<Ask, AllocError> {
+    pub(crate) fn submission(&self, alloc: Global, number: u32) -> Result<Ask, AllocError>
+        ensures { IfOk result (λ ask. ask ≡ submission_of number) }
+    {
         let submission = Submission {
             id: name(alloc, "D", number)?,
             to: 1,
@@ -124,7 +130,9 @@ impl Plan {
     }
 
     /// Participant 1 confirms it.
-    pub(crate) fn confirmation(&self, alloc: Global, number: u32) -> Result<Ask, AllocError> {
+    pub(crate) fn confirmation(&self, alloc: Global, number: u32) -> Result<Ask, AllocError>
+        ensures { IfOk result (λ ask. ask ≡ confirmation_of self.now number) }
+    {
         let command = Command::Confirm {
             from: 0,
             id: name(alloc, "D", number)?,
@@ -134,5 +142,17 @@ impl Plan {
             command,
             at: self.last,
         })
+    }
+
+    /// The sweep of participant 0 at the deadline, once half of the transfers are confirmed.
+    pub(crate) fn sweep(&self, teller: Teller) -> Sweep
+        ensures { IsSweepOf self.now teller result }
+    {
+        Sweep {
+            teller,
+            who: 0,
+            at: self.deadline,
+            after: u64::from(self.transfers / 2),
+        }
     }
 }

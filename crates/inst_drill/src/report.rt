@@ -1,5 +1,5 @@
 ghost use Rattle.std.specs.Prelude.{◌≡◌, IfOk, string_bytes};
-ghost use Rattle.inst_drill.specs.Report.{calls_text, outcomes_text, money_text, report_text};
+ghost use Rattle.inst_drill.specs.Report.{calls_text, outcomes_text, money_text, report_text, ends_text};
 
 use std::alloc::{AllocError, Global};
 
@@ -10,8 +10,12 @@ pub struct Report {
     pub jobs: u64,
     /// How many calls of the workers were answered.
     pub answered: u64,
-    /// Of how many submitted transfers the books tell an outcome.
+    /// Of how many submitted transfers the books tell that they were accepted or timed out.
     pub decided: u64,
+    /// How many of these were accepted.
+    pub accepted: u64,
+    /// And how many timed out.
+    pub timed_out: u64,
     /// How many outcomes were seen that the books don't tell.
     pub disagree: u64,
     /// The net funding of all participants, in cents.
@@ -29,6 +33,18 @@ impl Report {
         let outcomes = self.outcomes(alloc)?;
         let money = self.money(alloc)?;
         Ok(format!(in alloc; "{calls}{outcomes}{money}")?)
+    }
+
+    /// A line: `accepted A timed_out T`.
+    pub(crate) fn ends(&self, alloc: Global) -> Result<String, AllocError>
+        ensures { IfOk result (λ text. string_bytes text ≡ ends_text self.now) }
+    {
+        let Report {
+            accepted,
+            timed_out,
+            ..
+        } = *self;
+        Ok(format!(in alloc; "accepted {accepted} timed_out {timed_out}\n")?)
     }
 
     fn calls(&self, alloc: Global) -> Result<String, AllocError>

@@ -11,7 +11,7 @@ ghost use Rattle.inst_drill.specs.inner.Staff.{IsStaffOf, tellers_of};
 use crate::feeding::{Phase, feed};
 use crate::plan::Plan;
 use inst_command::State;
-use inst_crew::{Sweep, run_crew};
+use inst_crew::run_crew;
 use inst_desk::{Desk, Hand};
 use inst_hub::{Gate, Hub, Teller, Ticket};
 use std::alloc::{AllocError, Global};
@@ -20,9 +20,6 @@ use std::thread::Threads;
 
 /// How many hands a desk and tellers a hub of a drill has.
 pub(crate) const STAFF: u8 = 3;
-
-/// How often participant 0 is swept while its transfers are confirmed.
-const ROUNDS: u32 = 64;
 
 /// Who works in an opening.
 #[derive(Drop)]
@@ -132,7 +129,8 @@ impl Staff {
         })
     }
 
-    /// All of them are confirmed by two threads, while a third one sweeps participant 0 at their deadline.
+    /// All of them are confirmed by two threads. When half of them are, a third one sweeps participant 0 at their
+    /// deadline, and the others go on together with it.
     pub(crate) fn confirm<R: Threads + Wait + Sync, G: Gate + Sync>(
         self,
         rt: &R,
@@ -164,13 +162,8 @@ impl Staff {
             Phase::Confirming,
             opening,
         )?;
-        let sweep = Sweep {
-            teller: sweeper,
-            who: 0,
-            at: plan.deadline,
-            rounds: ROUNDS,
-        };
-        let crew = run_crew(rt, alloc, hub, desk, hands, tellers, gate, Some(sweep))?;
+        let sweep = Some(plan.sweep(sweeper));
+        let crew = run_crew(rt, alloc, hub, desk, hands, tellers, gate, sweep)?;
         let mut tellers = crew.tellers;
         let Some(sweeper) = tellers.pop() else {
             unreachable!()

@@ -121,6 +121,6 @@ pub fn drilled<R: Threads + Wait + Sync, W: Write>(
     writer: &mut W,
 ) -> Result<Books, Fault> {
     let gate = &Ungated; // nothing is done inside the locks
-    let mut told = Vec::new(alloc); // how far it is, where somebody watches
+    let mut told = Vec::new(alloc); // how many transfers were accepted, and how many timed out
     drill(rt, alloc, settings, 200, 2, gate, writer, &mut told, false) // eight lines for the writer
 }

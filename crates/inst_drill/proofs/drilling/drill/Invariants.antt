@@ -1,8 +1,6 @@
-use Rattle.std.proofs.Common.{◌≡◌, false}
 use Rattle.inst_drill.proofs.Drilled.{Drilled}
 use Rattle.inst_drill.proofs.drilling.drill.Given as goal
 
 abbrev pub invariant-loop-done : goal.invariant-loop-done
 invariant-loop-done g l =
     Drilled l.fn.settings (g.W.Write.contents l.fn.writer) (g.W.Write.contents l.writer) l.done l.books
-    × (l.fn.is_watched ≡ false → l.progress ≡ l.fn.progress)

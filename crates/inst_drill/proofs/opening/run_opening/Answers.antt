@@ -1,4 +1,4 @@
-use Rattle.std.proofs.Common.{subst, ◌∙◌, sym, arith, List}
+use Rattle.std.proofs.Common.{subst, ◌∙◌, sym, refl, arith, List}
 use Rattle.inst_board.specs.declared.place.Place.{Place}
 use Rattle.inst_command.specs.declared.outcome.State.{State}
 use Rattle.inst_together.specs.Together.{histories}
@@ -14,4 +14,5 @@ returns-clause-report g c =
     record {
       disagree = (let added = c.saturating_add.ensures in omega (arith, added, first, then));
       sum = same_number _ _ (c.sum.ensures.net ∙ sym c.net.ensures);
+      decided = refl;
     }

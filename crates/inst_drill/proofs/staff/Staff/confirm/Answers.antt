@@ -1,4 +1,4 @@
-use Rattle.std.proofs.Common.{sym, subst, ap, ◌∙◌, arith, length, ◌≡◌, List}
+use Rattle.std.proofs.Common.{sym, subst, ap, ◌∙◌, arith, length, ◌≡◌, List, [], ◌∷◌, ◌++◌}
 use Rattle.inst_hub.specs.declared.teller.Teller.{Teller}
 use Rattle.inst_hub.specs.Opening.{parts_of}
 use Rattle.inst_crew.specs.Seen.{AreSeenByOne}
@@ -15,13 +15,13 @@ returns-clause-staff g c =
       feeder = c.in_ok-feed.ensures.0;
       hands = crew.of.0;
       two = crew.enough.0 ∙ before.two;
-      dealt = (let same = crew.parts in let own = c.in_ok-feed.ensures.1 in let all = before.dealt in omega (arith, same, own, all));
+      dealt = (let same = crew.parts.0 in let own = c.in_ok-feed.ensures.1 in let all = before.dealt in omega (arith, same, own, all));
       sweeper = tellers.0;
       tellers = tellers.1.0;
       each = tellers.1.1;
-      parts = ap parts_of (sym c.in-Some.ensures.items) ∙ (crew.row ∙ before.parts);
+      parts = ap parts_of (sym c.in-Some.ensures.items) ∙ (crew.parts.1 ∙ (ap (λ (t : Teller). parts_of (c.args.self.tellers.items ++ t ∷ [])) c.sweep.ensures.by ∙ before.parts));
     }
 
 pub returns-clause-states : goal.returns-clause-states
 returns-clause-states g c =
-    subst (λ (l : List Teller). AreSeenByOne l c.in_ok-crew.crew.states.items) c.in-Some.ensures.items c.in_ok-crew.ensures.states
+    subst (λ (l : List Teller). AreSeenByOne l c.in_ok-crew.crew.states.items) c.in-Some.ensures.items c.in_ok-crew.ensures.worked.states
