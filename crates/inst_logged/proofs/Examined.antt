@@ -1,5 +1,5 @@
 -- Why a log isn't taken, by the call that finds it.
-use Rattle.std.proofs.Common.{◌≡◌, inl, inr, ℕ, ◌<◌, false, List, [], length, length-append, Option, None, Some, Result, Err, IfErr, refl, sym, ◌∙◌, ap, subst, arith}
+use Rattle.std.proofs.Common.{◌≡◌, inl, inr, ℕ, ◌<◌, false, List, [], length, length-append, Option, None, Some, Result, Err, IfErr, IfOk, refl, sym, ◌∙◌, ap, subst, arith}
 use Rattle.std.specs.Prelude.{is_some}
 use Rattle.inst_log.specs.Log.{HasCause}
 use Rattle.inst_log.specs.Layout.{recovered, IsBatch}
@@ -65,6 +65,10 @@ module _ (version : Version) (header : List ℕ) (told : Option ℕ) (wanted : O
   told_cause (Damaged right) why alone = absurd (cc (why tt).0)
   told_cause OtherDigest why alone = absurd (cc (why tt).0)
   told_cause Changed why alone = absurd (alone refl)
+
+-- where an error is passed on, nothing is said of a success
+pub no_ok : {A E : Type 0} (Q : E → Type 0) (r : Result A E) (P : A → Type 0) → (e : E) × (r ≡ Err e) × Q e → IfOk r P
+no_ok Q r P failed = subst (λ (s : Result _ _). IfOk s P) (sym failed.1) tt
 
 -- what is so of an error is so where it is handed on
 pub passed : {T : Type 0} (P : LoggedError → Type 0) (r : Result T LoggedError) (f : LoggedError) → (x : LoggedError) × (r ≡ Err x) × (x ≡ f) → P f → IfErr r P

@@ -26,6 +26,17 @@ pub record IsLeft {D : Type 0} (disks : Ghosts D) (old new : D) : Type 0 where
   pub same : disks.seen new ≡ disks.seen old
   pub crash : (c : List ℕ) → disks.may_leave new c → disks.may_leave old c
 
+-- A disk was only read: its file is as it was, it can be used on, and if it has kept faith it had before.
+pub record IsOnlyRead {D : Type 0} (disks : Ghosts D) (old new : D) : Type 0 where
+  pub left : IsLeft disks old new
+  pub usable : IsTrue (disks.is_usable new)
+  pub clean : HasKeptFaith disks new → HasKeptFaith disks old
+
+-- a disk as a log is opened on it: it can be used, and what is read of it is what is on it, as after a restart
+pub record IsJustOpened {D : Type 0} (disks : Ghosts D) (disk : D) : Type 0 where
+  pub usable : IsTrue (disks.is_usable disk)
+  pub known : HasKeptFaith disks disk → Only (disks.seen disk) (disks.may_leave disk)
+
 -- the disk of a hub's log, and what is read of it
 abbrev pub disk_of : {D : Type 0} → LoggedHub D → D
 disk_of hub = hub.recorder.log.disk

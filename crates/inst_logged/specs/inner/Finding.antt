@@ -1,11 +1,15 @@
 -- What a file was found to have before it is opened.
-use Rattle.std.specs.Prelude.{◌≡◌, List, ℕ, [], Option, MatchOption}
+use Rattle.std.specs.Prelude.{◌≡◌, List, ℕ, [], Option, MatchOption, Result, IfErr, IfOk}
 use Rattle.inst_log.specs.Layout.{recovered}
 use Rattle.inst_log.specs.Pieces.{IsExtent}
 use Rattle.inst_chain.specs.Verifying.{SealedBy}
 use Rattle.inst_chain.specs.declared.digest.Digest.{Digest}
 use Rattle.inst_chain.specs.declared.marker.Marker.{Marker}
-use Rattle.inst_logged.specs.Refused.{HasWanted}
+use Rattle.sqlite_disk.specs.declared.Disk.{Ghosts}
+use Rattle.inst_logged.specs.Refused.{HasWanted, IsCause}
+use Rattle.inst_logged.specs.Running.{HasKeptFaith, IsOnlyRead}
+use Rattle.inst_logged.specs.inner.Failing.{FailsBy}
+use Rattle.inst_logged.specs.declared.error.LoggedError.{LoggedError}
 use Rattle.inst_logged.specs.declared.version.Version.{Version}
 use Rattle.inst_logged.specs.declared.version.Version.TheVariants.{One, Two}
 use Rattle.inst_logged.specs.declared.hub.examining.Found.{Found}
@@ -20,3 +24,11 @@ pub record Finds (version : Version) (wanted : Option Digest) (file : List ℕ) 
   pub extent : IsExtent file found.extent
   pub verified : IsVerified version file found.marker
   pub digest : HasWanted version wanted file
+
+-- A log was only read, and this was found. It isn't taken, whatever its first lines must be and however many were told, where
+-- its marks are wrong or it hasn't the mark that was asked for; or the disk failed.
+pub record IsExamined {D : Type 0} (disks : Ghosts D) (version : Version) (wanted : Option Digest) (old new : D) (result : Result Found LoggedError) : Type 0 where
+  pub found : IfOk result (λ found. HasKeptFaith disks new → Finds version wanted (disks.seen old) found)
+  pub cause : IfErr result (λ error. HasKeptFaith disks new → (header : List ℕ) (told : Option ℕ) → IsCause version header told wanted (disks.seen old) error)
+  pub failure : FailsBy disks old new ⊥ ⊥ result
+  pub read : IsOnlyRead disks old new

@@ -1,10 +1,7 @@
 //! A log is examined before anything is written to it.
-ghost use Rattle.std.specs.Prelude.{List, ℕ, Option, IsTrue, IfOk, IfErr};
+ghost use Rattle.std.specs.Prelude.{IsTrue};
 ghost use Rattle.inst_logged.specs.declared.version.Version.TheVariants as version;
-ghost use Rattle.inst_logged.specs.Refused.{IsCause};
-ghost use Rattle.inst_logged.specs.Running.{IsLeft};
-ghost use Rattle.inst_logged.specs.inner.Failing.{FailsBy};
-ghost use Rattle.inst_logged.specs.inner.Finding.{Finds};
+ghost use Rattle.inst_logged.specs.inner.Finding.{IsExamined};
 
 use crate::{LoggedError, Version};
 use inst_chain::{Digest, Marker, Verified, verify};
@@ -33,13 +30,7 @@ pub(crate) fn examine<D: Disk>(
     wanted: Option<Digest>,
 ) -> Result<Found, LoggedError>
     requires usable { IsTrue (D.Disk.is_usable disk.old) }
-    ensures found { IfOk result (λ found. IsTrue (D.Disk.is_clean disk.new) → Finds version wanted (D.Disk.seen disk.old) found) }
-    ensures cause { IfErr result (λ error. IsTrue (D.Disk.is_clean disk.new) → (header : List ℕ) (told : Option ℕ)
-        → IsCause version header told wanted (D.Disk.seen disk.old) error) }
-    ensures failure { FailsBy D.Disk disk.old disk.new ⊥ ⊥ result }
-    ensures left { IsLeft D.Disk disk.old disk.new }
-    ensures usable { IsTrue (D.Disk.is_usable disk.new) }
-    ensures clean { IsTrue (D.Disk.is_clean disk.new) → IsTrue (D.Disk.is_clean disk.old) }
+    ensures { IsExamined D.Disk version wanted disk.old disk.new result }
 {
     match version {
         Version::One => examine_unmarked(alloc, disk, wanted),
@@ -54,13 +45,7 @@ fn examine_unmarked<D: Disk>(
     wanted: Option<Digest>,
 ) -> Result<Found, LoggedError>
     requires usable { IsTrue (D.Disk.is_usable disk.old) }
-    ensures found { IfOk result (λ found. IsTrue (D.Disk.is_clean disk.new) → Finds version.One wanted (D.Disk.seen disk.old) found) }
-    ensures cause { IfErr result (λ error. IsTrue (D.Disk.is_clean disk.new) → (header : List ℕ) (told : Option ℕ)
-        → IsCause version.One header told wanted (D.Disk.seen disk.old) error) }
-    ensures failure { FailsBy D.Disk disk.old disk.new ⊥ ⊥ result }
-    ensures left { IsLeft D.Disk disk.old disk.new }
-    ensures usable { IsTrue (D.Disk.is_usable disk.new) }
-    ensures clean { IsTrue (D.Disk.is_clean disk.new) → IsTrue (D.Disk.is_clean disk.old) }
+    ensures { IsExamined D.Disk version.One wanted disk.old disk.new result }
 {
     if wanted.is_some() {
         return Err(LoggedError::OtherDigest);
@@ -79,13 +64,7 @@ fn examine_marked<D: Disk>(
     wanted: Option<Digest>,
 ) -> Result<Found, LoggedError>
     requires usable { IsTrue (D.Disk.is_usable disk.old) }
-    ensures found { IfOk result (λ found. IsTrue (D.Disk.is_clean disk.new) → Finds version.Two wanted (D.Disk.seen disk.old) found) }
-    ensures cause { IfErr result (λ error. IsTrue (D.Disk.is_clean disk.new) → (header : List ℕ) (told : Option ℕ)
-        → IsCause version.Two header told wanted (D.Disk.seen disk.old) error) }
-    ensures failure { FailsBy D.Disk disk.old disk.new ⊥ ⊥ result }
-    ensures left { IsLeft D.Disk disk.old disk.new }
-    ensures usable { IsTrue (D.Disk.is_usable disk.new) }
-    ensures clean { IsTrue (D.Disk.is_clean disk.new) → IsTrue (D.Disk.is_clean disk.old) }
+    ensures { IsExamined D.Disk version.Two wanted disk.old disk.new result }
 {
     let verified = verify(alloc, disk, wanted)?;
     if !verified.has_wanted {

@@ -10,7 +10,7 @@ ghost use Rattle.inst_logged.specs.Header.{header, lines_of_books, CanBeginFrom}
 ghost use Rattle.inst_logged.specs.Finding.{FindsLog, Unrefused};
 ghost use Rattle.inst_logged.specs.Logged.{IsUnbegun, HasBegun};
 ghost use Rattle.inst_logged.specs.Refused.{IsRefused};
-ghost use Rattle.inst_logged.specs.Running.{HasKeptFaith, IsLeft};
+ghost use Rattle.inst_logged.specs.Running.{HasKeptFaith, IsOnlyRead};
 ghost use Rattle.inst_logged.specs.inner.Books.{HasBooks, FindsBooks};
 ghost use Rattle.inst_logged.specs.declared.version.Version.TheVariants.{Two};
 
@@ -50,9 +50,7 @@ impl NewHub {
             → (hub.version ≡ Two) × (hub.heading.batch.items ≡ header Two mode settings.now)) }
         ensures found { HasKeptFaith D.Disk disk.new → FindsLog mode settings.now (D.Disk.seen disk.old) result }
         ensures new { HasKeptFaith D.Disk disk.new → recovered (D.Disk.seen disk.old) ≡ [] → IfErr result (λ error. ¬ IsRefused error) }
-        ensures left { IsLeft D.Disk disk.old disk.new }
-        ensures usable { IsTrue (D.Disk.is_usable disk.new) }
-        ensures clean { HasKeptFaith D.Disk disk.new → HasKeptFaith D.Disk disk.old }
+        ensures read { IsOnlyRead D.Disk disk.old disk.new }
     {
         let first = read_lines(alloc, disk, 1)?;
         let Some(version) = version_of(alloc, &first)? else {
@@ -78,9 +76,7 @@ fn books_on<D: Disk>(
     ensures journals { IfOk result (λ books. IfSome books (λ journals. CanOpenFrom settings.now journals.items)) }
     ensures none { first.now ≡ [] → Unrefused (λ books. books ≡ None) result }
     ensures found { HasKeptFaith D.Disk disk.new → FindsBooks (λ journals. all_events journals.items) version mode settings.now first.now (D.Disk.seen disk.old) result }
-    ensures left { IsLeft D.Disk disk.old disk.new }
-    ensures usable { IsTrue (D.Disk.is_usable disk.new) }
-    ensures clean { HasKeptFaith D.Disk disk.new → HasKeptFaith D.Disk disk.old }
+    ensures read { IsOnlyRead D.Disk disk.old disk.new }
 {
     let Some(count) = books_behind(alloc, version, mode, settings, first)? else {
         return Ok(None);

@@ -1,20 +1,18 @@
 //! The lines of a log are answered again, piece by piece.
-ghost use Rattle.std.specs.Prelude.{◌≡◌, ◌⊎◌, ◌<◌, ◌≤◌, [], List, ℕ, Some, length, IsTrue, IfOk, IfErr, OnOk, OnErr, ⊤};
+ghost use Rattle.std.specs.Prelude.{◌≡◌, ◌⊎◌, ◌<◌, ◌≤◌, ℕ, Some, length, IsTrue, IfOk, IfErr, OnOk, OnErr, ⊤};
 ghost use Rattle.inst_bytes.specs.Handing.{WritesPart};
 ghost use Rattle.inst_log.specs.Layout.{recovered, IsBatch};
-ghost use Rattle.inst_log.specs.Opening.{kept, Begins};
+ghost use Rattle.inst_log.specs.Opening.{Begins};
 ghost use Rattle.inst_log.specs.Pieces.{Starts};
-ghost use Rattle.inst_log.specs.inner.Serving.{TellsPart};
-ghost use Rattle.inst_chain.specs.Chain.{kept_said, said};
+ghost use Rattle.inst_chain.specs.Chain.{said};
 ghost use Rattle.inst_lines.specs.Answering.{Past, Keeps};
 ghost use Rattle.inst_logged.specs.Answering.{told_of};
-ghost use Rattle.inst_logged.specs.Logged.{Are, owed};
 ghost use Rattle.inst_logged.specs.Refused.{IsRefused};
 ghost use Rattle.inst_logged.specs.declared.error.LoggedError.TheVariants.{Log};
 ghost use Rattle.inst_log.specs.declared.error.LogError.TheVariants.{Told};
 ghost use Rattle.inst_logged.specs.inner.Answering.{AnswersAgain, debt};
-ghost use Rattle.inst_logged.specs.inner.Failing.{Fails, FailsBy};
-ghost use Rattle.inst_logged.specs.inner.Replaying.{IsReplayed};
+ghost use Rattle.inst_logged.specs.inner.Failing.{Fails};
+ghost use Rattle.inst_logged.specs.inner.Replaying.{IsOnlyAnswering, Replays};
 
 use crate::{LineAnswers, LoggedError};
 use inst_log::{FileLines, LogError, Recorder, Start, deliver};
@@ -39,28 +37,9 @@ pub(crate) fn start_again<D: Disk, W: Write>(
     requires usable { IsTrue (D.Disk.is_usable recorder.old.log.disk) }
     requires header { IsBatch header.now }
     requires starts { IsTrue (D.Disk.is_clean recorder.old.log.disk) → Starts header.now (D.Disk.seen recorder.old.log.disk) start }
-    ensures replayed { OnOk result (IsTrue (D.Disk.is_clean recorder.new.log.disk)
-        → IsReplayed recorder.old.answers.mode told recorder.old.answers.runner recorder.new.answers.runner
-        (kept header.now (D.Disk.seen recorder.old.log.disk)) (W.contents writer.old) (W.contents writer.new)) }
-    ensures part { IsTrue (D.Disk.is_clean recorder.new.log.disk)
-        → (past : Past) → Keeps recorder.old.answers.mode past recorder.old.answers.runner
-        → TellsPart (Are (owed recorder.old.answers.mode past (kept_said header.now (D.Disk.seen recorder.old.log.disk))
-        (told_of told (kept_said header.now (D.Disk.seen recorder.old.log.disk))))) []
-        (W.contents writer.old) (W.contents writer.new) }
-    ensures refused { IfErr result (λ error. IsRefused error → (error ≡ Log Told) × (writer.new ≡ writer.old)
-        × (IsTrue (D.Disk.is_clean recorder.new.log.disk) → length (kept_said header.now (D.Disk.seen recorder.old.log.disk))
-        < told_of told (kept_said header.now (D.Disk.seen recorder.old.log.disk)))) }
-    // Nothing was handed out, or enough lines are there.
-    ensures begun { OnErr result (IsTrue (D.Disk.is_clean recorder.new.log.disk) → (writer.new ≡ writer.old)
-        ⊎ (told_of told (kept_said header.now (D.Disk.seen recorder.old.log.disk))
-        ≤ length (kept_said header.now (D.Disk.seen recorder.old.log.disk)))) }
-    ensures failure { FailsBy D.Disk recorder.old.log.disk recorder.new.log.disk ⊥ ⊤ result }
-    ensures mode { recorder.new.answers.mode ≡ recorder.old.answers.mode }
-    ensures end { recorder.new.log.end ≡ recorder.old.log.end }
-    ensures seen { D.Disk.seen recorder.new.log.disk ≡ D.Disk.seen recorder.old.log.disk }
-    ensures crash { (c : List ℕ) → D.Disk.may_leave recorder.new.log.disk c → D.Disk.may_leave recorder.old.log.disk c }
-    ensures usable { IsTrue (D.Disk.is_usable recorder.new.log.disk) }
-    ensures clean { IsTrue (D.Disk.is_clean recorder.new.log.disk) → IsTrue (D.Disk.is_clean recorder.old.log.disk) }
+    ensures replays { Replays D.Disk header.now told recorder.old recorder.new (W.contents writer.old) (W.contents writer.new)
+        (writer.new ≡ writer.old) result }
+    ensures same { IsOnlyAnswering D.Disk recorder.old recorder.new }
 {
     match start {
         Start::Log => replay(alloc, recorder, header, told, writer),
@@ -84,28 +63,9 @@ fn replay<D: Disk, W: Write>(
     requires usable { IsTrue (D.Disk.is_usable recorder.old.log.disk) }
     requires header { IsBatch header.now }
     requires begins { IsTrue (D.Disk.is_clean recorder.old.log.disk) → Begins header.now (D.Disk.seen recorder.old.log.disk) }
-    ensures replayed { OnOk result (IsTrue (D.Disk.is_clean recorder.new.log.disk)
-        → IsReplayed recorder.old.answers.mode told recorder.old.answers.runner recorder.new.answers.runner
-        (kept header.now (D.Disk.seen recorder.old.log.disk)) (W.contents writer.old) (W.contents writer.new)) }
-    ensures part { IsTrue (D.Disk.is_clean recorder.new.log.disk)
-        → (past : Past) → Keeps recorder.old.answers.mode past recorder.old.answers.runner
-        → TellsPart (Are (owed recorder.old.answers.mode past (kept_said header.now (D.Disk.seen recorder.old.log.disk))
-        (told_of told (kept_said header.now (D.Disk.seen recorder.old.log.disk))))) []
-        (W.contents writer.old) (W.contents writer.new) }
-    ensures refused { IfErr result (λ error. IsRefused error → (error ≡ Log Told) × (writer.new ≡ writer.old)
-        × (IsTrue (D.Disk.is_clean recorder.new.log.disk) → length (kept_said header.now (D.Disk.seen recorder.old.log.disk))
-        < told_of told (kept_said header.now (D.Disk.seen recorder.old.log.disk)))) }
-    // Nothing was handed out, or enough lines are there.
-    ensures begun { OnErr result (IsTrue (D.Disk.is_clean recorder.new.log.disk) → (writer.new ≡ writer.old)
-        ⊎ (told_of told (kept_said header.now (D.Disk.seen recorder.old.log.disk))
-        ≤ length (kept_said header.now (D.Disk.seen recorder.old.log.disk)))) }
-    ensures failure { FailsBy D.Disk recorder.old.log.disk recorder.new.log.disk ⊥ ⊤ result }
-    ensures mode { recorder.new.answers.mode ≡ recorder.old.answers.mode }
-    ensures end { recorder.new.log.end ≡ recorder.old.log.end }
-    ensures seen { D.Disk.seen recorder.new.log.disk ≡ D.Disk.seen recorder.old.log.disk }
-    ensures crash { (c : List ℕ) → D.Disk.may_leave recorder.new.log.disk c → D.Disk.may_leave recorder.old.log.disk c }
-    ensures usable { IsTrue (D.Disk.is_usable recorder.new.log.disk) }
-    ensures clean { IsTrue (D.Disk.is_clean recorder.new.log.disk) → IsTrue (D.Disk.is_clean recorder.old.log.disk) }
+    ensures replays { Replays D.Disk header.now told recorder.old recorder.new (W.contents writer.old) (W.contents writer.new)
+        (writer.new ≡ writer.old) result }
+    ensures same { IsOnlyAnswering D.Disk recorder.old recorder.new }
 {
     let mut lines = FileLines::new(alloc, &mut recorder.log.disk, header.len() - 1)?;
     let mut left = told;

@@ -14,7 +14,7 @@ use Rattle.inst_logged.proofs.hub.LoggedHub.reopen.Goals as goal
 pub returns-in_err-found-clause-err : goal.returns-in_err-found-clause-err
 returns-in_err-found-clause-err g c =
     let self = c.args.self.now in
-    let left = c.examine.ensures.left in
+    let left = c.examine.ensures.read.left in
     passed _ c.from_residual.result _ (err_from_is_err_and c.from_residual.result c.from_residual.ensures.1)
     (record {
       refused = λ _. (refl, left);
@@ -27,17 +27,17 @@ pub returns-in_err-start-clause-err : goal.returns-in_err-start-clause-err
 returns-in_err-start-clause-err g c =
     let self = c.args.self.now in
     let file = g.D.Disk.seen self.recorder.log.disk in
-    let left : IsLeft g.D.Disk self.recorder.log.disk c.inspect.new.self.disk = record { same = c.inspect.ensures.same.0 ∙ c.examine.ensures.left.same; crash = λ f may. c.examine.ensures.left.crash f (c.inspect.ensures.crash f may) } in
+    let left : IsLeft g.D.Disk self.recorder.log.disk c.inspect.new.self.disk = record { same = c.inspect.ensures.same.0 ∙ c.examine.ensures.read.left.same; crash = λ f may. c.examine.ensures.read.left.crash f (c.inspect.ensures.crash f may) } in
     passed _ c.from_residual-in_err-start.result _ (err_from_is_err_and c.from_residual-in_err-start.result c.from_residual-in_err-start.ensures.1)
     (record {
       refused = λ _. (refl, left);
       begun = λ _. inl (refl, left);
       cause = λ clean.
           unopened_cause self.version self.header.items c.args.told c.args.wanted file c.requires.ready.unbegun.batch _ _ _ c.in_err-start.field-0.0 clean
-          (rw (c.as_slice-header.ensures.value, c.examine.ensures.left.same) at c.in_err-start.ensures.cause);
+          (rw (c.as_slice-header.ensures.value, c.examine.ensures.read.left.same) at c.in_err-start.ensures.cause);
       failure = λ clean.
           failed_so _ _ ⊥ ⊥ ⊥ _ (Log c.in_err-start.field-0.0) (λ failed. more_faults _ _ _ c.in_ok-found.ensures.failure (failed clean)) (λ no. no) (λ no. absurd no)
-          (unopened_fails self.header.items file _ _ _ ⊥ ⊥ c.in_err-start.field-0.0 (rw (c.as_slice-header.ensures.value, c.examine.ensures.left.same) at c.in_err-start.ensures.cause));
+          (unopened_fails self.header.items file _ _ _ ⊥ ⊥ c.in_err-start.field-0.0 (rw (c.as_slice-header.ensures.value, c.examine.ensures.read.left.same) at c.in_err-start.ensures.cause));
     })
 
 pub returns-in_err-start_again-clause-err : goal.returns-in_err-start_again-clause-err
@@ -46,32 +46,32 @@ returns-in_err-start_again-clause-err g c =
     let header = self.header.items in
     let file = g.D.Disk.seen self.recorder.log.disk in
     let left : IsLeft g.D.Disk self.recorder.log.disk c.start_again.new.recorder.log.disk = record {
-      same = c.start_again.ensures.seen ∙ c.inspect.ensures.same.0 ∙ c.examine.ensures.left.same;
-      crash = λ f may. c.examine.ensures.left.crash f (c.inspect.ensures.crash f (c.start_again.ensures.crash f may));
+      same = c.start_again.ensures.same.read.left.same ∙ c.inspect.ensures.same.0 ∙ c.examine.ensures.read.left.same;
+      crash = λ f may. c.examine.ensures.read.left.crash f (c.inspect.ensures.crash f (c.start_again.ensures.same.read.left.crash f may));
     } in
     passed _ c.from_residual-in_err-start_again.result _ (err_from_is_err_and c.from_residual-in_err-start_again.result c.from_residual-in_err-start_again.ensures.1)
     (record {
-      refused = λ refused. ((c.in_err-start_again.ensures.refused refused).1, left);
+      refused = λ refused. ((c.in_err-start_again.ensures.replays.refused refused).1, left);
       begun = λ clean.
-          let before = c.start_again.ensures.clean clean in
+          let before = c.start_again.ensures.same.read.clean clean in
           let found = c.in_ok-found.ensures.found (c.inspect.ensures.clean before) in
-          let enough = rw (c.as_slice-header.ensures.value, c.inspect.ensures.same.0, c.examine.ensures.left.same) at (c.in_err-start_again.ensures.begun clean) in
+          let enough = rw (c.as_slice-header.ensures.value, c.inspect.ensures.same.0, c.examine.ensures.read.left.same) at (c.in_err-start_again.ensures.replays.begun clean) in
           elim enough [
             | inl still ↦ inl (still, left)
             | inr there ↦ inr (record {
               intact = verified_intact self.version file c.in_ok-found.found.marker found.verified;
-              opens = starts_as header file c.in_ok-start.start (rw (c.as_slice-header.ensures.value, c.examine.ensures.left.same) at (c.in_ok-start.ensures.start before));
+              opens = starts_as header file c.in_ok-start.start (rw (c.as_slice-header.ensures.value, c.examine.ensures.read.left.same) at (c.in_ok-start.ensures.start before));
               enough = there;
               digest = found.digest;
             })
           ];
       cause = λ clean. told_cause self.version header c.args.told c.args.wanted file c.in_err-start_again.field-0.0
           (λ refused.
-          let why = rw (c.as_slice-header.ensures.value, c.inspect.ensures.same.0, c.examine.ensures.left.same) at (c.in_err-start_again.ensures.refused refused) in
-          (why.0, why.2 clean)) (c.in_err-start_again.ensures.failure clean).0;
+          let why = rw (c.as_slice-header.ensures.value, c.inspect.ensures.same.0, c.examine.ensures.read.left.same) at (c.in_err-start_again.ensures.replays.refused refused) in
+          (why.0, why.2 clean)) (c.in_err-start_again.ensures.replays.failure clean).0;
       failure = λ clean.
           failed_so _ _ ⊥ ⊥ _ _ c.in_err-start_again.field-0.0 (λ failed. more_faults _ _ _ (c.in_ok-start.ensures.calm ∙ c.in_ok-found.ensures.failure) failed) (λ no. no) (λ _. inr left)
-          (c.in_err-start_again.ensures.failure clean).1;
+          (c.in_err-start_again.ensures.replays.failure clean).1;
     })
 
 -- as it was opened
@@ -86,17 +86,17 @@ returns-in_err-self-clause-err g c =
       refused = λ refused. absurd (c.in_err-self.ensures.unrefused refused);
       begun = λ clean.
           let after = c.open_measured.ensures.clean clean in
-          let before = c.start_again.ensures.clean after in
+          let before = c.start_again.ensures.same.read.clean after in
           let found = c.in_ok-found.ensures.found (c.inspect.ensures.clean before) in
           inr (record {
             intact = verified_intact self.version file c.in_ok-found.found.marker found.verified;
-            opens = starts_as header file c.in_ok-start.start (rw (c.as_slice-header.ensures.value, c.examine.ensures.left.same) at (c.in_ok-start.ensures.start before));
-            enough = (rw (c.as_slice-header.ensures.value, c.inspect.ensures.same.0, c.examine.ensures.left.same) at (c.in_ok-start_again.ensures.replayed after)).enough;
+            opens = starts_as header file c.in_ok-start.start (rw (c.as_slice-header.ensures.value, c.examine.ensures.read.left.same) at (c.in_ok-start.ensures.start before));
+            enough = (rw (c.as_slice-header.ensures.value, c.inspect.ensures.same.0, c.examine.ensures.read.left.same) at (c.in_ok-start_again.ensures.replays.replayed after)).enough;
             digest = found.digest;
           });
       cause = λ clean. cause_of_none self.version header c.args.told c.args.wanted file c.in_err-self.field-0.0 c.in_err-self.ensures.unrefused (c.in_err-self.ensures.failure clean).0;
       failure = λ clean.
-          failed_so _ _ ⊥ ⊥ _ _ c.in_err-self.field-0.0 (λ failed. more_faults _ _ _ (c.in_ok-start_again.ensures.failure ∙ c.in_ok-start.ensures.calm ∙ c.in_ok-found.ensures.failure) failed) (λ no. no) (λ no. absurd no)
+          failed_so _ _ ⊥ ⊥ _ _ c.in_err-self.field-0.0 (λ failed. more_faults _ _ _ (c.in_ok-start_again.ensures.replays.failure ∙ c.in_ok-start.ensures.calm ∙ c.in_ok-found.ensures.failure) failed) (λ no. no) (λ no. absurd no)
           (c.in_err-self.ensures.failure clean).1;
     })
 
@@ -105,7 +105,7 @@ returns-in_err-self-clause-any_moment g c clean =
     let self = c.args.self.now in
     let header = self.header.items in
     let file = g.D.Disk.seen self.recorder.log.disk in
-    let seen = c.start_again.ensures.seen ∙ c.inspect.ensures.same.0 ∙ c.examine.ensures.left.same in
+    let seen = c.start_again.ensures.same.read.left.same ∙ c.inspect.ensures.same.0 ∙ c.examine.ensures.read.left.same in
     record {
       alike = λ left may. rw (c.as_slice-header.ensures.value, seen) at (c.open_measured.ensures.any_moment clean left may);
       stands = λ left may. rw (c.as_slice-header.ensures.value, seen) at (c.open_measured.ensures.stands clean left may);
@@ -125,17 +125,17 @@ returns-in-Some-clause-ok g c = (
       let header = self.header.items in
       let file = g.D.Disk.seen self.recorder.log.disk in
       let disk = c.open_measured.new.log.disk in
-      let seen = c.start_again.ensures.seen ∙ c.inspect.ensures.same.0 ∙ c.examine.ensures.left.same in
+      let seen = c.start_again.ensures.same.read.left.same ∙ c.inspect.ensures.same.0 ∙ c.examine.ensures.read.left.same in
       let after = c.open_measured.ensures.clean clean in
-      let before = c.start_again.ensures.clean after in
+      let before = c.start_again.ensures.same.read.clean after in
       let found = c.in_ok-found.ensures.found (c.inspect.ensures.clean before) in
-      let replayed = rw (c.as_slice-header.ensures.value, c.inspect.ensures.same.0, c.examine.ensures.left.same) at (c.in_ok-start_again.ensures.replayed after) in
+      let replayed = rw (c.as_slice-header.ensures.value, c.inspect.ensures.same.0, c.examine.ensures.read.left.same) at (c.in_ok-start_again.ensures.replays.replayed after) in
       let settled = c.in_ok-self.ensures.settled clean in
       let lines = rw (c.as_slice-header.ensures.value, seen) at settled.1 in
       record {
         taken = record {
           intact = verified_intact self.version file c.in_ok-found.found.marker found.verified;
-          opens = starts_as header file c.in_ok-start.start (rw (c.as_slice-header.ensures.value, c.examine.ensures.left.same) at (c.in_ok-start.ensures.start before));
+          opens = starts_as header file c.in_ok-start.start (rw (c.as_slice-header.ensures.value, c.examine.ensures.read.left.same) at (c.in_ok-start.ensures.start before));
           enough = replayed.enough;
           digest = found.digest;
         };
@@ -145,7 +145,7 @@ returns-in-Some-clause-ok g c = (
             (rw (c.as_slice-header.ensures.value, seen) at (c.open_measured.ensures.stands clean (g.D.Disk.seen disk) (g.met.D.Disk.seen_may_stay disk)))
             (λ well. c.in_ok-self.ensures.shut_now clean (subst EndsWell (sym seen) well));
         replayed = replayed;
-        calm = c.in_ok-self.ensures.failure ∙ c.in_ok-start_again.ensures.failure ∙ c.in_ok-start.ensures.calm ∙ c.in_ok-found.ensures.failure;
+        calm = c.in_ok-self.ensures.failure ∙ c.in_ok-start_again.ensures.replays.failure ∙ c.in_ok-start.ensures.calm ∙ c.in_ok-found.ensures.failure;
         size = c.in_ok-self.ensures.size clean;
       },
 )
@@ -155,7 +155,7 @@ returns-in-Some-clause-any_moment g c clean =
     let self = c.args.self.now in
     let header = self.header.items in
     let file = g.D.Disk.seen self.recorder.log.disk in
-    let seen = c.start_again.ensures.seen ∙ c.inspect.ensures.same.0 ∙ c.examine.ensures.left.same in
+    let seen = c.start_again.ensures.same.read.left.same ∙ c.inspect.ensures.same.0 ∙ c.examine.ensures.read.left.same in
     record {
       alike = λ left may. rw (c.as_slice-header.ensures.value, seen) at (c.open_measured.ensures.any_moment clean left may);
       stands = λ left may. rw (c.as_slice-header.ensures.value, seen) at (c.open_measured.ensures.stands clean left may);
@@ -175,17 +175,17 @@ returns-in-None-clause-ok g c = (
       let header = self.header.items in
       let file = g.D.Disk.seen self.recorder.log.disk in
       let disk = c.open_measured.new.log.disk in
-      let seen = c.start_again.ensures.seen ∙ c.inspect.ensures.same.0 ∙ c.examine.ensures.left.same in
+      let seen = c.start_again.ensures.same.read.left.same ∙ c.inspect.ensures.same.0 ∙ c.examine.ensures.read.left.same in
       let after = c.open_measured.ensures.clean clean in
-      let before = c.start_again.ensures.clean after in
+      let before = c.start_again.ensures.same.read.clean after in
       let found = c.in_ok-found.ensures.found (c.inspect.ensures.clean before) in
-      let replayed = rw (c.as_slice-header.ensures.value, c.inspect.ensures.same.0, c.examine.ensures.left.same) at (c.in_ok-start_again.ensures.replayed after) in
+      let replayed = rw (c.as_slice-header.ensures.value, c.inspect.ensures.same.0, c.examine.ensures.read.left.same) at (c.in_ok-start_again.ensures.replays.replayed after) in
       let settled = c.in_ok-self.ensures.settled clean in
       let lines = rw (c.as_slice-header.ensures.value, seen) at settled.1 in
       record {
         taken = record {
           intact = verified_intact self.version file c.in_ok-found.found.marker found.verified;
-          opens = starts_as header file c.in_ok-start.start (rw (c.as_slice-header.ensures.value, c.examine.ensures.left.same) at (c.in_ok-start.ensures.start before));
+          opens = starts_as header file c.in_ok-start.start (rw (c.as_slice-header.ensures.value, c.examine.ensures.read.left.same) at (c.in_ok-start.ensures.start before));
           enough = replayed.enough;
           digest = found.digest;
         };
@@ -194,7 +194,7 @@ returns-in-None-clause-ok g c = (
         intact = opened_none self.version header file (g.D.Disk.seen disk) c.in_ok-found.found.marker self.marker c.in-None.is c.requires.ready.unbegun.begins found.verified lines
             (λ well. c.in_ok-self.ensures.shut_now clean (subst EndsWell (sym seen) well));
         replayed = replayed;
-        calm = c.in_ok-self.ensures.failure ∙ c.in_ok-start_again.ensures.failure ∙ c.in_ok-start.ensures.calm ∙ c.in_ok-found.ensures.failure;
+        calm = c.in_ok-self.ensures.failure ∙ c.in_ok-start_again.ensures.replays.failure ∙ c.in_ok-start.ensures.calm ∙ c.in_ok-found.ensures.failure;
         size = c.in_ok-self.ensures.size clean;
       },
 )
@@ -204,7 +204,7 @@ returns-in-None-clause-any_moment g c clean =
     let self = c.args.self.now in
     let header = self.header.items in
     let file = g.D.Disk.seen self.recorder.log.disk in
-    let seen = c.start_again.ensures.seen ∙ c.inspect.ensures.same.0 ∙ c.examine.ensures.left.same in
+    let seen = c.start_again.ensures.same.read.left.same ∙ c.inspect.ensures.same.0 ∙ c.examine.ensures.read.left.same in
     record {
       alike = λ left may. rw (c.as_slice-header.ensures.value, seen) at (c.open_measured.ensures.any_moment clean left may);
       stands = λ left may. rw (c.as_slice-header.ensures.value, seen) at (c.open_measured.ensures.stands clean left may);

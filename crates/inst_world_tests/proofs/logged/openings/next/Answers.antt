@@ -3,6 +3,6 @@ use Rattle.inst_world_tests.proofs.logged.openings.next.Goals as goal
 
 pub next_of-requires : goal.next_of-requires
 next_of-requires c = record {
-  ready = ready_on _ c.with_disk.result c.of_log.new.disk c.with_disk.ensures.unbegun c.with_disk.ensures.disk c.of_log.ensures.usable
-      (left_known _ c.in_ok-disk.disk c.of_log.new.disk c.of_log.ensures.left c.in_ok-disk.ensures.known);
+  ready = ready_on _ c.with_disk.result c.of_log.new.disk c.with_disk.ensures.unbegun c.with_disk.ensures.disk c.of_log.ensures.read.usable
+      (left_known _ c.in_ok-disk.disk c.of_log.new.disk c.of_log.ensures.read.left c.in_ok-disk.ensures.known);
 }
