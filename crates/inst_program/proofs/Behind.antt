@@ -1,6 +1,5 @@
 -- What a hub leaves of the log on a disk that it gives back.
-use Rattle.std.proofs.Common.{◌≡◌, ◌∙◌, inl, inr, ◌<◌, length, ◌++◌, [], ◌∷◌, ◌||◌, ℕ, Bool, true, List, Option, None, Some, IsTrue, Vec, Result, Err, refl, ap, sym, subst}
-use Rattle.std.specs.Prelude.{bytes_eq}
+use Rattle.std.proofs.Common.{◌≡◌, ◌∙◌, inl, inr, ◌<◌, length, ◌++◌, [], ℕ, true, List, Option, None, Some, IsTrue, Vec, Result, Err, refl, ap, sym, subst}
 use Rattle.std.specs.Io.KnownBytes.{IsAtEnd}
 use Rattle.std.specs.declared.alloc.Global.{Global}
 use Rattle.sqlite_disk.specs.declared.Disk.{Ghosts}
@@ -12,10 +11,9 @@ use Rattle.inst_lines.specs.declared.mode.Mode.{Mode}
 use Rattle.inst_lines.specs.Answering.{Past, Keeps, opened}
 use Rattle.inst_log.specs.Layout.{recovered}
 use Rattle.inst_log.specs.Opening.{kept, Begins, IsSameOrBegun, OpensAlike}
-use Rattle.inst_chain.specs.Chain.{has_digest, mark_with}
 use Rattle.inst_chain.specs.declared.digest.Digest.{Digest}
 use Rattle.inst_logged.specs.declared.version.Version.{Version}
-use Rattle.inst_logged.specs.declared.version.Version.TheVariants.{One, Two}
+use Rattle.inst_logged.specs.declared.version.Version.TheVariants.{Two}
 use Rattle.inst_logged.specs.declared.error.LoggedError.{LoggedError}
 use Rattle.inst_logged.specs.declared.hub.LoggedHub.{LoggedHub}
 use Rattle.inst_logged.specs.declared.hub.new_hub.NewHub.{NewHub}
@@ -27,15 +25,16 @@ use Rattle.inst_logged.specs.Header.{header, header_from}
 use Rattle.inst_logged.specs.LineAnswers.{HasOpened}
 use Rattle.inst_logged.specs.Marking.{IsIntact}
 use Rattle.inst_logged.specs.Logged.{HasBegun, HasLogged, SurvivesACrash}
-use Rattle.inst_logged.specs.Refused.{HasWanted, IsRefused, IsTaken}
+use Rattle.inst_logged.specs.Refused.{IsCause, IsRefused, IsTaken}
 use Rattle.inst_logged.specs.Running.{disk_of, file_of, HasGone, HasKeptFaith, HasNoRoom, IsKept, IsLeft, OpensAgain, RunsThrough, StaysAlike, StopsBy}
 use Rattle.inst_logged.specs.Streams.{Streams}
-use Rattle.inst_program.specs.Files.{Change, IsAsItWas, change_on}
-use Rattle.inst_program.specs.Keeping.{AnswersAFront, AsksFor, CarriesBooks, HasNoOpeningLeft, IsBeginning, IsBegun, IsGoodFor, IsSafe, IsSpared, IsSparedLog, IsTakenFor, KeepsLines, KeptRun}
+use Rattle.inst_program.specs.Files.{Change, IsAsItWas, MayBe, change_on}
+use Rattle.inst_program.specs.Keeping.{AnswersAFront, AsksFor, CarriesBooks, HasNoOpeningLeft, IsAtMost, IsBeginning, IsBegun, IsLogOfAHub, IsSafe, IsSpared, IsSparedLog, IsTakenFor, IsUntaken, KeepsLines, KeptRun}
+use Rattle.inst_program.specs.Keeping.IsUntaken.{Foreign}
 use Rattle.inst_logged.specs.Finding.{Unrefused}
-use Rattle.inst_logged.proofs.Causes.{not_taken}
 use Rattle.inst_program.specs.inner.Ending.{IsUnkept}
-use Rattle.inst_program.specs.inner.Finding.{FindsGood, MayBeFound}
+use Rattle.inst_program.specs.inner.Finding.{FindsGood}
+use Rattle.inst_program.proofs.Untaken.{untaken_by}
 
 -- a disk that was only read
 module _ {D : Type 0} (disks : Ghosts D) where
@@ -45,34 +44,13 @@ module _ {D : Type 0} (disks : Ghosts D) where
   pub left_behind : (a b c : D) → IsLeft disks a b → IsLeft disks b c → IsLeft disks a c
   left_behind a b c x y = record { same = y.same ∙ x.same; crash = λ file may. x.crash file (y.crash file may) }
 
+  -- what the disk's file is, or a crash makes of it, a crash might have left before
+  pub left_at_once : ((d : D) → disks.may_leave d (disks.seen d)) → (was a b : D) → IsLeft disks a b → (file : List ℕ) → MayBe (change_on disks was b) file → disks.may_leave a file
+  left_at_once stay was a b x file (inl now) = subst (disks.may_leave a) (sym (now ∙ x.same)) (stay a)
+  left_at_once stay was a b x file (inr may) = x.crash file may
+
   pub left_equal : (a b : D) → b ≡ a → IsLeft disks a b
   left_equal a b same = subst (λ (d : D). IsLeft disks a d) (sym same) (record { same = refl; crash = λ file may. may })
-
--- what has the digest that is asked for has it, whichever digest has its text
-has_same : (d e : Digest) → d.text ≡ e.text → (lines : List (List ℕ)) → has_digest d lines ≡ has_digest e lines
-has_same d e same [] = refl
-has_same d e same (line ∷ lines) =
-    ap (λ (t : List ℕ). bytes_eq line (mark_with t) || has_digest d lines) same
-    ∙ ap (λ (b : Bool). bytes_eq line (mark_with e.text) || b) (has_same d e same lines)
-
-wanted_so : (version : Version) (file : List ℕ) (d e : Digest) → d.text ≡ e.text → HasWanted version (Some d) file → HasWanted version (Some e) file
-wanted_so One file d e same has = absurd (cc has)
-wanted_so Two file d e same has = sym (has_same d e same (recovered file)) ∙ has
-
-pub wanted_same : (digest : Option (List ℕ)) (w v : Option Digest) → AsksFor digest w → AsksFor digest v → (version : Version) (file : List ℕ) → HasWanted version w file → HasWanted version v file
-wanted_same None w v is same version file has = subst (λ (o : Option Digest). HasWanted version o file) (is ∙ sym same) has
-wanted_same (Some text) w v (d, is, is_text) (e, same, so) version file has =
-    subst (λ (o : Option Digest). HasWanted version o file) (sym same)
-    (wanted_so version file d e (is_text ∙ sym so) (subst (λ (o : Option Digest). HasWanted version o file) is has))
-
-pub taken_same : (digest : Option (List ℕ)) (w v : Option Digest) → AsksFor digest w → AsksFor digest v → (version : Version) (first : List ℕ) (told : Option ℕ) (file : List ℕ)
-    → IsTaken version first told w file → IsTaken version first told v file
-taken_same digest w v is same version first told file taken =
-    record { intact = taken.intact; opens = taken.opens; enough = taken.enough; digest = wanted_same digest w v is same version file taken.digest }
-
--- a good log may be found
-pub may_be_found : (run : KeptRun) (file : List ℕ) (good : IsGoodFor run file) → MayBeFound run.mode run.settings run.resume file good.version good.first
-may_be_found run file good = record { lines = good.lines; fresh = good.fresh; there = good.there; opens = good.taken.opens }
 
 pub unrefused_at : {V : Type 0} (P : V → Type 0) (r : Result V LoggedError) (e : LoggedError) → Unrefused P r → r ≡ Err e → ¬ (IsRefused e)
 unrefused_at P r e is failed = subst (Unrefused P) failed is
@@ -87,7 +65,7 @@ begun version mode s first answers (inr (journals, can, has, is)) = (opened_from
 -- when only reads followed.
 module _ {D : Type 0} (disks : Ghosts D) (run : KeptRun) (hub after : LoggedHub D) (disk disk' : D)
     (has : HasBegun hub.version run.mode run.settings hub.header.items hub.recorder.answers)
-    (left : IsLeft disks disk (disk_of hub)) (left' : IsLeft disks (disk_of after) disk') where
+    (left : IsLeft disks disk (disk_of hub)) (left' : IsLeft disks (disk_of after) disk') (stay : (d : D) → disks.may_leave d (disks.seen d)) where
   abbrev went : Past
   went = (begun hub.version run.mode run.settings hub.header.items hub.recorder.answers has).0
 
@@ -153,37 +131,33 @@ module _ {D : Type 0} (disks : Ghosts D) (run : KeptRun) (hub after : LoggedHub 
             consumes = survives.consumes;
             lines = survives.lines;
             lines_are = survives.lines_are;
-            kept = record { told = k.told; handed = k.handed; kept = λ file may. k.kept file (left'.crash file may) };
+            kept = record { told = k.told; handed = k.handed; kept = λ file may. k.kept file (left_at_once disks stay disk (disk_of after) disk' left' file may) };
           };
           begins = λ begins file may.
-              kept.begins (subst (λ (f : List ℕ). Begins hub.header.items f) (sym left.same) begins) file (left'.crash file may);
+              kept.begins (subst (λ (f : List ℕ). Begins hub.header.items f) (sym left.same) begins) file (left_at_once disks stay disk (disk_of after) disk' left' file may);
           intact = λ mixes intact file may.
-              kept.intact mixes (subst (λ (f : List ℕ). IsIntact hub.version f) (sym left.same) intact) file (left'.crash file may);
+              kept.intact mixes (subst (λ (f : List ℕ). IsIntact hub.version f) (sym left.same) intact) file (left_at_once disks stay disk (disk_of after) disk' left' file may);
         }
 
     as_before : IsLeft disks (disk_of hub) (disk_of after) → IsAsItWas (change_on disks disk disk')
     as_before x = left_as_it_was disks disk disk' (left_behind disks disk (disk_of after) disk' (left_behind disks disk (disk_of hub) (disk_of after) left x) left')
 
-    -- where the hub of a good log was found, a refused log is none
-    not_good : (HasKeptFaith disks (disk_of hub) → (version : Version) (first : List ℕ) → MayBeFound run.mode run.settings run.resume (disks.seen disk) version first → (hub.version ≡ version) × (hub.header.items ≡ first))
-        → (e : LoggedError) → IsRefused e → StopsBy disks run.told wanted hub after (t.unread × t.unwritten) (HasNoRoom disks after t.left t.left') e → HasKeptFaith disks disk' → ¬ (IsGoodFor run (disks.seen disk))
-    not_good finds e is_refused stops is good =
-        let found = finds (faithful (faithful' is)) good.version good.first (may_be_found run (disks.seen disk) good) in
-        let taken = subst (λ (v : Version). IsTaken v hub.header.items run.told wanted (disks.seen disk)) (sym found.0)
-        (subst (λ (first : List ℕ). IsTaken good.version first run.told wanted (disks.seen disk)) (sym found.1)
-        (taken_same run.digest good.wanted wanted good.asked asked good.version good.first run.told (disks.seen disk) good.taken)) in
-        not_taken hub.version hub.header.items run.told wanted (file_of disks hub) e is_refused (stops.cause (faithful' is))
-        (subst (IsTaken hub.version hub.header.items run.told wanted) (sym left.same) taken)
+    -- a log that the hub refused isn't taken, whichever hub it is of
+    untaken_on : (HasKeptFaith disks (disk_of hub) → IsAtMost run (disks.seen disk) hub.version hub.header.items)
+        → (e : LoggedError) → IsRefused e → StopsBy disks run.told wanted hub after (t.unread × t.unwritten) (HasNoRoom disks after t.left t.left') e → HasKeptFaith disks disk' → IsUntaken run (disks.seen disk)
+    untaken_on finds e is_refused stops is =
+        untaken_by run (disks.seen disk) hub.version hub.header.items (finds (faithful (faithful' is))) wanted asked e is_refused
+        (subst (λ (file : List ℕ). IsCause hub.version hub.header.items run.told wanted file e) left.same (stops.cause (faithful' is)))
 
     pub unkept_on : (e : LoggedError) (status : ℕ) → (status ≡ 2 → IsRefused e)
-        → (HasKeptFaith disks (disk_of hub) → (version : Version) (first : List ℕ) → MayBeFound run.mode run.settings run.resume (disks.seen disk) version first → (hub.version ≡ version) × (hub.header.items ≡ first))
+        → (HasKeptFaith disks (disk_of hub) → IsAtMost run (disks.seen disk) hub.version hub.header.items)
         → StopsBy disks run.told wanted hub after (t.unread × t.unwritten) (HasNoRoom disks after t.left t.left') e
         → (HasKeptFaith disks (disk_of after) → IsKept disks run.told hub after t)
         → IsUnkept run t ((d : D) → IsTrue (disks.is_mixing d)) ⊥ (HasKeptFaith disks disk') (change_on disks disk disk') status
     unkept_on e status refusal finds stops kept = record {
       refused = λ two.
           let r = stops.refused (refusal two) in
-          (r.0.0, r.0.1, (λ _. as_before r.1), inr (not_good finds e (refusal two) stops));
+          (r.0.0, r.0.1, (λ _. as_before r.1), inr (untaken_on finds e (refusal two) stops));
       front = λ is.
           elim (stops.begun (faithful' is)) [
             | inl still ↦ inl (still.0.0, still.0.1, as_before still.1)
@@ -194,7 +168,11 @@ module _ {D : Type 0} (disks : Ghosts D) (run : KeptRun) (hub after : LoggedHub 
 -- A hub with a log was opened or closed: `hub` before, `after` behind it.
 module _ {D : Type 0} (disks : Ghosts D) (mode : Mode) (s : HubSettings) (hub after : LoggedHub D) (disk disk' : D)
     (has : HasBegun hub.version mode s hub.header.items hub.recorder.answers)
-    (left : IsLeft disks disk (disk_of hub)) (left' : IsLeft disks (disk_of after) disk') where
+    (left : IsLeft disks disk (disk_of hub)) (left' : IsLeft disks (disk_of after) disk') (stay : (d : D) → disks.may_leave d (disks.seen d)) where
+  -- what the log's file is, or a crash makes of it
+  at_once : (file : List ℕ) → MayBe (change_on disks disk disk') file → disks.may_leave (disk_of after) file
+  at_once = left_at_once disks stay disk (disk_of after) disk' left'
+
   abbrev mixes_all : Type 0
   mixes_all = (d : D) → IsTrue (disks.is_mixing d)
 
@@ -209,24 +187,25 @@ module _ {D : Type 0} (disks : Ghosts D) (mode : Mode) (s : HubSettings) (hub af
 
   spared_on : StaysAlike disks hub after → IsSpared hub.version hub.header.items mixes_all (change_on disks disk disk')
   spared_on stays = record {
-    alike = λ file may. subst (λ (f : List ℕ). OpensAlike hub.header.items f file) left.same (stays.alike file (left'.crash file may));
-    stands = λ file may. subst (λ (f : List ℕ). IsSameOrBegun hub.header.items f file) left.same (stays.stands file (left'.crash file may));
-    intact = λ mixes intact file may. stays.intact mixes (subst (λ (f : List ℕ). IsIntact hub.version f) (sym left.same) intact) file (left'.crash file may);
+    alike = λ file may. subst (λ (f : List ℕ). OpensAlike hub.header.items f file) left.same (stays.alike file (at_once file may));
+    stands = λ file may. subst (λ (f : List ℕ). IsSameOrBegun hub.header.items f file) left.same (stays.stands file (at_once file may));
+    intact = λ mixes intact file may. stays.intact mixes (subst (λ (f : List ℕ). IsIntact hub.version f) (sym left.same) intact) file (at_once file may);
   }
 
-  spared_log_on : (wanted : Option Digest) → StaysAlike disks hub after → IsTaken hub.version hub.header.items None wanted (file_of disks hub)
-      → IsSparedLog mixes_all (change_on disks disk disk')
-  spared_log_on wanted stays taken = record {
+  abbrev log_on : (wanted : Option Digest) → IsTaken hub.version hub.header.items None wanted (file_of disks hub) → IsLogOfAHub wanted (disks.seen disk)
+  log_on wanted taken = record {
     version = hub.version;
     mode = mode;
     settings = s;
     past = gone;
     first = hub.header.items;
     begins = (begun hub.version mode s hub.header.items hub.recorder.answers has).1;
-    wanted = wanted;
     taken = subst (IsTaken hub.version hub.header.items None wanted) left.same taken;
-    spared = spared_on stays;
   }
+
+  spared_log_on : (wanted : Option Digest) → StaysAlike disks hub after → IsTaken hub.version hub.header.items None wanted (file_of disks hub)
+      → IsSparedLog mixes_all (change_on disks disk disk')
+  spared_log_on wanted stays taken = record { wanted = wanted; log = log_on wanted taken; spared = spared_on stays }
 
   pub safe_on : (faith : Type 0) (wanted : Option Digest) (e : LoggedError) → (faith → HasKeptFaith disks (disk_of after)) → StopsBy disks None wanted hub after (Unit {0}) ⊥ e
       → (HasKeptFaith disks (disk_of after) → StaysAlike disks hub after) → IsSafe mixes_all faith (change_on disks disk disk')
@@ -246,15 +225,9 @@ module _ {D : Type 0} (disks : Ghosts D) (mode : Mode) (s : HubSettings) (hub af
       → CarriesBooks digest mixes_all (header_from Two mode (settings_of after.recorder.answers.runner.world) journals.items) (change_on disks disk disk')
   carries_on digest wanted asked journals there closes stays = record {
     there = there;
-    version = hub.version;
-    mode = mode;
-    settings = s;
-    past = gone;
-    first = hub.header.items;
-    begins = (begun hub.version mode s hub.header.items hub.recorder.answers has).1;
     wanted = wanted;
     asked = asked;
-    taken = subst (IsTaken hub.version hub.header.items None wanted) left.same closes.taken;
+    log = log_on wanted closes.taken;
     stays = subst (λ (f : List ℕ). recovered f ≡ recovered hub.header.items ++ kept hub.header.items (disks.seen disk)) (sym left'.same)
         (subst (λ (f : List ℕ). recovered (file_of disks after) ≡ recovered hub.header.items ++ kept hub.header.items f) left.same closes.lines);
     spared = spared_on stays;
@@ -269,14 +242,8 @@ module _ {D : Type 0} (disks : Ghosts D) (mode : Mode) (s : HubSettings) (hub af
   -- no opening is left behind it
   pub no_opening_on : (wanted : Option Digest) → ClosesWith disks wanted hub after None → HasNoOpeningLeft (disks.seen disk)
   no_opening_on wanted closes = record {
-    version = hub.version;
-    mode = mode;
-    settings = s;
-    past = gone;
-    first = hub.header.items;
-    begins = (begun hub.version mode s hub.header.items hub.recorder.answers has).1;
     wanted = wanted;
-    taken = subst (IsTaken hub.version hub.header.items None wanted) left.same closes.taken;
+    log = log_on wanted closes.taken;
     none = subst (λ (f : List ℕ). ¬ (HaveOpeningsLeft mode gone (kept hub.header.items f))) left.same
         (subst (λ (m : Mode). ¬ (HaveOpeningsLeft m gone (kept hub.header.items (file_of disks hub)))) same_mode (closes.last refl gone has_gone_so));
   }
@@ -305,7 +272,7 @@ begun_with version version' mode s head head' answers answers' versions heads al
 pub unkept_at_once : (run : KeptRun) (t : Streams) (mixes faith : Type 0) (c : Change) (result : Result NewHub LoggedError) (e : LoggedError) (status : ℕ) → t.unread → t.unwritten → IsAsItWas c
     → (faith → FindsGood run.mode run.settings run.resume c.was result) → result ≡ Err e → (status ≡ 2 → IsRefused e) → IsUnkept run t mixes ⊥ faith c status
 unkept_at_once run t mixes faith c result e status unread unwritten same finds failed refusal = record {
-  refused = λ two. (unread, unwritten, (λ _. same), inr (λ is good. unrefused_at _ result e (finds is good.version good.first (may_be_found run c.was good)) failed (refusal two)));
+  refused = λ two. (unread, unwritten, (λ _. same), inr (λ is. Foreign (λ version first log. unrefused_at _ result e (finds is version first log) failed (refusal two))));
   front = λ _. inl (unread, unwritten, same);
 }
 

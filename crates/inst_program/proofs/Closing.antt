@@ -1,5 +1,5 @@
 -- Why the hub of a log isn't closed.
-use Rattle.std.proofs.Common.{◌≡◌, ◌∙◌, inl, inr, ℕ, [], List, Option, None, Some, Result, Ok, Err, IsTrue, MatchResult, sym, ap, subst}
+use Rattle.std.proofs.Common.{◌≡◌, ◌<◌, ◌∙◌, inl, inr, ℕ, [], List, length, Option, None, Some, Result, Ok, Err, IsTrue, MatchResult, sym, ap, subst}
 use Rattle.sqlite_disk.specs.declared.Disk.{Ghosts}
 use Rattle.inst_settings.specs.Settings.{HubSettings}
 use Rattle.inst_lines.specs.declared.mode.Mode.{Mode}
@@ -44,17 +44,21 @@ refused_to_close wanted file r e reads failed two good =
     (reads good.version good.mode good.settings good.first good.lines good.begins) two
 
 -- what was read of it
-pub is_read : (file : List ℕ) (r : Result (Option Beginning) Ending) (b : Beginning) → ReadsBeginning file r → r ≡ Ok (Some b) → IsRead b.mode b.settings file
-is_read file r b reads is version m t first lines begins =
+read_so : (file : List ℕ) (r : Result (Option Beginning) Ending) (b : Beginning) → ReadsBeginning file r → r ≡ Ok (Some b)
+    → (version : Version) (m : Mode) (t : HubSettings) (first : List ℕ) → AreFirstLines version m t first → Begins first file → (m ≡ b.mode) × (t ≡ b.settings)
+read_so file r b reads is version m t first lines begins =
     let (books, same) = subst (λ (q : Result (Option Beginning) Ending). MatchResult q (λ found. (books : Option ℕ) × (found ≡ Some (beginning_with m t books))) (λ ending. status_of_ending ending ≡ 2 → ⊥)) is
     (reads version m t first lines begins) in
     let both : b ≡ beginning_with m t books = cc same in
     (ap (λ (x : Beginning). x.mode) (sym both), ap (λ (x : Beginning). x.settings) (sym both))
 
+pub is_read : (file : List ℕ) (r : Result (Option Beginning) Ending) (b : Beginning) → 0 < length (recovered file) → ReadsBeginning file r → r ≡ Ok (Some b) → IsRead b.mode b.settings file
+is_read file r b there reads is = record { there = there; settings = read_so file r b reads is }
+
 module _ (mode : Mode) (s : HubSettings) (wanted : Option Digest) (file : List ℕ) (read : IsRead mode s file) where
   lines_so : (good : IsGoodToClose wanted file) → AreFirstLines good.version mode s good.first
   lines_so good =
-      let same = read good.version good.mode good.settings good.first good.lines good.begins in
+      let same = read.settings good.version good.mode good.settings good.first good.lines good.begins in
       subst (λ (m : Mode). AreFirstLines good.version m s good.first) same.0 (subst (λ (t : HubSettings). AreFirstLines good.version good.mode t good.first) same.1 good.lines)
 
   -- no hub of it was found

@@ -10,7 +10,7 @@ use Rattle.inst_options.specs.Asking.{AreChosen, AreWhole, AskForTheLog, AskForT
 use Rattle.inst_options.specs.declared.wish.LogOptions.{LogOptions}
 use Rattle.inst_logged.specs.Streams.{Streams}
 use Rattle.inst_program.specs.Files.{Files, IfKept, Stay}
-use Rattle.inst_program.specs.Keeping.{IsGoodFor, IsGoodLog, IsUncarried, KeptRun, SparesBoth, kept_run}
+use Rattle.inst_program.specs.Keeping.{IsGoodLog, IsUncarried, IsUntaken, KeptRun, SparesBoth, kept_run}
 use Rattle.inst_program.proofs.Visiting.{all_stay}
 use Rattle.inst_program.specs.Program.{status_of, AskForADrill, AskForAKeptRun, Checks, Done, Drills, Refusal, task_of}
 use Rattle.inst_program.specs.Program.Done.{Answered, Checked, Drilled, Kept}
@@ -61,7 +61,7 @@ module _ (words : List (List ℕ)) (t : Streams) (old new : Files) where
   }
 
   -- a log wasn't taken
-  untaken : (run : KeptRun) → AskForAKeptRun words run → Stay old new → new.in_use run.name ⊎ IfKept new (¬ (IsGoodFor run (old.bytes run.name))) → Refusal words old new
+  untaken : (run : KeptRun) → AskForAKeptRun words run → Stay old new → new.in_use run.name ⊎ IfKept new (IsUntaken run (old.bytes run.name)) → Refusal words old new
   untaken run asked stay (inl used) = InUse run asked used stay
   untaken run asked stay (inr bad) = Untaken run asked bad stay
 

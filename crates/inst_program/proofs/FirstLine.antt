@@ -3,7 +3,8 @@ use Rattle.std.proofs.Common.{◌≡◌, ◌<◌, ◌==◌, ℕ, zero, suc, Bool
 use Rattle.std.proofs.lemmas.Bool.Decides.{nat_tests}
 use Rattle.inst_bytes.specs.Newline.{newline}
 use Rattle.inst_log.specs.Layout.{blocks, recovered}
-use Rattle.inst_program.specs.Keeping.{IsGoodFor, KeptRun}
+use Rattle.inst_program.specs.Keeping.{IsUntaken, KeptRun}
+use Rattle.inst_program.specs.Keeping.IsUntaken.{Foreign}
 
 line_has : (line rest : List ℕ) → 0 < length (line ++ newline ∷ rest)
 line_has line rest = omega (arith, length-append line (newline ∷ rest))
@@ -26,11 +27,11 @@ absent_if_empty must lines [] b asked is same = subst (λ (c : Bool). MatchBool 
 absent_if_empty must lines (x ∷ xs) b asked is same =
     subst (λ (c : Bool). MatchBool c ((must ≡ true) × (lines ≡ [])) (must ≡ true → 0 < length lines)) (sym (same ∙ not_zero (length xs))) (λ _. some_first lines (x ∷ xs) is (omega arith))
 
--- a log that must be there and has no byte isn't good
-pub absent_is_bad : (run : KeptRun) (file now : List ℕ) → now ≡ file → now ≡ [] → IsGoodFor run file → run.resume ≡ true → ⊥
-absent_is_bad run file now same none good resume =
+-- a log that must be there and has no byte isn't taken
+pub absent_untaken : (run : KeptRun) (file now : List ℕ) → now ≡ file → now ≡ [] → run.resume ≡ true → IsUntaken run file
+absent_untaken run file now same none resume = Foreign (λ version first is.
     let empty : recovered file ≡ recovered [] = ap recovered (sym same ∙ none) in
-    omega (arith, good.there resume, ap length empty)
+    omega (arith, is.there resume, ap length empty))
 
 pub none_if_empty : (n : ℕ) (b : Bool) → b ≡ (n == 0) → b ≡ true → n ≡ 0
 none_if_empty zero b same yes' = refl

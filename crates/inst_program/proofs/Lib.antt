@@ -2,6 +2,8 @@ pub mod Texts
 pub mod Passing
 pub mod FirstLine
 pub mod Visiting
+pub mod Digests
+pub mod Untaken
 pub mod Behind
 pub mod Closing
 pub mod TwoLogs

@@ -8,23 +8,13 @@ use Rattle.inst_program.specs.Keeping.{AsksFor, Carries, CarriesBooks, HasNoOpen
 use Rattle.inst_program.specs.Keeping.IsUncarried.{Bad, InUse, Last, Other}
 use Rattle.inst_program.specs.inner.Carrying.{IsUnbegun, IsUnclosed}
 use Rattle.inst_program.specs.inner.Visiting.{IsSameChange, IsVisited}
-use Rattle.inst_program.proofs.Behind.{taken_same}
+use Rattle.inst_program.proofs.Digests.{taken_same}
 use Rattle.inst_program.proofs.Closing.{none_to_close}
 use Rattle.inst_program.proofs.Visiting.{begun, carries_books, safe_or, stays_behind}
 
 -- a log that was closed has its lines
 closed_safe : (digest : Option (List ℕ)) (mixes : Type 0) (next : List ℕ) (c : Change) → CarriesBooks digest mixes next c → IsSparedLog mixes c
-closed_safe digest mixes next c x = record {
-  version = x.version;
-  mode = x.mode;
-  settings = x.settings;
-  past = x.past;
-  first = x.first;
-  begins = x.begins;
-  wanted = x.wanted;
-  taken = x.taken;
-  spared = x.spared;
-}
+closed_safe digest mixes next c x = record { wanted = x.wanted; log = x.log; spared = x.spared }
 
 -- none was opened
 pub both_untouched : (from to : List ℕ) (old new : Files) → IsUntouched old new → SparesBoth from to old new

@@ -1,13 +1,13 @@
 -- What a log that was opened, and closed again, is then.
-use Rattle.std.proofs.Common.{◌≡◌, ◌⊎◌, ◌∙◌, inl, inr, ℕ, List, Option, None, Some, IsTrue, refl, sym, subst}
+use Rattle.std.proofs.Common.{◌≡◌, ◌⊎◌, ◌++◌, ◌∙◌, inl, inr, ℕ, List, Option, Some, IsTrue, refl, sym, subst}
 use Rattle.sqlite_disk.specs.Disk.{Only}
 use Rattle.sqlite_disk.specs.declared.Disk.{Ghosts}
-use Rattle.inst_logged.specs.Refused.{IsTaken}
+use Rattle.inst_log.specs.Layout.{recovered}
+use Rattle.inst_log.specs.Opening.{kept}
 use Rattle.inst_logged.specs.Running.{HasKeptFaith, IsLeft}
 use Rattle.inst_logged.specs.Streams.{Streams}
-use Rattle.inst_logged.specs.declared.version.Version.{Version}
-use Rattle.inst_program.specs.Files.{AllAreIn, Change, Files, IfKept, IsAsItWas, IsClosed, IsOpened, IsUntouched, OthersStay, Stay, change_of, change_on}
-use Rattle.inst_program.specs.Keeping.{AnswersAFront, AnswersBehind, CarriesBooks, IsBegun, IsSafe, IsGoodFor, IsSpared, IsSparedLog, KeepsLines, KeptRun}
+use Rattle.inst_program.specs.Files.{AllAreIn, Change, Files, IfKept, IsAsItWas, IsClosed, IsOpened, IsUntouched, MayBe, OthersStay, Stay, change_of, change_on}
+use Rattle.inst_program.specs.Keeping.{AnswersAFront, AnswersBehind, CarriesBooks, IsBegun, IsSafe, IsSparedLog, IsUntaken, KeepsLines, KeptRun}
 use Rattle.inst_program.specs.inner.Ending.{IsUnkept}
 use Rattle.inst_program.specs.inner.Visiting.{IsSameChange, IsVisitedAs}
 use Rattle.inst_program.proofs.Texts.{text_tells}
@@ -37,6 +37,10 @@ opened_behind a b c name bytes may_leave x y = record {
 
 -- what is so of a change is so of one that is the same
 module _ (c d : Change) (same : IsSameChange c d) where
+  may_be : (file : List ℕ) → MayBe d file → MayBe c file
+  may_be file (inl now) = inl (now ∙ same.now)
+  may_be file (inr may) = inr (same.may file may)
+
   pub as_it_was : IsAsItWas c → IsAsItWas d
   as_it_was x = record { same = same.now ∙ x.same ∙ sym same.was; crash = λ file may. same.could file (x.crash file (same.may file may)) }
 
@@ -66,31 +70,23 @@ module _ (c d : Change) (same : IsSameChange c d) where
           consumes = v.consumes;
           lines = v.lines;
           lines_are = v.lines_are;
-          kept = record { told = k.told; handed = k.handed; kept = λ file may. k.kept file (same.may file may) };
+          kept = record { told = k.told; handed = k.handed; kept = λ file may. k.kept file (may_be file may) };
         };
-        begins = λ begins file may. x.begins begins file (same.may file may);
-        intact = λ is intact file may. x.intact (more is) intact file (same.may file may);
+        begins = λ begins file may. x.begins begins file (may_be file may);
+        intact = λ is intact file may. x.intact (more is) intact file (may_be file may);
       })
 
-  spared : (version : Version) (first : List ℕ) (mixes mixes' : Type 0) → (mixes' → mixes) → IsSpared version first mixes c → IsSpared version first mixes' d
-  spared version first mixes mixes' more x = subst (λ (file : List ℕ). IsSpared version first mixes' (record { was = file; now = d.now; could_leave = d.could_leave; may_leave = d.may_leave })) (sym same.was) (record {
-    alike = λ file may. x.alike file (same.may file may);
-    stands = λ file may. x.stands file (same.may file may);
-    intact = λ is intact file may. x.intact (more is) intact file (same.may file may);
-  })
-
   spared_log : (mixes mixes' : Type 0) → (mixes' → mixes) → IsSparedLog mixes c → IsSparedLog mixes' d
-  spared_log mixes mixes' more x = record {
-    version = x.version;
-    mode = x.mode;
-    settings = x.settings;
-    past = x.past;
-    first = x.first;
-    begins = x.begins;
-    wanted = x.wanted;
-    taken = subst (λ (file : List ℕ). IsTaken x.version x.first None x.wanted file) (sym same.was) x.taken;
-    spared = spared x.version x.first mixes mixes' more x.spared;
-  }
+  spared_log mixes mixes' more x =
+      subst (λ (file : List ℕ). IsSparedLog mixes' (record { was = file; now = d.now; could_leave = d.could_leave; may_leave = d.may_leave })) (sym same.was) (record {
+        wanted = x.wanted;
+        log = x.log;
+        spared = record {
+          alike = λ file may. x.spared.alike file (may_be file may);
+          stands = λ file may. x.spared.stands file (may_be file may);
+          intact = λ is intact file may. x.spared.intact (more is) intact file (may_be file may);
+        };
+      })
 
   pub safe_or : (mixes mixes' : Type 0) → (mixes' → mixes) → IsAsItWas c ⊎ IsSparedLog mixes c → IsAsItWas d ⊎ IsSparedLog mixes' d
   safe_or mixes mixes' more (inl x) = inl (as_it_was x)
@@ -108,28 +104,21 @@ module _ (c d : Change) (same : IsSameChange c d) where
 
   pub carries_books : (digest : Option (List ℕ)) (mixes mixes' : Type 0) (next : List ℕ) → (mixes' → mixes) → CarriesBooks digest mixes next c → CarriesBooks digest mixes' next d
   carries_books digest mixes mixes' next more x =
-      let now = subst (λ (file : List ℕ). CarriesBooks digest mixes' next (record { was = c.was; now = file; could_leave = d.could_leave; may_leave = d.may_leave })) (sym same.now) (record {
+      subst (λ (file : List ℕ). CarriesBooks digest mixes' next (record { was = file; now = d.now; could_leave = d.could_leave; may_leave = d.may_leave })) (sym same.was) (record {
         there = x.there;
-        version = x.version;
-        mode = x.mode;
-        settings = x.settings;
-        past = x.past;
-        first = x.first;
-        begins = x.begins;
         wanted = x.wanted;
         asked = x.asked;
-        taken = x.taken;
-        stays = x.stays;
+        log = x.log;
+        stays = subst (λ (file : List ℕ). recovered file ≡ recovered x.log.first ++ kept x.log.first c.was) (sym same.now) x.stays;
         spared = record {
-          alike = λ file may. x.spared.alike file (same.may file may);
-          stands = λ file may. x.spared.stands file (same.may file may);
-          intact = λ is intact file may. x.spared.intact (more is) intact file (same.may file may);
+          alike = λ file may. x.spared.alike file (may_be file may);
+          stands = λ file may. x.spared.stands file (may_be file may);
+          intact = λ is intact file may. x.spared.intact (more is) intact file (may_be file may);
         };
         journals = x.journals;
         books = x.books;
         next_is = x.next_is;
-      }) in
-      subst (λ (file : List ℕ). CarriesBooks digest mixes' next (record { was = file; now = d.now; could_leave = d.could_leave; may_leave = d.may_leave })) (sym same.was) now
+      })
 
   durable : Only c.now c.may_leave → Only d.now d.may_leave
   durable only file may = only file (same.may file may) ∙ sym same.now
@@ -171,16 +160,16 @@ module _ {D : Type 0} (disks : Ghosts D) (old new : Files) (name : List ℕ) (di
     durable = λ is. durable (change_on disks disk disk') (change_of old new name) (v.change is) (x.durable (v.faith is));
   }
 
-  not_good : (run : KeptRun) (in_use : Type 0) → ⊥ ⊎ (HasKeptFaith disks disk' → ¬ (IsGoodFor run (disks.seen disk))) → in_use ⊎ (IsTrue new.is_clean → ¬ (IsGoodFor run (old.bytes name)))
-  not_good run in_use (inl never) = absurd never
-  not_good run in_use (inr not) = inr (λ is good. not (v.faith is) (subst (IsGoodFor run) (v.change is).was good))
+  untaken : (run : KeptRun) (in_use : Type 0) → ⊥ ⊎ (HasKeptFaith disks disk' → IsUntaken run (disks.seen disk)) → in_use ⊎ (IsTrue new.is_clean → IsUntaken run (old.bytes name))
+  untaken run in_use (inl never) = absurd never
+  untaken run in_use (inr why) = inr (λ is. subst (IsUntaken run) (sym (v.change is).was) (why (v.faith is)))
 
   pub unkept_in : (run : KeptRun) (t : Streams) (mixes mixes' in_use : Type 0) (status : ℕ) → (mixes' → mixes) → IsUnkept run t mixes ⊥ (HasKeptFaith disks disk') (change_on disks disk disk') status
       → IsUnkept run t mixes' in_use (IsTrue new.is_clean) (change_of old new name) status
   unkept_in run t mixes mixes' in_use status more x = record {
     refused = λ two.
         let r = x.refused two in
-        (r.0, r.1, (λ is. as_it_was (change_on disks disk disk') (change_of old new name) (v.change is) (r.2 (v.faith is))), not_good run in_use r.3);
+        (r.0, r.1, (λ is. as_it_was (change_on disks disk disk') (change_of old new name) (v.change is) (r.2 (v.faith is))), untaken run in_use r.3);
     front = λ is. front_or (change_on disks disk disk') (change_of old new name) (v.change is) run t mixes mixes' more (x.front (v.faith is));
   }
 
@@ -203,7 +192,7 @@ module _ (old new : Files) (same : IsUntouched old new) where
   in_untouched all is = same.out is ∙ all (same.clean is)
 
   pub unkept_untouched : (run : KeptRun) (t : Streams) (mixes in_use : Type 0) (name : List ℕ) (status : ℕ) → t.unread → t.unwritten
-      → (status ≡ 2 → in_use ⊎ (IsTrue new.is_clean → ¬ (IsGoodFor run (old.bytes name)))) → IsUnkept run t mixes in_use (IsTrue new.is_clean) (change_of old new name) status
+      → (status ≡ 2 → in_use ⊎ (IsTrue new.is_clean → IsUntaken run (old.bytes name))) → IsUnkept run t mixes in_use (IsTrue new.is_clean) (change_of old new name) status
   unkept_untouched run t mixes in_use name status unread unwritten why =
       record { refused = λ two. (unread, unwritten, (λ is. same.all is name), why two); front = λ is. inl (unread, unwritten, same.all is name) }
 

@@ -1,5 +1,5 @@
 -- The files of the machine, by their names. This hub's own choice.
-use Rattle.std.specs.Prelude.{◌≡◌, ◌≢◌, ℕ, Bool, List, Option, None, Some, IsTrue}
+use Rattle.std.specs.Prelude.{◌≡◌, ◌≢◌, ◌⊎◌, ℕ, Bool, List, Option, None, Some, IsTrue}
 use Rattle.sqlite_disk.specs.declared.Disk.{Ghosts}
 
 -- What each file has, by its name, and what a crash may leave of it; a file that isn't there has nothing. One at most is
@@ -35,6 +35,10 @@ change_of old new name =
 abbrev pub change_on : {D : Type 0} → Ghosts D → D → D → Change
 change_on disks old new =
     record { was = disks.seen old; now = disks.seen new; could_leave = disks.may_leave old; may_leave = disks.may_leave new }
+
+-- what the file is, or a crash may make of it
+abbrev pub MayBe : Change → List ℕ → Type 0
+MayBe c file = (file ≡ c.now) ⊎ c.may_leave file
 
 -- the file is as it was, by a crash too
 pub record IsAsItWas (c : Change) : Type 0 where

@@ -12,21 +12,23 @@ use Rattle.inst_lines.specs.Answering.{Past, opened}
 use Rattle.inst_lines.specs.declared.mode.Mode.{Mode}
 use Rattle.inst_log.specs.Layout.{recovered}
 use Rattle.inst_log.specs.Opening.{kept, Begins, OpensAlike, IsSameOrBegun}
-use Rattle.inst_chain.specs.Chain.{said}
+use Rattle.inst_chain.specs.Chain.{kept_said, said}
 use Rattle.inst_chain.specs.Summing.{HasFirst, IsSealedBy}
+use Rattle.inst_chain.specs.Verifying.{IsDamagedAfter}
 use Rattle.inst_chain.specs.declared.digest.Digest.{Digest}
+use Rattle.inst_chain.specs.declared.prefix.Prefix.{Prefix}
 use Rattle.inst_logged.specs.declared.version.Version.{Version}
 use Rattle.inst_logged.specs.declared.version.Version.TheVariants.{One, Two}
-use Rattle.inst_logged.specs.Answering.{opened_from, past_after, AreBooksAfter}
+use Rattle.inst_logged.specs.Answering.{opened_from, past_after, told_of, AreBooksAfter}
 use Rattle.inst_logged.specs.Beginning.{IsHeaderLine}
 use Rattle.inst_logged.specs.Header.{AreFirstLines, header, header_from}
 use Rattle.inst_logged.specs.Closing.{HaveOpeningsLeft}
 use Rattle.inst_logged.specs.Marking.{IsIntact}
 use Rattle.inst_logged.specs.Logged.{HasLogged, SurvivesACrash}
-use Rattle.inst_logged.specs.Refused.{IsTaken}
+use Rattle.inst_logged.specs.Refused.{HasWanted, IsTaken, OpensAs}
 use Rattle.inst_logged.specs.Streams.{Streams}
 use Rattle.inst_options.specs.declared.wish.LogOptions.{LogOptions}
-use Rattle.inst_program.specs.Files.{Change, Files, change_of, AllButTwoStay, IfKept, IsAsItWas}
+use Rattle.inst_program.specs.Files.{Change, Files, change_of, AllButTwoStay, IfKept, IsAsItWas, MayBe}
 
 -- a run with a log, as words ask for it: at a hub of these settings, with the log of this name, of whose lines so many were
 -- told; whether it must be there, and which digest it must have, if any
@@ -69,17 +71,47 @@ pub record IsTakenFor (run : KeptRun) (file : List ℕ) (version : Version) (pas
   pub asked : AsksFor run.digest wanted
   pub taken : IsTaken version first run.told wanted file
 
--- The log of this file is one that such a run takes: it begins as the log of a hub of these settings does, or is new, its
--- marks are right, and it has what is asked for.
+-- The file opens as the log of a hub of these settings that begins with these lines, and has a line if it must. A new log has
+-- marks and no books.
+pub record IsLogOf (mode : Mode) (s : HubSettings) (must_be_there : Bool) (file : List ℕ) (version : Version) (first : List ℕ) : Type 0 where
+  pub lines : AreFirstLines version mode s first
+  pub fresh : recovered file ≡ [] → (version ≡ Two) × (first ≡ header Two mode s)
+  pub there : must_be_there ≡ true → 0 < length (recovered file)
+  pub opens : OpensAs first file
+
+-- the file opens as such a log of this run
+abbrev pub IsLogFor : KeptRun → List ℕ → Version → List ℕ → Type 0
+IsLogFor run file version first = IsLogOf run.mode run.settings run.resume file version first
+
+-- The log of this file is one that such a run takes: it is a log for it, its marks are right, and it has what is asked for.
 pub record IsGoodFor (run : KeptRun) (file : List ℕ) : Type 0 where
   pub version : Version
   pub first : List ℕ
-  pub lines : AreFirstLines version run.mode run.settings first
-  pub fresh : recovered file ≡ [] → (version ≡ Two) × (first ≡ header Two run.mode run.settings)
-  pub there : run.resume ≡ true → 0 < length (recovered file)
+  pub log : IsLogFor run file version first
   pub wanted : Option Digest
   pub asked : AsksFor run.digest wanted
   pub taken : IsTaken version first run.told wanted file
+
+-- if the file is a log for the run, it has this version and these first lines
+abbrev pub IsAtMost : KeptRun → List ℕ → Version → List ℕ → Type 0
+IsAtMost run file version first = (v : Version) (lines : List ℕ) → IsLogFor run file v lines → (version ≡ v) × (first ≡ lines)
+
+-- Why a run doesn't take the log of this file.
+-- Foreign: it is no log for the run (`OtherSettings`, `NoLog`, `BadBooks`, or `DamagedLog` if the mark of its books is wrong)
+-- Short: it has fewer lines than were told (`ToldAhead`)
+-- Damaged: a mark is wrong, or its end (`DamagedLog`)
+-- Undigested: it has no mark with the digest that is asked for (`OtherDigest`)
+pub data IsUntaken (run : KeptRun) (file : List ℕ) : Type 0 where
+  Foreign : ((version : Version) (first : List ℕ) → ¬ (IsLogFor run file version first)) → IsUntaken run file
+  Short : (version : Version) (first : List ℕ) → IsAtMost run file version first
+      → length (kept_said first file) < told_of run.told (kept_said first file) → IsUntaken run file
+  Damaged : (first : List ℕ) → IsAtMost run file Two first → (right : Prefix) → IsDamagedAfter file right → IsUntaken run file
+  Undigested : (version : Version) (first : List ℕ) → IsAtMost run file version first
+      → (wanted : Option Digest) → AsksFor run.digest wanted → ¬ (HasWanted version wanted file) → IsUntaken run file
+
+-- a log that isn't taken is none that is good for the run
+abbrev pub AnUntakenLogIsNotGood : Type 0
+AnUntakenLogIsNotGood = (run : KeptRun) (file : List ℕ) → IsUntaken run file → ¬ (IsGoodFor run file)
 
 -- it took the log, answered all that the reader had left, and made the file into this one, whose marks are right
 pub record AnswersBehind (run : KeptRun) (t : Streams) (c : Change) : Type 0 where
@@ -90,16 +122,17 @@ pub record AnswersBehind (run : KeptRun) (t : Streams) (c : Change) : Type 0 whe
   pub intact : IsIntact version c.now
   pub logged : HasLogged run.mode past first run.told c.was c.now t.left t.left' t.held t.held'
 
--- It took the log, and answered some of it. The log begins as it did, whatever a crash leaves of it, and none whose marks
--- were right is called damaged, where the disk leaves each byte of a write old or new.
+-- It took the log, and answered some of it. The log, as it is and whatever a crash makes of it, has the lines that it had
+-- and a prefix of those read, begins as it did, and if its marks were right it is never called damaged, where the disk
+-- leaves each byte of a write old or new.
 pub record AnswersAFront (run : KeptRun) (t : Streams) (mixes : Type 0) (c : Change) : Type 0 where
   pub version : Version
   pub past : Past
   pub first : List ℕ
   pub taken : IsTakenFor run c.was version past first
-  pub survives : SurvivesACrash run.mode past first run.told c.was c.may_leave t.left t.left' t.held t.held'
-  pub begins : Begins first c.was → (file : List ℕ) → c.may_leave file → Begins first file
-  pub intact : mixes → IsIntact version c.was → (file : List ℕ) → c.may_leave file → IsIntact version file
+  pub survives : SurvivesACrash run.mode past first run.told c.was (MayBe c) t.left t.left' t.held t.held'
+  pub begins : Begins first c.was → (file : List ℕ) → MayBe c file → Begins first file
+  pub intact : mixes → IsIntact version c.was → (file : List ℕ) → MayBe c file → IsIntact version file
 
 -- lines were answered with a log: all that the reader had left, and what was synced is what is read
 pub record KeepsLines (run : KeptRun) (t : Streams) (faith : Type 0) (c : Change) : Type 0 where
@@ -150,24 +183,28 @@ pub record TellsOfTheLog (file : List ℕ) (held held' : Option (List ℕ)) : Ty
   pub says : (v : Version) (mode : Mode) (s : HubSettings) (n : Option ℕ) → IsHeaderLine v mode s n first → (version ≡ v) × (books ≡ unwrap_or n 0)
   pub told : Appends held held' (log_text first (length (said (recovered file)) - 1 - books) digest)
 
--- a log of these first lines was opened: it has the very lines that it had, or where there were none, the first ones,
--- whatever a crash leaves of it, and none whose marks were right is called damaged
+-- a log of these first lines was opened: as it is and whatever a crash makes of it, it has the very lines that it had, or
+-- where there were none, the first ones, and none whose marks were right is called damaged
 pub record IsSpared (version : Version) (first : List ℕ) (mixes : Type 0) (c : Change) : Type 0 where
-  pub alike : (file : List ℕ) → c.may_leave file → OpensAlike first c.was file
-  pub stands : (file : List ℕ) → c.may_leave file → IsSameOrBegun first c.was file
-  pub intact : mixes → IsIntact version c.was → (file : List ℕ) → c.may_leave file → IsIntact version file
+  pub alike : (file : List ℕ) → MayBe c file → OpensAlike first c.was file
+  pub stands : (file : List ℕ) → MayBe c file → IsSameOrBegun first c.was file
+  pub intact : mixes → IsIntact version c.was → (file : List ℕ) → MayBe c file → IsIntact version file
 
--- so it is with the log of some hub, of some settings
-pub record IsSparedLog (mixes : Type 0) (c : Change) : Type 0 where
+-- some hub takes the log of this file, which has the mark that is asked for
+pub record IsLogOfAHub (wanted : Option Digest) (file : List ℕ) : Type 0 where
   pub version : Version
   pub mode : Mode
   pub settings : HubSettings
   pub past : Past
   pub first : List ℕ
   pub begins : IsBeginning version mode settings past first
+  pub taken : IsTaken version first None wanted file
+
+-- the log of some hub was spared
+pub record IsSparedLog (mixes : Type 0) (c : Change) : Type 0 where
   pub wanted : Option Digest
-  pub taken : IsTaken version first None wanted c.was
-  pub spared : IsSpared version first mixes c
+  pub log : IsLogOfAHub wanted c.was
+  pub spared : IsSpared log.version log.first mixes c
 
 -- a log is as it was, or it was opened, and at most its end was mended or its first lines written
 abbrev pub IsSafe : Type 0 → Type 0 → Change → Type 0
@@ -186,20 +223,14 @@ pub record IsBegun (first : List ℕ) (c : Change) : Type 0 where
 -- for.
 pub record CarriesBooks (digest : Option (List ℕ)) (mixes : Type 0) (next : List ℕ) (c : Change) : Type 0 where
   pub there : 0 < length (recovered c.was)
-  pub version : Version
-  pub mode : Mode
-  pub settings : HubSettings
-  pub past : Past
-  pub first : List ℕ
-  pub begins : IsBeginning version mode settings past first
   pub wanted : Option Digest
   pub asked : AsksFor digest wanted
-  pub taken : IsTaken version first None wanted c.was
-  pub stays : recovered c.now ≡ recovered first ++ kept first c.was
-  pub spared : IsSpared version first mixes c
+  pub log : IsLogOfAHub wanted c.was
+  pub stays : recovered c.now ≡ recovered log.first ++ kept log.first c.was
+  pub spared : IsSpared log.version log.first mixes c
   pub journals : List History
-  pub books : AreBooksAfter mode past (kept first c.was) journals
-  pub next_is : next ≡ header_from Two mode (past_after mode past (kept first c.was)).settings journals
+  pub books : AreBooksAfter log.mode log.past (kept log.first c.was) journals
+  pub next_is : next ≡ header_from Two log.mode (past_after log.mode log.past (kept log.first c.was)).settings journals
 
 -- the log of this file is that of a hub, its marks are right, and it has the digest that is asked for
 pub record IsGoodToClose (wanted : Option Digest) (file : List ℕ) : Type 0 where
@@ -213,15 +244,9 @@ pub record IsGoodToClose (wanted : Option Digest) (file : List ℕ) : Type 0 whe
 
 -- the books of the hub of this log were opened from as often as they may be
 pub record HasNoOpeningLeft (file : List ℕ) : Type 0 where
-  pub version : Version
-  pub mode : Mode
-  pub settings : HubSettings
-  pub past : Past
-  pub first : List ℕ
-  pub begins : IsBeginning version mode settings past first
   pub wanted : Option Digest
-  pub taken : IsTaken version first None wanted file
-  pub none : ¬ (HaveOpeningsLeft mode past (kept first file))
+  pub log : IsLogOfAHub wanted file
+  pub none : ¬ (HaveOpeningsLeft log.mode log.past (kept log.first file))
 
 -- the log of the second name begins with the books of the hub of the log of the first name, which has the lines that it had
 pub record Carries (from to : List ℕ) (digest : Option (List ℕ)) (old new : Files) : Type 0 where

@@ -1,4 +1,5 @@
 -- Public contracts cite these.
+pub mod Bounds
 pub mod Files
 pub mod Logs
 pub mod Keeping

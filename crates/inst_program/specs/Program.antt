@@ -27,7 +27,7 @@ use Rattle.inst_options.specs.Options.Task.{Run, Play, Drill, Check}
 use Rattle.inst_options.specs.Asking.{AreChosen, AreWhole, AreWrong, AskForHelp, AskForTheLog, AskForTheNext, AskToExplain, NameABadLog, NameNoLog, NameTheLog}
 use Rattle.inst_logged.specs.Streams.{Streams}
 use Rattle.inst_program.specs.Files.{Files, IfKept, OthersStay, Stay, change_of}
-use Rattle.inst_program.specs.Keeping.{Carries, IsGoodFor, IsGoodLog, IsUncarried, KeepsAFront, KeepsLines, KeptRun, SparesBoth, TellsOfTheLog}
+use Rattle.inst_program.specs.Keeping.{Carries, IsGoodLog, IsUncarried, IsUntaken, KeepsAFront, KeepsLines, KeptRun, SparesBoth, TellsOfTheLog}
 
 -- the exit status for a fault
 abbrev pub status_of : Fault → ℕ
@@ -208,7 +208,7 @@ pub data Refusal (words : List (List ℕ)) (old new : Files) : Type 0 where
   BadLog : NameABadLog words → Stay old new → Refusal words old new
   Unnamed : NameNoFault words → Stay old new → Refusal words old new
   InUse : (run : KeptRun) → AskForAKeptRun words run → new.in_use run.name → Stay old new → Refusal words old new
-  Untaken : (run : KeptRun) → AskForAKeptRun words run → IfKept new (¬ (IsGoodFor run (old.bytes run.name))) → Stay old new → Refusal words old new
+  Untaken : (run : KeptRun) → AskForAKeptRun words run → IfKept new (IsUntaken run (old.bytes run.name)) → Stay old new → Refusal words old new
   Unshown : (name : List ℕ) → AskForTheLog words name → IfKept new (¬ (IsGoodLog (old.bytes name))) → Stay old new → Refusal words old new
   Uncarried : (from to : List ℕ) (digest : Option (List ℕ)) → AskForTheNext words from to digest → IsUncarried from to digest old new
       → SparesBoth from to old new → Refusal words old new

@@ -1,15 +1,14 @@
 //! The next opening: the log that begins with the books of another one.
 ghost use Rattle.std.specs.Prelude.{◌≡◌, ◌<◌, List, ℕ, Option, option_map, length, IsTrue, IfErr, IfOk, OnOk, OnErr};
-ghost use Rattle.sqlite_disk.specs.Disk.{Only};
 ghost use Rattle.inst_log.specs.Layout.{recovered};
 ghost use Rattle.inst_world.specs.HasRun.{settings_of};
 ghost use Rattle.inst_world.specs.NextOpening.{CanOpenFrom};
 ghost use Rattle.inst_logged.specs.Header.{header_from};
-ghost use Rattle.inst_logged.specs.Running.{HasKeptFaith, IsLeft};
+ghost use Rattle.inst_logged.specs.Running.{HasKeptFaith, IsJustOpened, IsOnlyRead};
 ghost use Rattle.inst_logged.specs.declared.version.Version.TheVariants.{Two};
 ghost use Rattle.inst_program.specs.Files.{AllAreIn, IfKept, change_of, change_on};
 ghost use Rattle.inst_program.specs.Keeping.{AsksFor, Carries, CarriesBooks, IsBegun, IsSafe, IsUncarried, SparesBoth};
-ghost use Rattle.inst_program.specs.inner.Carrying.{IsRead, IsUnbegun, IsUnclosed, ReadsBeginning};
+ghost use Rattle.inst_program.specs.inner.Carrying.{IsHubClosed, IsRead, IsUnbegun, IsUnclosed, ReadsBeginning};
 ghost use Rattle.inst_program.specs.inner.Ending.{status_of_ending};
 ghost use Rattle.inst_program.specs.inner.Visiting.{IsVisited};
 
@@ -99,17 +98,8 @@ fn close_on<D: Disk + Drop, E: Write>(
     mut disk: D,
     errors: &mut E,
 ) -> (Result<Closed, Ending>, D)
-    requires usable { IsTrue (D.Disk.is_usable disk) }
-    requires known { HasKeptFaith D.Disk disk → Only (D.Disk.seen disk) (D.Disk.may_leave disk) }
-    ensures ok { IfOk result.0 (λ closed. HasKeptFaith D.Disk result.1 → (digest : Option (List ℕ)) → AsksFor digest wanted
-        → CarriesBooks digest ((d : D) → IsTrue (D.Disk.is_mixing d))
-        (header_from Two closed.mode (settings_of closed.runner.world) closed.journals.items)
-        (change_on D.Disk disk result.1)) }
-    ensures can { IfOk result.0 (λ closed. CanOpenFrom (settings_of closed.runner.world) closed.journals.items) }
-    ensures err { OnErr result.0 (IsSafe ((d : D) → IsTrue (D.Disk.is_mixing d)) (HasKeptFaith D.Disk result.1)
-        (change_on D.Disk disk result.1)) }
-    ensures refused { IfErr result.0 (λ ending. status_of_ending ending ≡ 2
-        → IsUnclosed ⊥ (HasKeptFaith D.Disk result.1) wanted (D.Disk.seen disk)) }
+    requires opened { IsJustOpened D.Disk disk }
+    ensures { IsHubClosed D.Disk wanted disk result.1 result.0 }
 {
     match beginning_of(alloc, &mut disk) {
         Ok(Some(Beginning { mode, settings, .. })) => {
@@ -129,19 +119,9 @@ fn close_hub<D: Disk + Drop, E: Write>(
     mut disk: D,
     errors: &mut E,
 ) -> (Result<Closed, Ending>, D)
-    requires usable { IsTrue (D.Disk.is_usable disk) }
-    requires known { HasKeptFaith D.Disk disk → Only (D.Disk.seen disk) (D.Disk.may_leave disk) }
-    requires there { HasKeptFaith D.Disk disk → 0 < length (recovered (D.Disk.seen disk)) }
+    requires opened { IsJustOpened D.Disk disk }
     requires read { HasKeptFaith D.Disk disk → IsRead mode settings.now (D.Disk.seen disk) }
-    ensures ok { IfOk result.0 (λ closed. HasKeptFaith D.Disk result.1 → (digest : Option (List ℕ)) → AsksFor digest wanted
-        → CarriesBooks digest ((d : D) → IsTrue (D.Disk.is_mixing d))
-        (header_from Two closed.mode (settings_of closed.runner.world) closed.journals.items)
-        (change_on D.Disk disk result.1)) }
-    ensures can { IfOk result.0 (λ closed. CanOpenFrom (settings_of closed.runner.world) closed.journals.items) }
-    ensures err { OnErr result.0 (IsSafe ((d : D) → IsTrue (D.Disk.is_mixing d)) (HasKeptFaith D.Disk result.1)
-        (change_on D.Disk disk result.1)) }
-    ensures refused { IfErr result.0 (λ ending. status_of_ending ending ≡ 2
-        → IsUnclosed ⊥ (HasKeptFaith D.Disk result.1) wanted (D.Disk.seen disk)) }
+    ensures { IsHubClosed D.Disk wanted disk result.1 result.0 }
 {
     let hub = match NewHub::of_log(alloc, mode, settings, &mut disk) {
         Ok(hub) => hub,
@@ -200,8 +180,7 @@ fn begin_on<D: Disk + Drop>(
     disk: D,
 ) -> (Result<(), Ending>, D)
     requires journals { CanOpenFrom settings.now journals.now }
-    requires usable { IsTrue (D.Disk.is_usable disk) }
-    requires known { HasKeptFaith D.Disk disk → Only (D.Disk.seen disk) (D.Disk.may_leave disk) }
+    requires opened { IsJustOpened D.Disk disk }
     ensures ok { OnOk result.0 (HasKeptFaith D.Disk result.1
         → IsBegun (header_from Two mode settings.now journals.now) (change_on D.Disk disk result.1)) }
     ensures err { OnErr result.0 (IsSafe ((d : D) → IsTrue (D.Disk.is_mixing d)) (HasKeptFaith D.Disk result.1)
@@ -222,10 +201,8 @@ fn begin_on<D: Disk + Drop>(
 fn beginning_of<D: Disk>(alloc: Global, disk: &mut D) -> Result<Option<Beginning>, Ending>
     requires usable { IsTrue (D.Disk.is_usable disk.old) }
     ensures there { IfOk result (λ beginning. HasKeptFaith D.Disk disk.new → 0 < length (recovered (D.Disk.seen disk.old))) }
-    ensures read { HasKeptFaith D.Disk disk.new → ReadsBeginning (D.Disk.seen disk.old) result }
-    ensures left { IsLeft D.Disk disk.old disk.new }
-    ensures usable { IsTrue (D.Disk.is_usable disk.new) }
-    ensures clean { HasKeptFaith D.Disk disk.new → HasKeptFaith D.Disk disk.old }
+    ensures found { HasKeptFaith D.Disk disk.new → ReadsBeginning (D.Disk.seen disk.old) result }
+    ensures read { IsOnlyRead D.Disk disk.old disk.new }
 {
     let first = read_lines(alloc, disk, 1).map_err(|error| ending_of(LoggedError::Log(error)))?;
     if first.is_empty() {

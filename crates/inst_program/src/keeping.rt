@@ -1,11 +1,10 @@
 //! Runs with a log.
 ghost use Rattle.std.specs.Prelude.{◌≡◌, ◌<◌, [], true, length, option_map, IsTrue, IfOk, OnOk, IfErr, MatchBool};
-ghost use Rattle.sqlite_disk.specs.Disk.{Only};
 ghost use Rattle.inst_log.specs.Layout.{recovered};
 ghost use Rattle.inst_logged.specs.Header.{header};
 ghost use Rattle.inst_logged.specs.Logged.{HasBegun, IsUnbegun};
 ghost use Rattle.inst_logged.specs.Refused.{IsRefused};
-ghost use Rattle.inst_logged.specs.Running.{HasKeptFaith, IsLeft};
+ghost use Rattle.inst_logged.specs.Running.{HasKeptFaith, IsJustOpened, IsLeft, IsOnlyRead};
 ghost use Rattle.inst_logged.specs.Streams.{streams};
 ghost use Rattle.inst_logged.specs.declared.version.Version.TheVariants.{Two};
 ghost use Rattle.inst_program.specs.Files.{AllAreIn, IfKept, IsUntouched, OthersStay, change_of, change_on};
@@ -100,8 +99,7 @@ fn keep_on<D: Disk + Drop, R: Read, W: Write, E: Write>(
     errors: &mut E,
 ) -> (Result<Runner, Ending>, D)
     requires wanted { AsksFor (option_map (λ d. d.now) log.digest) wanted }
-    requires usable { IsTrue (D.Disk.is_usable disk) }
-    requires known { HasKeptFaith D.Disk disk → Only (D.Disk.seen disk) (D.Disk.may_leave disk) }
+    requires opened { IsJustOpened D.Disk disk }
     ensures ok { OnOk result.0 (KeepsLines (kept_run mode settings.now log.entry)
         (streams R.Read W.Write reader.old reader.new writer.old writer.new)
         (HasKeptFaith D.Disk result.1) (change_on D.Disk disk result.1)) }
@@ -142,9 +140,7 @@ fn find_hub<D: Disk>(
         → (hub.version ≡ Two) × (hub.heading.batch.items ≡ header Two mode settings.now)) }
     ensures there { OnOk result (HasKeptFaith D.Disk disk.new → must_be_there ≡ true → 0 < length (recovered (D.Disk.seen disk.old))) }
     ensures found { HasKeptFaith D.Disk disk.new → FindsGood mode settings.now must_be_there (D.Disk.seen disk.old) result }
-    ensures left { IsLeft D.Disk disk.old disk.new }
-    ensures usable { IsTrue (D.Disk.is_usable disk.new) }
-    ensures clean { HasKeptFaith D.Disk disk.new → HasKeptFaith D.Disk disk.old }
+    ensures read { IsOnlyRead D.Disk disk.old disk.new }
 {
     if is_absent(alloc, must_be_there, disk)? {
         return Err(LoggedError::Log(LogError::NoLog));
@@ -159,9 +155,7 @@ fn is_absent<D: Disk>(alloc: Global, must_be_there: bool, disk: &mut D) -> Resul
         → MatchBool absent ((must_be_there ≡ true) × (recovered (D.Disk.seen disk.old) ≡ []))
         (must_be_there ≡ true → 0 < length (recovered (D.Disk.seen disk.old)))) }
     ensures unrefused { IfErr result (λ error. ¬ IsRefused error) }
-    ensures left { IsLeft D.Disk disk.old disk.new }
-    ensures usable { IsTrue (D.Disk.is_usable disk.new) }
-    ensures clean { HasKeptFaith D.Disk disk.new → HasKeptFaith D.Disk disk.old }
+    ensures read { IsOnlyRead D.Disk disk.old disk.new }
 {
     if !must_be_there {
         return Ok(false);

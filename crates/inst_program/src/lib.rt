@@ -5,11 +5,13 @@
 mod carrying;
 mod ending;
 mod keeping;
+mod laws;
 mod logs;
 pub mod rows;
 mod showing;
 mod summary;
 mod tasks;
 
+pub use laws::{an_untaken_log_is_not_good, the_bounds};
 pub use logs::{Logs, LogsError};
 pub use tasks::{program, words_failed};

@@ -24,7 +24,7 @@ use Rattle.inst_program.specs.declared.logs.LogsError.{LogsError}
 use Rattle.inst_program.specs.declared.logs.LogsError.TheVariants as opening
 use Rattle.inst_logged.specs.Streams.{Streams}
 use Rattle.inst_program.specs.Files.{Change, Files, IsAsItWas, OthersStay, Stay, change_of}
-use Rattle.inst_program.specs.Keeping.{IsGoodFor, KeepsAFront, KeepsLines, KeptRun, kept_run}
+use Rattle.inst_program.specs.Keeping.{IsUntaken, KeepsAFront, KeepsLines, KeptRun, kept_run}
 use Rattle.inst_program.specs.Program.{status_of, Answers, Failed, Refused}
 
 -- for words that ask for nothing that can be done: 0 where they ask for a text
@@ -62,7 +62,7 @@ IsUnexplained word unwritten ending.Unexplained = unwritten × ((fault : AnyFaul
 -- a run with a log ends with this exit status: the log isn't taken, and nothing was done, or some lines were answered
 -- in_use: another program has it open
 pub record IsUnkept (run : KeptRun) (t : Streams) (mixes in_use faith : Type 0) (c : Change) (status : ℕ) : Type 0 where
-  pub refused : status ≡ 2 → t.unread × t.unwritten × (faith → IsAsItWas c) × (in_use ⊎ (faith → ¬ (IsGoodFor run c.was)))
+  pub refused : status ≡ 2 → t.unread × t.unwritten × (faith → IsAsItWas c) × (in_use ⊎ (faith → IsUntaken run c.was))
   pub front : KeepsAFront run t mixes faith c
 
 -- the lines of the reader are answered at a hub of these settings, with this log

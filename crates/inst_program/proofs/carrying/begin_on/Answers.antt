@@ -30,7 +30,7 @@ returns-clause-ok g c =
     on_ok_through c.open.result c.or_ending-outcome.result _ c.or_ending-outcome.ensures.variant
     (on_ok_weaker c.open.result (λ opens clean.
     subst (λ (first : List ℕ). IsBegun first (change_on disks c.args.disk disk')) (ap (λ (v : Vec ℕ Global). v.items) made.header ∙ new.first_is)
-    (begun_on disks mode s hub after c.args.disk disk' has left left' (made.version ∙ new.version_is)
+    (begun_on disks mode s hub after c.args.disk disk' has left left' g.met.D.Disk.seen_may_stay (made.version ∙ new.version_is)
     (opens (subst (λ (d : g.row.D.Denot). HasKeptFaith disks d) c.into_parts-disk.ensures.disk clean)))) c.open.ensures.ok)
 
 pub returns-clause-err : goal.returns-clause-err
@@ -47,7 +47,7 @@ returns-clause-err g c =
     let left = left_equal disks c.args.disk hub.recorder.log.disk made.disk in
     let left' = left_equal disks after.recorder.log.disk disk' c.into_parts-disk.ensures.disk in
     on_err_through c.open.result c.or_ending-outcome.result _ _ c.or_ending-outcome.ensures.variant
-    (λ e stops. safe_on disks mode s hub after c.args.disk disk' has left left' _ None e (subst (λ (d : g.row.D.Denot). HasKeptFaith disks d) c.into_parts-disk.ensures.disk) stops c.open.ensures.any_moment) c.open.ensures.err
+    (λ e stops. safe_on disks mode s hub after c.args.disk disk' has left left' g.met.D.Disk.seen_may_stay _ None e (subst (λ (d : g.row.D.Denot). HasKeptFaith disks d) c.into_parts-disk.ensures.disk) stops c.open.ensures.any_moment) c.open.ensures.err
 
 pub returns-clause-refused : goal.returns-clause-refused
 returns-clause-refused g c =

@@ -1,17 +1,18 @@
 use Rattle.std.proofs.Common.{inl, inr, IsTrue, sym, subst}
 use Rattle.inst_agenda.specs.declared.runner.Runner.{Runner}
 use Rattle.inst_world.specs.HasRun.{settings_of}
+use Rattle.inst_world.specs.NextOpening.{CanOpenFrom}
 use Rattle.inst_logged.specs.Header.{header_from}
 use Rattle.inst_logged.specs.Running.{HasKeptFaith}
 use Rattle.inst_logged.specs.declared.version.Version.TheVariants.{Two}
 use Rattle.inst_program.specs.Files.{change_on}
 use Rattle.inst_program.specs.Keeping.{CarriesBooks}
-use Rattle.inst_program.proofs.Behind.{begun_with, carries_on, left_behind, left_equal, no_opening_on, safe_closed, safe_on}
+use Rattle.inst_program.proofs.Behind.{begun_with, carries_on, left_behind, left_equal, no_opening_on, left_as_it_was, safe_closed, safe_on}
 use Rattle.inst_program.proofs.Closing.{unfound_to_close, untaken_to_close}
 use Rattle.inst_program.proofs.carrying.close_hub.Goals as goal
 
-pub returns-in-Ok-Some-clause-ok : goal.returns-in-Ok-Some-clause-ok
-returns-in-Ok-Some-clause-ok g c clean' digest asked =
+pub returns-in-Ok-Some : goal.returns-in-Ok-Some
+returns-in-Ok-Some g c =
     let disks = g.D.Disk in
     let mode = c.args.mode in
     let s = c.args.settings.now in
@@ -21,18 +22,26 @@ returns-in-Ok-Some-clause-ok g c clean' digest asked =
     let after = c.close-books.new.self in
     let disk' = c.into_parts-runner.result.1 in
     let has = begun_with found.version hub.version mode s found.heading.batch hub.header found.answers hub.recorder.answers made.version made.header made.answers c.in-Ok.ensures.begun.0 in
-    let left = left_behind disks c.args.disk c.of_log.new.disk hub.recorder.log.disk c.of_log.ensures.left (left_equal disks c.of_log.new.disk hub.recorder.log.disk made.disk) in
+    let left = left_behind disks c.args.disk c.of_log.new.disk hub.recorder.log.disk c.of_log.ensures.read.left (left_equal disks c.of_log.new.disk hub.recorder.log.disk made.disk) in
     let left' = left_equal disks after.recorder.log.disk disk' c.into_parts-runner.ensures.disk in
-    let clean : HasKeptFaith disks after.recorder.log.disk = subst (λ (d : g.row.D.Denot). HasKeptFaith disks d) c.into_parts-runner.ensures.disk clean' in
-    let clean-found : HasKeptFaith disks c.of_log.new.disk = subst (λ (d : g.row.D.Denot). HasKeptFaith disks d) made.disk (c.close-books.ensures.clean clean) in
-    let there = c.requires.there (c.of_log.ensures.clean clean-found) in
-    let closes = rw c.in-Ok-Some.field-0-is at (c.in-Ok-Some.ensures.ok clean) in
-    let carried = carries_on disks mode s hub after c.args.disk disk' has left left' digest c.args.wanted asked c.in-Ok-Some.journals there closes (c.close-books.ensures.any_moment clean) in
-    subst (λ (r : Runner). CarriesBooks digest ((d : g.row.D.Denot) → IsTrue (disks.is_mixing d)) (header_from Two mode (settings_of r.world) c.in-Ok-Some.journals.items) (change_on disks c.args.disk disk'))
-    (sym c.into_parts-runner.ensures.runner) carried
+    let stay = g.met.D.Disk.seen_may_stay in
+    let faithful = subst (λ (d : g.row.D.Denot). HasKeptFaith disks d) c.into_parts-runner.ensures.disk in
+    record {
+      ok = λ clean' digest asked.
+          let clean : HasKeptFaith disks after.recorder.log.disk = faithful clean' in
+          let clean-found : HasKeptFaith disks c.of_log.new.disk = subst (λ (d : g.row.D.Denot). HasKeptFaith disks d) made.disk (c.close-books.ensures.clean clean) in
+          let there = (c.requires.read (c.of_log.ensures.read.clean clean-found)).there in
+          let closes = rw c.in-Ok-Some.field-0-is at (c.in-Ok-Some.ensures.ok clean) in
+          let carried = carries_on disks mode s hub after c.args.disk disk' has left left' stay digest c.args.wanted asked c.in-Ok-Some.journals there closes (c.close-books.ensures.any_moment clean) in
+          subst (λ (r : Runner). CarriesBooks digest ((d : g.row.D.Denot) → IsTrue (disks.is_mixing d)) (header_from Two mode (settings_of r.world) c.in-Ok-Some.journals.items) (change_on disks c.args.disk disk'))
+          (sym c.into_parts-runner.ensures.runner) carried;
+      can = subst (λ (r : Runner). CanOpenFrom (settings_of r.world) c.in-Ok-Some.journals.items) (sym c.into_parts-runner.ensures.runner) (rw c.in-Ok-Some.field-0-is at c.in-Ok-Some.ensures.can);
+      err = tt;
+      refused = tt;
+    }
 
-pub returns-in-Ok-None-clause-err : goal.returns-in-Ok-None-clause-err
-returns-in-Ok-None-clause-err g c =
+pub returns-in-Ok-None : goal.returns-in-Ok-None
+returns-in-Ok-None g c =
     let disks = g.D.Disk in
     let mode = c.args.mode in
     let s = c.args.settings.now in
@@ -42,13 +51,19 @@ returns-in-Ok-None-clause-err g c =
     let after = c.close-books.new.self in
     let disk' = c.into_parts-runner.result.1 in
     let has = begun_with found.version hub.version mode s found.heading.batch hub.header found.answers hub.recorder.answers made.version made.header made.answers c.in-Ok.ensures.begun.0 in
-    let left = left_behind disks c.args.disk c.of_log.new.disk hub.recorder.log.disk c.of_log.ensures.left (left_equal disks c.of_log.new.disk hub.recorder.log.disk made.disk) in
+    let left = left_behind disks c.args.disk c.of_log.new.disk hub.recorder.log.disk c.of_log.ensures.read.left (left_equal disks c.of_log.new.disk hub.recorder.log.disk made.disk) in
     let left' = left_equal disks after.recorder.log.disk disk' c.into_parts-runner.ensures.disk in
-    safe_closed disks mode s hub after c.args.disk disk' has left left' _ c.args.wanted (subst (λ (d : g.row.D.Denot). HasKeptFaith disks d) c.into_parts-runner.ensures.disk)
-    (λ clean. (c.in-Ok-None.ensures.ok clean).taken) c.close-books.ensures.any_moment
+    let stay = g.met.D.Disk.seen_may_stay in
+    let faithful = subst (λ (d : g.row.D.Denot). HasKeptFaith disks d) c.into_parts-runner.ensures.disk in
+    record {
+      ok = tt;
+      can = tt;
+      err = safe_closed disks mode s hub after c.args.disk disk' has left left' stay _ c.args.wanted faithful (λ clean. (c.in-Ok-None.ensures.ok clean).taken) c.close-books.ensures.any_moment;
+      refused = λ two. inr (inr (λ clean. no_opening_on disks mode s hub after c.args.disk disk' has left left' stay c.args.wanted (rw c.in-Ok-None.field-0-is at (c.in-Ok-None.ensures.ok (faithful clean)))));
+    }
 
-pub returns-in-Err-books-clause-err : goal.returns-in-Err-books-clause-err
-returns-in-Err-books-clause-err g c =
+pub returns-in-Err-books : goal.returns-in-Err-books
+returns-in-Err-books g c =
     let disks = g.D.Disk in
     let mode = c.args.mode in
     let s = c.args.settings.now in
@@ -58,44 +73,28 @@ returns-in-Err-books-clause-err g c =
     let after = c.close-books.new.self in
     let disk' = c.into_parts-runner.result.1 in
     let has = begun_with found.version hub.version mode s found.heading.batch hub.header found.answers hub.recorder.answers made.version made.header made.answers c.in-Ok.ensures.begun.0 in
-    let left = left_behind disks c.args.disk c.of_log.new.disk hub.recorder.log.disk c.of_log.ensures.left (left_equal disks c.of_log.new.disk hub.recorder.log.disk made.disk) in
+    let left = left_behind disks c.args.disk c.of_log.new.disk hub.recorder.log.disk c.of_log.ensures.read.left (left_equal disks c.of_log.new.disk hub.recorder.log.disk made.disk) in
     let left' = left_equal disks after.recorder.log.disk disk' c.into_parts-runner.ensures.disk in
-    safe_on disks mode s hub after c.args.disk disk' has left left' _ c.args.wanted c.in-Err-books.error (subst (λ (d : g.row.D.Denot). HasKeptFaith disks d) c.into_parts-runner.ensures.disk)
-    c.in-Err-books.ensures.err c.close-books.ensures.any_moment
+    let stay = g.met.D.Disk.seen_may_stay in
+    let faithful = subst (λ (d : g.row.D.Denot). HasKeptFaith disks d) c.into_parts-runner.ensures.disk in
+    record {
+      ok = tt;
+      can = tt;
+      err = safe_on disks mode s hub after c.args.disk disk' has left left' stay _ c.args.wanted c.in-Err-books.error faithful c.in-Err-books.ensures.err c.close-books.ensures.any_moment;
+      refused = λ two. inr (inl (λ clean' good.
+          let clean : HasKeptFaith disks after.recorder.log.disk = faithful clean' in
+          let clean-found : HasKeptFaith disks c.of_log.new.disk = subst (λ (d : g.row.D.Denot). HasKeptFaith disks d) made.disk (c.close-books.ensures.clean clean) in
+          untaken_to_close mode s c.args.wanted (disks.seen c.args.disk) (c.requires.read (c.of_log.ensures.read.clean clean-found)) hub.version hub.header.items
+          (λ v lines are begins. rw (made.version, made.header) (c.in-Ok.ensures.found clean-found v lines are begins))
+          c.in-Err-books.error (c.told_ending-in-Err-books.ensures two) (rw left.same at (c.in-Err-books.ensures.err.cause clean)) good));
+    }
 
-pub returns-in-Err-clause-refused : goal.returns-in-Err-clause-refused
-returns-in-Err-clause-refused g c two =
-    inr (inl (λ clean good.
-    unfound_to_close c.args.mode c.args.settings.now c.args.wanted (g.D.Disk.seen c.args.disk) (c.requires.read (c.of_log.ensures.clean clean)) c.of_log.result c.in-Err.error (c.of_log.ensures.found clean) c.in-Err.is
-    (c.told_ending.ensures two) good))
-
-pub returns-in-Ok-None-clause-refused : goal.returns-in-Ok-None-clause-refused
-returns-in-Ok-None-clause-refused g c two =
-    let disks = g.D.Disk in
-    let mode = c.args.mode in
-    let s = c.args.settings.now in
-    let found = c.in-Ok.hub in
-    let hub = c.with_disk-hub.result in
-    let made = c.with_disk-hub.ensures in
-    let after = c.close-books.new.self in
-    let has = begun_with found.version hub.version mode s found.heading.batch hub.header found.answers hub.recorder.answers made.version made.header made.answers c.in-Ok.ensures.begun.0 in
-    let left = left_behind disks c.args.disk c.of_log.new.disk hub.recorder.log.disk c.of_log.ensures.left (left_equal disks c.of_log.new.disk hub.recorder.log.disk made.disk) in
-    inr (inr (λ clean'.
-    let clean : HasKeptFaith disks after.recorder.log.disk = subst (λ (d : g.row.D.Denot). HasKeptFaith disks d) c.into_parts-runner.ensures.disk clean' in
-    no_opening_on disks mode s hub after c.args.disk c.into_parts-runner.result.1 has left (left_equal disks after.recorder.log.disk c.into_parts-runner.result.1 c.into_parts-runner.ensures.disk) c.args.wanted
-    (rw c.in-Ok-None.field-0-is at (c.in-Ok-None.ensures.ok clean))))
-
-pub returns-in-Err-books-clause-refused : goal.returns-in-Err-books-clause-refused
-returns-in-Err-books-clause-refused g c two =
-    let disks = g.D.Disk in
-    let found = c.in-Ok.hub in
-    let hub = c.with_disk-hub.result in
-    let made = c.with_disk-hub.ensures in
-    let after = c.close-books.new.self in
-    let left = left_behind disks c.args.disk c.of_log.new.disk hub.recorder.log.disk c.of_log.ensures.left (left_equal disks c.of_log.new.disk hub.recorder.log.disk made.disk) in
-    inr (inl (λ clean' good.
-    let clean : HasKeptFaith disks after.recorder.log.disk = subst (λ (d : g.row.D.Denot). HasKeptFaith disks d) c.into_parts-runner.ensures.disk clean' in
-    let clean-found : HasKeptFaith disks c.of_log.new.disk = subst (λ (d : g.row.D.Denot). HasKeptFaith disks d) made.disk (c.close-books.ensures.clean clean) in
-    untaken_to_close c.args.mode c.args.settings.now c.args.wanted (disks.seen c.args.disk) (c.requires.read (c.of_log.ensures.clean clean-found)) hub.version hub.header.items
-    (λ v lines are begins. rw (made.version, made.header) (c.in-Ok.ensures.found clean-found v lines are begins))
-    c.in-Err-books.error (c.told_ending-in-Err-books.ensures two) (rw left.same at (c.in-Err-books.ensures.err.cause clean)) good))
+pub returns-in-Err : goal.returns-in-Err
+returns-in-Err g c = record {
+  ok = tt;
+  can = tt;
+  err = λ faith. inl (left_as_it_was g.D.Disk c.args.disk c.of_log.new.disk c.of_log.ensures.read.left);
+  refused = λ two. inr (inl (λ clean good.
+      unfound_to_close c.args.mode c.args.settings.now c.args.wanted (g.D.Disk.seen c.args.disk) (c.requires.read (c.of_log.ensures.read.clean clean)) c.of_log.result c.in-Err.error (c.of_log.ensures.found clean) c.in-Err.is
+      (c.told_ending.ensures two) good));
+}

@@ -1,7 +1,7 @@
 use Rattle.std.proofs.Common.{inl, inr, refl}
 use Rattle.std.proofs.lemmas.Result.{IfOk-at_ok, err_from_is_err_and}
 use Rattle.inst_program.specs.inner.Visiting.{IsVisitedAs}
-use Rattle.inst_program.proofs.FirstLine.{absent_is_bad}
+use Rattle.inst_program.proofs.FirstLine.{absent_untaken}
 use Rattle.inst_program.proofs.Passing.{err_all_at, passed_err}
 use Rattle.inst_program.proofs.Statuses.{in_use_or, memory_is_no_refusal, no_refusal}
 use Rattle.inst_program.proofs.Visiting.{keeps_in, opened_behind, others_untouched, unkept_in, unkept_untouched, untouched_behind, visited}
@@ -21,7 +21,7 @@ pub returns-then-branch-clause-err : goal.returns-then-branch-clause-err
 returns-then-branch-clause-err g c =
     let missing = c.in_ok-is_missing.ensures.missing c.if-branch.true in
     unkept_untouched _ _ c.is_missing.ensures.untouched _ _ _ _ c.args.log.path.now _ refl refl
-    (λ _. inr (λ is good. absent_is_bad _ _ _ ((c.is_missing.ensures.untouched.all is c.args.log.path.now).same) (missing.1 is) good missing.0))
+    (λ _. inr (λ is. absent_untaken _ _ _ ((c.is_missing.ensures.untouched.all is c.args.log.path.now).same) (missing.1 is) missing.0))
 
 pub returns-in_err-wanted-clause-err : goal.returns-in_err-wanted-clause-err
 returns-in_err-wanted-clause-err g c =

@@ -14,10 +14,10 @@ returns-in-Ok-run-clause-ok g c =
     let made = c.with_disk-hub.ensures in
     let after = c.run.new.self in
     let has = begun_with found.version hub.version mode s found.heading.batch hub.header found.answers hub.recorder.answers made.version made.header made.answers c.in-Ok.ensures.begun.0 in
-    let left = left_behind disks c.args.disk c.find_hub.new.disk hub.recorder.log.disk c.find_hub.ensures.left (left_equal disks c.find_hub.new.disk hub.recorder.log.disk made.disk) in
+    let left = left_behind disks c.args.disk c.find_hub.new.disk hub.recorder.log.disk c.find_hub.ensures.read.left (left_equal disks c.find_hub.new.disk hub.recorder.log.disk made.disk) in
     let left' = left_equal disks after.recorder.log.disk c.into_parts-runner.result.1 c.into_parts-runner.ensures.disk in
     let faith = subst (λ (d : g.row.D.Denot). HasKeptFaith disks d) made.disk in
-    keeps_lines disks (kept_run mode s c.args.log) hub after c.args.disk c.into_parts-runner.result.1 has left left' c.args.wanted c.requires.wanted
+    keeps_lines disks (kept_run mode s c.args.log) hub after c.args.disk c.into_parts-runner.result.1 has left left' g.met.D.Disk.seen_may_stay c.args.wanted c.requires.wanted
     (λ clean none. rw (made.version, made.header) (c.in-Ok.ensures.first (faith clean) none))
     (λ clean. c.in-Ok.ensures.there (faith clean))
     c.run.ensures.clean (subst (λ (d : g.row.D.Denot). HasKeptFaith disks d) c.into_parts-runner.ensures.disk) _ c.in-Ok-run.ensures.end c.in-Ok-run.ensures.ok
@@ -33,11 +33,11 @@ returns-in-Err-run-clause-err g c =
     let after = c.run.new.self in
     let disk' = c.tell_failure.new.disk in
     let has = begun_with found.version hub.version mode s found.heading.batch hub.header found.answers hub.recorder.answers made.version made.header made.answers c.in-Ok.ensures.begun.0 in
-    let left = left_behind disks c.args.disk c.find_hub.new.disk hub.recorder.log.disk c.find_hub.ensures.left (left_equal disks c.find_hub.new.disk hub.recorder.log.disk made.disk) in
+    let left = left_behind disks c.args.disk c.find_hub.new.disk hub.recorder.log.disk c.find_hub.ensures.read.left (left_equal disks c.find_hub.new.disk hub.recorder.log.disk made.disk) in
     let parts = c.into_parts-disk in
     let left' = left_behind disks after.recorder.log.disk parts.result.1 disk' (left_equal disks after.recorder.log.disk parts.result.1 parts.ensures.disk) c.tell_failure.ensures.left in
     let faith = subst (λ (d : g.row.D.Denot). HasKeptFaith disks d) made.disk in
-    unkept_on disks (kept_run mode s c.args.log) hub after c.args.disk disk' has left left' c.args.wanted c.requires.wanted
+    unkept_on disks (kept_run mode s c.args.log) hub after c.args.disk disk' has left left' g.met.D.Disk.seen_may_stay c.args.wanted c.requires.wanted
     (λ clean none. rw (made.version, made.header) (c.in-Ok.ensures.first (faith clean) none))
     (λ clean. c.in-Ok.ensures.there (faith clean))
     c.run.ensures.clean (λ clean. subst (λ (d : g.row.D.Denot). HasKeptFaith disks d) parts.ensures.disk (c.tell_failure.ensures.clean clean)) _
@@ -47,4 +47,4 @@ returns-in-Err-run-clause-err g c =
 pub returns-in-Err-clause-err : goal.returns-in-Err-clause-err
 returns-in-Err-clause-err g c =
     unkept_at_once (kept_run c.args.mode c.args.settings.now c.args.log) _ _ _ _ c.find_hub.result c.in-Err.error _ refl refl
-    (left_as_it_was g.D.Disk c.args.disk c.find_hub.new.disk c.find_hub.ensures.left) c.find_hub.ensures.found c.in-Err.is c.told_ending.ensures
+    (left_as_it_was g.D.Disk c.args.disk c.find_hub.new.disk c.find_hub.ensures.read.left) c.find_hub.ensures.found c.in-Err.is c.told_ending.ensures
