@@ -118,3 +118,32 @@ fn desks_that_do_not_open(rt: HostRuntime) {
         assert_eq!(rt; fault, Some(Fault::BadSettings));
     }
 }
+
+/// A desk of two with two hands.
+fn open_for_two(alloc: Global) -> Result<(Desk, Hand, Hand), Fault>
+    ensures { IfOk result (λ r. IsHandOf r.0 r.1 × IsHandOf r.0 r.2) }
+{
+    let (desk, mut hands) = Desk::open(alloc, 2, 2)?;
+    let Some(second) = hands.pop() else {
+        return Err(Fault::BadSettings);
+    };
+    let Some(first) = hands.pop() else {
+        return Err(Fault::BadSettings);
+    };
+    Ok((desk, first, second))
+}
+
+// The first hand only puts, and the second one only takes: it gets each job, and no job comes back while there is room.
+#[test]
+fn desk_of_two_hands(rt: HostRuntime) -> Result<(), Fault> {
+    let (desk, mut puts, mut takes) = open_for_two(rt.alloc())?;
+    for _round in 0..3 {
+        let put = put_three(&rt, &desk, &mut puts)?;
+        let taken = take_three(&rt, &desk, &mut takes);
+        assert_eq!(rt;
+            (put, taken),
+            ([None, None, Some(3)], [Some(1), Some(2), None])
+        );
+    }
+    Ok(())
+}

@@ -31,7 +31,7 @@ fn sweep(hub: &Hub, teller: Teller) -> Result<Sweep, Fault>
         teller,
         who: 0,
         at: Moment::new(0, 11_000)?,
-        rounds: 1,
+        after: 0,
     })
 }
 

@@ -7,7 +7,6 @@ use inst_drill::drill;
 use inst_hub::Ungated;
 use inst_rows::{A, B, settings_with};
 use std::alloc::Global;
-use std::io;
 use std::process::Abort;
 use std::sync::Wait;
 use std::thread::Threads;
@@ -51,22 +50,41 @@ fn is_accepted(originator: Kept, beneficiary: Kept) -> Option<bool> {
     Some(accepted == 1)
 }
 
-/// What was paid over all openings, in cents; `None` where the books of a transfer aren't as they are to be.
-fn paid(alloc: Global, books: &Books) -> Result<Option<u64>, Fault> {
-    let mut paid = 0u64;
+/// How many transfers of an opening were accepted; `None` where the books of one aren't as they are to be.
+fn accepted_in(alloc: Global, books: &Books, opening: u32) -> Result<Option<u64>, Fault> {
+    let mut accepted = 0u64;
     if books.settings().participants() < 2 {
         return Ok(None);
     }
-    for number in 1..=u32::from(TRANSFERS) * u32::from(OPENINGS) {
+    let before = u32::from(TRANSFERS).saturating_mul(opening.saturating_sub(1));
+    for index in 1..=u32::from(TRANSFERS) {
+        let number = before.saturating_add(index);
         let originator = kept_of(alloc, books.journal(A), number)?;
         let beneficiary = kept_of(alloc, books.journal(B), number)?;
         match is_accepted(originator, beneficiary) {
-            Some(true) => paid = paid.saturating_add(100),
+            Some(true) => accepted = accepted.saturating_add(1),
             Some(false) => {}
             None => return Ok(None),
         }
     }
-    Ok(Some(paid))
+    Ok(Some(accepted))
+}
+
+/// How many transfers were accepted over all openings, and the lines that say so of each; `None` where the books of one
+/// aren't as they are to be.
+fn accepted_in_all(alloc: Global, books: &Books) -> Result<Option<(u64, Vec<u8>)>, Fault> {
+    let mut all = 0u64;
+    let mut lines = Vec::new(alloc);
+    for opening in 1..=u32::from(OPENINGS) {
+        let Some(accepted) = accepted_in(alloc, books, opening)? else {
+            return Ok(None);
+        };
+        let timed_out = u64::from(TRANSFERS).saturating_sub(accepted);
+        let line = format!(in alloc; "accepted {accepted} timed_out {timed_out}\n")?;
+        lines.extend_from_slice(line.as_bytes())?;
+        all = all.saturating_add(accepted);
+    }
+    Ok(Some((all, lines)))
 }
 
 /// What the books of both sides are to be, where so much was paid: how often they were opened from, what was funded,
@@ -82,24 +100,16 @@ fn are_of(books: &Books, paid: u64) -> bool {
         && second.position() == u128::from(paid)
 }
 
-/// The books of ten openings, and what was written.
+/// The books of ten openings, what was written, and what was told of the races.
 fn drilled<R: Threads + Wait + Sync>(
     rt: &R,
     alloc: Global,
     written: &mut Vec<u8>,
+    progress: &mut Vec<u8>,
 ) -> Result<Books, Fault> {
     let settings = settings_with(alloc, TRANSFERS, 0)?;
-    let mut progress = io::sink();
     drill(
-        rt,
-        alloc,
-        settings,
-        TRANSFERS,
-        OPENINGS,
-        &Ungated,
-        written,
-        &mut progress,
-        false,
+        rt, alloc, settings, TRANSFERS, OPENINGS, &Ungated, written, progress, false,
     )
 }
 
@@ -109,9 +119,9 @@ fn lose_nothing(
     alloc: Global,
     books: &Books,
     written: &[u8],
+    paid: u64,
 ) -> Result<(), Fault> {
     same(rt, written, expected(alloc)?.as_slice());
-    let paid = paid(alloc, books)?.unwrap_or(u64::MAX);
     same(
         rt,
         (are_of(books, paid), books.net(), books.sum()),
@@ -124,6 +134,16 @@ fn lose_nothing(
 fn ten_openings_by_threads_lose_nothing(rt: HostRuntime) -> Result<(), Fault> {
     let alloc = rt.alloc();
     let mut written = Vec::new(alloc);
-    let books = drilled(&rt, alloc, &mut written)?;
-    lose_nothing(&rt, alloc, &books, written.as_slice())
+    let mut progress = Vec::new(alloc);
+    let books = drilled(&rt, alloc, &mut written, &mut progress)?;
+    let Some((accepted, lines)) = accepted_in_all(alloc, &books)? else {
+        return Err(Fault::UnknownTransfer);
+    };
+    let paid = accepted.saturating_mul(100);
+    lose_nothing(&rt, alloc, &books, written.as_slice(), paid)?;
+    same(&rt, progress.as_slice(), lines.as_slice());
+    // Half of each opening is confirmed before its sweep begins.
+    let raced = accepted >= 100 && accepted < 200;
+    assert_eq!(rt; raced, true);
+    Ok(())
 }
