@@ -7,6 +7,6 @@ pub struct Tally {
     pub put: u64,
     /// How many jobs were taken, at most the largest number.
     pub taken: u64,
-    /// The jobs that nobody took, the oldest first.
+    /// The jobs that nobody took, in any order.
     pub left: Vec<Job>,
 }

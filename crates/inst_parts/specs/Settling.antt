@@ -1,6 +1,6 @@
--- A participant's book is settled over a board whose holder has all roles: the outcomes of its own live transfers are
--- booked, then those of what came to it, and then what is pending for it comes. Nothing is decided, and nothing new is
--- known. In which order is this hub's own choice.
+-- A participant's book is settled over a board whose holder has all roles: the outcomes of its own live transfers and of
+-- those that came to it are booked, and what is pending for it comes. Nothing is decided, and nothing new is known. No
+-- clause says in which order.
 use Rattle.std.specs.Prelude.{◌≡◌, ◌⊎◌, ℕ, ◌<◌, Contains, Some}
 use Rattle.inst_settings.specs.Settings.{HubSettings, participants}
 use Rattle.inst_command.specs.declared.outcome.Outcome.{Outcome}

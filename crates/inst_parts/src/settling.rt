@@ -11,9 +11,12 @@ use inst_board::{Board, Place};
 use inst_slot::Slot;
 use std::alloc::AllocError;
 
-/// Books what is decided of the participant's live transfers, its own by place and then those that came in order of
-/// arrival, and then gets what is pending for it from each other originator, by number and place. How many of these were
-/// new. Refused memory ends it, and what was done before stands.
+/// Books what is decided of the participant's live transfers, its own and those that came to it, and gets what is pending
+/// for it from each other originator. Returns how many of these were new.
+///
+/// # Errors
+///
+/// An allocation failed. What was done before stands.
 pub fn settle<B: Board>(slot: &mut Slot, board: &mut B) -> Result<u32, AllocError>
     requires ready { IsReady B.settings B.knows B.has_role board.old slot.old }
     ensures ready { IsReady B.settings B.knows B.has_role board.new slot.new }

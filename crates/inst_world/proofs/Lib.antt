@@ -19,5 +19,6 @@ pub mod Reopening
 pub mod Carried
 pub mod Journals
 pub mod Closed
+pub mod OnlyTold
 pub mod Numbering
 pub mod Finding

@@ -1,11 +1,12 @@
 -- How a hub opens again: from the journals of its participants, one for each in the order of their numbers, which are
 -- sound and closed. What is pending is carried over, and each side has it at its place again. This hub's own choice.
 use Rattle.std.specs.Prelude.{◌≡◌, ℕ, true, List, [], ◌++◌, length, slice_get, Option, Some, None}
+use Rattle.std.specs.List.{AllByRecursion}
 use Rattle.inst_settings.specs.Settings.{HubSettings, participants, is_participant}
 use Rattle.inst_journal.specs.declared.event.Event.{Event}
 use Rattle.inst_journal.specs.History.{History}
 use Rattle.inst_command.specs.declared.step.Step.{Step}
-use Rattle.inst_model.specs.Closing.{closing}
+use Rattle.inst_model.specs.Closing.{closing, is_telling}
 use Rattle.inst_model.specs.Hub.{history}
 use Rattle.inst_model.specs.Interleaving.{IsInterleaving}
 use Rattle.inst_model.specs.Opening.{Opening, BooksCanOpen}
@@ -48,3 +49,8 @@ HasClosed world = (O : Opening) × (L : List Step) × IsInterleaving (settings_o
 -- the journals are the books of a hub that ran these steps since this opening, and was closed behind them
 abbrev pub AreCarried : HubSettings → Opening → List Step → List History → Type 0
 AreCarried s O L journals = AreJournalsOf s (history s O (closing s ++ L)) journals
+
+-- from the first world to the second participants were only told of transfers, whatever was run before
+abbrev pub HasOnlyTold : World → World → Type 0
+HasOnlyTold old new = (O : Opening) (L : List Step) → HasRun O L old →
+    (more : List Step) × AllByRecursion (λ step. is_telling step ≡ true) more × HasRun O (more ++ L) new

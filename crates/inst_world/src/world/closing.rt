@@ -7,7 +7,7 @@ ghost use Rattle.inst_model.specs.Closing.{of_places, of_originators, closing};
 ghost use Rattle.inst_model.specs.Hub.{history};
 ghost use Rattle.inst_model.specs.Opening.{Opening};
 ghost use Rattle.inst_world.specs.HasRun.{HasRun};
-ghost use Rattle.inst_world.specs.NextOpening.{books_of, AreJournalsOf, CanOpenFrom, AreCarried, HasClosed};
+ghost use Rattle.inst_world.specs.NextOpening.{books_of, AreJournalsOf, CanOpenFrom, AreCarried, HasClosed, HasOnlyTold};
 
 use super::World;
 use inst_command::Step;
@@ -33,6 +33,7 @@ impl World {
         requires who { is_participant self.old.board.settings who ≡ true }
         requires from { is_participant self.old.board.settings from ≡ true }
         ensures ran { OnOk result ((O : Opening) (L : List Step) → HasRun O L self.old → HasRun O (of_places who from places ++ L) self.new) }
+        ensures told { HasOnlyTold self.old self.new }
         ensures settings { self.new.board.settings ≡ self.old.board.settings }
     {
         for index in 0..places {
@@ -48,6 +49,7 @@ impl World {
         requires who { is_participant self.old.board.settings who ≡ true }
         ensures ran { OnOk result ((O : Opening) (L : List Step) → HasRun O L self.old →
             HasRun O (of_originators who self.old.board.settings.places (participants self.old.board.settings) ++ L) self.new) }
+        ensures told { HasOnlyTold self.old self.new }
         ensures settings { self.new.board.settings ≡ self.old.board.settings }
     {
         let originators = self.settings().participants();
@@ -58,10 +60,14 @@ impl World {
         Ok(())
     }
 
-    /// Closes the hub: each participant is told of each place, one after another. Where memory is refused some are
-    /// untold; the hub may then be closed again.
+    /// Closes the hub: each participant is told of each place, one after another.
+    ///
+    /// # Errors
+    ///
+    /// An allocation failed. Some participants were told of some places, and nothing else was done.
     pub fn close(&mut self) -> Result<(), AllocError>
         ensures ran { OnOk result ((O : Opening) (L : List Step) → HasRun O L self.old → HasRun O (closing self.old.board.settings ++ L) self.new) }
+        ensures told { HasOnlyTold self.old self.new }
         ensures closed { OnOk result (HasClosed self.new) }
         ensures settings { self.new.board.settings ≡ self.old.board.settings }
     {
@@ -85,8 +91,12 @@ impl World {
         Ok(journals)
     }
 
-    /// Closes the hub, and copies its books for the next opening, or gives nothing where one can't be opened
-    /// from once more. Where memory is refused it leaves what `close` leaves.
+    /// Closes the hub, and copies its books for the next opening. Returns `None` if one of them can't be opened from once
+    /// more.
+    ///
+    /// # Errors
+    ///
+    /// As from `close`.
     pub fn carry(&mut self, alloc: Global) -> Result<Option<Vec<Journal>>, AllocError>
         ensures books { IfOk result (λ books. IfSome books (λ journals. (O : Opening) (L : List Step) → HasRun O L self.old →
             AreCarried self.old.board.settings O L journals.items)) }
@@ -94,6 +104,7 @@ impl World {
         ensures many { IfOk result (λ books. books ≡ None → (O : Opening) (L : List Step) → HasRun O L self.old →
             ¬ ((p : ℕ) → HasOpeningsLeft (history self.old.board.settings O (closing self.old.board.settings ++ L) p))) }
         ensures ran { OnOk result ((O : Opening) (L : List Step) → HasRun O L self.old → HasRun O (closing self.old.board.settings ++ L) self.new) }
+        ensures told { HasOnlyTold self.old self.new }
         ensures settings { self.new.board.settings ≡ self.old.board.settings }
     {
         self.close()?;

@@ -1,10 +1,11 @@
-use Rattle.std.proofs.Common.{◌≡◌, suc, ◌+◌, ◌++◌, List, sym, ap, ◌∙◌, subst, arith}
+use Rattle.std.proofs.Common.{◌≡◌, suc, ◌+◌, ◌++◌, List, sym, ap, ◌∙◌, refl, subst, arith}
 use Rattle.std.proofs.lemmas.List.{append_assoc}
 use Rattle.inst_settings.specs.Settings.{HubSettings, participants}
 use Rattle.inst_command.specs.declared.step.Step.{Step}
 use Rattle.inst_model.specs.Closing.{of_originators, of_participants, closing}
 use Rattle.inst_model.specs.Interleaving.{IsInterleaving}
 use Rattle.inst_world.specs.HasRun.{World, HasRun, HasRunSomething}
+use Rattle.inst_world.proofs.OnlyTold.{told_more, told_none}
 use Rattle.inst_world.proofs.world.World.close.Goals as goal
 
 pub returns-clause-closed : goal.returns-clause-closed
@@ -33,4 +34,19 @@ loop-who-preserved c =
           let steps : of_participants all s.places (l.who + 1) ++ L ≡ of_originators l.who s.places all ++ (before ++ L) =
           ap (λ n. of_participants all s.places n ++ L) next ∙ append_assoc (of_originators l.who s.places all) before L in
           subst (λ M. HasRun O M c.tell_originators.new.self) (sym steps) told;
+      told = told_more _ _ _ l.invariant.told c.tell_originators.ensures.told;
     }
+
+pub loop-who-init : goal.loop-who-init
+loop-who-init c = record { settings = refl; ran = λ O L run. run; told = told_none _ _ (λ O L run. run) }
+
+pub returns-in_err-tell_originators-clause-told : goal.returns-in_err-tell_originators-clause-told
+returns-in_err-tell_originators-clause-told c = told_more _ _ _ c.loop-who.invariant.told c.tell_originators.ensures.told
+
+pub returns-clause-ran : goal.returns-clause-ran
+returns-clause-ran c = λ O L run.
+    let l = c.loop-who in
+    let s : HubSettings = c.args.self.now.board.settings in
+    let end : l.who ≡ c.participants-participants.result = omega arith in
+    let all : l.who ≡ participants s = end ∙ c.participants-participants.ensures.value ∙ ap participants (sym c.self.invariant.1) ∙ ap (λ (h : World). participants h.board.settings) c.self.view_is in
+    subst (λ n. HasRun O (of_participants (participants s) s.places n ++ L) l.self) all (l.invariant.ran O L run)

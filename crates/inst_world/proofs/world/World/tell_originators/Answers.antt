@@ -1,8 +1,9 @@
-use Rattle.std.proofs.Common.{◌≡◌, suc, ◌+◌, ◌++◌, List, sym, ap, ◌∙◌, subst, arith}
+use Rattle.std.proofs.Common.{◌≡◌, suc, ◌+◌, ◌++◌, List, sym, ap, ◌∙◌, refl, subst, arith}
 use Rattle.std.proofs.lemmas.List.{append_assoc}
 use Rattle.inst_command.specs.declared.step.Step.{Step}
 use Rattle.inst_model.specs.Closing.{of_places, of_originators}
 use Rattle.inst_world.specs.HasRun.{HasRun}
+use Rattle.inst_world.proofs.OnlyTold.{told_more, told_none}
 use Rattle.inst_world.proofs.world.World.tell_originators.Goals as goal
 
 pub loop-from-preserved : goal.loop-from-preserved
@@ -20,4 +21,11 @@ loop-from-preserved c =
           ap (λ n. of_originators who places n ++ L) next ∙ append_assoc (of_places who l.from places) before L
           ∙ ap (λ n. of_places who l.from n ++ (before ++ L)) (sym same) in
           subst (λ M. HasRun O M c.tell_places.new.self) (sym steps) (c.in_ok-tell_places.ensures.ran O (before ++ L) (l.invariant.ran O L run));
+      told = told_more _ _ _ l.invariant.told c.tell_places.ensures.told;
     }
+
+pub loop-from-init : goal.loop-from-init
+loop-from-init c = record { settings = refl; ran = λ O L run. run; told = told_none _ _ (λ O L run. run) }
+
+pub returns-in_err-tell_places-clause-told : goal.returns-in_err-tell_places-clause-told
+returns-in_err-tell_places-clause-told c = told_more _ _ _ c.loop-from.invariant.told c.tell_places.ensures.told
