@@ -1,3 +1,4 @@
 pub mod Given
 pub mod Naming
 pub mod Refused
+pub mod Ranges

@@ -8,6 +8,7 @@ use Rattle.inst_base.specs.declared.fault.Fault.TheVariants.{BadSettings, Memory
 use Rattle.inst_settings.specs.Settings.{HubSettings, same_text}
 use Rattle.inst_settings.specs.Lawful.{AreOfAHub, IsSettings}
 use Rattle.inst_options.specs.CommandLine.{command_line}
+use Rattle.inst_options.specs.BadOptions.{IsBadOption}
 use Rattle.inst_options.specs.Options.{AreOfNoLog, Chooses, GivesDigest, HasAHub, HasSmallNumbers, IsFlag, IsTask, IsText, NamesNoLog, NamesTheLog, Task}
 use Rattle.inst_options.specs.Options.Task.{Run, Play, Drill, Check}
 use Rattle.inst_options.specs.declared.bad_option.BadOption.{BadOption}
@@ -106,10 +107,10 @@ pub record AreUnfit (words : List (List ℕ)) : Type 0 where
   pub hub : (name : List ℕ) (rows : List Row) → subcommand_of command_line words ≡ Some (name, rows) → HasAHub name
   pub none : (task : Task) (s : HubSettings) → AreChosen words task s → ¬ (AreOfAHub s × HasSmallNumbers task)
 
--- the bad option has its value in the words
+-- the option has this value in the words, and is the bad one
 abbrev pub IsGivenBy : List (List ℕ) → BadOption → Type 0
 IsGivenBy words bad = (name : List ℕ) × (rows : List Row) × (subcommand_of command_line words ≡ Some (name, rows))
-    × (first_of bad.name.now rows ≡ Some bad.value.now)
+    × IsBadOption rows bad
 
 -- why the words ask for nothing: they are wrong or ask for a help text, memory was wanting, or no hub can have what
 -- they choose

@@ -1,6 +1,7 @@
 -- Public contracts cite these.
 pub mod CommandLine
 pub mod Options
+pub mod BadOptions
 pub mod Asking
 pub mod Rows
 -- Only inner functions and proofs cite these.

@@ -2,3 +2,4 @@ pub mod CommandLine
 pub mod Table
 pub mod Options
 pub mod Asking
+pub mod BadOptions

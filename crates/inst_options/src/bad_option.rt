@@ -1,7 +1,9 @@
 //! Which option no hub can have.
-ghost use Rattle.std.specs.Prelude.{◌≡◌, ◌≤◌, ◌<◌, IfSome, Some, None, ℕ, codes, false};
+ghost use Rattle.std.specs.Prelude.{◌≡◌, IfSome, MatchOption, Some, None, codes, false, map};
 ghost use Rattle.clap.specs.Words.{first_of, found_of, rows_of};
-ghost use Rattle.inst_options.specs.Options.{Gives, is_digest};
+ghost use Rattle.inst_options.specs.Options.{NamesNoLog, is_digest};
+ghost use Rattle.inst_options.specs.BadOptions.{AreInside, IsBadOption, IsInside, IsOutside, ranges};
+ghost use Rattle.inst_options.specs.inner.BadOptions.{range_of};
 
 use crate::digest::is_digest;
 use crate::options::{flag, text, whole};
@@ -79,28 +81,23 @@ const BOUNDS: &'static [Bound] = &[
     },
 ];
 
-/// An option that the settings were refused for. Where no number is out of its range, it is the participants.
-pub(crate) fn bad_option<'a>(options: &ArgMatches<'a>) -> Option<BadOption<'a>>
-    ensures { IfSome result (λ bad. first_of bad.name.now (rows_of (found_of options.now)) ≡ Some bad.value.now) }
+/// The table of ranges. What goes over it calls this, so that the constant is in no proof about options.
+fn bounds() -> &'static [Bound]
+    ensures { map range_of result.now ≡ ranges }
 {
-    for bound in BOUNDS {
-        if let Some(value) = outside(options, bound.name, bound.least, bound.most) {
-            return Some(BadOption {
-                name: bound.name,
-                value,
-                range: bound.range,
-            });
-        }
-    }
-    if let Some(value) = margin_of_the_limit(options) {
-        return Some(BadOption {
-            name: "margin",
-            value,
-            range: "0 to one less than the limit",
-        });
-    }
-    if let Some(bad) = bad_log_option(options) {
-        return Some(bad);
+    BOUNDS
+}
+
+/// Returns an option that the settings were refused for. If no number is out of its range, it is the participants.
+pub(crate) fn bad_option<'a>(options: &ArgMatches<'a>) -> Option<BadOption<'a>>
+    ensures { IfSome result (IsBadOption (rows_of (found_of options.now))) }
+{
+    let bad = match number_out_of_range(options) {
+        Some(bad) => return Some(bad),
+        None => bad_margin(options).or(bad_log_option(options)),
+    };
+    if bad.is_some() {
+        return bad;
     }
     let value = text(options, "participants").ok()?;
     Some(BadOption {
@@ -110,35 +107,64 @@ pub(crate) fn bad_option<'a>(options: &ArgMatches<'a>) -> Option<BadOption<'a>>
     })
 }
 
-/// The value of an option whose number is out of this range.
-fn outside<'a>(options: &ArgMatches<'a>, name: &str, least: u64, most: u64) -> Option<&'a str>
-    ensures value { IfSome result (λ value. first_of name.now (rows_of (found_of options.now)) ≡ Some value.now) }
-    ensures outside { IfSome result (λ _. (n : ℕ) → Gives (rows_of (found_of options.now)) name.now n → least ≤ n → most < n) }
+/// Returns the first option whose number is out of its range.
+fn number_out_of_range<'a>(options: &ArgMatches<'a>) -> Option<BadOption<'a>>
+    ensures { MatchOption result (AreInside (rows_of (found_of options.now)))
+        (IsBadOption (rows_of (found_of options.now))) }
 {
-    let number = whole(options, name).ok()?;
-    if least <= number && number <= most {
-        return None;
+    for bound in bounds() {
+        if let Some(value) = outside(options, bound) {
+            return Some(BadOption {
+                name: bound.name,
+                value,
+                range: bound.range,
+            });
+        }
     }
-    text(options, name).ok()
+    None
 }
 
-/// The value of a margin that isn't below the limit.
-fn margin_of_the_limit<'a>(options: &ArgMatches<'a>) -> Option<&'a str>
-    ensures value { IfSome result (λ value. first_of (codes "margin") (rows_of (found_of options.now)) ≡ Some value.now) }
-    ensures outside { IfSome result (λ _. (limit : ℕ) → Gives (rows_of (found_of options.now)) (codes "limit") limit
-        → (margin : ℕ) → Gives (rows_of (found_of options.now)) (codes "margin") margin → limit ≤ margin) }
+/// Returns the value of an option whose number is out of this range.
+fn outside<'a>(options: &ArgMatches<'a>, bound: &Bound) -> Option<&'a str>
+    ensures outside { MatchOption result (IsInside (rows_of (found_of options.now)) (range_of bound.now))
+        (λ _. IsOutside (rows_of (found_of options.now)) (range_of bound.now)) }
+    ensures value { IfSome result (λ value. first_of bound.now.name.now (rows_of (found_of options.now)) ≡ Some value.now) }
 {
-    let limit = whole(options, "limit").ok()?;
-    let margin = whole(options, "margin").ok()?;
-    if margin < limit {
+    let Ok(number) = whole(options, bound.name) else {
+        return None;
+    };
+    if bound.least <= number && number <= bound.most {
         return None;
     }
-    text(options, "margin").ok()
+    match text(options, bound.name) {
+        Ok(value) => Some(value),
+        Err(_) => None,
+    }
+}
+
+/// Returns the margin, if it isn't below the limit.
+fn bad_margin<'a>(options: &ArgMatches<'a>) -> Option<BadOption<'a>>
+    ensures { IfSome result (IsBadOption (rows_of (found_of options.now))) }
+{
+    let Ok(limit) = whole(options, "limit") else {
+        return None;
+    };
+    let Ok(margin) = whole(options, "margin") else {
+        return None;
+    };
+    match text(options, "margin") {
+        Ok(value) if limit <= margin => Some(BadOption {
+            name: "margin",
+            value,
+            range: "0 to one less than the limit",
+        }),
+        _ => None,
+    }
 }
 
 /// Returns an option of a log that has another form, or that is given without `--log`.
 fn bad_log_option<'a>(options: &ArgMatches<'a>) -> Option<BadOption<'a>>
-    ensures { IfSome result (λ bad. first_of bad.name.now (rows_of (found_of options.now)) ≡ Some bad.value.now) }
+    ensures { IfSome result (IsBadOption (rows_of (found_of options.now))) }
 {
     if let Some(value) = malformed_digest(options) {
         return Some(BadOption {
@@ -174,7 +200,7 @@ fn malformed_digest<'a>(options: &ArgMatches<'a>) -> Option<&'a str>
 /// Returns the value of this option, if no log is named.
 fn given_without_log<'a>(options: &ArgMatches<'a>, name: &str) -> Option<&'a str>
     ensures value { IfSome result (λ value. first_of name.now (rows_of (found_of options.now)) ≡ Some value.now) }
-    ensures no_log { IfSome result (λ _. first_of (codes "log") (rows_of (found_of options.now)) ≡ None) }
+    ensures no_log { IfSome result (λ _. NamesNoLog (rows_of (found_of options.now))) }
 {
     match text(options, "log") {
         Ok(_) => None,

@@ -149,3 +149,25 @@ found_owner board place (Some to) is = elim (cases_Bool (is_place board.settings
       let no : ⊥ = cc in
       absurd no
 ]
+
+-- a live submission with the identifier lies where it is found
+names_it : (who : ℕ) (J : List Event) (id : List ℕ) (index : ℕ) → position (takes id) (live_taken who J) ≡ Some index → (x : Transfer) × (at_place who J index ≡ Some x) × (x.id ≡ id)
+names_it who J id index e =
+    let first = passes_at (takes id) (live_taken who J) index e in
+    let t = terms_taken first.0 id first.2 in
+    (t.0, at_taken who J index ∙ ap terms_in first.1 ∙ t.1, t.2)
+
+placed_somewhere : (from : ℕ) (found : Option ℕ) (P : ℕ → Type 0) → ((index : ℕ) → found ≡ Some index → P index) → IfSome (placed from found) (λ place. P place.index)
+placed_somewhere from None P at = tt
+placed_somewhere from (Some index) P at = at index refl
+
+-- so a place that the slot of the originator finds is that of a transfer with this identifier
+pub name_found_at_place : (book : Book) (from : ℕ) (id : List ℕ) → book.who ≡ from →
+    IfSome (place_of book from id) (λ place. (x : Transfer) × (at_place from book.events place.index ≡ Some x) × (x.id ≡ id))
+name_found_at_place book from id who =
+    let P : ℕ → Type 0 = λ index. (x : Transfer) × (at_place from book.events index ≡ Some x) × (x.id ≡ id) in
+    let is : place_of book from id ≡ placed from (position (takes id) (live_taken from book.events)) =
+    ap (λ (c : Bool). placed from (cond c (position (takes id) (live_taken book.who book.events)) (arrived_at from id book.arrivals))) (eq-eqb from book.who (sym who))
+    ∙ ap (λ (w : ℕ). placed from (position (takes id) (live_taken w book.events))) who in
+    subst (λ (found : Option Place). IfSome found (λ place. P place.index)) (sym is)
+    (placed_somewhere from (position (takes id) (live_taken from book.events)) P (λ index at. names_it from book.events id index at))

@@ -1,5 +1,6 @@
 -- Public contracts cite these.
 pub mod HasRun
+pub mod Places
 pub mod Headline
 pub mod NextOpening
 -- Only inner functions and proofs cite these.

@@ -11,6 +11,7 @@ ghost use Rattle.inst_command.specs.declared.step.Step.{Step};
 ghost use Rattle.inst_model.specs.Hub.{history, outcome};
 ghost use Rattle.inst_slot.specs.Book.{place_at};
 ghost use Rattle.inst_world.specs.HasRun.{IsWorld, HasRun, Runs, IsOfModel, IsAsBefore, TakesMemory, journal_of};
+ghost use Rattle.inst_world.specs.Places.{IsPendingAt, IsPlaceOf};
 ghost use Rattle.inst_world.specs.Headline.{run_of, KeepsTheHeadline};
 
 mod closing;
@@ -136,6 +137,8 @@ impl World {
         ensures deadline { (O : Opening) (L : List Step) → HasRun O L self.old → (x : Transfer) →
             at_place place.owner (history self.old.board.settings O L place.owner) place.index ≡ Some x →
             outcome self.old.board.settings O L place.owner x.id ≡ None → result ≡ Some (deadline self.old.board.settings x) }
+        ensures pending { (O : Opening) (L : List Step) → HasRun O L self.old →
+            IfSome result (λ _. IsPendingAt self.old.board.settings O L place) }
         ensures same { self.new ≡ self.old }
     {
         match self.board.look(place) {
@@ -149,6 +152,8 @@ impl World {
         requires participant { is_participant self.now.board.settings from ≡ true }
         ensures place { (O : Opening) (L : List Step) → HasRun O L self.now → (index : ℕ) (x : Transfer) →
             at_place from (history self.now.board.settings O L from) index ≡ Some x → x.id ≡ id.now → result ≡ Some (place_at from index) }
+        ensures named { (O : Opening) (L : List Step) → HasRun O L self.now →
+            IfSome result (IsPlaceOf self.now.board.settings O L from id.now) }
         ensures owner { IfSome result (λ place. place.owner ≡ from) }
     {
         self.slots[usize::from(from)].place_of(from, id)

@@ -6,6 +6,7 @@ use Rattle.clap.specs.declared.error.kind.ErrorKind.TheVariants.{OutOfMemory}
 use Rattle.inst_base.specs.declared.fault.Fault.{Fault}
 use Rattle.inst_base.specs.declared.fault.Fault.TheVariants.{BadSettings, Memory}
 use Rattle.inst_options.specs.Asking.{IsRefusal}
+use Rattle.inst_options.specs.BadOptions.{IsBadOption}
 use Rattle.inst_options.specs.Options.{AreOfNoLog}
 use Rattle.inst_options.specs.inner.Options.{AskForNone, IsWish}
 use Rattle.inst_options.specs.declared.error.WordsError.{WordsError}
@@ -18,10 +19,10 @@ IsOfKind kind (error.Words e) = (kind_of e ≡ kind) × (kind ≢ OutOfMemory)
 IsOfKind kind (error.Option bad) = ⊥
 IsOfKind kind (error.Fault fault) = (fault ≡ Memory) × (kind ≡ OutOfMemory)
 
--- an error of options that were refused by this fault: an option that is named has that value
+-- an error of options that were refused by this fault: an option that is named is the bad one
 abbrev pub IsRefusedBy : List Row → Fault → WordsError → Type 0
 IsRefusedBy rows fault (error.Words e) = ⊥
-IsRefusedBy rows fault (error.Option bad) = (fault ≡ BadSettings) × (first_of bad.name.now rows ≡ Some bad.value.now)
+IsRefusedBy rows fault (error.Option bad) = (fault ≡ BadSettings) × IsBadOption rows bad
 IsRefusedBy rows fault (error.Fault other) = other ≡ fault
 
 -- what the subcommand of this name asks for, with its options
