@@ -1,0 +1,2 @@
+-- Public contracts cite these.
+pub mod Order

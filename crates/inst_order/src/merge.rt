@@ -1,0 +1,257 @@
+//! Puts the events of all journals in one order, and finds the step that keeps each.
+//!
+//! Two kinds of event wait for one in another journal. A transfer is delivered after it was taken. Its originator books an
+//! acceptance or a rejection after its beneficiary, and a time-out after the delivery, if there is one. Each participant's
+//! events are visited in order up to the first that waits, and from there on once the event that it waits for has its
+//! step. So each event is visited a few times, with one look at a table each time.
+//!
+//! No contract rests on the steps: they are run, and the journals of that run are compared.
+ghost use Rattle.std.specs.Prelude.{◌≤◌, length};
+ghost use Rattle.inst_settings.specs.declared.ranges.TheConstants.{MOST_PARTICIPANTS};
+
+use crate::asking::{answer, ask_first, ask_last, submit};
+use crate::progress::Progress;
+use inst_base::{Ident, mention};
+use inst_command::{Ask, Command, Outcome, Step, Submission};
+use inst_journal::{Event, Journal};
+use inst_settings::MOST_PARTICIPANTS;
+use std::alloc::{AllocError, Global};
+use std::collections::HashMap;
+
+/// Returns how many events precede the current opening: those up to the last `Opened`, or none at a first opening.
+fn carried_count(events: &[Event]) -> usize
+    ensures { result ≤ length events.now }
+{
+    let last = events
+        .iter()
+        .rposition(|event| matches!(event, Event::Opened));
+    match last {
+        Some(index) => index + 1,
+        None => 0,
+    }
+}
+
+/// The steps of the events that are in order so far.
+#[derive(Drop)]
+struct Merge {
+    /// How many events are to have steps.
+    count: usize,
+    /// By originator, how many of its places are used.
+    places: [u16; MOST_PARTICIPANTS],
+    /// By originator and identifier.
+    transfers: HashMap<(u8, Ident), Progress>,
+    /// The participants whose next event may have its step.
+    ready: Vec<u8>,
+    steps: Vec<Step>,
+}
+
+impl Merge {
+    /// Returns the merge of no journals.
+    fn new(alloc: Global) -> Merge {
+        Merge {
+            count: 0,
+            places: [0; MOST_PARTICIPANTS],
+            transfers: HashMap::new(alloc),
+            ready: Vec::new(alloc),
+            steps: Vec::new(alloc),
+        }
+    }
+
+    /// Adds the journal of the participant `who`, and returns its events that are to have steps: those of the current
+    /// opening.
+    fn add<'a>(&mut self, who: u8, events: &'a [Event]) -> Result<&'a [Event], AllocError> {
+        let (carried, current) = events.split_at(carried_count(events));
+        self.note_settled(who, carried)?;
+        self.note_carried(who, carried)?;
+        self.note_deliveries(current)?;
+        self.count = self.count.saturating_add(current.len());
+        self.ready.push(who)?;
+        Ok(current)
+    }
+
+    /// Notes which transfers of the originator were settled before the opening.
+    fn note_settled(&mut self, who: u8, carried: &[Event]) -> Result<(), AllocError> {
+        for event in carried {
+            if let Event::Booked { from, id, .. } = event
+                && *from == who
+            {
+                self.progress(who, *id)?.is_settled = true;
+            }
+        }
+        Ok(())
+    }
+
+    /// Gives the others their places.
+    fn note_carried(&mut self, who: u8, carried: &[Event]) -> Result<(), AllocError> {
+        for event in carried {
+            if let Event::Taken { id, .. } = event {
+                self.take(who, *id)?;
+            }
+        }
+        Ok(())
+    }
+
+    /// Notes which transfers are to be delivered.
+    fn note_deliveries(&mut self, current: &[Event]) -> Result<(), AllocError> {
+        for event in current {
+            if let Event::Forwarded { from, id, .. } = event {
+                self.progress(*from, *id)?.awaits_delivery = true;
+            }
+        }
+        Ok(())
+    }
+
+    /// Finds the steps of the participant's next events, up to one that waits, and returns those that are left.
+    fn advance<'a>(&mut self, who: u8, events: &'a [Event]) -> Result<&'a [Event], AllocError> {
+        mention::<(Ask, Command)>();
+        for (index, event) in events.iter().enumerate() {
+            match self.step_of(who, event)? {
+                Some(step) => self.steps.push(step)?,
+                None => return Ok(&events[index..]),
+            }
+        }
+        Ok(&[])
+    }
+
+    /// Returns what is noted of a transfer.
+    fn progress(&mut self, from: u8, id: Ident) -> Result<&mut Progress, AllocError> {
+        Ok(self.transfers.entry((from, id))?.or_insert(Progress::NONE))
+    }
+
+    /// Lets the participant advance, if there is one.
+    fn wake(&mut self, waiting: Option<u8>) -> Result<(), AllocError> {
+        if let Some(who) = waiting {
+            self.ready.push(who)?;
+        }
+        Ok(())
+    }
+
+    /// Returns the step that keeps this event, or `None` if the event waits for another.
+    fn step_of(&mut self, who: u8, event: &Event) -> Result<Option<Step>, AllocError> {
+        Ok(match *event {
+            Event::Funded { reference, cents } => {
+                Some(ask_first(who, Command::Fund { reference, cents }))
+            }
+            Event::Defunded { reference, cents } => {
+                Some(ask_first(who, Command::Defund { reference, cents }))
+            }
+            Event::Taken {
+                id,
+                to,
+                cents,
+                stamp,
+            } => {
+                self.take(who, id)?;
+                let submission = Submission {
+                    id,
+                    to,
+                    cents,
+                    stamp,
+                };
+                Some(submit(who, submission))
+            }
+            Event::Forwarded { from, id, .. } => self.deliver(from, id, who)?,
+            Event::Booked { from, id, outcome } if from == who => self.investigate(
+                who, id, &outcome,
+            )?,
+            Event::Booked { from, id, outcome } => self.answer(who, from, id, outcome)?,
+            Event::Fetched { count } => Some(ask_first(who, Command::Fetch { max: count })),
+            Event::Opened => None,
+        })
+    }
+
+    /// Gives the transfer the originator's next place, unless it was settled before the opening.
+    fn take(&mut self, who: u8, id: Ident) -> Result<(), AllocError> {
+        let place = self.places[usize::from(who)];
+        let progress = self.progress(who, id)?;
+        let waiting = progress.waiting.take();
+        if !progress.is_settled {
+            progress.place = Some(place);
+            self.places[usize::from(who)] = place.saturating_add(1);
+        }
+        self.wake(waiting)
+    }
+
+    /// Returns the step that delivers the transfer to its beneficiary, or `None` if it wasn't taken yet.
+    fn deliver(&mut self, from: u8, id: Ident, to: u8) -> Result<Option<Step>, AllocError> {
+        let progress = self.progress(from, id)?;
+        let Some(index) = progress.place else {
+            progress.waiting = Some(to);
+            return Ok(None);
+        };
+        progress.awaits_delivery = false;
+        let waiting = progress.waiting.take();
+        self.wake(waiting)?;
+        Ok(Some(Step::Deliver { from, index, to }))
+    }
+
+    /// Returns the step in which the beneficiary books the outcome.
+    fn answer(
+        &mut self,
+        who: u8,
+        from: u8,
+        id: Ident,
+        outcome: Outcome,
+    ) -> Result<Option<Step>, AllocError> {
+        let progress = self.progress(from, id)?;
+        progress.is_answered = true;
+        let waiting = progress.waiting.take();
+        self.wake(waiting)?;
+        Ok(Some(answer(who, from, id, outcome)))
+    }
+
+    /// Returns the step in which the originator books the outcome, or `None` if it may not yet. An investigation at the
+    /// last moment books the outcome that there is, or else a time-out.
+    fn investigate(
+        &mut self,
+        who: u8,
+        id: Ident,
+        outcome: &Outcome,
+    ) -> Result<Option<Step>, AllocError> {
+        let progress = self.progress(who, id)?;
+        if !progress.may_book(outcome) {
+            progress.waiting = Some(who);
+            return Ok(None);
+        }
+        Ok(Some(ask_last(who, Command::Investigate { id })))
+    }
+}
+
+/// Returns a step for each event of the current opening, in an order in which no event precedes one that it waits for, or
+/// `None` if there is no such order. It visits each event a few times.
+pub(crate) fn find_steps(
+    alloc: Global,
+    journals: &[Journal],
+) -> Result<Option<Vec<Step>>, AllocError>
+    requires { length journals.now ≤ MOST_PARTICIPANTS }
+{
+    mention::<(Ask, Command)>();
+    let mut merge = Merge::new(alloc);
+    let mut left = add_all(alloc, &mut merge, journals)?;
+    // Each event wakes one participant at most.
+    for _ in 0..merge.count.saturating_add(left.len()) {
+        let Some(who) = merge.ready.pop() else {
+            break;
+        };
+        if let Some(events) = left.get_mut(usize::from(who)) {
+            *events = merge.advance(who, *events)?;
+        }
+    }
+    let is_done = merge.steps.len() == merge.count;
+    Ok(is_done.then_some(merge.steps))
+}
+
+/// Adds each journal, and returns the events that are to have steps, by participant.
+fn add_all<'a>(
+    alloc: Global,
+    merge: &mut Merge,
+    journals: &'a [Journal],
+) -> Result<Vec<&'a [Event]>, AllocError>
+    requires { length journals.now ≤ MOST_PARTICIPANTS }
+{
+    let mut left = Vec::new(alloc);
+    for (who, journal) in journals.iter().enumerate() {
+        left.push(merge.add(who as u8, journal.events())?)?;
+    }
+    Ok(left)
+}
