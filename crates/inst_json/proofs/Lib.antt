@@ -4,3 +4,6 @@ pub mod Texts
 pub mod Reading
 pub mod Telling
 pub mod Rows
+pub mod Tables
+pub mod Asking
+pub mod StepLines

@@ -10,6 +10,7 @@ use Rattle.inst_base.specs.Fault.{name_of}
 use Rattle.inst_base.specs.declared.fault.Fault.{Fault}
 use Rattle.inst_base.specs.declared.fault.Fault.TheVariants.{NotJson, BadField, BadIdentifier, BadAmount, BadMoment, UnknownParticipant, SelfTransfer, UnknownTransfer, Duplicate, StampAhead, Expired, Full, Shortage, Memory, BadSettings, LineTooLong, ReadFault, WriteFault}
 use Rattle.inst_settings.specs.Settings.{same_text}
+use Rattle.inst_json.specs.Members.{is_plain_character, is_plain}
 use Rattle.inst_json.specs.inner.Replies.{is_state_name}
 use Rattle.std.proofs.lemmas.Bool.{and_parts, or_cases}
 
@@ -86,3 +87,32 @@ escape-among name (first ∷ rest) plain h =
 pub escape-state_name : (name : List ℕ) → is_state_name name ≡ true → escape name ≡ name
 unfolding escape_byte
 escape-state_name name h = escape-among name (codes "pending" ∷ codes "accepted" ∷ codes "timed_out" ∷ []) (refl, (refl, (refl, tt))) h
+
+-- ---- plain texts
+
+is_plain_character-above : (x : ℕ) → is_plain_character x ≡ true → 32 ≤ x
+is_plain_character-above x h = grind (arith, nat_tests)
+
+pub escape_plain : (text : List ℕ) → IsTrue (is_plain text) → escape text ≡ text
+escape_plain = escape-each is_plain_character (escape_byte-each is_plain_character is_plain_character-above refl refl)
+
+is_latin-plain : (x : ℕ) → is_latin x ≡ true → is_plain_character x ≡ true
+is_latin-plain x h = grind (arith, nat_tests)
+
+is_code_character-plain : (x : ℕ) → is_code_character x ≡ true → is_plain_character x ≡ true
+is_code_character-plain x h = grind (arith, nat_tests)
+
+pub each_weaker : (p q : ℕ → Bool) → ((x : ℕ) → p x ≡ true → q x ≡ true) → (text : List ℕ) → list_all p text ≡ true → list_all q text ≡ true
+each_weaker p q one [] h = refl
+each_weaker p q one (x ∷ text) h =
+    let parts = and_parts (p x) (list_all p text) h in
+    rw (one x parts.0, each_weaker p q one text parts.1) refl
+
+pub plain_identifier : (text : List ℕ) → IsTrue (is_identifier text) → IsTrue (is_plain text)
+plain_identifier text h = each_weaker is_latin is_plain_character is_latin-plain text (and_parts _ (list_all is_latin text) h).1
+
+pub plain_code : (text : List ℕ) → IsTrue (is_code text) → IsTrue (is_plain text)
+plain_code text h = each_weaker is_code_character is_plain_character is_code_character-plain text (and_parts _ (list_all is_code_character text) h).1
+
+pub plain_reason : (text : List ℕ) → IsTrue (is_reason text) → IsTrue (is_plain text)
+plain_reason text h = each_weaker is_code_character is_plain_character is_code_character-plain text (and_parts _ (list_all is_code_character text) h).1

@@ -46,11 +46,11 @@ from_parts d r =
     ap (json.value max_depth) (lexed ∙ sym (append-nil ts)) ∙ value-json_tokens (outline d) max_depth [] (omega (arith, r.shallow)) in
     ap (λ o. option_and_then of_json (option_and_then (λ p. json.if_last p.0 p.1) o)) parsed ∙ r.again
 
-word_below : (n : ℕ) → is_word n ≡ true → n < 2 ^ 64
+pub word_below : (n : ℕ) → is_word n ≡ true → n < 2 ^ 64
 word_below n h = grind (arith, nat_tests)
 
 -- a number of 64 bits
-read_word : (n : ℕ) → is_word n ≡ true → number_of (decimal n) ≡ Some (unsigned n)
+pub read_word : (n : ℕ) → is_word n ≡ true → number_of (decimal n) ≡ Some (unsigned n)
 read_word n h = number_of-decimal n (word_below n h)
 
 fault_word : (fault : Fault) → is_word (fault_number fault) ≡ true

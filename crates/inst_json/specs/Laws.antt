@@ -1,16 +1,28 @@
--- The laws of written replies: a line reads back as the object that was meant, and its text tells which reply it is.
--- They are this hub's own promises.
-use Rattle.std.specs.Prelude.{◌≡◌, ℕ, ◌+◌, ◌^◌, ◌&&◌, Bool, true, nat_lt, List, map, Some}
+-- The laws of written lines: a reply reads back as the object that was meant, and its text tells which reply it is; a
+-- step reads back as the step. They are this hub's own promises.
+use Rattle.std.specs.Prelude.{◌≡◌, ℕ, ◌+◌, ◌^◌, ◌&&◌, Bool, true, nat_lt, List, map, Some, Ok}
 use Rattle.std.specs.List.{list_all}
 use Rattle.serde_json.specs.Read.{read}
 use Rattle.serde_json.specs.Written.{compact_text}
+use Rattle.inst_base.specs.Cents.{is_amount}
+use Rattle.inst_base.specs.Moment.{is_moment}
+use Rattle.inst_base.specs.Text.{is_code, is_identifier, is_reason}
 use Rattle.inst_settings.specs.Settings.{HubSettings}
 use Rattle.inst_settings.specs.Lawful.{IsSettings}
-use Rattle.inst_command.specs.LineText.{line_text}
+use Rattle.inst_settings.specs.declared.ranges.TheConstants.{MOST_PLACES}
+use Rattle.inst_command.specs.LineText.{line_text, code_numbered}
+use Rattle.inst_command.specs.Step.{step_fits}
+use Rattle.inst_command.specs.declared.ask.Ask.{Ask}
+use Rattle.inst_command.specs.declared.command.Command.{Command}
+use Rattle.inst_command.specs.declared.command.Command.TheVariants as command
 use Rattle.inst_command.specs.declared.entry.Entry.{Entry}
 use Rattle.inst_command.specs.declared.reply.Reply.{Reply}
 use Rattle.inst_command.specs.declared.reply.Reply.TheVariants as reply
+use Rattle.inst_command.specs.declared.step.Step.{Step}
+use Rattle.inst_command.specs.declared.step.Step.TheVariants as step
+use Rattle.inst_json.specs.Lines.{step_of_line}
 use Rattle.inst_json.specs.Replies.{reply_data, reply_can_be_written}
+use Rattle.inst_json.specs.StepLines.{step_line}
 
 -- whether a number has 64 bits
 abbrev pub is_word : ℕ → Bool
@@ -59,3 +71,46 @@ WhatIsWrittenReadsBack = (s : HubSettings) (r : Reply) → IsReplyOf s r → rea
 abbrev pub ATextTellsItsReply : Type 0
 ATextTellsItsReply = (s : HubSettings) (a b : Reply) → IsReplyOf s a → IsReplyOf s b →
     compact_text (reply_data s a) ≡ compact_text (reply_data s b) → content_of s a ≡ content_of s b
+
+-- whether the participant's code has its form
+abbrev pub has_code : HubSettings → ℕ → Bool
+has_code s number = is_code (code_numbered s number)
+
+-- whether codes, identifiers, amounts, reasons and numbers are such, as they are in the program
+abbrev pub command_has_form : HubSettings → Command → Bool
+command_has_form s (command.Fund reference cents) = is_identifier reference && is_amount cents
+command_has_form s (command.Defund reference cents) = is_identifier reference && is_amount cents
+command_has_form s (command.Submit x) = has_code s x.to && is_identifier x.id && is_amount x.cents
+command_has_form s (command.Confirm from id) = has_code s from && is_identifier id
+command_has_form s (command.Reject from id reason) = has_code s from && is_identifier id && is_reason reason
+command_has_form s (command.Investigate id) = is_identifier id
+command_has_form s (command.Fetch max) = true
+command_has_form s command.Position = true
+command_has_form s (command.Statement skip count) = is_word skip
+
+abbrev pub ask_has_form : HubSettings → Ask → Bool
+ask_has_form s ask = has_code s ask.who && is_moment ask.at && command_has_form s ask.command
+
+abbrev pub step_has_form : HubSettings → Step → Bool
+step_has_form s (step.Ask ask) = ask_has_form s ask
+step_has_form s (step.Deliver from index to) = has_code s to && has_code s from
+step_has_form s (step.Learn who from index) = has_code s who && has_code s from
+step_has_form s (step.Expire who index at) = has_code s who && is_moment at
+
+-- whether the place that a step names, if any, is one that some hub may have: 0 to 1,023
+abbrev pub has_place : Step → Bool
+has_place (step.Ask ask) = true
+has_place (step.Deliver from index to) = nat_lt index MOST_PLACES
+has_place (step.Learn who from index) = nat_lt index MOST_PLACES
+has_place (step.Expire who index at) = nat_lt index MOST_PLACES
+
+-- a step of a hub with these settings, at a place that a line can name
+pub record IsStepOf (s : HubSettings) (x : Step) : Type 0 where
+  pub settings : IsSettings s
+  pub fits : step_fits s x ≡ true
+  pub form : step_has_form s x ≡ true
+  pub place : has_place x ≡ true
+
+-- what is written of a step reads back as the step
+abbrev pub WhatIsWrittenOfAStepReadsBack : Type 0
+WhatIsWrittenOfAStepReadsBack = (s : HubSettings) (x : Step) → IsStepOf s x → step_of_line s (step_line s x) ≡ Ok x

@@ -8,6 +8,8 @@ pub mod Asker
 pub mod Commands
 pub mod Replies
 pub mod Steps
+pub mod Members
+pub mod StepLines
 pub mod Lines
 pub mod Laws
 -- Only inner functions and proofs cite these.

@@ -48,10 +48,10 @@ fn move_of(settings: &Settings, line: &Fields<'_>) -> Result<Step, Refusal>
 
 /// A participant, and the place of an originator's transfer that it comes to know of.
 #[derive(Clone, Copy)]
-struct Passing {
-    who: u8,
-    from: u8,
-    index: u16,
+pub(crate) struct Passing {
+    pub who: u8,
+    pub from: u8,
+    pub index: u16,
 }
 
 /// What a delivery or a booking is of, or the first refusal of its line.
