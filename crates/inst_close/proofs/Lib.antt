@@ -5,3 +5,4 @@ pub mod Left
 pub mod CodesCopied
 pub mod Reopened
 pub mod Summing
+pub mod Explained

@@ -3,6 +3,7 @@
 
 mod books;
 mod closing;
+mod explaining;
 mod next_opening;
 mod sums;
 mod widening;

@@ -16,7 +16,7 @@ use std::alloc::{AllocError, Global};
 
 impl Books {
     /// Copies of the books, by number.
-    fn copies(&self, alloc: Global) -> Result<Vec<Journal>, AllocError>
+    pub(crate) fn copies(&self, alloc: Global) -> Result<Vec<Journal>, AllocError>
         ensures ok { IfOk result (λ journals. AreCopies self.now.books journals.items) }
     {
         let mut journals = Vec::new(alloc);
@@ -27,7 +27,7 @@ impl Books {
     }
 
     /// Copies of the books, by number, and so many empty ones behind them.
-    fn copies_and(&self, alloc: Global, more: usize) -> Result<Vec<Journal>, AllocError>
+    pub(crate) fn copies_and(&self, alloc: Global, more: usize) -> Result<Vec<Journal>, AllocError>
         ensures ok { IfOk result (λ journals. AreCopiesAnd self.now.books more journals.items) }
     {
         let mut journals = self.copies(alloc)?;

@@ -65,7 +65,7 @@ fn has_journals(world: &World, journals: &[Journal]) -> bool
 ///
 /// `None` promises nothing. It is the answer for journals that no hub can leave, such as those of participants that pay
 /// each other with money that each has only from the other. Takes time linear in the number of events, and memory for the
-/// steps and for two copies of the journals.
+/// steps and the hub that runs them.
 ///
 /// # Errors
 ///
