@@ -16,6 +16,8 @@ mod log;
 #[cfg(test)]
 mod logged;
 #[cfg(test)]
+mod order;
+#[cfg(test)]
 mod slot;
 #[cfg(test)]
 mod values;

@@ -11,7 +11,7 @@ mod digests;
 mod errors;
 mod failing;
 mod headers;
-mod keeping;
+pub(crate) mod keeping;
 mod lengths;
 mod openings;
 mod refusals;
