@@ -6,9 +6,10 @@ ghost use Rattle.inst_settings.specs.Settings.{is_participant};
 use inst_audit::can_open;
 use inst_base::{Cents, Fault, Ident, Moment};
 use inst_books::{BookFault, append_books, read_books};
-use inst_command::{Command, Line, Reply};
+use inst_command::{Command, Line, Reply, Step};
 use inst_journal::{Handled, Journal, reply_of};
 use inst_ledger::Ledger;
+use inst_order::interleaving;
 use inst_settings::Settings;
 use inst_statement::statement;
 use inst_transfers::{Found, Transfers};
@@ -82,4 +83,16 @@ pub fn audit(alloc: Global, settings: &Settings, journals: &[Journal]) -> Result
         return Err(Fault::BadSettings);
     }
     Ok(World::open_from(alloc, settings, journals)?)
+}
+
+/// Returns steps that explain journals, if some are found.
+pub fn explained(
+    alloc: Global,
+    settings: &Settings,
+    journals: &[Journal],
+) -> Result<Vec<Step>, Fault> {
+    match interleaving(alloc, settings, journals)? {
+        Some(steps) => Ok(steps), // a `World` that runs them has exactly these journals
+        None => Err(Fault::BadSettings),
+    }
 }
