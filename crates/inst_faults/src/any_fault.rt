@@ -12,6 +12,8 @@ pub enum AnyFault {
     Hub(Fault),
     /// Of the log of a run, from 19 to 28.
     Log(LogFault),
+    /// The books that an opening of a drill left are those of no run of the hub in one thread: 29.
+    NoInterleaving,
 }
 
 /// All there are, by their numbers.
@@ -44,6 +46,7 @@ const ALL: &'static [AnyFault] = &[
     AnyFault::Log(LogFault::DamagedLog),
     AnyFault::Log(LogFault::OtherDigest),
     AnyFault::Log(LogFault::ChangedLog),
+    AnyFault::NoInterleaving,
 ];
 
 impl AnyFault {
@@ -54,6 +57,7 @@ impl AnyFault {
         match self {
             AnyFault::Hub(fault) => fault.number(),
             AnyFault::Log(fault) => fault.number(),
+            AnyFault::NoInterleaving => 29,
         }
     }
 
@@ -64,6 +68,7 @@ impl AnyFault {
         match self {
             AnyFault::Hub(fault) => fault.name(),
             AnyFault::Log(fault) => fault.name(),
+            AnyFault::NoInterleaving => "NoInterleaving",
         }
     }
 }
@@ -73,7 +78,7 @@ impl AnyFault {
 /// ```text
 /// fault_of("13")       // Some(AnyFault::Hub(Fault::Shortage))
 /// fault_of("Shortage") // the same
-/// fault_of("29")       // None
+/// fault_of("30")       // None
 /// ```
 pub fn fault_of(word: &str) -> Option<AnyFault>
     ensures named { IfSome result (λ fault. IsNamed word.now fault) }

@@ -9,6 +9,9 @@ impl AnyFault {
         match self {
             AnyFault::Hub(fault) => meaning_of(fault),
             AnyFault::Log(fault) => meaning_of_log(fault),
+            AnyFault::NoInterleaving => {
+                "the books that a drill left are those of no run in one thread: the hub is broken"
+            }
         }
     }
 
@@ -17,6 +20,9 @@ impl AnyFault {
         match self {
             AnyFault::Hub(fault) => advice_of(fault),
             AnyFault::Log(fault) => advice_of_log(fault),
+            AnyFault::NoInterleaving => {
+                "report it with the command line, the version and the machine"
+            }
         }
     }
 }
