@@ -1,5 +1,5 @@
 -- How often books were opened from, as they go through openings.
-use Rattle.std.proofs.Common.{◌≡◌, ℕ, ◌+◌, ◌<◌, ◌≤◌, zero, suc, Bool, true, false, ◌||◌, cond, if◌then◌else◌, List, [], ◌∷◌, length, refl, sym, ap, ◌∙◌, subst, arith, append-nil, inl, inr}
+use Rattle.std.proofs.Common.{◌≡◌, ℕ, ◌+◌, ◌<◌, ◌≤◌, zero, Bool, true, false, ◌||◌, cond, if◌then◌else◌, List, [], ◌∷◌, ◌++◌, length, Option, Some, None, refl, sym, ap, ◌∙◌, subst, arith, append-nil, inl, inr}
 use Rattle.std.specs.Prelude.{nat_lt}
 use Rattle.std.proofs.lemmas.Bool.{cases_Bool, ltb-true}
 use Rattle.std.proofs.lemmas.Bool.Decides.{nat_tests}
@@ -18,7 +18,7 @@ use Rattle.inst_settings.specs.Lawful.{IsSettings}
 use Rattle.inst_hub.specs.declared.hub.Hub.{Hub}
 use Rattle.inst_close.specs.NextOpening.{MayOpenWider}
 use Rattle.inst_close.specs.Closing.{IsOpenedSo, HaveOpened, IsNextOf}
-use Rattle.inst_drill.specs.inner.Chain.{IsOpenedAt, IsAfter}
+use Rattle.inst_drill.specs.inner.Chain.{IsAfter, AreAfter, opening_of}
 
 either_false : (a b : Bool) → (a || b) ≡ false → (a ≡ false) × (b ≡ false)
 either_false true b e = absurd (let no : ⊥ = cc in no)
@@ -44,17 +44,24 @@ openings_carried (x ∷ xs) = elim (cases_Bool (has_opening (x ∷ xs))) [
   | inr none ↦ none_opened (x ∷ xs) none ∙ sym (ap (λ b. openings (if b then x ∷ carried xs else [])) none)
 ]
 
--- what a hub leaves was opened from as often as the hub
-pub after_opening : (s : HubSettings) (n : ℕ) (hub : Hub) (closed : ClosedHub) → IsOpenedAt n hub → hub.settings ≡ s → closed.settings ≡ hub.settings
-    → ((O : Opening) → IsOpenedSo O hub → HaveOpened O closed) → IsAfter s n closed
-after_opening s n hub closed at settings same opened =
-    let all : closed.settings ≡ s = same ∙ settings in
-    record {
-      settings = all;
-      few = λ p small.
-          subst (λ (k : ℕ). k < n) (sym (openings_carried (histories closed.books p) ∙ ap openings (opened at.opening at.opened p (subst (λ (t : HubSettings). p < participants t) (sym all) small))))
-          (at.few p (subst (λ (t : HubSettings). p < participants t) (sym settings) small));
-    }
+-- the books of the next opening were opened from once more
+pub after_next : (s : HubSettings) (n : ℕ) (books : Option ClosedHub) (closed : ClosedHub) → AreAfter s n books → closed.settings ≡ s → HaveOpened (opening_of books) closed → IsAfter s (n + 1) closed
+after_next s n None closed so same opened = record {
+  settings = same;
+  few = λ p small.
+      let none : openings (histories closed.books p) ≡ 0 =
+      openings_carried (histories closed.books p) ∙ ap openings (opened p (subst (λ (t : HubSettings). p < participants t) (sym same) small)) in
+      omega (arith, none);
+}
+after_next s n (Some before) closed so same opened = record {
+  settings = same;
+  few = λ p small.
+      let here : openings (histories closed.books p) ≡ openings (histories before.books p ++ Opened ∷ []) =
+      openings_carried (histories closed.books p) ∙ ap openings (opened p (subst (λ (t : HubSettings). p < participants t) (sym same) small)) in
+      let one : openings (histories before.books p ++ Opened ∷ []) ≡ openings (histories before.books p) + 1 = count_push is_opening (histories before.books p) Opened in
+      let few = so.few p small in
+      omega (arith, here, one, few);
+}
 
 few_of_all : (n : ℕ) (closed : ClosedHub) (s : HubSettings) → IsClosed closed.settings closed.books → IsAfter s n closed → n ≤ 10 → (p : ℕ) → HasOpeningsLeft (histories closed.books p)
 few_of_all n closed s is so most p = elim (cases_Bool (nat_lt p (participants s))) [
@@ -76,14 +83,6 @@ may_open n closed s tellers is so most three = record {
   seats = (omega (arith, three), omega (arith, three));
 }
 
--- the next opening
-pub next_opening : (n : ℕ) (s : HubSettings) (closed : ClosedHub) (hub : Hub) → IsAfter s n closed → hub.settings ≡ closed.settings → IsNextOf closed.books hub → IsOpenedAt (suc n) hub
-next_opening n s closed hub so same next = record {
-  opening = FromBooks next.from;
-  opened = next.opened;
-  few = λ p small.
-      let before = so.few p (subst (λ (t : HubSettings). p < participants t) (same ∙ so.settings) small) in
-      let one = count_push is_opening (next.from p) Opened in
-      let from = ap openings (next.same p) in
-      omega (arith, before, one, from);
-}
+-- a hub that was opened from books was opened from their histories
+pub from_the_books : (closed : ClosedHub) (hub : Hub) → IsNextOf closed.books hub → IsOpenedSo (FromBooks (histories closed.books)) hub
+from_the_books closed hub next = subst (λ (O : Opening). IsOpenedSo O hub) (ap FromBooks (λ k p. next.same p k)) next.opened

@@ -1,13 +1,43 @@
--- What a drill tells of an opening. That it tells this is this hub's own choice.
-use Rattle.std.specs.Prelude.{◌≡◌, ◌+◌, ℕ, List, [], ◌∷◌, ◌++◌, codes}
+-- What a drill reports of an opening, by the books that the opening left. That it reports this is this hub's own choice.
+use Rattle.std.specs.Prelude.{◌≡◌, ◌+◌, ℕ, pos, Bool, true, false, List, [], ◌∷◌, ◌++◌, codes}
 use Rattle.std.specs.Fmt.{decimal}
+use Rattle.std.specs.List.{count_by}
+use Rattle.inst_command.specs.declared.outcome.Outcome.{Outcome}
+use Rattle.inst_command.specs.declared.outcome.Outcome.TheVariants.{Accepted, TimedOut}
+use Rattle.inst_journal.specs.declared.event.Event.{Event}
+use Rattle.inst_journal.specs.declared.event.Event.TheVariants.{Booked}
+use Rattle.inst_journal.specs.Money.{position}
+use Rattle.inst_journal.specs.Opened.{current}
+use Rattle.inst_journal.specs.Sums.{net}
+use Rattle.inst_model.specs.Untold.{total, signed_total}
+use Rattle.inst_together.specs.Together.{histories}
+use Rattle.inst_close.specs.ClosedHub.{ClosedHub}
 use Rattle.inst_drill.specs.declared.report.Report.{Report}
 
--- The books tell each outcome that was seen, and their positions sum to the net funding
--- decided: those that are decided were accepted or timed out
-pub record IsUnited (report : Report) : Type 0 where
+-- whether both outcomes are acceptances, or both are time-outs
+abbrev pub is_same_end : Outcome → Outcome → Bool
+is_same_end Accepted Accepted = true
+is_same_end TimedOut TimedOut = true
+is_same_end _ _ = false
+
+-- whether the event books such an outcome
+abbrev pub books_end : Outcome → Event → Bool
+books_end outcome (Booked from id other) = is_same_end outcome other
+books_end outcome _ = false
+
+-- how many transfers a history has booked with this outcome since its last opening
+abbrev pub ended : Outcome → List Event → ℕ
+ended outcome J = count_by (books_end outcome) (current J)
+
+-- The report is that of these books: they have each outcome that a thread saw, their positions sum to the net funding, and
+-- participant 0, whose transfers these are, has booked so many of them accepted and so many timed out
+pub record IsReportOf (closed : ClosedHub) (report : Report) : Type 0 where
   pub disagree : report.disagree ≡ 0
-  pub sum : report.sum ≡ report.net
+  pub sum : report.sum ≡ total closed.settings (λ p. position (histories closed.books p))
+  pub net : pos report.net ≡ signed_total closed.settings (λ p. net (histories closed.books p))
+  pub balanced : report.sum ≡ report.net
+  pub accepted : report.accepted ≡ ended Accepted (histories closed.books 0)
+  pub timed_out : report.timed_out ≡ ended TimedOut (histories closed.books 0)
   pub decided : report.accepted + report.timed_out ≡ report.decided
 
 -- the four lines of an opening

@@ -1,33 +1,72 @@
-//! What the books of a closed hub say of what was seen of its transfers.
-ghost use Rattle.std.specs.Prelude.{◌≡◌, ◌+◌, ◌≤◌, true, false, length};
-ghost use Rattle.std.specs.List.{count_by};
+//! How the transfers of an opening ended, and whether the books have what was seen of them.
+ghost use Rattle.std.specs.Prelude.{◌≡◌, ◌+◌, ◌<◌, ◌≤◌, true, false, length};
 ghost use Rattle.inst_command.specs.declared.outcome.Outcome.TheVariants.{Accepted, TimedOut};
 ghost use Rattle.inst_together.specs.Together.{histories};
-ghost use Rattle.inst_drill.specs.inner.Report.{Contradicts, NoneContradicts, is_told_so};
+ghost use Rattle.inst_journal.specs.Opened.{is_opening};
+ghost use Rattle.inst_drill.specs.Report.{books_end, ended, is_same_end};
+ghost use Rattle.inst_drill.specs.inner.Report.{Contradicts, NoneContradicts, counted_after};
 
 use inst_base::mention;
 use inst_close::Books;
 use inst_command::{Outcome, State};
 use inst_hub::Ticket;
+use inst_journal::Event;
 
-/// Of how many of these transfers the books tell that they were accepted, and of how many that they timed out.
-pub(crate) fn ends(books: &Books, states: &[(Ticket, State)]) -> (u64, u64)
-    ensures accepted { result.0 ≡ count_by (is_told_so (histories books.now.books) Accepted) states.now }
-    ensures timed_out { result.1 ≡ count_by (is_told_so (histories books.now.books) TimedOut) states.now }
-    ensures enough { result.0 + result.1 ≤ length states.now }
+fn is_opening(event: &Event) -> bool
+    ensures { result ≡ is_opening event.now }
 {
-    let mut accepted = 0u64;
-    let mut timed_out = 0u64;
-    for (ticket, _) in states {
-        match books.told(ticket) {
-            State::Decided(Outcome::Accepted) => accepted += 1,
-            State::Decided(Outcome::TimedOut) => timed_out += 1,
-            State::Decided(Outcome::Rejected(_)) => {}
-            State::Pending => {}
-            State::Unused => {}
-        }
+    matches!(event, Event::Opened)
+}
+
+/// Returns `true` if both outcomes are acceptances, or both are time-outs.
+fn is_same_end(one: Outcome, other: Outcome) -> bool
+    ensures { result ≡ is_same_end one other }
+{
+    match (one, other) {
+        (Outcome::Accepted, Outcome::Accepted) => true,
+        (Outcome::TimedOut, Outcome::TimedOut) => true,
+        _ => false,
+    }
+}
+
+/// Returns `true` if the event books such an outcome.
+fn books_end(outcome: Outcome, event: &Event) -> bool
+    ensures { result ≡ books_end outcome event.now }
+{
+    match event {
+        Event::Booked { outcome: other, .. } => is_same_end(outcome, *other),
+        _ => false,
+    }
+}
+
+/// Returns the two counts after one more event.
+fn counted_after(event: &Event, accepted: u64, timed_out: u64) -> (u64, u64)
+    requires { accepted + timed_out < u64.MAX }
+    ensures { (result.0, result.1) ≡ counted_after event.now accepted timed_out }
+{
+    if is_opening(event) {
+        return (0, 0);
+    }
+    if books_end(Outcome::Accepted, event) {
+        return (accepted + 1, timed_out);
+    }
+    if books_end(Outcome::TimedOut, event) {
+        return (accepted, timed_out + 1);
     }
     (accepted, timed_out)
+}
+
+/// Returns how many transfers these events book accepted since the last opening, and how many timed out.
+pub(crate) fn ends(events: &[Event]) -> (u64, u64)
+    ensures accepted { result.0 ≡ ended Accepted events.now }
+    ensures timed_out { result.1 ≡ ended TimedOut events.now }
+    ensures enough { result.0 + result.1 ≤ length events.now }
+{
+    let mut counts = (0u64, 0u64);
+    for event in events {
+        counts = counted_after(event, counts.0, counts.1);
+    }
+    counts
 }
 
 /// Whether an outcome was seen that the books don't tell.

@@ -3,6 +3,8 @@
 
 mod counting;
 mod drilling;
+mod error;
+mod explaining;
 mod feeding;
 mod opening;
 mod plan;
@@ -10,5 +12,7 @@ mod report;
 mod staff;
 
 pub use drilling::drill;
+pub use error::DrillError;
+pub use explaining::DrillResult;
 pub use inst_hub::{Gate, Ungated};
 pub use report::Report;

@@ -1,14 +1,16 @@
 //! One opening of a drill, from its first command to its books.
-ghost use Rattle.std.specs.Prelude.{◌≡◌, length, IfOk, IsOkUnless};
-ghost use Rattle.inst_model.specs.Opening.{Opening};
+ghost use Rattle.std.specs.Prelude.{◌≡◌, ◌⊎◌, length, IfOk, IfErr, IsOkUnless};
 ghost use Rattle.inst_hub.specs.Calls.{AreOf};
 ghost use Rattle.inst_hub.specs.Opening.{HaveAllParts};
 ghost use Rattle.inst_crew.specs.Seen.{AreSeenByOne};
-ghost use Rattle.inst_close.specs.Closing.{IsOpenedSo, HaveOpened};
+ghost use Rattle.inst_close.specs.Closing.{IsOpenedSo};
+ghost use Rattle.inst_drill.specs.inner.Chain.{opening_of};
 ghost use Rattle.inst_drill.specs.inner.Plan.{IsPlan};
-ghost use Rattle.inst_drill.specs.Report.{IsUnited};
+ghost use Rattle.inst_drill.specs.Drilled.{IsDrilled, drill_opening};
 
 use crate::counting::{contradicted, ends};
+use crate::error::DrillError;
+use crate::explaining::{DrillResult, explain};
 use crate::plan::Plan;
 use crate::report::Report;
 use crate::staff::{STAFF, Staff};
@@ -73,24 +75,27 @@ fn work<R: Threads + Wait + Sync, G: Gate + Sync>(
     })
 }
 
-/// What was done in an opening, and its books once the hub is closed. `Memory` is the only fault.
+/// Runs an opening of a hub that was opened from the books `before`, and returns its report and what it leaves.
+///
+/// # Errors
+///
+/// `Memory`, and `NoInterleaving` if no run of the hub in one thread is found that leaves these books.
 pub(crate) fn run_opening<R: Threads + Wait + Sync, G: Gate + Sync>(
     rt: &R,
     alloc: Global,
     hub: Hub,
     tellers: Vec<Teller>,
+    before: &Option<Books>,
     plan: &Plan,
     opening: u8,
     gate: &G,
-) -> Result<(Report, Books), Fault>
+) -> Result<(Report, DrillResult), DrillError>
     requires tellers { AreOf hub tellers.items × (length tellers.items ≡ 3) }
     requires parts { HaveAllParts tellers.items }
-    requires opened { (O : Opening) × IsOpenedSo O hub }
+    requires opened { IsOpenedSo (opening_of before.now) hub }
     requires plan { IsPlan hub.settings plan.now }
-    ensures report { IfOk result (λ r. IsUnited r.0) }
-    ensures settings { IfOk result (λ r. r.1.settings ≡ hub.settings) }
-    ensures opened { IfOk result (λ r. (O : Opening) → IsOpenedSo O hub → HaveOpened O r.1) }
-    ensures only { IsOkUnless result Fault.Memory }
+    ensures drilled { IfOk result (λ r. IsDrilled hub.settings (drill_opening (opening_of before.now) r.1.books r.1.steps.items r.0)) }
+    ensures only { IfErr result (λ e. (e ≡ DrillError.Fault Fault.Memory) ⊎ (e ≡ DrillError.NoInterleaving)) }
 {
     let Worked {
         tellers,
@@ -100,9 +105,12 @@ pub(crate) fn run_opening<R: Threads + Wait + Sync, G: Gate + Sync>(
         confirmed,
     } = work(rt, alloc, &hub, tellers, plan, opening, gate)?;
     let Ok(books) = close(alloc, hub, tellers) else {
-        return Err(Fault::Memory);
+        return Err(DrillError::Fault(Fault::Memory));
     };
-    let (accepted, timed_out) = ends(&books, &submitted);
+    let Some(steps) = explain(alloc, &books, before)? else {
+        return Err(DrillError::NoInterleaving);
+    };
+    let (accepted, timed_out) = ends(books.journal(0).events());
     let report = Report {
         jobs,
         answered,
@@ -113,5 +121,5 @@ pub(crate) fn run_opening<R: Threads + Wait + Sync, G: Gate + Sync>(
         net: books.net(),
         sum: books.sum(),
     };
-    Ok((report, books))
+    Ok((report, DrillResult { books, steps }))
 }

@@ -17,7 +17,7 @@ use inst_close::{Books, CloseFault, close};
 use inst_command::{Ask, Reply, State};
 use inst_crew::{Crew, run_crew};
 use inst_desk::{Desk, Hand, Job};
-use inst_drill::drill;
+use inst_drill::{DrillError, DrillResult, drill};
 use inst_hub::{Hub, Participant, Teller, Ungated};
 use inst_parts::Parts;
 use inst_settings::Settings;
@@ -119,7 +119,7 @@ pub fn drilled<R: Threads + Wait + Sync, W: Write>(
     alloc: Global,
     settings: Settings,
     writer: &mut W,
-) -> Result<Books, Fault> {
+) -> Result<DrillResult, DrillError> {
     let gate = &Ungated; // nothing is done inside the locks
     let mut told = Vec::new(alloc); // how many transfers were accepted, and how many timed out
     drill(rt, alloc, settings, 200, 2, gate, writer, &mut told, false) // eight lines for the writer

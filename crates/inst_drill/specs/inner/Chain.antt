@@ -3,17 +3,9 @@
 use Rattle.std.specs.Prelude.{◌≡◌, ℕ, ◌<◌, Option, Some, None}
 use Rattle.inst_settings.specs.Settings.{HubSettings, participants}
 use Rattle.inst_journal.specs.Opened.{openings}
-use Rattle.inst_model.specs.Opening.{Opening, beginning}
+use Rattle.inst_model.specs.Opening.{Opening, First, FromBooks}
 use Rattle.inst_together.specs.Together.{histories}
-use Rattle.inst_hub.specs.declared.hub.Hub.{Hub}
 use Rattle.inst_close.specs.ClosedHub.{ClosedHub}
-use Rattle.inst_close.specs.Closing.{IsOpenedSo}
-
--- the hub was opened in some way, from books that were opened from fewer than n - 1 times
-pub record IsOpenedAt (n : ℕ) (hub : Hub) : Type 0 where
-  pub opening : Opening
-  pub opened : IsOpenedSo opening hub
-  pub few : (p : ℕ) → p < participants hub.settings → openings (beginning opening p) < n
 
 -- the books of a hub of these settings, which were opened from fewer than n times
 pub record IsAfter (s : HubSettings) (n : ℕ) (closed : ClosedHub) : Type 0 where
@@ -23,3 +15,8 @@ pub record IsAfter (s : HubSettings) (n : ℕ) (closed : ClosedHub) : Type 0 whe
 abbrev pub AreAfter : HubSettings → ℕ → Option ClosedHub → Type 0
 AreAfter s n None = Unit {0}
 AreAfter s n (Some closed) = IsAfter s n closed
+
+-- what a hub of the next opening begins from
+abbrev pub opening_of : Option ClosedHub → Opening
+opening_of None = First
+opening_of (Some closed) = FromBooks (histories closed.books)

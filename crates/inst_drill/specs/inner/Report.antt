@@ -1,12 +1,14 @@
--- What the books tell of transfers, and sights that they contradict.
-use Rattle.std.specs.Prelude.{◌≡◌, ◌≢◌, ℕ, Bool, true, false, List, Some, slice_get}
+-- Outcomes that threads saw and the books don't have.
+use Rattle.std.specs.Prelude.{◌≡◌, ◌≢◌, ◌+◌, ℕ, List, Some, slice_get, if◌then◌else◌}
 use Rattle.inst_command.specs.declared.outcome.Outcome.{Outcome}
-use Rattle.inst_command.specs.declared.outcome.Outcome.TheVariants.{Accepted, TimedOut}
 use Rattle.inst_command.specs.declared.outcome.State.{State}
 use Rattle.inst_command.specs.declared.outcome.State.TheVariants.{Decided}
 use Rattle.inst_board.specs.declared.place.Place.{Place}
+use Rattle.inst_command.specs.declared.outcome.Outcome.TheVariants.{Accepted, TimedOut}
+use Rattle.inst_journal.specs.Opened.{is_opening}
 use Rattle.inst_journal.specs.declared.event.Event.{Event}
 use Rattle.inst_together.specs.Told.{told}
+use Rattle.inst_drill.specs.Report.{books_end}
 
 -- the pair is an outcome that the books don't tell
 abbrev pub Contradicts : (ℕ → List Event) → Place × State → Type 0
@@ -15,17 +17,9 @@ Contradicts J pair = (outcome : Outcome) × (pair.1 ≡ Decided outcome) × (tol
 abbrev pub NoneContradicts : (ℕ → List Event) → List (Place × State) → Type 0
 NoneContradicts J states = (i : ℕ) (pair : Place × State) → slice_get states i ≡ Some pair → ¬ Contradicts J pair
 
--- the two outcomes of a drill are told apart
-abbrev pub is_same_end : Outcome → Outcome → Bool
-is_same_end Accepted Accepted = true
-is_same_end TimedOut TimedOut = true
-is_same_end _ _ = false
-
--- the state is this outcome
-abbrev pub is_end : Outcome → State → Bool
-is_end outcome (Decided other) = is_same_end outcome other
-is_end outcome _ = false
-
--- the books tell of the pair's place that its transfer was accepted, or that it timed out
-abbrev pub is_told_so : (ℕ → List Event) → Outcome → Place × State → Bool
-is_told_so J outcome pair = is_end outcome (told J pair.0)
+-- so many acceptances and time-outs are counted after one more event
+abbrev pub counted_after : Event → ℕ → ℕ → ℕ × ℕ
+counted_after event accepted timed_out =
+    if is_opening event then (0, 0) else
+    (if books_end Accepted event then (accepted + 1, timed_out) else
+    (if books_end TimedOut event then (accepted, timed_out + 1) else (accepted, timed_out)))

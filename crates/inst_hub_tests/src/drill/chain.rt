@@ -3,7 +3,7 @@ use crate::comparing::same;
 use crate::drill::kept::{Kept, funded, kept_of};
 use inst_base::Fault;
 use inst_close::Books;
-use inst_drill::drill;
+use inst_drill::{DrillError, drill};
 use inst_hub::Ungated;
 use inst_rows::{A, B, settings_with};
 use std::alloc::Global;
@@ -106,11 +106,12 @@ fn drilled<R: Threads + Wait + Sync>(
     alloc: Global,
     written: &mut Vec<u8>,
     progress: &mut Vec<u8>,
-) -> Result<Books, Fault> {
+) -> Result<Books, DrillError> {
     let settings = settings_with(alloc, TRANSFERS, 0)?;
-    drill(
+    let left = drill(
         rt, alloc, settings, TRANSFERS, OPENINGS, &Ungated, written, progress, false,
-    )
+    )?;
+    Ok(left.books)
 }
 
 /// What was written is `expected`, and the books have what was paid.
@@ -131,13 +132,13 @@ fn lose_nothing(
 }
 
 #[test]
-fn ten_openings_by_threads_lose_nothing(rt: HostRuntime) -> Result<(), Fault> {
+fn ten_openings_by_threads_lose_nothing(rt: HostRuntime) -> Result<(), DrillError> {
     let alloc = rt.alloc();
     let mut written = Vec::new(alloc);
     let mut progress = Vec::new(alloc);
     let books = drilled(&rt, alloc, &mut written, &mut progress)?;
     let Some((accepted, lines)) = accepted_in_all(alloc, &books)? else {
-        return Err(Fault::UnknownTransfer);
+        return Err(DrillError::Fault(Fault::UnknownTransfer));
     };
     let paid = accepted.saturating_mul(100);
     lose_nothing(&rt, alloc, &books, written.as_slice(), paid)?;

@@ -1,6 +1,6 @@
-use Rattle.inst_drill.proofs.Drilled.{Drilled}
+use Rattle.inst_drill.proofs.Drilled.{DrilledSoFar}
 use Rattle.inst_drill.proofs.drilling.drill.Given as goal
 
 abbrev pub invariant-loop-done : goal.invariant-loop-done
 invariant-loop-done g l =
-    Drilled l.fn.settings (g.W.Write.contents l.fn.writer) (g.W.Write.contents l.writer) l.done l.books
+    DrilledSoFar l.fn.settings (g.W.Write.contents l.fn.writer) (g.W.Write.contents l.writer) l.done l.books l.steps.items

@@ -1,9 +1,10 @@
-use Rattle.std.proofs.Common.{ℕ, suc, refl, subst}
+use Rattle.std.proofs.Common.{ℕ, IfOk, refl, subst, sym}
 use Rattle.std.specs.Prelude.{Option}
 use Rattle.inst_close.specs.ClosedHub.{ClosedHub, IsClosed}
-use Rattle.inst_drill.specs.inner.Chain.{AreAfter, IsAfter, IsOpenedAt}
-use Rattle.inst_close.proofs.Reopened.{if_both}
-use Rattle.inst_drill.proofs.Counted.{next_opening, may_open}
+use Rattle.inst_close.specs.Closing.{IsOpenedSo}
+use Rattle.std.proofs.lemmas.Result.{IfOk-weaker}
+use Rattle.inst_drill.specs.inner.Chain.{AreAfter, IsAfter, opening_of}
+use Rattle.inst_drill.proofs.Counted.{from_the_books, may_open}
 use Rattle.inst_drill.proofs.Staffed.{only_memory}
 use Rattle.inst_drill.proofs.drilling.open.Goals as goal
 use Rattle.inst_drill.proofs.drilling.open.Goals.{In-Some}
@@ -13,9 +14,8 @@ after c n so = subst (λ (b : Option ClosedHub). AreAfter c.args.settings.now n 
 
 pub returns-in-Some-clause-opened : goal.returns-in-Some-clause-opened
 returns-in-Some-clause-opened c =
-    if_both c.open_next.result _ _ (λ r. (n : ℕ) → AreAfter c.args.settings.now n c.args.books.now → IsOpenedAt (suc n) r.0)
-    (λ r same next n so. next_opening n c.args.settings.now c.in-Some.books r.0 (after (goal.at.returns-in-Some-clause-opened c).In-Some n so) same next)
-    c.open_next.ensures.settings c.open_next.ensures.opened
+    subst (λ (b : Option ClosedHub). IfOk c.open_next.result (λ r. IsOpenedSo (opening_of b) r.0)) (sym c.in-Some.is)
+    (IfOk-weaker c.open_next.result _ _ (λ r next. from_the_books c.in-Some.books r.0 next) c.open_next.ensures.opened)
 
 pub returns-in-Some-clause-only : goal.returns-in-Some-clause-only
 returns-in-Some-clause-only c =

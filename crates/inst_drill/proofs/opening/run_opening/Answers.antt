@@ -1,18 +1,34 @@
-use Rattle.std.proofs.Common.{subst, ◌∙◌, sym, refl, arith, List}
+use Rattle.std.proofs.Common.{subst, ◌∙◌, sym, refl, ap, arith, List}
 use Rattle.inst_board.specs.declared.place.Place.{Place}
+use Rattle.inst_command.specs.declared.outcome.Outcome.TheVariants.{Accepted, TimedOut}
 use Rattle.inst_command.specs.declared.outcome.State.{State}
+use Rattle.inst_settings.specs.Settings.{HubSettings}
+use Rattle.inst_order.specs.Order.{Explains}
 use Rattle.inst_together.specs.Together.{histories}
+use Rattle.inst_drill.specs.Report.{ended}
+use Rattle.inst_drill.specs.inner.Chain.{opening_of}
 use Rattle.inst_drill.specs.inner.Report.{NoneContradicts}
 use Rattle.inst_drill.proofs.Seen.{none_contradicts, same_number}
 use Rattle.inst_drill.proofs.opening.run_opening.Goals as goal
 
-pub returns-clause-report : goal.returns-clause-report
-returns-clause-report g c =
+pub returns-clause-drilled : goal.returns-clause-drilled
+returns-clause-drilled g c =
     let told = c.in-Ok.ensures.told in
-    let first = c.contradicted.ensures (subst (λ (l : List (Place × State)). NoneContradicts (histories c.in-Ok.books.books) l) (sym c.deref-2.ensures.value) (none_contradicts _ _ _ told c.in_ok-tellers.ensures.submitted)) in
-    let then = c.contradicted-2.ensures (subst (λ (l : List (Place × State)). NoneContradicts (histories c.in-Ok.books.books) l) (sym c.deref-3.ensures.value) (none_contradicts _ _ _ told c.in_ok-tellers.ensures.confirmed)) in
+    let first = c.contradicted.ensures (subst (λ (l : List (Place × State)). NoneContradicts (histories c.in-Ok.books.books) l) (sym c.deref.ensures.value) (none_contradicts _ _ _ told c.in_ok-tellers.ensures.submitted)) in
+    let then = c.contradicted-2.ensures (subst (λ (l : List (Place × State)). NoneContradicts (histories c.in-Ok.books.books) l) (sym c.deref-2.ensures.value) (none_contradicts _ _ _ told c.in_ok-tellers.ensures.confirmed)) in
     record {
-      disagree = (let added = c.saturating_add.ensures in omega (arith, added, first, then));
-      sum = same_number _ _ (c.sum.ensures.net ∙ sym c.net.ensures);
-      decided = refl;
+      settings = c.in-Ok.ensures.settings;
+      opened = c.in-Ok.ensures.opened (opening_of c.args.before.now) c.requires.opened;
+      explained =
+          subst (λ (s : HubSettings). Explains s (opening_of c.args.before.now) c.in-Some.steps.items (histories c.in-Ok.books.books)) c.in-Ok.ensures.settings
+          (rw c.in-Some.is at c.in_ok-steps.ensures);
+      report = record {
+        disagree = (let added = c.saturating_add.ensures in omega (arith, added, first, then));
+        sum = c.sum.ensures.sum;
+        net = c.net.ensures;
+        balanced = same_number _ _ (c.sum.ensures.net ∙ sym c.net.ensures);
+        accepted = c.ends-accepted.ensures.accepted ∙ ap (ended Accepted) (c.events.ensures ∙ c.journal.ensures.events);
+        timed_out = c.ends-accepted.ensures.timed_out ∙ ap (ended TimedOut) (c.events.ensures ∙ c.journal.ensures.events);
+        decided = refl;
+      };
     }
