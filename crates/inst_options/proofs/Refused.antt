@@ -198,7 +198,8 @@ wished_of words name rows (wish.Run s log sums) whole at is =
     (is.0, whole, (name, rows, at, is.1, is.2), names_it words name rows log at is.3, (name, rows, at, is.4))
 wished_of words name rows (wish.Play s log sums) whole at is =
     (is.0, whole, (name, rows, at, is.1, is.2), names_it words name rows log at is.3, (name, rows, at, is.4))
-wished_of words name rows (wish.Drill s transfers openings) whole at is = (is.0, whole, (name, rows, at, is.1, is.2))
+wished_of words name rows (wish.Drill s transfers openings script) whole at is =
+    (is.0, whole, (name, rows, at, is.1, is.2), (name, rows, at, is.3))
 wished_of words name rows (wish.Check s) whole at is = (is.0, whole, (name, rows, at, is.1, is.2))
 wished_of words name rows (wish.Log path) whole at is = (whole, (name, rows, at, is.0, is.1))
 wished_of words name rows (wish.Next from to digest) whole at is = (whole, (name, rows, at, is.0, is.1, is.2, is.3))

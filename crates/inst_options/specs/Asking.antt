@@ -88,14 +88,20 @@ AskToExplain words word = AreWhole words
     × ((name : List ℕ) × (rows : List Row) × (subcommand_of command_line words ≡ Some (name, rows))
     × (same_text name (codes "explain") ≡ true) × IsText (codes "fault") rows word)
 
+-- they name this file for the script of a drill, or none
+abbrev pub NameTheScript : List (List ℕ) → Option (List ℕ) → Type 0
+NameTheScript words file = (name : List ℕ) × (rows : List Row) × (subcommand_of command_line words ≡ Some (name, rows))
+    × (file ≡ first_of (codes "script") rows)
+
 -- the words ask for this
 abbrev pub IsWished : List (List ℕ) → Wish → Type 0
 IsWished words (wish.Run s log sums) =
     IsSettings s × AreWhole words × AreChosen words Run s × GiveTheLog words log × AskForASummary words sums
 IsWished words (wish.Play s log sums) =
     IsSettings s × AreWhole words × AreChosen words Play s × GiveTheLog words log × AskForASummary words sums
-IsWished words (wish.Drill s transfers openings) =
+IsWished words (wish.Drill s transfers openings script) =
     IsSettings s × AreWhole words × AreChosen words (Drill transfers openings) s
+    × NameTheScript words (option_map (λ file. file.now) script)
 IsWished words (wish.Check s) = IsSettings s × AreWhole words × AreChosen words Check s
 IsWished words (wish.Log path) = AskForTheLog words path.now
 IsWished words (wish.Next from to digest) = AskForTheNext words from.now to.now (option_map (λ d. d.now) digest)

@@ -62,9 +62,13 @@ hub_rules =
 abbrev pub run_rules : List Rule
 run_rules = log_rule ∷ told_rule ∷ resume_rule ∷ digest_rule ∷ summary_rule ∷ []
 
--- what else a drill has: how many transfers and openings
+-- the file for the script of a drill
+abbrev pub script_rule : Rule
+script_rule = record (new_rule (codes "script")) { long = Some (codes "script"); action = Some Set; value_names = 1 }
+
+-- what else a drill has: how many transfers and openings, and the file for its script
 abbrev pub drill_rules : List Rule
-drill_rules = number_rule (codes "transfers") (codes "200") ∷ number_rule (codes "openings") (codes "1") ∷ []
+drill_rules = number_rule (codes "transfers") (codes "200") ∷ number_rule (codes "openings") (codes "1") ∷ script_rule ∷ []
 
 -- the two logs that the subcommand `next` names, and a digest that the first one must contain
 abbrev pub next_rules : List Rule

@@ -53,7 +53,9 @@ fn hub_wish<'a>(alloc: Global, name: &str, options: &ArgMatches<'a>) -> Result<W
 {
     if name == "drill" {
         let (transfers, openings) = drill_options(options)?;
-        return Ok(Wish::Drill(settings(alloc, options)?, transfers, openings));
+        let script = text_given(options, "script");
+        let settings = settings(alloc, options)?;
+        return Ok(Wish::Drill(settings, transfers, openings, script));
     }
     if name == "check" {
         return Ok(Wish::Check(settings(alloc, options)?));
@@ -184,6 +186,13 @@ pub(crate) fn text<'a>(options: &ArgMatches<'a>, name: &str) -> Result<&'a str, 
     ensures fault { IsOkUnless result Fault.BadSettings }
 {
     options.get_str(name).ok_or(Fault::BadSettings)
+}
+
+/// The text of an option, if it has one.
+fn text_given<'a>(options: &ArgMatches<'a>, name: &str) -> Option<&'a str>
+    ensures { option_map (λ text. text.now) result ≡ first_of name.now (rows_of (found_of options.now)) }
+{
+    options.get_str(name)
 }
 
 /// The text of an option, or an empty one.

@@ -283,6 +283,14 @@ const DRILL: &'static [Choice] = &[
         defaults: &["1"],
         help: "Openings, each from the books of the one before, 1 to 10",
     },
+    Choice {
+        name: "script",
+        kind: Kind::Text,
+        required: false,
+        value_names: &["FILE"],
+        defaults: &[],
+        help: "Writes lines for play to this new or empty file, which leave the books of the first opening",
+    },
 ];
 
 /// What the subcommand `log` reads.
@@ -330,5 +338,5 @@ const EXPLAIN: &'static [Choice] = &[Choice {
     required: true,
     value_names: &["FAULT"],
     defaults: &[],
-    help: "Its number, 1 to 28, or its name",
+    help: "Its number, 1 to 29, or its name",
 }];

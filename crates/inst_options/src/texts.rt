@@ -66,12 +66,14 @@ Drills a hub by threads that race at a deadline, and tells by four lines how eac
 
 In each opening participant 0 is funded and submits transfers of 100 cents to participant 1, by two threads. Two
 threads confirm them at the last moment, while a third one sweeps at their deadline: each ends in one of two ways.
-Then the hub is closed, and standard output has four lines. Standard input isn't read.
+Then the hub is closed, steps of one thread are rebuilt from its books, and a hub that runs them must leave the same
+books. Standard output has four lines. Standard input isn't read.
   jobs J answered R    J jobs were put on the desk, and R calls were answered
   decided D            the books tell the outcomes of D transfers
   disagree X           X outcomes were seen that the books don't tell
   net N sum S          the net funding and the sum of all positions, in cents
-The first opening begins with nothing, and each other one with the books of the one before.";
+The first opening begins with nothing, and each other one with the books of the one before. --script writes the steps of
+the first one as lines for play, to a file that is new or empty.";
 
 /// At the end of the help of `run`, `play`, `check` and `drill`.
 pub(crate) const MOMENTS: &str = "\

@@ -21,8 +21,9 @@ pub enum Wish<'a> {
     Run(Settings, Option<LogOptions<'a>>, bool),
     /// The same for a script of steps.
     Play(Settings, Option<LogOptions<'a>>, bool),
-    /// A hub of these settings is drilled by threads: so many transfers in each of so many openings.
-    Drill(Settings, u16, u8),
+    /// A hub of these settings is drilled by threads: so many transfers in each of so many openings. The script of a run
+    /// that explains the first opening goes to the file of this name, if one is named.
+    Drill(Settings, u16, u8, Option<&'a str>),
     /// What of lines no hub of these settings takes.
     Check(Settings),
     /// What the log of this name has.

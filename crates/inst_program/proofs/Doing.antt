@@ -1,12 +1,12 @@
 -- What is left where the words' task is done, and where it ends otherwise.
-use Rattle.std.proofs.Common.{◌≡◌, ◌⊎◌, inl, inr, ℕ, List, Option, Some, None, Result, Ok, Err, IfErr, OnErr, IsErrAnd, sym, subst}
+use Rattle.std.proofs.Common.{◌≡◌, ◌⊎◌, inl, inr, ℕ, List, Option, Some, None, Result, Ok, Err, IfErr, OnErr, refl, subst}
 use Rattle.inst_base.specs.declared.fault.Fault.{Fault}
 use Rattle.inst_base.specs.declared.fault.Fault.TheVariants.{BadSettings, Memory, WriteFault}
 use Rattle.inst_settings.specs.Settings.{HubSettings}
 use Rattle.inst_settings.specs.Lawful.{IsSettings}
 use Rattle.inst_lines.specs.declared.mode.Mode.{Mode}
 use Rattle.inst_options.specs.Options.Task.{Drill, Check}
-use Rattle.inst_options.specs.Asking.{AreChosen, AreWhole, AskForTheLog, AskForTheNext, AskToExplain, GiveTheLog}
+use Rattle.inst_options.specs.Asking.{AreChosen, AreWhole, AskForTheLog, AskForTheNext, AskToExplain, GiveTheLog, NameTheScript}
 use Rattle.inst_options.specs.declared.wish.LogOptions.{LogOptions}
 use Rattle.inst_logged.specs.Streams.{Streams}
 use Rattle.inst_program.specs.Files.{Files, IfKept, Stay}
@@ -15,8 +15,11 @@ use Rattle.inst_program.proofs.Visiting.{all_stay}
 use Rattle.inst_program.specs.Program.{status_of, AskForADrill, AskForAKeptRun, Checks, Done, Drills, Refusal, task_of}
 use Rattle.inst_program.specs.Program.Done.{Answered, Checked, Drilled, Kept}
 use Rattle.inst_program.specs.Program.Failed.{AtLines, Carrying, Drilling, Explaining, Keeping, Showing}
-use Rattle.inst_program.specs.Program.Refusal.{InUse, Uncarried, Unfit, Unnamed, Unshown, Untaken}
-use Rattle.inst_program.specs.inner.Ending.{status_of_ending, IsAnswered, IsUnanswered, IsUnchecked, IsUndone, IsUndrilled, IsUnexplained}
+use Rattle.inst_program.specs.Program.Refusal.{InUse, Uncarried, Unfit, Unnamed, Unscripted, Unshown, Untaken}
+use Rattle.inst_program.specs.inner.Ending.{status_of_ending, IsAnswered, IsUnanswered, IsUnchecked, IsUndone, IsUnexplained}
+use Rattle.inst_program.specs.inner.Drilling.{IsUndrilled, IsWithoutAFile}
+use Rattle.inst_program.specs.declared.drilling.DrillTask.{DrillTask}
+use Rattle.inst_drill.specs.Plan.{MayDrill}
 use Rattle.inst_program.specs.declared.ending.Ending.{Ending}
 use Rattle.inst_program.specs.declared.ending.Ending.TheVariants as ending
 use Rattle.inst_program.proofs.Refusing.{undrillable}
@@ -31,12 +34,15 @@ module _ (words : List (List ℕ)) (t : Streams) (old new : Files) where
   answered mode s (Some log) lawful whole chosen given keeps =
       Kept (record { run = kept_run mode s log; asked = record { lawful = lawful; whole = whole; chosen = chosen; log = given }; keeps = keeps.0; others = keeps.1 })
 
+  abbrev asks_to_drill : (s : HubSettings) (transfers openings : ℕ) (script : Option (List ℕ)) → IsSettings s → AreWhole words → AreChosen words (Drill transfers openings) s → NameTheScript words script → AskForADrill words
+  asks_to_drill s transfers openings script lawful whole chosen named =
+      record { settings = s; lawful = lawful; whole = whole; transfers = transfers; openings = openings; chosen = chosen; script = script; named = named }
+
   -- a drill is done
-  pub drilled : (s : HubSettings) (transfers openings : ℕ) → IsSettings s → AreWhole words → AreChosen words (Drill transfers openings) s →
-      t.unread → Stay old new → Drills openings t.held t.held' → Done words t old new
-  drilled s transfers openings lawful whole chosen still stay told =
-      let asks : AskForADrill words = record { settings = s; lawful = lawful; whole = whole; transfers = transfers; openings = openings; chosen = chosen } in
-      Drilled still (asks, told) stay
+  pub drilled : (s : HubSettings) (transfers openings : ℕ) (script : Option (List ℕ)) → IsSettings s → AreWhole words → AreChosen words (Drill transfers openings) s → NameTheScript words script →
+      t.unread → Drills s openings script t.held t.held' old new → Done words t old new
+  drilled s transfers openings script lawful whole chosen named still told =
+      Drilled still (asks_to_drill s transfers openings script lawful whole chosen named, told)
 
   -- lines were checked
   pub checked : (s : HubSettings) → IsSettings s → AreWhole words → AreChosen words Check s → Stay old new → Checks s t → Done words t old new
@@ -74,6 +80,8 @@ module _ (words : List (List ℕ)) (t : Streams) (old new : Files) where
   }
   unanswered mode s None (ending.Log fault) lawful whole chosen given is = absurd is
   unanswered mode s None ending.Unexplained lawful whole chosen given is = absurd is
+  unanswered mode s None ending.NoInterleaving lawful whole chosen given is = absurd is
+  unanswered mode s None ending.ScriptNotEmpty lawful whole chosen given is = absurd is
   unanswered mode s (Some log) e lawful whole chosen given is =
       let run = kept_run mode s log in
       let asked : AskForAKeptRun words run = record { lawful = lawful; whole = whole; chosen = chosen; log = given } in
@@ -94,24 +102,22 @@ module _ (words : List (List ℕ)) (t : Streams) (old new : Files) where
   no_failure fault bad (inl memory) = cc (memory, bad)
   no_failure fault bad (inr write) = cc (write, bad)
 
-  undrilled : (s : HubSettings) (transfers openings : ℕ) (fault : Fault) → IsSettings s → AreWhole words → AreChosen words (Drill transfers openings) s → t.unread → Stay old new →
-      IsUndrilled s transfers openings t.unwritten fault → IsUndone words t old new (status_of fault)
-  undrilled s transfers openings fault lawful whole chosen still stay (inl bad) = record {
-    refused = λ two. record { unread = still; unwritten = bad.1; why = Unfit (undrillable words s transfers openings whole chosen bad.2) stay };
-    failed = λ three. absurd (two_is_not_three (subst (λ f. status_of f ≡ 3) bad.0 three));
-  }
-  undrilled s transfers openings fault lawful whole chosen still stay (inr failed) =
-      let asks : AskForADrill words = record { settings = s; lawful = lawful; whole = whole; transfers = transfers; openings = openings; chosen = chosen } in
-      record {
-        refused = λ two. absurd (no_failure fault (only_settings fault two) failed);
-        failed = λ three. Drilling still asks stay;
-      }
+  undrilled_for : (s : HubSettings) (transfers openings : ℕ) (script : Option (List ℕ)) → IsSettings s → AreWhole words → AreChosen words (Drill transfers openings) s → NameTheScript words script →
+      Stay old new → ¬ (MayDrill s transfers openings) ⊎ IsWithoutAFile script old new → Refusal words old new
+  undrilled_for s transfers openings script lawful whole chosen named stay (inl unfit) = Unfit (undrillable words s transfers openings whole chosen unfit) stay
+  undrilled_for s transfers openings None lawful whole chosen named stay (inr never) = absurd never
+  undrilled_for s transfers openings (Some name) lawful whole chosen named stay (inr cannot) =
+      Unscripted (asks_to_drill s transfers openings (Some name) lawful whole chosen named) name refl cannot stay
 
-  pub undrilled_err : {A : Type 0} (s : HubSettings) (transfers openings : ℕ) (r : Result A Ending) (fault : Fault) → IsErrAnd r (λ e. e ≡ ending.Fault fault) → IsSettings s → AreWhole words →
-      AreChosen words (Drill transfers openings) s → t.unread → Stay old new → IsUndrilled s transfers openings t.unwritten fault → IfErr r (λ e. IsUndone words t old new (status_of_ending e))
-  undrilled_err s transfers openings (Ok x) fault is lawful whole chosen still stay after = tt
-  undrilled_err s transfers openings (Err e) fault is lawful whole chosen still stay after =
-      subst (λ (f : Ending). IsUndone words t old new (status_of_ending f)) (sym is) (undrilled s transfers openings fault lawful whole chosen still stay after)
+  pub undrilled_err : {A : Type 0} (asked : DrillTask) (script : Option (List ℕ)) (r : Result A Ending) → IsSettings asked.settings → AreWhole words →
+      AreChosen words (Drill asked.transfers asked.openings) asked.settings → NameTheScript words script → t.unread → IfErr r (IsUndrilled asked script t.unwritten old new) → IfErr r (λ e. IsUndone words t old new (status_of_ending e))
+  undrilled_err asked script (Ok x) lawful whole chosen named still after = tt
+  undrilled_err asked script (Err e) lawful whole chosen named still after = record {
+    refused = λ two.
+        let why = after.refused two in
+        record { unread = still; unwritten = why.0; why = undrilled_for asked.settings asked.transfers asked.openings script lawful whole chosen named why.1 why.2 };
+    failed = λ three. Drilling still (asks_to_drill asked.settings asked.transfers asked.openings script lawful whole chosen named, after.failed three);
+  }
 
   -- a fault wasn't explained
   pub unexplained_err : {A : Type 0} (word : List ℕ) (r : Result A Ending) → AskToExplain words word → t.unread → Stay old new → IfErr r (IsUnexplained word t.unwritten)
@@ -126,6 +132,8 @@ module _ (words : List (List ℕ)) (t : Streams) (old new : Files) where
     refused = λ two. record { unread = still; unwritten = is.0; why = Unnamed (word, asked, is.1) stay };
     failed = λ three. absurd (two_is_not_three three);
   }
+  unexplained_err word (Err ending.NoInterleaving) asked still stay is = absurd is
+  unexplained_err word (Err ending.ScriptNotEmpty) asked still stay is = absurd is
 
   pub unchecked_err : {A : Type 0} (s : HubSettings) (r : Result A Ending) → IsSettings s → AreWhole words → AreChosen words Check s → Stay old new →
       IfErr r (IsUnchecked s t.left t.held t.held') → IfErr r (λ e. IsUndone words t old new (status_of_ending e))
@@ -136,3 +144,5 @@ module _ (words : List (List ℕ)) (t : Streams) (old new : Files) where
   }
   unchecked_err s (Err (ending.Log fault)) lawful whole chosen stay is = absurd is
   unchecked_err s (Err ending.Unexplained) lawful whole chosen stay is = absurd is
+  unchecked_err s (Err ending.NoInterleaving) lawful whole chosen stay is = absurd is
+  unchecked_err s (Err ending.ScriptNotEmpty) lawful whole chosen stay is = absurd is

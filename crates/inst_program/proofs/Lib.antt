@@ -2,6 +2,7 @@ pub mod Texts
 pub mod Passing
 pub mod FirstLine
 pub mod Visiting
+pub mod Scripting
 pub mod Digests
 pub mod Untaken
 pub mod Behind

@@ -1,6 +1,6 @@
 -- What the program leaves, by its exit status: `t` is what its reader and its writer had and have, `old` and `new` are the
 -- files before and after. Exit statuses are this hub's own choice.
-use Rattle.std.specs.Prelude.{◌≡◌, ◌≢◌, ◌⊎◌, ◌++◌, ◌∷◌, [], ℕ, List, length, All, Option, Some, IfSome, IsTrue, codes}
+use Rattle.std.specs.Prelude.{◌≡◌, ◌≢◌, ◌⊎◌, ◌++◌, ◌∷◌, [], ℕ, List, Option, Some, IfSome, IsTrue, codes}
 use Rattle.std.specs.Fmt.{decimal}
 use Rattle.std.specs.Io.KnownBytes.{Appends, IsAtEnd}
 use Rattle.clap.specs.Words.{Row, subcommand_of}
@@ -16,17 +16,18 @@ use Rattle.inst_lines.specs.Lines.{lines_of}
 use Rattle.inst_lines.specs.Session.{FailsAfter}
 use Rattle.inst_lines.specs.declared.mode.Mode.{Mode}
 use Rattle.inst_lines.specs.declared.mode.Mode.TheVariants as mode
-use Rattle.inst_drill.specs.declared.report.Report.{Report}
+use Rattle.inst_drill.specs.declared.explaining.DrillResult.{DrillResult}
 use Rattle.inst_drill.specs.Plan.{MayDrill}
-use Rattle.inst_drill.specs.Report.{IsUnited, reports_text}
+use Rattle.inst_drill.specs.Drilled.{HasDrilledAll}
 use Rattle.inst_faults.specs.AnyFault.{IsNamed, name_of, number_of}
 use Rattle.inst_faults.specs.declared.any_fault.AnyFault.{AnyFault}
 use Rattle.inst_options.specs.CommandLine.{command_line}
 use Rattle.inst_options.specs.Options.{HasAHub, Task}
 use Rattle.inst_options.specs.Options.Task.{Run, Play, Drill, Check}
-use Rattle.inst_options.specs.Asking.{AreChosen, AreWhole, AreWrong, AskForHelp, AskForTheLog, AskForTheNext, AskToExplain, NameABadLog, NameNoLog, NameTheLog}
+use Rattle.inst_options.specs.Asking.{AreChosen, AreWhole, AreWrong, AskForHelp, AskForTheLog, AskForTheNext, AskToExplain, NameABadLog, NameNoLog, NameTheLog, NameTheScript}
 use Rattle.inst_logged.specs.Streams.{Streams}
 use Rattle.inst_program.specs.Files.{Files, IfKept, OthersStay, Stay, change_of}
+use Rattle.inst_program.specs.Script.{CannotTakeTheScript, HasScript, SparesTheScript}
 use Rattle.inst_program.specs.Keeping.{Carries, IsGoodLog, IsUncarried, IsUntaken, KeepsAFront, KeepsLines, KeptRun, SparesBoth, TellsOfTheLog}
 
 -- the exit status for a fault
@@ -49,6 +50,8 @@ pub record AskForADrill (words : List (List ℕ)) : Type 0 where
   pub transfers : ℕ
   pub openings : ℕ
   pub chosen : AreChosen words (Drill transfers openings) settings
+  pub script : Option (List ℕ)
+  pub named : NameTheScript words script
 
 -- the words are a whole command line for a hub, and choose no settings that one can have and do the task with
 pub record AreRefused (words : List (List ℕ)) : Type 0 where
@@ -113,15 +116,19 @@ pub record FailsToCheck (words : List (List ℕ)) (t : Streams) : Type 0 where
 abbrev pub FailsAtLines : List (List ℕ) → Streams → Fault → Type 0
 FailsAtLines words t fault = Fails words t fault ⊎ ((fault ≢ BadSettings) × FailsToCheck words t)
 
--- a drill of so many openings wrote what each of them came to, and that alone
-abbrev pub Drills : ℕ → Option (List ℕ) → Option (List ℕ) → Type 0
-Drills openings held held' =
-    (reports : List Report) × (length reports ≡ openings) × All IsUnited reports
-    × Appends held held' (reports_text reports)
+-- a hub of these settings was drilled in so many openings, each of which a run in one thread explains, and wrote what each
+-- came to, and that alone; the script of the first run was written to the file that is named, if one is
+abbrev pub Drills : HubSettings → ℕ → Option (List ℕ) → Option (List ℕ) → Option (List ℕ) → Files → Files → Type 0
+Drills s openings script held held' old new =
+    (left : DrillResult) × HasDrilledAll s openings held held' left × HasScript s left.steps.items script old new
 
--- a hub of the settings that the words choose was drilled as the words ask for
-abbrev pub HasDrilled : List (List ℕ) → Streams → Type 0
-HasDrilled words t = (asked : AskForADrill words) × Drills asked.openings t.held t.held'
+-- so it was for the settings that the words choose
+abbrev pub HasDrilled : List (List ℕ) → Streams → Files → Files → Type 0
+HasDrilled words t old new = (asked : AskForADrill words) × Drills asked.settings asked.openings asked.script t.held t.held' old new
+
+-- or it failed
+abbrev pub FailsToDrill : List (List ℕ) → Files → Files → Type 0
+FailsToDrill words old new = (asked : AskForADrill words) × SparesTheScript asked.script old new
 
 -- the words ask for this run with a log
 pub record AskForAKeptRun (words : List (List ℕ)) (run : KeptRun) : Type 0 where
@@ -193,7 +200,7 @@ pub data Done (words : List (List ℕ)) (t : Streams) (old new : Files) : Type 0
   Answered : Serves words t → Stay old new → Done words t old new
   Kept : HasKept words t old new → Done words t old new
   Checked : HasChecked words t → Stay old new → Done words t old new
-  Drilled : t.unread → HasDrilled words t → Stay old new → Done words t old new
+  Drilled : t.unread → HasDrilled words t old new → Done words t old new
   Shown : t.unread → HasShown words t old new → Stay old new → Done words t old new
   Carried : t.unread → t.unwritten → HasCarried words old new → Done words t old new
   Explained : t.unread → HasExplained words t → Stay old new → Done words t old new
@@ -201,7 +208,8 @@ pub data Done (words : List (List ℕ)) (t : Streams) (old new : Files) : Type 0
 
 -- Why it isn't done: the words are wrong, or they are whole and choose no settings that a hub can have and do the task
 -- with, or describe a log badly, or name a fault that there isn't. Or another program has the log open, or it is none that
--- the run takes, or none at all. Then no file changes; and where the next log isn't made, the two are spared.
+-- the run takes, or none at all, or the file for a script isn't empty. Then no file changes; and where the next log isn't
+-- made, the two are spared.
 pub data Refusal (words : List (List ℕ)) (old new : Files) : Type 0 where
   Wrong : AreWrong words → Stay old new → Refusal words old new
   Unfit : AreRefused words → Stay old new → Refusal words old new
@@ -210,6 +218,7 @@ pub data Refusal (words : List (List ℕ)) (old new : Files) : Type 0 where
   InUse : (run : KeptRun) → AskForAKeptRun words run → new.in_use run.name → Stay old new → Refusal words old new
   Untaken : (run : KeptRun) → AskForAKeptRun words run → IfKept new (IsUntaken run (old.bytes run.name)) → Stay old new → Refusal words old new
   Unshown : (name : List ℕ) → AskForTheLog words name → IfKept new (¬ (IsGoodLog (old.bytes name))) → Stay old new → Refusal words old new
+  Unscripted : (asked : AskForADrill words) (name : List ℕ) → asked.script ≡ Some name → CannotTakeTheScript name old new → Stay old new → Refusal words old new
   Uncarried : (from to : List ℕ) (digest : Option (List ℕ)) → AskForTheNext words from to digest → IsUncarried from to digest old new
       → SparesBoth from to old new → Refusal words old new
 
@@ -225,7 +234,7 @@ pub data Failed (words : List (List ℕ)) (t : Streams) (old new : Files) : Type
   Unbegun : t.unread → t.unwritten → Stay old new → Failed words t old new
   AtLines : (fault : Fault) → FailsAtLines words t fault → Stay old new → Failed words t old new
   Keeping : FailsToKeep words t old new → Failed words t old new
-  Drilling : t.unread → AskForADrill words → Stay old new → Failed words t old new
+  Drilling : t.unread → FailsToDrill words old new → Failed words t old new
   Explaining : t.unread → AskForAnExplanation words → Stay old new → Failed words t old new
   Showing : t.unread → AskForALog words → Stay old new → Failed words t old new
   Carrying : t.unread → t.unwritten → HasSparedBoth words old new → Failed words t old new

@@ -5,6 +5,7 @@ ghost use Rattle.inst_program.specs.inner.Ending.{status_of_ending};
 use crate::logs::LogsError;
 use inst_base::Fault;
 use inst_chain::Prefix;
+use inst_drill::DrillError;
 use inst_faults::LogFault;
 use inst_log::LogError;
 use inst_logged::LoggedError;
@@ -20,6 +21,10 @@ pub(crate) enum Ending {
     Log(LogFault),
     /// No fault has the number or the name that is to be explained.
     Unexplained,
+    /// The books that an opening of a drill left are those of no run in one thread.
+    NoInterleaving,
+    /// The file for the script of a drill has bytes.
+    ScriptNotEmpty,
 }
 
 impl From<Fault> for Ending {
@@ -52,6 +57,19 @@ impl From<LogsError> for Ending {
         match error {
             LogsError::Memory => Ending::Fault(Fault::Memory),
             LogsError::Log(fault) => Ending::Log(fault),
+        }
+    }
+}
+
+impl From<DrillError> for Ending {
+    ghost use Rattle.inst_program.specs.inner.Ending.{ending_of_drill};
+
+    ghost from_gives = { λ error result. result ≡ ending_of_drill error };
+
+    fn from(error: DrillError) -> Ending {
+        match error {
+            DrillError::Fault(fault) => Ending::Fault(fault),
+            DrillError::NoInterleaving => Ending::NoInterleaving,
         }
     }
 }

@@ -3,6 +3,7 @@
 #![tactic(auto)]
 
 mod carrying;
+mod drilling;
 mod ending;
 mod keeping;
 mod laws;

@@ -6,11 +6,12 @@ ghost use Rattle.inst_lines.specs.Session.{FailsAfter};
 ghost use Rattle.inst_logged.specs.Streams.{streams};
 ghost use Rattle.inst_options.specs.Asking.{IsWished};
 ghost use Rattle.inst_program.specs.Files.{AllAreIn};
-ghost use Rattle.inst_program.specs.Program.{status_of, Answers, Checks, Done, Drills, Ends, Explains};
+ghost use Rattle.inst_program.specs.Program.{status_of, Answers, Checks, Done, Ends, Explains};
 ghost use Rattle.inst_program.specs.inner.Ending.{IsErrorStatus, status_of_error, status_of_ending};
-ghost use Rattle.inst_program.specs.inner.Ending.{IsAnswered, IsUnanswered, IsUnchecked, IsUndone, IsUndrilled, IsUnexplained};
+ghost use Rattle.inst_program.specs.inner.Ending.{IsAnswered, IsUnanswered, IsUnchecked, IsUndone, IsUnexplained};
 
 use crate::carrying::next;
+use crate::drilling::{DrillTask, drill_hub};
 use crate::ending::Ending;
 use crate::keeping::keep;
 use crate::logs::Logs;
@@ -18,8 +19,7 @@ use crate::showing::show;
 use crate::summary::sum_up;
 use clap::error::ErrorKind;
 use inst_base::Fault;
-use inst_drill::{Ungated, drill};
-use inst_faults::{excerpt, fault_of};
+use inst_faults::{AnyFault, excerpt, fault_of};
 use inst_lines::{Mode, check_lines, serve_lines};
 use inst_options::{BadOption, LogOptions, Wish, WordsError, wished};
 use inst_settings::Settings;
@@ -147,9 +147,21 @@ fn tell_ending<E: Write>(ending: Ending, errors: &mut E) -> u8
         Ending::Unexplained => {
             let _ = writeln!(
                 errors,
-                "error: no fault has this number or name; the numbers are 1 to 28"
+                "error: no fault has this number or name; the numbers are 1 to 29"
             );
             2
+        }
+        Ending::ScriptNotEmpty => {
+            let _ = writeln!(
+                errors,
+                "error: the file that --script names is not empty; name a new one"
+            );
+            2
+        }
+        Ending::NoInterleaving => {
+            let fault = AnyFault::NoInterleaving;
+            let _ = writeln!(errors, "fault {} {}", fault.number(), fault.name());
+            3
         }
     }
 }
@@ -204,11 +216,14 @@ fn serve<H: Threads + Wait + Sync, L: Logs, R: Read, W: Write, E: Write>(
             writer,
             errors,
         ),
-        Wish::Drill(settings, transfers, openings) => {
-            drill_hub(
-                rt, alloc, settings, transfers, openings, writer, errors, is_watched,
-            )?;
-            Ok(())
+        Wish::Drill(settings, transfers, openings, script) => {
+            let asked = DrillTask {
+                settings,
+                transfers,
+                openings,
+                is_watched,
+            };
+            drill_hub(rt, logs, alloc, asked, script, writer, errors)
         }
         Wish::Check(settings) => check(alloc, &settings, reader, writer),
         Wish::Log(path) => show(logs, alloc, path, writer, errors),
@@ -266,26 +281,6 @@ fn answer_unkept<R: Read, W: Write, E: Write>(
     if sums {
         sum_up(&mut served.runner, Some(served.counts), errors);
     }
-    Ok(())
-}
-
-/// Drills a hub of these settings.
-fn drill_hub<H: Threads + Wait + Sync, W: Write, E: Write>(
-    rt: &H,
-    alloc: Global,
-    settings: Settings,
-    transfers: u16,
-    openings: u8,
-    writer: &mut W,
-    errors: &mut E,
-    is_watched: bool,
-) -> Result<(), Fault>
-    ensures ok { OnOk result (Drills openings (W.contents writer.old) (W.contents writer.new)) }
-    ensures err { IfErr result (IsUndrilled settings transfers openings (writer.new ≡ writer.old)) }
-{
-    drill(
-        rt, alloc, settings, transfers, openings, &Ungated, writer, errors, is_watched,
-    )?;
     Ok(())
 }
 

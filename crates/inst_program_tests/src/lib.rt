@@ -1,5 +1,5 @@
-//! Tests of the whole program with its logs in memory: one task after another, a machine that stops at each call, and
-//! logs that are refused.
+//! Tests of the whole program with its logs in memory: one task after another, a machine that stops at each call,
+//! logs that are refused, and the script of a drill.
 #![tactic(auto)]
 
 mod memory_logs;
@@ -9,5 +9,7 @@ mod openings;
 mod refusals;
 #[cfg(test)]
 mod scene;
+#[cfg(test)]
+mod scripts;
 #[cfg(test)]
 mod stops;

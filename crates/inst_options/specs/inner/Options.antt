@@ -34,8 +34,9 @@ IsWish name rows (wish.Run s log sums) =
     IsSettings s × IsTask name rows Run × Chooses rows s × GivesLog rows log × IsFlag (codes "summary") rows sums
 IsWish name rows (wish.Play s log sums) =
     IsSettings s × IsTask name rows Play × Chooses rows s × GivesLog rows log × IsFlag (codes "summary") rows sums
-IsWish name rows (wish.Drill s transfers openings) =
+IsWish name rows (wish.Drill s transfers openings script) =
     IsSettings s × IsTask name rows (Drill transfers openings) × Chooses rows s
+    × (option_map (λ file. file.now) script ≡ first_of (codes "script") rows)
 IsWish name rows (wish.Check s) = IsSettings s × IsTask name rows Check × Chooses rows s
 IsWish name rows (wish.Log path) = (same_text name (codes "log") ≡ true) × IsText (codes "file") rows path.now
 IsWish name rows (wish.Next from to digest) =

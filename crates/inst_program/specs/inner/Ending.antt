@@ -12,6 +12,8 @@ use Rattle.inst_lines.specs.Check.{TellsPart}
 use Rattle.inst_lines.specs.Session.{FailsAfter}
 use Rattle.inst_lines.specs.declared.mode.Mode.{Mode}
 use Rattle.inst_drill.specs.Plan.{MayDrill}
+use Rattle.inst_drill.specs.declared.error.DrillError.{DrillError}
+use Rattle.inst_drill.specs.declared.error.DrillError.TheVariants as drill
 use Rattle.inst_faults.specs.AnyFault.{IsNamed}
 use Rattle.inst_faults.specs.LogFault.{status_of_log}
 use Rattle.inst_faults.specs.declared.any_fault.AnyFault.{AnyFault}
@@ -47,17 +49,26 @@ abbrev pub ending_of_error : LogsError → Ending
 ending_of_error opening.Memory = ending.Fault Memory
 ending_of_error (opening.Log fault) = ending.Log fault
 
+-- and by an error of a drill
+abbrev pub ending_of_drill : DrillError → Ending
+ending_of_drill (drill.Fault fault) = ending.Fault fault
+ending_of_drill drill.NoInterleaving = ending.NoInterleaving
+
 -- and for words whose task wasn't done
 abbrev pub status_of_ending : Ending → ℕ
 status_of_ending (ending.Fault fault) = status_of fault
 status_of_ending (ending.Log fault) = status_of_log fault
 status_of_ending ending.Unexplained = 2
+status_of_ending ending.NoInterleaving = 3
+status_of_ending ending.ScriptNotEmpty = 2
 
 -- how an explanation ends: no fault is named so, and nothing is written, or one is, and the writer failed
 abbrev pub IsUnexplained : List ℕ → Type 0 → Ending → Type 0
 IsUnexplained word unwritten (ending.Fault fault) = (fault ≡ WriteFault) × ((named : AnyFault) × IsNamed word named)
 IsUnexplained word unwritten (ending.Log fault) = ⊥
 IsUnexplained word unwritten ending.Unexplained = unwritten × ((fault : AnyFault) → ¬ (IsNamed word fault))
+IsUnexplained word unwritten ending.NoInterleaving = ⊥
+IsUnexplained word unwritten ending.ScriptNotEmpty = ⊥
 
 -- a run with a log ends with this exit status: the log isn't taken, and nothing was done, or some lines were answered
 -- in_use: another program has it open
@@ -77,6 +88,8 @@ IsUnanswered mode s None t old new (ending.Fault fault) =
     FailsAfter (answering mode) (opened s) t.held t.held' t.left t.left' fault × Stay old new
 IsUnanswered mode s None t old new (ending.Log fault) = ⊥
 IsUnanswered mode s None t old new ending.Unexplained = ⊥
+IsUnanswered mode s None t old new ending.NoInterleaving = ⊥
+IsUnanswered mode s None t old new ending.ScriptNotEmpty = ⊥
 IsUnanswered mode s (Some log) t old new e =
     IsUnkept (kept_run mode s log) t old.mixes (new.in_use log.path.now) (IsTrue new.is_clean) (change_of old new log.path.now) (status_of_ending e)
     × OthersStay old new log.path.now
@@ -87,11 +100,8 @@ IsUnchecked s left held held' (ending.Fault fault) =
     (fault ≢ BadSettings) × IfSome left (λ bytes. TellsPart s bytes held held')
 IsUnchecked s left held held' (ending.Log fault) = ⊥
 IsUnchecked s left held held' ending.Unexplained = ⊥
-
--- a drill is ended by this fault: a hub of these settings can't do it, which leaves all unwritten, or it has failed
-abbrev pub IsUndrilled : HubSettings → ℕ → ℕ → Type 0 → Fault → Type 0
-IsUndrilled s transfers openings unwritten fault =
-    ((fault ≡ BadSettings) × unwritten × ¬ (MayDrill s transfers openings)) ⊎ ((fault ≡ Memory) ⊎ (fault ≡ WriteFault))
+IsUnchecked s left held held' ending.NoInterleaving = ⊥
+IsUnchecked s left held held' ending.ScriptNotEmpty = ⊥
 
 -- the words' task isn't done, and this is the exit status
 pub record IsUndone (words : List (List ℕ)) (t : Streams) (old new : Files) (status : ℕ) : Type 0 where

@@ -39,6 +39,7 @@ returns-then-eq-clause-wish c =
       settings.lawful,
       (no_other c.args.name.now (codes "drill") (codes "play") drill refl, drill, c.in_ok-transfers.ensures.drill),
       settings.chosen,
+      c.text_given-script.ensures,
     )
 
 pub returns-then-eq-2-clause-wish : goal.returns-then-eq-2-clause-wish

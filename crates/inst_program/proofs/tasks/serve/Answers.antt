@@ -26,16 +26,15 @@ returns-in-Play-clause-err g c words wished =
     let is = rw c.in-Play.is at wished in
     unanswered_err words _ _ _ _ c.in-Play.settings c.in-Play.log c.answer-in-Play.result is.0 is.1 is.2 is.3 c.answer-in-Play.ensures.err
 
-pub returns-in_ok-drill_hub-in-Drill-clause-ok : goal.returns-in_ok-drill_hub-in-Drill-clause-ok
-returns-in_ok-drill_hub-in-Drill-clause-ok g c words wished =
+pub returns-in-Drill-clause-ok : goal.returns-in-Drill-clause-ok
+returns-in-Drill-clause-ok g c words wished =
     let is = rw c.in-Drill.is at wished in
-    drilled words _ _ _ c.in-Drill.settings c.in-Drill.transfers c.in-Drill.openings is.0 is.1 is.2 refl (nothing_happened (g.L.Logs.files c.args.logs.now)) c.in_ok-drill_hub-in-Drill.ensures.ok
+    on_ok_weaker c.drill_hub.result (drilled words _ _ _ c.in-Drill.settings c.in-Drill.transfers c.in-Drill.openings (option_map (λ (f : Bor (List ℕ)). f.now) c.in-Drill.script) is.0 is.1 is.2 is.3 refl) c.drill_hub.ensures.ok
 
-pub returns-in_err-drill_hub-in-Drill-clause-err : goal.returns-in_err-drill_hub-in-Drill-clause-err
-returns-in_err-drill_hub-in-Drill-clause-err g c words wished =
+pub returns-in-Drill-clause-err : goal.returns-in-Drill-clause-err
+returns-in-Drill-clause-err g c words wished =
     let is = rw c.in-Drill.is at wished in
-    undrilled_err words _ _ _ c.in-Drill.settings c.in-Drill.transfers c.in-Drill.openings
-    c.from_residual.result c.in_err-drill_hub-in-Drill.field-0.0 c.from_residual.ensures.1 is.0 is.1 is.2 refl (nothing_happened (g.L.Logs.files c.args.logs.now)) c.in_err-drill_hub-in-Drill.ensures.err
+    undrilled_err words _ _ _ _ (option_map (λ (f : Bor (List ℕ)). f.now) c.in-Drill.script) c.drill_hub.result is.0 is.1 is.2 is.3 refl c.drill_hub.ensures.err
 
 pub returns-in-Log-clause-ok : goal.returns-in-Log-clause-ok
 returns-in-Log-clause-ok g c words wished =

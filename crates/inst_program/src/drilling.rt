@@ -1,0 +1,189 @@
+//! A drill, and the script of the run that explains its first opening.
+ghost use Rattle.std.specs.Prelude.{◌≡◌, ◌≢◌, [], true, false, IfErr, IfOk, OnOk, IsTrue, option_map};
+ghost use Rattle.sqlite_disk.specs.Disk.{Only};
+ghost use Rattle.inst_logged.specs.Running.{HasKeptFaith, IsOnlyRead};
+ghost use Rattle.inst_model.specs.Interleaving.{IsInterleaving};
+ghost use Rattle.inst_drill.specs.Drilled.{HasDrilledAll};
+ghost use Rattle.inst_program.specs.Files.{AllAreIn};
+ghost use Rattle.inst_program.specs.Program.{Drills};
+ghost use Rattle.inst_program.specs.Script.{script_of};
+ghost use Rattle.inst_program.specs.inner.Drilling.{IsDrillStopped, IsScripted, IsUndrilled};
+ghost use Rattle.inst_program.specs.inner.Ending.{status_of_ending};
+
+use crate::ending::Ending;
+use crate::logs::Logs;
+use inst_command::Step;
+use inst_drill::{DrillResult, Ungated, drill};
+use inst_faults::LogFault;
+use inst_json::append_step;
+use inst_settings::Settings;
+use sqlite_disk::Disk;
+use std::alloc::{AllocError, Global};
+use std::io::{self, Write};
+use std::sync::Wait;
+use std::thread::Threads;
+
+/// What a drill is asked to do.
+#[derive(Drop)]
+pub(crate) struct DrillTask {
+    pub(crate) settings: Settings,
+    /// How many transfers there are in each opening.
+    pub(crate) transfers: u16,
+    pub(crate) openings: u8,
+    /// Whether a line tells of each opening as it begins.
+    pub(crate) is_watched: bool,
+}
+
+/// Drills a hub, and writes the script to the file of this name, if one is named. The file must be new or empty.
+pub(crate) fn drill_hub<H: Threads + Wait + Sync, L: Logs, W: Write, E: Write>(
+    rt: &H,
+    logs: &mut L,
+    alloc: Global,
+    asked: DrillTask,
+    script: Option<&str>,
+    writer: &mut W,
+    errors: &mut E,
+) -> Result<(), Ending>
+    requires none_out { AllAreIn (L.files logs.old) }
+    ensures ok { OnOk result (Drills asked.settings asked.openings (option_map (λ file. file.now) script.entry)
+        (W.contents writer.old) (W.contents writer.new) (L.files logs.old) (L.files logs.new)) }
+    ensures err { IfErr result (IsUndrilled asked (option_map (λ file. file.now) script.entry) (writer.new ≡ writer.old)
+        (L.files logs.old) (L.files logs.new)) }
+    ensures all_in { AllAreIn (L.files logs.new) }
+{
+    match script {
+        Some(path) => drill_to_file(rt, logs, alloc, asked, path, writer, errors),
+        None => {
+            run_drill(rt, alloc, asked, writer, errors)?;
+            Ok(())
+        }
+    }
+}
+
+/// Drills a hub.
+fn run_drill<H: Threads + Wait + Sync, W: Write, E: Write>(
+    rt: &H,
+    alloc: Global,
+    asked: DrillTask,
+    writer: &mut W,
+    errors: &mut E,
+) -> Result<DrillResult, Ending>
+    ensures ok { IfOk result (HasDrilledAll asked.settings asked.openings (W.contents writer.old) (W.contents writer.new)) }
+    ensures err { IfErr result (IsDrillStopped asked (writer.new ≡ writer.old)) }
+{
+    let DrillTask {
+        settings,
+        transfers,
+        openings,
+        is_watched,
+    } = asked;
+    let gate = &Ungated;
+    match drill(
+        rt, alloc, settings, transfers, openings, gate, writer, errors, is_watched,
+    ) {
+        Ok(left) => Ok(left),
+        Err(error) => Err(Ending::from(error)),
+    }
+}
+
+/// Drills a hub, and writes the script to the file of this name.
+fn drill_to_file<H: Threads + Wait + Sync, L: Logs, W: Write, E: Write>(
+    rt: &H,
+    logs: &mut L,
+    alloc: Global,
+    asked: DrillTask,
+    path: &str,
+    writer: &mut W,
+    errors: &mut E,
+) -> Result<(), Ending>
+    requires none_out { AllAreIn (L.files logs.old) }
+    ensures ok { OnOk result (Drills asked.settings asked.openings (Some path.now)
+        (W.contents writer.old) (W.contents writer.new) (L.files logs.old) (L.files logs.new)) }
+    ensures err { IfErr result (IsUndrilled asked (Some path.now) (writer.new ≡ writer.old)
+        (L.files logs.old) (L.files logs.new)) }
+    ensures all_in { AllAreIn (L.files logs.new) }
+{
+    let disk = logs.open(path)?;
+    let (outcome, disk) = drill_to(rt, alloc, asked, disk, writer, errors);
+    logs.close(disk);
+    outcome
+}
+
+/// Drills a hub, writes the script to this disk, and gives the disk back.
+fn drill_to<H: Threads + Wait + Sync, D: Disk + Drop, W: Write, E: Write>(
+    rt: &H,
+    alloc: Global,
+    asked: DrillTask,
+    mut disk: D,
+    writer: &mut W,
+    errors: &mut E,
+) -> (Result<(), Ending>, D)
+    requires usable { IsTrue (D.Disk.is_usable disk) }
+    ensures { IsScripted D.Disk asked (W.contents writer.old) (W.contents writer.new) (writer.new ≡ writer.old)
+        disk result.1 result.0 }
+{
+    match is_empty(&mut disk) {
+        Ok(true) => {}
+        Ok(false) => return (Err(Ending::ScriptNotEmpty), disk),
+        Err(_) => return (Err(Ending::Log(LogFault::DiskFault)), disk),
+    }
+    match run_drill(rt, alloc, asked, writer, errors) {
+        Ok(left) => {
+            let outcome = write_script(alloc, &mut disk, &left);
+            (outcome, disk)
+        }
+        Err(ending) => (Err(ending), disk),
+    }
+}
+
+/// Returns `true` if the file has no byte.
+fn is_empty<D: Disk>(disk: &mut D) -> io::Result<bool>
+    requires usable { IsTrue (D.Disk.is_usable disk.old) }
+    ensures empty { IfOk result (λ yes. HasKeptFaith D.Disk disk.new → yes ≡ true → D.Disk.seen disk.old ≡ []) }
+    ensures some { IfOk result (λ yes. HasKeptFaith D.Disk disk.new → yes ≡ false → D.Disk.seen disk.old ≢ []) }
+    ensures read { IsOnlyRead D.Disk disk.old disk.new }
+{
+    let len = disk.len()?;
+    Ok(len == 0)
+}
+
+/// Writes the script of what a drill left to an empty file.
+fn write_script<D: Disk>(alloc: Global, disk: &mut D, left: &DrillResult) -> Result<(), Ending>
+    requires usable { IsTrue (D.Disk.is_usable disk.old) }
+    requires steps { IsInterleaving left.now.books.settings left.now.steps.items }
+    ensures written { OnOk result (D.Disk.seen disk.old ≡ []
+        → D.Disk.seen disk.new ≡ script_of left.now.books.settings left.now.steps.items) }
+    ensures durable { OnOk result (Only (D.Disk.seen disk.new) (D.Disk.may_leave disk.new)) }
+    ensures clean { D.Disk.is_clean disk.new ≡ D.Disk.is_clean disk.old }
+    ensures failed { IfErr result (λ e. status_of_ending e ≡ 3) }
+{
+    let text = script_text(alloc, left.books.settings(), &left.steps)?;
+    match write_synced(disk, &text) {
+        Ok(()) => Ok(()),
+        Err(_) => Err(Ending::Log(LogFault::DiskFault)),
+    }
+}
+
+/// Returns the text of a script: a line for each step.
+fn script_text(alloc: Global, settings: &Settings, steps: &[Step]) -> Result<Vec<u8>, AllocError>
+    requires { IsInterleaving settings.now steps.now }
+    ensures { IfOk result (λ text. text.items ≡ script_of settings.now steps.now) }
+{
+    let mut text = Vec::new(alloc);
+    for step in steps {
+        append_step(settings, step, &mut text)?;
+        text.push(b'\n')?;
+    }
+    Ok(text)
+}
+
+/// Writes these bytes to the front of the file, and has them on the disk.
+fn write_synced<D: Disk>(disk: &mut D, bytes: &[u8]) -> io::Result<()>
+    requires usable { IsTrue (D.Disk.is_usable disk.old) }
+    ensures written { OnOk result (D.Disk.seen disk.old ≡ [] → D.Disk.seen disk.new ≡ bytes.now) }
+    ensures durable { OnOk result (Only (D.Disk.seen disk.new) (D.Disk.may_leave disk.new)) }
+    ensures clean { D.Disk.is_clean disk.new ≡ D.Disk.is_clean disk.old }
+{
+    disk.write_at(0, bytes)?;
+    disk.sync()
+}
