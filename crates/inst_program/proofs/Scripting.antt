@@ -1,14 +1,10 @@
 -- A drill with a script: what is left of the disk and of the file.
 use Rattle.std.proofs.Common.{◌≡◌, ◌≢◌, ◌⊎◌, ◌∙◌, ◌+◌, ◌<◌, inl, inr, ℕ, Bool, List, [], ◌∷◌, length, slice_index, Option, Some, Result, Ok, Err, OnOk, IfErr, IsTrue, ext_get_or, refl, sym, ap, subst, arith}
 use Rattle.std.proofs.lemmas.Bool.{cases_lt}
-use Rattle.std.specs.Prelude.{slice_get}
 use Rattle.sqlite_disk.specs.Disk.{Holds, Only, Torn}
 use Rattle.sqlite_disk.specs.declared.Disk.{Ghosts}
 use Rattle.inst_settings.specs.Settings.{HubSettings}
-use Rattle.inst_command.specs.declared.step.Step.{Step}
-use Rattle.inst_model.specs.Interleaving.{IsInterleaving}
-use Rattle.inst_model.specs.Opening.{First}
-use Rattle.inst_drill.specs.Drilled.{AreDrilled, DrillOpening, HasDrilledAll}
+use Rattle.inst_drill.specs.Drilled.{HasDrilledAll}
 use Rattle.inst_drill.specs.declared.explaining.DrillResult.{DrillResult}
 use Rattle.inst_logged.specs.Running.{HasKeptFaith, IsLeft, IsOnlyRead}
 use Rattle.inst_program.specs.Files.{Files, IfKept, IsAsItWas, OthersStay, Stay, change_of, change_on}
@@ -16,7 +12,7 @@ use Rattle.inst_program.specs.Program.{Drills}
 use Rattle.inst_program.specs.Script.{IsWritten, script_of}
 use Rattle.inst_program.specs.declared.drilling.DrillTask.{DrillTask}
 use Rattle.inst_program.specs.declared.ending.Ending.{Ending}
-use Rattle.inst_program.specs.inner.Drilling.{IsScripted, IsUndrilled}
+use Rattle.inst_program.specs.inner.Drilling.{CannotDrill, IsScripted, IsUndrilled, IsWithoutAFile}
 use Rattle.inst_program.specs.inner.Ending.{status_of_ending}
 use Rattle.inst_program.specs.inner.Visiting.{IsSameChange, IsVisitedAs}
 use Rattle.inst_program.proofs.Visiting.{all_stay, as_it_was}
@@ -41,18 +37,6 @@ holds_whole bytes new torn written = elim (cases_lt 0 (length bytes)) [
 
 pub whole_of : (old bytes new : List ℕ) → old ≡ [] → Torn 0 (length bytes) old new → (0 < length bytes → Holds new 0 bytes) → new ≡ bytes
 whole_of old bytes new none torn written = holds_whole bytes new (subst (λ (l : List ℕ). Torn 0 (length bytes) l new) none torn) written
-
--- the steps of a drill's first opening fit
-first_fits : (s : HubSettings) (done : List DrillOpening) (first : DrillOpening) → AreDrilled s First done → slice_get done 0 ≡ Some first → IsInterleaving s first.steps
-first_fits s [] first drilled is = absurd (cc)
-first_fits s (x ∷ xs) first drilled is =
-    let same : x ≡ first = cc in
-    subst (λ (y : DrillOpening). IsInterleaving s y.steps) same drilled.1.explained.is_run.fits
-
-pub steps_fit : (s : HubSettings) (openings : ℕ) (held held' : Option (List ℕ)) (left : DrillResult) → HasDrilledAll s openings held held' left → IsInterleaving left.books.settings left.steps.items
-steps_fit s openings held held' left all =
-    subst (λ (t : HubSettings). IsInterleaving t left.steps.items) (sym all.settings)
-    (subst (λ (l : List Step). IsInterleaving s l) all.left_is.steps_are (first_fits s all.done all.left_is.first all.drilled all.left_is.is_first))
 
 -- a script was written to a disk that was found empty, or it failed
 pub scripted : {D A : Type 0} (disks : Ghosts D) (asked : DrillTask) (held held' : Option (List ℕ)) (unwritten : Type 0) (old mid new : D) (left : DrillResult) (outcome : Result A Ending)
@@ -100,7 +84,7 @@ module _ (old new : Files) (name : List ℕ) where
       → IsScripted disks asked held held' unwritten disk disk' r → OnOk r (Drills asked.settings asked.openings (Some name) held held' old new)
   drills_in disks disk disk' asked held held' unwritten (Err e) v is = tt
   drills_in disks disk disk' asked held held' unwritten (Ok x) v is =
-      (is.done.0, is.done.1, written_in disks disk disk' v (script_of asked.settings is.done.0.steps.items) is.done.2, v.visit.others)
+      (is.done.0, is.done.1, (written_in disks disk disk' v (script_of asked.settings is.done.0.steps.items) is.done.2, v.visit.others))
 
   pub undrilled_in : {D A : Type 0} (disks : Ghosts D) (disk disk' : D) (asked : DrillTask) (held held' : Option (List ℕ)) (unwritten : Type 0) (r : Result A Ending) → IsVisitedAs disks old new name disk disk'
       → IsScripted disks asked held held' unwritten disk disk' r → IfErr r (IsUndrilled asked (Some name) unwritten old new)
@@ -115,6 +99,6 @@ module _ (old new : Files) (name : List ℕ) where
       was : IsTrue new.is_clean → disks.seen disk ≡ [] → old.bytes name ≡ []
       was kept none = (v.change kept).was ∙ none
 
-      cannot : _ ⊎ (HasKeptFaith disks disk' → disks.seen disk ≢ []) → _ ⊎ (_ ⊎ IfKept new (old.bytes name ≢ []))
+      cannot : CannotDrill asked ⊎ (HasKeptFaith disks disk' → disks.seen disk ≢ []) → CannotDrill asked ⊎ IsWithoutAFile (Some name) old new
       cannot (inl unfit) = inl unfit
       cannot (inr some) = inr (inr (λ kept none. some (v.faith kept) (sym (v.change kept).was ∙ none)))

@@ -1,8 +1,5 @@
-use Rattle.inst_program.proofs.Scripting.{scripted, steps_fit}
+use Rattle.inst_program.proofs.Scripting.{scripted}
 use Rattle.inst_program.proofs.drilling.drill_to.Goals as goal
-
-pub write_script-outcome-requires-clause-steps : goal.write_script-outcome-requires-clause-steps
-write_script-outcome-requires-clause-steps g c = steps_fit c.args.asked.settings c.args.asked.openings _ _ c.in-Ok.left c.in-Ok.ensures.ok
 
 pub returns-in-Ok : goal.returns-in-Ok
 returns-in-Ok g c =
