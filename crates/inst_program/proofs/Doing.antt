@@ -1,5 +1,5 @@
 -- What is left where the words' task is done, and where it ends otherwise.
-use Rattle.std.proofs.Common.{◌≡◌, ◌⊎◌, inl, inr, ℕ, List, Option, Some, None, Result, Ok, Err, IfErr, OnErr, refl, subst}
+use Rattle.std.proofs.Common.{◌≡◌, ◌⊎◌, inl, inr, ℕ, List, Option, Some, None, Result, Ok, Err, IfErr, OnErr, refl}
 use Rattle.inst_base.specs.declared.fault.Fault.{Fault}
 use Rattle.inst_base.specs.declared.fault.Fault.TheVariants.{BadSettings, Memory, WriteFault}
 use Rattle.inst_settings.specs.Settings.{HubSettings}
@@ -12,7 +12,7 @@ use Rattle.inst_logged.specs.Streams.{Streams}
 use Rattle.inst_program.specs.Files.{Files, IfKept, Stay}
 use Rattle.inst_program.specs.Keeping.{IsGoodLog, IsUncarried, IsUntaken, KeptRun, SparesBoth, kept_run}
 use Rattle.inst_program.proofs.Visiting.{all_stay}
-use Rattle.inst_program.specs.Program.{status_of, AskForADrill, AskForAKeptRun, Checks, Done, Drills, Refusal, task_of}
+use Rattle.inst_program.specs.Program.{AskForADrill, AskForAKeptRun, Checks, Done, Drills, Refusal, task_of}
 use Rattle.inst_program.specs.Program.Done.{Answered, Checked, Drilled, Kept}
 use Rattle.inst_program.specs.Program.Failed.{AtLines, Carrying, Drilling, Explaining, Keeping, Showing}
 use Rattle.inst_program.specs.Program.Refusal.{InUse, Uncarried, Unfit, Unnamed, Unscripted, Unshown, Untaken}

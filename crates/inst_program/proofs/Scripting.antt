@@ -1,5 +1,5 @@
 -- A drill with a script: what is left of the disk and of the file.
-use Rattle.std.proofs.Common.{◌≡◌, ◌≢◌, ◌⊎◌, ◌∙◌, ◌+◌, ◌<◌, inl, inr, ℕ, Bool, List, [], ◌∷◌, length, slice_index, Option, Some, Result, Ok, Err, OnOk, IfErr, IsTrue, ext_get_or, refl, sym, ap, subst, arith}
+use Rattle.std.proofs.Common.{◌≡◌, ◌≢◌, ◌⊎◌, ◌∙◌, ◌+◌, ◌<◌, inl, inr, ℕ, Bool, List, [], length, slice_index, Option, Some, Result, Ok, Err, OnOk, IfErr, IsTrue, ext_get_or, sym, ap, subst, arith}
 use Rattle.std.proofs.lemmas.Bool.{cases_lt}
 use Rattle.sqlite_disk.specs.Disk.{Holds, Only, Torn}
 use Rattle.sqlite_disk.specs.declared.Disk.{Ghosts}
@@ -7,7 +7,7 @@ use Rattle.inst_settings.specs.Settings.{HubSettings}
 use Rattle.inst_drill.specs.Drilled.{HasDrilledAll}
 use Rattle.inst_drill.specs.declared.explaining.DrillResult.{DrillResult}
 use Rattle.inst_logged.specs.Running.{HasKeptFaith, IsLeft, IsOnlyRead}
-use Rattle.inst_program.specs.Files.{Files, IfKept, IsAsItWas, OthersStay, Stay, change_of, change_on}
+use Rattle.inst_program.specs.Files.{Files, IfKept, IsAsItWas, change_of, change_on}
 use Rattle.inst_program.specs.Program.{Drills}
 use Rattle.inst_program.specs.Script.{IsWritten, script_of}
 use Rattle.inst_program.specs.declared.drilling.DrillTask.{DrillTask}

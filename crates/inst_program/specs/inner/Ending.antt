@@ -4,14 +4,12 @@ use Rattle.std.specs.Prelude.{◌≡◌, ◌≢◌, ◌⊎◌, ℕ, List, Option
 use Rattle.clap.specs.Words.{kind_of}
 use Rattle.clap.specs.declared.error.kind.ErrorKind.{ErrorKind}
 use Rattle.clap.specs.declared.error.kind.ErrorKind.TheVariants.{DisplayHelp, DisplayVersion}
-use Rattle.inst_base.specs.declared.fault.Fault.{Fault}
 use Rattle.inst_base.specs.declared.fault.Fault.TheVariants.{BadSettings, Memory, WriteFault}
 use Rattle.inst_settings.specs.Settings.{HubSettings}
 use Rattle.inst_lines.specs.Answering.{answering, opened}
 use Rattle.inst_lines.specs.Check.{TellsPart}
 use Rattle.inst_lines.specs.Session.{FailsAfter}
 use Rattle.inst_lines.specs.declared.mode.Mode.{Mode}
-use Rattle.inst_drill.specs.Plan.{MayDrill}
 use Rattle.inst_drill.specs.declared.error.DrillError.{DrillError}
 use Rattle.inst_drill.specs.declared.error.DrillError.TheVariants as drill
 use Rattle.inst_faults.specs.AnyFault.{IsNamed}
