@@ -33,7 +33,7 @@ questions() {
 echo "the script in one thread:"
 grep -c '"reply":"refused"' "$made/replies" | sed 's/^/refused: /'
 # What each participant is to have by the drill's own report.
-wanted=$'{"available":'$((20000 - 100 * accepted))',"position":'$((20000 - 100 * accepted))',"reply":"position","reserved":0}\n'
+wanted=$'{"available":'$((20000 - 100 * accepted))',"position":'$((20000 - 100 * accepted))$',"reply":"position","reserved":0}\n'
 wanted+='{"available":'$((100 * accepted))',"position":'$((100 * accepted))',"reply":"position","reserved":0}'
 [ "$(grep '"reply":"position"' "$made/replies")" = "$wanted" ] && echo "positions: as the drill reported"
 lines=$(grep '"reply":"statement"' "$made/replies" | grep -o ' OUT \| IN  ' | wc -l)
