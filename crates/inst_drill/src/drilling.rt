@@ -86,8 +86,7 @@ fn if_first(opening: u8, steps: Vec<Step>, before: Vec<Step>) -> Vec<Step>
 /// their deadline beside them, so that the others are accepted or time out as the threads race. Then the hub is closed,
 /// and steps of a hub in one thread are rebuilt that leave the same books. `writer` gets the four lines of a `Report`,
 /// and `progress` the line `accepted A timed_out T`. If `is_watched`, `progress` gets a line also as an opening begins;
-/// what it doesn't take is lost. Returns the books of the last opening, and the
-/// steps of the first one.
+/// what it doesn't take is lost. Returns the books of the last opening, and the steps of the first one.
 ///
 /// # Errors
 ///

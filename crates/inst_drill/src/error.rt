@@ -2,13 +2,16 @@ ghost use Rattle.std.specs.Prelude.{◌≡◌};
 
 use inst_base::Fault;
 use std::alloc::AllocError;
+use thiserror::Error;
 
 /// Why a drill ended before its last opening was reported.
-#[derive(Clone, Copy, Debug, PartialEq, Eq)]
+#[derive(Clone, Copy, Debug, PartialEq, Eq, Error)]
 pub enum DrillError {
     /// `BadSettings`, `Memory` or `WriteFault`.
+    #[error("{}", .0.name())]
     Fault(Fault),
-    /// The books of an opening are those of no run of the hub in one thread.
+    /// No run of the hub in one thread was found that leaves the books of an opening.
+    #[error("no run of the hub in one thread was found that leaves the books")]
     NoInterleaving,
 }
 

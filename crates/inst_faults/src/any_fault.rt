@@ -12,7 +12,7 @@ pub enum AnyFault {
     Hub(Fault),
     /// Of the log of a run, from 19 to 28.
     Log(LogFault),
-    /// The books that an opening of a drill left are those of no run of the hub in one thread: 29.
+    /// No run of the hub in one thread was found that leaves the books of a drill's opening: 29.
     NoInterleaving,
 }
 

@@ -10,7 +10,7 @@ impl AnyFault {
             AnyFault::Hub(fault) => meaning_of(fault),
             AnyFault::Log(fault) => meaning_of_log(fault),
             AnyFault::NoInterleaving => {
-                "the books that a drill left are those of no run in one thread: the hub is broken"
+                "no run in one thread was found that leaves a drill's books: the hub may be broken"
             }
         }
     }

@@ -1,10 +1,17 @@
 -- A drill with a script: what is left of the disk and of the file.
-use Rattle.std.proofs.Common.{◌≡◌, ◌≢◌, ◌⊎◌, ◌∙◌, ◌+◌, ◌<◌, inl, inr, ℕ, Bool, List, [], length, slice_index, Option, Some, Result, Ok, Err, OnOk, IfErr, IsTrue, ext_get_or, sym, ap, subst, arith}
+use Rattle.std.proofs.Common.{◌≡◌, ◌≢◌, ◌⊎◌, ◌∙◌, ◌+◌, ◌<◌, inl, inr, ℕ, Bool, List, [], ◌∷◌, ◌++◌, reverse, length, slice_index, append-nil, Option, Some, Result, Ok, Err, OnOk, IfErr, IsTrue, ext_get_or, sym, ap, subst, arith}
+use Rattle.std.specs.Prelude.{slice_get}
+use Rattle.std.specs.List.{AllByRecursion}
 use Rattle.std.proofs.lemmas.Bool.{cases_lt}
+use Rattle.std.proofs.lemmas.List.{reverse-reverse}
 use Rattle.sqlite_disk.specs.Disk.{Holds, Only, Torn}
 use Rattle.sqlite_disk.specs.declared.Disk.{Ghosts}
 use Rattle.inst_settings.specs.Settings.{HubSettings}
-use Rattle.inst_drill.specs.Drilled.{HasDrilledAll}
+use Rattle.inst_command.specs.declared.step.Step.{Step}
+use Rattle.inst_model.specs.Interleaving.{IsInterleaving}
+use Rattle.inst_model.specs.Opening.{Opening, First}
+use Rattle.inst_agenda.proofs.Following.{one_on}
+use Rattle.inst_drill.specs.Drilled.{AreDrilled, DrillOpening, HasDrilledAll}
 use Rattle.inst_drill.specs.declared.explaining.DrillResult.{DrillResult}
 use Rattle.inst_logged.specs.Running.{HasKeptFaith, IsLeft, IsOnlyRead}
 use Rattle.inst_program.specs.Files.{Files, IfKept, IsAsItWas, change_of, change_on}
@@ -37,6 +44,29 @@ holds_whole bytes new torn written = elim (cases_lt 0 (length bytes)) [
 
 pub whole_of : (old bytes new : List ℕ) → old ≡ [] → Torn 0 (length bytes) old new → (0 < length bytes → Holds new 0 bytes) → new ≡ bytes
 whole_of old bytes new none torn written = holds_whole bytes new (subst (λ (l : List ℕ). Torn 0 (length bytes) l new) none torn) written
+
+fit_onto : (s : HubSettings) (xs L : List Step) → IsInterleaving s xs → IsInterleaving s L → IsInterleaving s (reverse xs ++ L)
+fit_onto s [] L first second = second
+fit_onto s (x ∷ xs) L first second = subst (IsInterleaving s) (sym (one_on (x ∷ []) xs L)) (fit_onto s xs (x ∷ L) first.1 (first.0, second))
+
+fit_turned : (s : HubSettings) (xs : List Step) → IsInterleaving s (reverse xs) → IsInterleaving s xs
+fit_turned s xs fit = subst (IsInterleaving s) (append-nil (reverse (reverse xs)) ∙ reverse-reverse xs) (fit_onto s (reverse xs) [] fit tt)
+
+nothing_first : (x : DrillOpening) → slice_get [] 0 ≡ Some x → ⊥
+nothing_first x at = cc
+
+first_is : (y : DrillOpening) (ys : List DrillOpening) (x : DrillOpening) → slice_get (y ∷ ys) 0 ≡ Some x → y ≡ x
+first_is y ys x at = cc
+
+first_fits : (s : HubSettings) (done : List DrillOpening) (x : DrillOpening) → AreDrilled s First done → slice_get done 0 ≡ Some x → IsInterleaving s x.steps
+first_fits s [] x drilled at = absurd (nothing_first x at)
+first_fits s (y ∷ ys) x drilled at = subst (λ (z : DrillOpening). IsInterleaving s z.steps) (first_is y ys x at) (fit_turned s y.steps drilled.1.explained.is_run.fits)
+
+-- what a drill left can be a script
+pub steps_fit : (s : HubSettings) (openings : ℕ) (held held' : Option (List ℕ)) (left : DrillResult) → HasDrilledAll s openings held held' left → IsInterleaving left.books.settings left.steps.items
+steps_fit s openings held held' left all =
+    subst (λ (t : HubSettings). IsInterleaving t left.steps.items) (sym all.settings)
+    (subst (IsInterleaving s) all.left_is.steps_are (first_fits s all.done all.left_is.first all.drilled all.left_is.is_first))
 
 -- a script was written to a disk that was found empty, or it failed
 pub scripted : {D A : Type 0} (disks : Ghosts D) (asked : DrillTask) (held held' : Option (List ℕ)) (unwritten : Type 0) (old mid new : D) (left : DrillResult) (outcome : Result A Ending)

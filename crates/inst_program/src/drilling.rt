@@ -1,9 +1,8 @@
 //! A drill, and the script of the run that explains its first opening.
-ghost use Rattle.std.specs.Prelude.{◌≡◌, ◌≢◌, [], ◌∷◌, ◌++◌, true, false, IfErr, IfOk, OnOk, IsTrue, option_map};
+ghost use Rattle.std.specs.Prelude.{◌≡◌, ◌≢◌, [], true, false, IfErr, IfOk, OnOk, IsTrue, option_map};
 ghost use Rattle.sqlite_disk.specs.Disk.{Only};
 ghost use Rattle.inst_logged.specs.Running.{HasKeptFaith, IsOnlyRead};
-ghost use Rattle.inst_command.specs.Step.{step_fits};
-ghost use Rattle.inst_json.specs.StepLines.{step_line};
+ghost use Rattle.inst_model.specs.Interleaving.{IsInterleaving};
 ghost use Rattle.inst_drill.specs.Drilled.{HasDrilledAll};
 ghost use Rattle.inst_program.specs.Files.{AllAreIn};
 ghost use Rattle.inst_program.specs.Program.{Drills};
@@ -151,6 +150,7 @@ fn is_empty<D: Disk>(disk: &mut D) -> io::Result<bool>
 /// Writes the script of what a drill left to an empty file.
 fn write_script<D: Disk>(alloc: Global, disk: &mut D, left: &DrillResult) -> Result<(), Ending>
     requires usable { IsTrue (D.Disk.is_usable disk.old) }
+    requires steps { IsInterleaving left.now.books.settings left.now.steps.items }
     ensures written { OnOk result (D.Disk.seen disk.old ≡ []
         → D.Disk.seen disk.new ≡ script_of left.now.books.settings left.now.steps.items) }
     ensures durable { OnOk result (Only (D.Disk.seen disk.new) (D.Disk.may_leave disk.new)) }
@@ -164,29 +164,17 @@ fn write_script<D: Disk>(alloc: Global, disk: &mut D, left: &DrillResult) -> Res
     }
 }
 
-/// Returns the text of a script: a line for each step. Each step must be one of a hub with these settings.
-fn script_text(alloc: Global, settings: &Settings, steps: &[Step]) -> Result<Vec<u8>, Ending>
-    ensures ok { IfOk result (λ text. text.items ≡ script_of settings.now steps.now) }
-    ensures failed { IfErr result (λ e. status_of_ending e ≡ 3) }
+/// Returns the text of a script: a line for each step.
+fn script_text(alloc: Global, settings: &Settings, steps: &[Step]) -> Result<Vec<u8>, AllocError>
+    requires { IsInterleaving settings.now steps.now }
+    ensures { IfOk result (λ text. text.items ≡ script_of settings.now steps.now) }
 {
     let mut text = Vec::new(alloc);
     for step in steps {
-        if !step.fits(settings) {
-            return Err(Ending::NoInterleaving);
-        }
-        append_line(settings, step, &mut text)?;
+        append_step(settings, step, &mut text)?;
+        text.push(b'\n')?;
     }
     Ok(text)
-}
-
-/// Appends the line of a step and its newline.
-fn append_line(settings: &Settings, step: &Step, text: &mut Vec<u8>) -> Result<(), AllocError>
-    requires fits { step_fits settings.now step.now ≡ true }
-    ensures { OnOk result (text.new.items ≡ text.old.items ++ (step_line settings.now step.now ++ 10 ∷ [])) }
-{
-    append_step(settings, step, text)?;
-    text.push(b'\n')?;
-    Ok(())
 }
 
 /// Writes these bytes to the front of the file, and has them on the disk.

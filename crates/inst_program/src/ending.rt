@@ -21,7 +21,7 @@ pub(crate) enum Ending {
     Log(LogFault),
     /// No fault has the number or the name that is to be explained.
     Unexplained,
-    /// The books that an opening of a drill left are those of no run in one thread.
+    /// No run of the hub in one thread was found that leaves the books of a drill's opening.
     NoInterleaving,
     /// The file for the script of a drill has bytes.
     ScriptNotEmpty,
