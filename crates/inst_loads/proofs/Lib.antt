@@ -1,3 +1,4 @@
+mod Done
 pub mod Jobs
 mod Starting
 mod Tellers

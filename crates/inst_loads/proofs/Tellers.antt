@@ -9,7 +9,7 @@ use Rattle.inst_hub.specs.Calls.{IsOf, KnowsMore}
 use Rattle.inst_hub.specs.Opening.{parts_of}
 use Rattle.inst_loads.specs.Tellers.{AreAllOf}
 
-same_sum : {X : Type 0} (f : X → ℕ) (xs : List X) (k : ℕ) (t u : X) → k < length xs → t ≡ get_or xs k t → f u ≡ f t → sum_by f (set xs k u) ≡ sum_by f xs
+pub same_sum : {X : Type 0} (f : X → ℕ) (xs : List X) (k : ℕ) (t u : X) → k < length xs → t ≡ get_or xs k t → f u ≡ f t → sum_by f (set xs k u) ≡ sum_by f xs
 same_sum f xs k t u below is same = let sums = sum_by-set f xs k u t below in let there = ap f is in omega (arith, sums, there, same)
 
 pub set_teller : (h : Hub) (tellers : List Teller) (k : ℕ) (t u : Teller) → AreAllOf h tellers → k < length tellers → t ≡ get_or tellers k t → IsOf h u → KnowsMore t u → AreAllOf h (set tellers k u)

@@ -1,9 +1,14 @@
--- What the threads of a stress give back: each that came to its end has a teller of the hub. This hub's own choice.
-use Rattle.std.specs.Prelude.{◌≡◌, ℕ, List, slice_get, Some, Result, Ok}
+-- What the threads of a round give back: each that came to its end has the teller that it began with, later. This hub's own
+-- choice.
+use Rattle.std.specs.Prelude.{◌≡◌, ℕ, List, length, slice_get, Some, Result, IfOk}
 use Rattle.inst_hub.specs.declared.hub.Hub.{Hub}
-use Rattle.inst_hub.specs.Calls.{IsOf}
-use Rattle.inst_loads.specs.declared.stress.running.Done.{Done}
+use Rattle.inst_loads.specs.declared.hub.done.Done.{Done}
+use Rattle.inst_loads.specs.declared.hub.job.Job.{Job}
 use Rattle.inst_loads.specs.declared.flaw.Failure.{Failure}
+use Rattle.inst_loads.specs.Jobs.{IsStill}
 
-abbrev pub AreDoneOf : Hub → List (Result Done Failure) → Type 0
-AreDoneOf h results = (i : ℕ) (done : Done) → slice_get results i ≡ Some (Ok done) → IsOf h done.job.teller
+-- each of these jobs was done, in order, unless its thread failed
+pub record AllAreDone {T : Type 0} (h : Hub) (jobs : List Job) (results : List (Result (Done T) Failure)) : Type 0 where
+  pub enough : length results ≡ length jobs
+  pub each : (i : ℕ) (job : Job) (r : Result (Done T) Failure) → slice_get jobs i ≡ Some job → slice_get results i ≡ Some r →
+      IfOk r (λ done. IsStill h job.teller done.job.teller)

@@ -58,6 +58,9 @@ pub(crate) enum Flaw {
     /// The lines of a statement don't lead to the position, one by one.
     #[error("OtherStatement: the lines don't lead to the position")]
     OtherStatement,
+    /// No run of the hub in one thread was found that leaves the books.
+    #[error("NoInterleaving: no run in one thread was found that leaves the books")]
+    NoInterleaving,
     /// The memory that is to be refused couldn't be taken whole.
     #[error("NoHoard: memory can't be taken whole")]
     NoHoard,

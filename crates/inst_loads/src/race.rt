@@ -1,10 +1,12 @@
 //! Two participants race for the outcomes of the same transfers, each in a thread of its own.
 mod acts;
+mod explaining;
 mod opening;
 mod participant;
 pub(crate) mod rounds;
 pub(crate) mod rows;
 
+use crate::race::explaining::are_explained;
 use crate::race::opening::open;
 use crate::race::participant::Participant;
 use inst_base::{Cents, Fault, Ident, Moment};
@@ -39,15 +41,18 @@ pub(crate) struct Finish {
     pub(crate) timed_out: u16,
     /// What the positions of both sum to, in cents.
     sum: u128,
+    /// Whether the books are those of a run in one thread.
+    is_explained: bool,
 }
 
 impl Finish {
     /// Whether it is a finish that a race may have: each expiry booked an outcome, both books have the same one of each
-    /// transfer, and no cent came or went.
+    /// transfer, no cent came or went, and a run in one thread leaves the books.
     pub(crate) fn is_whole(&self) -> bool {
         self.expired == TRANSFERS
             && self.accepted.checked_add(self.timed_out) == Some(TRANSFERS)
             && self.sum == u128::from(FUNDS)
+            && self.is_explained
     }
 }
 
@@ -148,6 +153,7 @@ fn run<R: Threads + Sync>(
         accepted,
         timed_out,
         sum: sum(first, second),
+        is_explained: false,
     })
 }
 
@@ -159,5 +165,9 @@ pub(crate) fn race<R: Threads + Sync>(rt: &R, alloc: Global, margin: u32) -> Res
         return Err(Fault::BadSettings);
     };
     submit_all(alloc, first, second)?;
-    run(rt, alloc, first, second, margin)
+    let finish = run(rt, alloc, first, second, margin)?;
+    Ok(Finish {
+        is_explained: are_explained(alloc, &hub)?,
+        ..finish
+    })
 }

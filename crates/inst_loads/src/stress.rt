@@ -1,8 +1,9 @@
 //! A stress of a small hub: threads race for the outcomes of a few transfers between 4 participants, and after each
 //! round all that they were told is compared with the books. In a round of want each thread makes some calls in want of
 //! memory, while the others race, and goes on where one is refused.
-ghost use Rattle.inst_hub.specs.Calls.{AreOf, IsOf};
-ghost use Rattle.inst_loads.specs.Jobs.{AreJobsOf};
+ghost use Rattle.std.specs.Prelude.{IfOk};
+ghost use Rattle.inst_hub.specs.Calls.{IsOf};
+ghost use Rattle.inst_loads.specs.Jobs.{AreJobsOf, AreStill, IsStill};
 
 mod accounts;
 mod acting;
@@ -20,6 +21,7 @@ mod transfer;
 
 use crate::flaw::{Failure, Flaw};
 use crate::hub::asking::fund_all;
+use crate::hub::closing::close_and_explain;
 use crate::hub::job::{Job, jobs, last};
 use crate::hub::opening::{Size, open};
 use crate::load::threads_of;
@@ -46,7 +48,7 @@ fn settle_all<R: Wait>(
     sights: &mut Sights,
 ) -> Result<(), Flaw>
     requires { IsOf hub.now teller.old }
-    ensures { IsOf hub.now teller.new }
+    ensures { IsStill hub.now teller.old teller.new }
 {
     bring_all(rt, hub, teller, round)?;
     fetch_all(rt, hub, teller, sights)?;
@@ -65,7 +67,7 @@ fn end<R: Wait>(
     sights: &mut Sights,
 ) -> Result<(), Failure>
     requires { IsOf hub.now teller.old × AreJobsOf hub.now jobs.old }
-    ensures { IsOf hub.now teller.new }
+    ensures { IsStill hub.now teller.old teller.new × AreStill hub.now jobs.old jobs.new }
 {
     // The teller first learns what each of the others knows, and only then can it tell each of them all of it.
     meet_all(hub, teller, jobs);
@@ -79,31 +81,33 @@ fn end<R: Wait>(
 /// How the transfers ended, where all that was told agrees with the books.
 fn check<R: Wait>(rt: &R, hub: &Hub, teller: &mut Teller, sights: &Sights) -> Result<Tally, Failure>
     requires { IsOf hub.now teller.old }
+    ensures { IsStill hub.now teller.old teller.new }
 {
     let tally = Tally::of(sights)?;
     check_accounts(rt, hub, teller, sights)?;
     Ok(tally)
 }
 
-/// The stress of a round, by threads with these tellers: how the transfers ended.
+/// The stress of a round, by threads that do these jobs: how the transfers ended.
 fn race<R: Threads + Wait + Sync>(
     rt: &R,
     alloc: Global,
     hub: &Hub,
     teller: &mut Teller,
-    tellers: Vec<Teller>,
+    jobs: Vec<Job>,
     round: StressRound,
-) -> Result<Tally, Failure>
-    requires { IsOf hub.now teller.old × AreOf hub.now tellers.items }
+) -> Result<(Tally, Vec<Job>), Failure>
+    requires { IsOf hub.now teller.old × AreJobsOf hub.now jobs.items }
+    ensures { IfOk result (λ r. IsStill hub.now teller.old teller.new × AreStill hub.now jobs.items r.1.items) }
 {
-    let jobs = jobs(alloc, hub, tellers)?;
     fund_all(rt, hub, teller, PARTICIPANTS, FUNDS)?;
     let (mut jobs, mut sights) = run(rt, alloc, hub, round, jobs)?;
     end(rt, hub, teller, round, &mut jobs, &mut sights)?;
-    check(rt, hub, teller, &sights)
+    let tally = check(rt, hub, teller, &sights)?;
+    Ok((tally, jobs))
 }
 
-/// A round at a hub that opens anew.
+/// A round at a hub that opens anew, is closed, and leaves the books of a run in one thread.
 fn round<R: Threads + Wait + Sync>(
     rt: &R,
     alloc: Global,
@@ -116,7 +120,10 @@ fn round<R: Threads + Wait + Sync>(
     };
     let (hub, mut tellers) = open(alloc, size, round.threads)?;
     let mut teller = last(&hub, &mut tellers)?;
-    race(rt, alloc, &hub, &mut teller, tellers, round)
+    let jobs = jobs(alloc, &hub, tellers)?;
+    let (tally, jobs) = race(rt, alloc, &hub, &mut teller, jobs, round)?;
+    close_and_explain(alloc, hub, jobs, teller)?;
+    Ok(tally)
 }
 
 /// What a stress is.

@@ -1,5 +1,6 @@
 //! What is asked of the hub.
 ghost use Rattle.inst_hub.specs.Calls.{IsOf};
+ghost use Rattle.inst_loads.specs.Jobs.{IsStill};
 
 use inst_base::{Cents, Fault, Ident, Moment};
 use inst_command::{Ask, Command, Outcome, Reply, State, Submission};
@@ -21,7 +22,7 @@ pub(crate) fn call<R: Wait>(
     ask: &Ask,
 ) -> Result<(Reply, Option<Ticket>), Fault>
     requires { IsOf hub.now teller.old }
-    ensures { IsOf hub.now teller.new }
+    ensures { IsStill hub.now teller.old teller.new }
 {
     if !ask.fits(hub.settings()) {
         return Err(Fault::BadField);
@@ -39,7 +40,7 @@ pub(crate) fn ask<R: Wait>(
     at: u64,
 ) -> Result<Reply, Fault>
     requires { IsOf hub.now teller.old }
-    ensures { IsOf hub.now teller.new }
+    ensures { IsStill hub.now teller.old teller.new }
 {
     let ask = Ask {
         who,
@@ -54,7 +55,7 @@ pub(crate) fn ask<R: Wait>(
 
 fn fund<R: Wait>(rt: &R, hub: &Hub, teller: &mut Teller, who: u8, cents: u64) -> Result<(), Fault>
     requires { IsOf hub.now teller.old }
-    ensures { IsOf hub.now teller.new }
+    ensures { IsStill hub.now teller.old teller.new }
 {
     let command = Command::Fund {
         reference: Ident::new("F1")?,
@@ -75,7 +76,7 @@ pub(crate) fn fund_all<R: Wait>(
     cents: u64,
 ) -> Result<(), Fault>
     requires { IsOf hub.now teller.old }
-    ensures { IsOf hub.now teller.new }
+    ensures { IsStill hub.now teller.old teller.new }
 {
     for who in 0..participants.min(256) {
         fund(rt, hub, teller, who as u8, cents)?;
@@ -115,7 +116,7 @@ pub(crate) fn ask_money<R: Wait>(
     who: u8,
 ) -> Result<Money, Fault>
     requires { IsOf hub.now teller.old }
-    ensures { IsOf hub.now teller.new }
+    ensures { IsStill hub.now teller.old teller.new }
 {
     let reply = ask(rt, hub, teller, who, Command::Position, STAMP)?;
     money_of(&reply).ok_or(Fault::BadField)
@@ -150,7 +151,7 @@ pub(crate) fn settle<R: Wait>(
     name: (u8, u32),
 ) -> Result<bool, Fault>
     requires { IsOf hub.now teller.old }
-    ensures { IsOf hub.now teller.new }
+    ensures { IsStill hub.now teller.old teller.new }
 {
     let (from, to) = pair;
     let submission = submission(alloc, to, name.0, name.1)?;

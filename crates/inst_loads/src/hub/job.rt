@@ -1,7 +1,8 @@
 //! What the threads of a round start with.
-ghost use Rattle.std.specs.Prelude.{IfOk};
+ghost use Rattle.std.specs.Prelude.{◌≡◌, ◌+◌, IfOk};
 ghost use Rattle.inst_hub.specs.Calls.{IsOf, AreOf};
-ghost use Rattle.inst_loads.specs.Jobs.{AreJobsOf};
+ghost use Rattle.inst_hub.specs.Opening.{parts_of};
+ghost use Rattle.inst_loads.specs.Jobs.{AreJobsOf, parts_of_jobs, parts_of_one};
 
 use inst_base::Fault;
 use inst_hub::{Hub, Teller};
@@ -19,6 +20,7 @@ pub(crate) fn last(hub: &Hub, tellers: &mut Vec<Teller>) -> Result<Teller, Fault
     requires { AreOf hub.now tellers.old.items }
     ensures last { IfOk result (λ teller. IsOf hub.now teller) }
     ensures rest { AreOf hub.now tellers.new.items }
+    ensures parts { IfOk result (λ teller. parts_of tellers.new.items + parts_of_one teller ≡ parts_of tellers.old.items) }
 {
     match tellers.pop() {
         Some(teller) => Ok(teller),
@@ -29,7 +31,8 @@ pub(crate) fn last(hub: &Hub, tellers: &mut Vec<Teller>) -> Result<Teller, Fault
 /// The jobs of the threads.
 pub(crate) fn jobs(alloc: Global, hub: &Hub, tellers: Vec<Teller>) -> Result<Vec<Job>, Fault>
     requires { AreOf hub.now tellers.items }
-    ensures { IfOk result (λ jobs. AreJobsOf hub.now jobs.items) }
+    ensures of { IfOk result (λ jobs. AreJobsOf hub.now jobs.items) }
+    ensures parts { IfOk result (λ jobs. parts_of_jobs jobs.items ≡ parts_of tellers.items) }
 {
     let mut jobs = Vec::new(alloc);
     let mut thread = 0u8;

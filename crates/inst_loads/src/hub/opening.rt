@@ -1,6 +1,9 @@
 //! A hub that opens for a load.
 ghost use Rattle.std.specs.Prelude.{IfOk};
+ghost use Rattle.inst_model.specs.Opening.{Opening};
 ghost use Rattle.inst_hub.specs.Calls.{AreOf};
+ghost use Rattle.inst_hub.specs.Opening.{HaveAllParts};
+ghost use Rattle.inst_close.specs.Closing.{IsOpenedSo};
 
 use inst_base::{Code, Fault};
 use inst_hub::{Hub, Teller};
@@ -43,7 +46,9 @@ fn settings(alloc: Global, size: Size) -> Result<Settings, Fault> {
 
 /// The hub with a teller for each of so many threads, and one more that is in no thread.
 pub(crate) fn open(alloc: Global, size: Size, threads: u8) -> Result<(Hub, Vec<Teller>), Fault>
-    ensures { IfOk result (λ r. AreOf r.0 r.1.items) }
+    ensures of { IfOk result (λ r. AreOf r.0 r.1.items) }
+    ensures parts { IfOk result (λ r. HaveAllParts r.1.items) }
+    ensures opened { IfOk result (λ r. (O : Opening) × IsOpenedSo O r.0) }
 {
     Hub::open(alloc, settings(alloc, size)?, threads.saturating_add(1))
 }

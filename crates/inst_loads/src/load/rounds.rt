@@ -1,15 +1,19 @@
 //! Rounds of a load, each at a hub of its own.
-ghost use Rattle.inst_hub.specs.Calls.{AreOf, IsOf};
-ghost use Rattle.inst_loads.specs.Jobs.{AreJobsOf};
+ghost use Rattle.std.specs.Prelude.{IfOk};
+ghost use Rattle.inst_hub.specs.Calls.{IsOf};
+ghost use Rattle.inst_loads.specs.Done.{AllAreDone};
+ghost use Rattle.inst_loads.specs.Jobs.{AreJobsOf, AreStill, IsStill};
 
 use crate::flaw::{Failure, Flaw, check_sum};
 use crate::hub::asking::{ask_money, fund_all, settle};
+use crate::hub::closing::close_and_explain;
+use crate::hub::done::{Done, gather};
 use crate::hub::job::{Job, jobs, last};
 use crate::hub::opening::{Size, open};
 use crate::load::{FUNDS, Load, PARTICIPANTS, PLACES};
 use inst_base::Fault;
 use inst_hub::{Hub, Teller};
-use std::alloc::Global;
+use std::alloc::{AllocError, Global};
 use std::sync::Wait;
 use std::thread::{self, Threads};
 
@@ -19,9 +23,16 @@ const SIZE: Size = Size {
     margin: 0,
 };
 
-/// Submits and confirms the thread's share: how many transfers were accepted.
-fn share<R: Wait>(rt: &R, alloc: Global, hub: &Hub, load: Load, job: Job) -> Result<u32, Failure>
+/// Submits and confirms the thread's share, and finds how many transfers were accepted.
+fn share<R: Wait>(
+    rt: &R,
+    alloc: Global,
+    hub: &Hub,
+    load: Load,
+    job: Job,
+) -> Result<Done<u32>, Failure>
     requires { IsOf hub.now job.teller }
+    ensures { IfOk result (λ done. IsStill hub.now job.teller done.job.teller) }
 {
     let Job { mut teller, thread } = job;
     let mut settled = 0u32;
@@ -32,12 +43,16 @@ fn share<R: Wait>(rt: &R, alloc: Global, hub: &Hub, load: Load, job: Job) -> Res
             Err(fault) => return Err(Flaw::Refused(fault).of(thread)),
         }
     }
-    Ok(settled)
+    Ok(Done {
+        job: Job { teller, thread },
+        found: settled,
+    })
 }
 
 /// What all positions sum to, in cents.
 fn sum<R: Wait>(rt: &R, hub: &Hub, teller: &mut Teller) -> Result<u64, Fault>
     requires { IsOf hub.now teller.old }
+    ensures { IsStill hub.now teller.old teller.new }
 {
     let mut sum = 0u64;
     for who in 0..PARTICIPANTS {
@@ -46,28 +61,45 @@ fn sum<R: Wait>(rt: &R, hub: &Hub, teller: &mut Teller) -> Result<u64, Fault>
     Ok(sum)
 }
 
-/// Runs the jobs, each in a thread of its own: how many transfers were accepted.
+/// Does the jobs, each in a thread of its own.
+fn share_all<R: Threads + Wait + Sync>(
+    rt: &R,
+    alloc: Global,
+    hub: &Hub,
+    load: Load,
+    jobs: Vec<Job>,
+) -> Result<Vec<Result<Done<u32>, Failure>>, AllocError>
+    requires { AreJobsOf hub.now jobs.items }
+    ensures { IfOk result (λ all. AllAreDone hub.now jobs.items all.items) }
+{
+    thread::map_vec(
+        rt,
+        jobs,
+        &|job: Job| -> Result<Done<u32>, Failure>
+            requires { IsOf hub.now job.teller }
+            ensures { IfOk result (λ done. IsStill hub.entry.now job.teller done.job.teller) }
+        { share(rt, alloc, hub, load, job) },
+    )
+}
+
+/// Runs the jobs: how many transfers were accepted.
 fn run<R: Threads + Wait + Sync>(
     rt: &R,
     alloc: Global,
     hub: &Hub,
     load: Load,
     jobs: Vec<Job>,
-) -> Result<u32, Failure>
+) -> Result<(u32, Vec<Job>), Failure>
     requires { AreJobsOf hub.now jobs.items }
+    ensures { IfOk result (λ r. AreStill hub.now jobs.items r.1.items) }
 {
-    let counts = thread::map_vec(
-        rt,
-        jobs,
-        &|job: Job| -> Result<u32, Failure>
-            requires { IsOf hub.now job.teller }
-        { share(rt, alloc, hub, load, job) },
-    )?;
+    let results = share_all(rt, alloc, hub, load, jobs)?;
+    let (jobs, counts) = gather(alloc, results)?;
     let mut settled = 0u32;
     for count in counts {
-        settled = settled.saturating_add(count?);
+        settled = settled.saturating_add(count);
     }
-    Ok(settled)
+    Ok((settled, jobs))
 }
 
 /// Whether all transfers were accepted, and the positions still sum to the funding.
@@ -79,6 +111,7 @@ fn check_round<R: Wait>(
     settled: u32,
 ) -> Result<(), Flaw>
     requires { IsOf hub.now teller.old }
+    ensures { IsStill hub.now teller.old teller.new }
 {
     let transfers = load.transfers();
     if settled != transfers {
@@ -88,29 +121,33 @@ fn check_round<R: Wait>(
     check_sum(positions, FUNDS * u64::from(PARTICIPANTS))
 }
 
-/// The load of a round, by threads with these tellers: how many transfers were accepted.
+/// The load of a round, by threads that do these jobs: how many transfers were accepted.
 fn settle_all<R: Threads + Wait + Sync>(
     rt: &R,
     alloc: Global,
     hub: &Hub,
     teller: &mut Teller,
-    tellers: Vec<Teller>,
+    jobs: Vec<Job>,
     load: Load,
-) -> Result<u32, Failure>
-    requires { IsOf hub.now teller.old × AreOf hub.now tellers.items }
+) -> Result<(u32, Vec<Job>), Failure>
+    requires { IsOf hub.now teller.old × AreJobsOf hub.now jobs.items }
+    ensures { IfOk result (λ r. IsStill hub.now teller.old teller.new × AreStill hub.now jobs.items r.1.items) }
 {
-    let jobs = jobs(alloc, hub, tellers)?;
     fund_all(rt, hub, teller, PARTICIPANTS, FUNDS)?;
-    let settled = run(rt, alloc, hub, load, jobs)?;
+    let (settled, jobs) = run(rt, alloc, hub, load, jobs)?;
     check_round(rt, hub, teller, load, settled)?;
-    Ok(settled)
+    Ok((settled, jobs))
 }
 
-/// A round: how many transfers were accepted, which are all, where the positions still sum to the funding.
+/// A round: how many transfers were accepted, which are all, if the positions still sum to the funding and the books are
+/// those of a run in one thread.
 fn round<R: Threads + Wait + Sync>(rt: &R, alloc: Global, load: Load) -> Result<u32, Failure> {
     let (hub, mut tellers) = open(alloc, SIZE, load.threads)?;
     let mut teller = last(&hub, &mut tellers)?;
-    settle_all(rt, alloc, &hub, &mut teller, tellers, load)
+    let jobs = jobs(alloc, &hub, tellers)?;
+    let (settled, jobs) = settle_all(rt, alloc, &hub, &mut teller, jobs, load)?;
+    close_and_explain(alloc, hub, jobs, teller)?;
+    Ok(settled)
 }
 
 /// So many rounds: how many transfers were accepted, or the first failure.

@@ -112,6 +112,10 @@ impl Participant {
         }
     }
 
+    pub(crate) fn settings(&self) -> &Settings {
+        &self.settings
+    }
+
     pub(crate) fn journal(&self) -> &Journal {
         self.slot.journal()
     }

@@ -1,5 +1,6 @@
 //! Whether the participants have what the outcomes of the transfers make of their funding.
 ghost use Rattle.inst_hub.specs.Calls.{IsOf};
+ghost use Rattle.inst_loads.specs.Jobs.{IsStill};
 
 use crate::flaw::{Flaw, check_sum};
 use crate::hub::asking::{ask, ask_money};
@@ -96,7 +97,7 @@ impl RunningBalance {
 /// The position to which the statement of the participant leads.
 fn statement<R: Wait>(rt: &R, hub: &Hub, teller: &mut Teller, who: u8) -> Result<u64, Flaw>
     requires { IsOf hub.now teller.old }
-    ensures { IsOf hub.now teller.new }
+    ensures { IsStill hub.now teller.old teller.new }
 {
     let mut balance = RunningBalance {
         lines: 0,
@@ -122,7 +123,7 @@ fn check_account<R: Wait>(
     who: u8,
 ) -> Result<u64, Flaw>
     requires { IsOf hub.now teller.old }
-    ensures { IsOf hub.now teller.new }
+    ensures { IsStill hub.now teller.old teller.new }
 {
     let money = ask_money(rt, hub, teller, who)?;
     if money.reserved != 0 {
@@ -148,6 +149,7 @@ pub(crate) fn check_accounts<R: Wait>(
     sights: &Sights,
 ) -> Result<(), Flaw>
     requires { IsOf hub.now teller.old }
+    ensures { IsStill hub.now teller.old teller.new }
 {
     let mut positions = 0u64;
     for who in 0..PARTICIPANTS {

@@ -1,6 +1,7 @@
 //! What a teller does in a stress, and what it is told.
 ghost use Rattle.inst_hub.specs.declared.hub.Hub.{Hub};
 ghost use Rattle.inst_hub.specs.Calls.{IsOf};
+ghost use Rattle.inst_loads.specs.Jobs.{IsStill};
 
 use crate::flaw::Flaw;
 use crate::hub::asking::{call, money_of};
@@ -21,7 +22,7 @@ pub(crate) fn act_so<R: Wait>(
     choice: &Choice,
 ) -> Result<(), Flaw>
     requires { IsOf hub.now teller.old }
-    ensures { IsOf hub.now teller.new }
+    ensures { IsStill hub.now teller.old teller.new }
 {
     match choice {
         Choice::Ask(ask) => ask_so(rt, hub, teller, sights, ask),
@@ -45,7 +46,7 @@ pub(crate) fn sweep<R: Wait>(
     at: Moment,
 ) -> Result<u32, Flaw>
     requires { IsOf hub.now teller.old }
-    ensures { IsOf hub.now teller.new }
+    ensures { IsStill hub.now teller.old teller.new }
 {
     if u16::from(who) >= hub.settings().participants() {
         return Err(Flaw::Refused(Fault::BadField));
@@ -62,7 +63,7 @@ pub(crate) fn ask_so<R: Wait>(
     ask: &Ask,
 ) -> Result<(), Flaw>
     requires { IsOf hub.now teller.old }
-    ensures { IsOf hub.now teller.new }
+    ensures { IsStill hub.now teller.old teller.new }
 {
     let (reply, ticket) = call(rt, hub, teller, ask)?;
     sights.calls = sights.calls.saturating_add(1);
@@ -108,7 +109,7 @@ fn told(
     reply: &Reply,
     ticket: Ticket,
 ) -> Result<(), Flaw>
-    ensures { (hub : Hub) → IsOf hub teller.old → IsOf hub teller.new }
+    ensures { (hub : Hub) → IsOf hub teller.old → IsStill hub teller.old teller.new }
 {
     mention::<Outcome>();
     let sight = Sight::of(&ask.command, reply, ticket).ok_or(Flaw::OtherTransfer)?;
@@ -119,7 +120,7 @@ fn told(
 
 /// Peeks at this place, where it was told of.
 pub(crate) fn peek_at(teller: &mut Teller, sights: &mut Sights, place: Place) -> Result<(), Flaw>
-    ensures { (hub : Hub) → IsOf hub teller.old → IsOf hub teller.new }
+    ensures { (hub : Hub) → IsOf hub teller.old → IsStill hub teller.old teller.new }
 {
     let Some(sight) = sights.at(place) else {
         return Ok(());

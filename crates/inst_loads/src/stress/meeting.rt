@@ -1,7 +1,7 @@
 //! What the tellers tell each other and see once their threads are joined.
 ghost use Rattle.inst_hub.specs.declared.hub.Hub.{Hub};
 ghost use Rattle.inst_hub.specs.Calls.{IsOf};
-ghost use Rattle.inst_loads.specs.Jobs.{AreJobsOf};
+ghost use Rattle.inst_loads.specs.Jobs.{AreJobsOf, AreStill, IsStill};
 
 use crate::flaw::{Failure, Flaw};
 use crate::hub::job::Job;
@@ -12,7 +12,7 @@ use inst_hub::{Hub, Teller};
 /// The teller meets that of each job.
 pub(crate) fn meet_all(hub: &Hub, teller: &mut Teller, jobs: &mut [Job])
     requires { IsOf hub.now teller.old × AreJobsOf hub.now jobs.old }
-    ensures { IsOf hub.now teller.new × AreJobsOf hub.now jobs.new }
+    ensures { IsStill hub.now teller.old teller.new × AreStill hub.now jobs.old jobs.new }
 {
     for job in jobs.iter_mut() {
         hub.meet(teller, &mut job.teller);
@@ -21,7 +21,7 @@ pub(crate) fn meet_all(hub: &Hub, teller: &mut Teller, jobs: &mut [Job])
 
 /// The teller peeks at all that was told of.
 pub(crate) fn peek_all(teller: &mut Teller, sights: &mut Sights) -> Result<(), Flaw>
-    ensures { (hub : Hub) → IsOf hub teller.old → IsOf hub teller.new }
+    ensures { (hub : Hub) → IsOf hub teller.old → IsStill hub teller.old teller.new }
 {
     for number in 0..ALL_PLACES {
         peek_at(teller, sights, place_of(number))?;
@@ -31,7 +31,7 @@ pub(crate) fn peek_all(teller: &mut Teller, sights: &mut Sights) -> Result<(), F
 
 /// Whether the teller sees just what was noted.
 fn sees_so(teller: &mut Teller, slot: &Option<Sight>) -> bool
-    ensures { (hub : Hub) → IsOf hub teller.old → IsOf hub teller.new }
+    ensures { (hub : Hub) → IsOf hub teller.old → IsStill hub teller.old teller.new }
 {
     match slot {
         Some(sight) => teller.peek(&sight.ticket) == sight.state,
@@ -41,7 +41,7 @@ fn sees_so(teller: &mut Teller, slot: &Option<Sight>) -> bool
 
 /// Whether the teller sees of all transfers just what was noted.
 fn sees_all_so(teller: &mut Teller, sights: &Sights) -> bool
-    ensures { (hub : Hub) → IsOf hub teller.old → IsOf hub teller.new }
+    ensures { (hub : Hub) → IsOf hub teller.old → IsStill hub teller.old teller.new }
 {
     for slot in sights.places() {
         if !sees_so(teller, slot) {
@@ -53,7 +53,7 @@ fn sees_all_so(teller: &mut Teller, sights: &Sights) -> bool
 
 /// The tellers of all jobs see just what was noted.
 pub(crate) fn agree(jobs: &mut [Job], sights: &Sights) -> Result<(), Failure>
-    ensures { (hub : Hub) → AreJobsOf hub jobs.old → AreJobsOf hub jobs.new }
+    ensures { (hub : Hub) → AreJobsOf hub jobs.old → AreStill hub jobs.old jobs.new }
 {
     for job in jobs.iter_mut() {
         if !sees_all_so(&mut job.teller, sights) {

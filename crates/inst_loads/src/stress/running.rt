@@ -1,11 +1,12 @@
 //! The threads of a stress, each with a teller of its own.
 ghost use Rattle.std.specs.Prelude.{IfOk};
 ghost use Rattle.inst_hub.specs.Calls.{IsOf};
-ghost use Rattle.inst_loads.specs.Jobs.{AreJobsOf};
-ghost use Rattle.inst_loads.specs.Done.{AreDoneOf};
+ghost use Rattle.inst_loads.specs.Done.{AllAreDone};
+ghost use Rattle.inst_loads.specs.Jobs.{AreJobsOf, AreStill, IsStill};
 
 use crate::flaw::{Failure, Flaw};
 use crate::hoard::Hoard;
+use crate::hub::done::{Done, gather};
 use crate::hub::job::Job;
 use crate::stress::acting::act_so;
 use crate::stress::chooser::{Chooser, STEPS};
@@ -13,14 +14,13 @@ use crate::stress::pace::Pace;
 use crate::stress::sights::Sights;
 use crate::stress::stress_round::StressRound;
 use inst_hub::{Hub, Teller};
-use std::alloc::Global;
+use std::alloc::{AllocError, Global};
 use std::sync::Wait;
 use std::thread::{self, Threads};
 
-/// A job that is done, with what its teller was told.
+/// What the teller of a thread was told.
 #[derive(Drop)]
-pub(crate) struct Done {
-    job: Job,
+struct Told {
     sights: Sights,
     /// Held until all threads are done: given back before, it would be taken by those that still are in want.
     hoard: Option<Hoard>,
@@ -44,7 +44,7 @@ fn take_step<R: Wait>(
     sights: &mut Sights,
 ) -> Result<(), Flaw>
     requires { IsOf hub.now teller.old }
-    ensures { IsOf hub.now teller.new }
+    ensures { IsStill hub.now teller.old teller.new }
 {
     let choice = chooser.choose(alloc)?;
     match (chooser.bytes_left(), hoard) {
@@ -67,9 +67,9 @@ fn take_steps<R: Wait>(
     teller: &mut Teller,
     chooser: Chooser,
     pace: &Pace,
-) -> Result<(Sights, Option<Hoard>), Flaw>
+) -> Result<Told, Flaw>
     requires { IsOf hub.now teller.old }
-    ensures { IsOf hub.now teller.new }
+    ensures { IsStill hub.now teller.old teller.new }
 {
     let mut chooser = chooser;
     let is_scarce = chooser.round.is_scarce;
@@ -95,7 +95,7 @@ fn take_steps<R: Wait>(
         ended?;
         keep_pace(&chooser, pace);
     }
-    Ok((sights, hoard))
+    Ok(Told { sights, hoard })
 }
 
 /// Does the job of a thread.
@@ -106,42 +106,53 @@ fn work<R: Wait>(
     round: StressRound,
     pace: &Pace,
     job: Job,
-) -> Result<Done, Failure>
+) -> Result<Done<Told>, Failure>
     requires { IsOf hub.now job.teller }
-    ensures { IfOk result (λ done. IsOf hub.now done.job.teller) }
+    ensures { IfOk result (λ done. IsStill hub.now job.teller done.job.teller) }
 {
     let Job { mut teller, thread } = job;
     let chooser = Chooser::new(round, thread);
     match take_steps(rt, alloc, hub, &mut teller, chooser, pace) {
-        Ok((sights, hoard)) => Ok(Done {
+        Ok(found) => Ok(Done {
             job: Job { teller, thread },
-            sights,
-            hoard,
+            found,
         }),
         Err(flaw) => Err(flaw.of(thread)),
     }
 }
 
-/// The jobs with all that their tellers were told.
-fn gather(
+/// Does the jobs, each in a thread of its own.
+fn work_all<R: Threads + Wait + Sync>(
+    rt: &R,
     alloc: Global,
     hub: &Hub,
-    results: Vec<Result<Done, Failure>>,
-) -> Result<(Vec<Job>, Sights), Failure>
-    requires { AreDoneOf hub.now results.items }
-    ensures { IfOk result (λ r. AreJobsOf hub.now r.0.items) }
+    round: StressRound,
+    pace: &Pace,
+    jobs: Vec<Job>,
+) -> Result<Vec<Result<Done<Told>, Failure>>, AllocError>
+    requires { AreJobsOf hub.now jobs.items }
+    ensures { IfOk result (λ all. AllAreDone hub.now jobs.items all.items) }
 {
-    let mut jobs = Vec::new(alloc);
-    let mut all = Sights::new(alloc)?;
-    for result in results {
-        let Done { job, sights, .. } = result?;
-        all.add(&sights)?;
-        jobs.push(job)?;
-    }
-    Ok((jobs, all))
+    thread::map_vec(
+        rt,
+        jobs,
+        &|job: Job| -> Result<Done<Told>, Failure>
+            requires { IsOf hub.now job.teller }
+            ensures { IfOk result (λ done. IsStill hub.entry.now job.teller done.job.teller) }
+        { work(rt, alloc, hub, round, pace, job) },
+    )
 }
 
-/// Does the jobs, each in a thread of its own.
+/// All that the tellers were told.
+fn add_all(alloc: Global, all: Vec<Told>) -> Result<Sights, Flaw> {
+    let mut sights = Sights::new(alloc)?;
+    for told in all {
+        sights.add(&told.sights)?;
+    }
+    Ok(sights)
+}
+
+/// Does the jobs, and gathers all that their tellers were told.
 pub(crate) fn run<R: Threads + Wait + Sync>(
     rt: &R,
     alloc: Global,
@@ -150,16 +161,11 @@ pub(crate) fn run<R: Threads + Wait + Sync>(
     jobs: Vec<Job>,
 ) -> Result<(Vec<Job>, Sights), Failure>
     requires { AreJobsOf hub.now jobs.items }
-    ensures { IfOk result (λ r. AreJobsOf hub.now r.0.items) }
+    ensures { IfOk result (λ r. AreStill hub.now jobs.items r.0.items) }
 {
     let pace = Pace::new();
-    let results = thread::map_vec(
-        rt,
-        jobs,
-        &|job: Job| -> Result<Done, Failure>
-            requires { IsOf hub.now job.teller }
-            ensures { IfOk result (λ done. IsOf hub.entry.now done.job.teller) }
-        { work(rt, alloc, hub, round, &pace, job) },
-    )?;
-    gather(alloc, hub, results)
+    let results = work_all(rt, alloc, hub, round, &pace, jobs)?;
+    let (jobs, all) = gather(alloc, results)?;
+    let sights = add_all(alloc, all)?;
+    Ok((jobs, sights))
 }

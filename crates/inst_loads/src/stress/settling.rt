@@ -1,5 +1,6 @@
 //! What is asked once all threads are joined, so that nothing is unread and no transfer is pending.
 ghost use Rattle.inst_hub.specs.Calls.{IsOf};
+ghost use Rattle.inst_loads.specs.Jobs.{IsStill};
 
 use crate::flaw::Flaw;
 use crate::stress::acting::{ask_so, sweep};
@@ -44,7 +45,7 @@ pub(crate) fn settle<R: Wait>(
     sights: &mut Sights,
 ) -> Result<(), Flaw>
     requires { IsOf hub.now teller.old }
-    ensures { IsOf hub.now teller.new }
+    ensures { IsStill hub.now teller.old teller.new }
 {
     for number in 0..ALL_PLACES {
         if let Some(ask) = question(sights, place_of(number))? {
@@ -57,7 +58,7 @@ pub(crate) fn settle<R: Wait>(
 /// How many were new in a sweep of each participant at this reading, in milliseconds.
 fn sweep_each<R: Wait>(rt: &R, hub: &Hub, teller: &mut Teller, at: u64) -> Result<u32, Flaw>
     requires { IsOf hub.now teller.old }
-    ensures { IsOf hub.now teller.new }
+    ensures { IsStill hub.now teller.old teller.new }
 {
     let mut count = 0u32;
     for who in 0..PARTICIPANTS {
@@ -76,7 +77,7 @@ pub(crate) fn bring_all<R: Wait>(
     round: StressRound,
 ) -> Result<(), Flaw>
     requires { IsOf hub.now teller.old }
-    ensures { IsOf hub.now teller.new }
+    ensures { IsStill hub.now teller.old teller.new }
 {
     if round.is_scarce {
         sweep_each(rt, hub, teller, 0)?;
@@ -94,7 +95,7 @@ pub(crate) fn sweep_all<R: Wait>(
     round: StressRound,
 ) -> Result<(), Flaw>
     requires { IsOf hub.now teller.old }
-    ensures { IsOf hub.now teller.new }
+    ensures { IsStill hub.now teller.old teller.new }
 {
     let untold = sweep_each(rt, hub, teller, LATE)?;
     if !round.sweeps && !round.is_scarce && untold != 0 {
@@ -114,7 +115,7 @@ pub(crate) fn fetch_all<R: Wait>(
     sights: &mut Sights,
 ) -> Result<(), Flaw>
     requires { IsOf hub.now teller.old }
-    ensures { IsOf hub.now teller.new }
+    ensures { IsStill hub.now teller.old teller.new }
 {
     for number in 0..PARTICIPANTS * FETCHES {
         let who = (number / FETCHES) as u8;

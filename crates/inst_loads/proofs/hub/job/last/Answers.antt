@@ -3,6 +3,7 @@ use Rattle.std.specs.Prelude.{slice_get}
 use Rattle.inst_base.proofs.Lists.{last_at}
 use Rattle.inst_slot.proofs.Growing.{slice_get_left}
 use Rattle.inst_hub.specs.declared.teller.Teller.{Teller}
+use Rattle.inst_loads.proofs.Jobs.{last_parts}
 use Rattle.inst_loads.proofs.hub.job.last.Goals as goal
 
 pub returns-in-Some-clause-last : goal.returns-in-Some-clause-last
@@ -12,3 +13,6 @@ returns-in-Some-clause-last c = c.requires (length c.pop.new.self.items) c.in-So
 pub returns-in-Some-clause-rest : goal.returns-in-Some-clause-rest
 returns-in-Some-clause-rest c = λ i t at. c.requires i t
     (subst (λ (l : List Teller). slice_get l i ≡ Some t) (sym c.in-Some.ensures.items) (slice_get_left c.pop.new.self.items c.in-Some.teller t i at))
+
+pub returns-in-Some-clause-parts : goal.returns-in-Some-clause-parts
+returns-in-Some-clause-parts c = last_parts _ c.pop.new.self.items c.in-Some.teller c.in-Some.ensures.items

@@ -1,5 +1,5 @@
-use Rattle.inst_hub.specs.Calls.{IsOf}
+use Rattle.inst_loads.specs.Jobs.{IsStill}
 use Rattle.inst_loads.proofs.load.rounds.sum.Given as goal
 
 abbrev pub invariant-loop-who : goal.invariant-loop-who
-invariant-loop-who g l = IsOf l.hub l.teller
+invariant-loop-who g l = IsStill l.hub l.fn.teller l.teller

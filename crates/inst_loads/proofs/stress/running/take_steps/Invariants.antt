@@ -1,5 +1,5 @@
-use Rattle.inst_hub.specs.Calls.{IsOf}
+use Rattle.inst_loads.specs.Jobs.{IsStill}
 use Rattle.inst_loads.proofs.stress.running.take_steps.Given as goal
 
 abbrev pub invariant-loop-step : goal.invariant-loop-step
-invariant-loop-step g l = IsOf l.hub l.teller
+invariant-loop-step g l = IsStill l.hub l.fn.teller l.teller

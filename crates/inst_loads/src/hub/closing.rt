@@ -1,0 +1,51 @@
+//! How a hub ends: it is closed, and its books are explained.
+ghost use Rattle.std.specs.Prelude.{◌≡◌, ◌∷◌, [], ◌++◌, IfOk, map};
+ghost use Rattle.inst_model.specs.Opening.{Opening};
+ghost use Rattle.inst_hub.specs.Calls.{IsOf};
+ghost use Rattle.inst_close.specs.Closing.{IsOpenedSo};
+ghost use Rattle.inst_loads.specs.Jobs.{AreJobsOf, HaveAll};
+
+use crate::flaw::Flaw;
+use crate::hub::job::Job;
+use inst_base::Fault;
+use inst_close::close;
+use inst_hub::{Hub, Teller};
+use std::alloc::{AllocFailed, Global};
+
+/// The tellers of these jobs, and the one that is in no thread.
+fn tellers_of(
+    alloc: Global,
+    jobs: Vec<Job>,
+    teller: Teller,
+) -> Result<Vec<Teller>, AllocFailed<Teller>>
+    ensures { IfOk result (λ tellers. tellers.items ≡ map (λ job. job.teller) jobs.items ++ teller ∷ []) }
+{
+    let mut tellers = Vec::new(alloc);
+    for job in jobs {
+        tellers.push(job.teller)?;
+    }
+    tellers.push(teller)?;
+    Ok(tellers)
+}
+
+/// Closes the hub. A run in one thread is rebuilt from its books and leaves the same ones: `NoInterleaving` if none is
+/// found.
+pub(crate) fn close_and_explain(
+    alloc: Global,
+    hub: Hub,
+    jobs: Vec<Job>,
+    teller: Teller,
+) -> Result<(), Flaw>
+    requires of { IsOf hub teller × AreJobsOf hub jobs.items }
+    requires parts { HaveAll teller jobs.items }
+    requires opened { (O : Opening) × IsOpenedSo O hub }
+{
+    let tellers = tellers_of(alloc, jobs, teller)?;
+    match close(alloc, hub, tellers) {
+        Ok(books) => match books.interleaving(alloc)? {
+            Some(_) => Ok(()),
+            None => Err(Flaw::NoInterleaving),
+        },
+        Err(_) => Err(Flaw::Refused(Fault::Memory)),
+    }
+}
