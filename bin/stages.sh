@@ -50,8 +50,9 @@ finish() {
 
 check_documents() {
     if command -v python3 > /dev/null; then
-        bin/check_schema && bin/check_believed && bin/check_pages
+        bin/check_schema && bin/check_believed && bin/check_pages && bin/pictures --check
     else
-        echo "no python3 here, so docs/lines.schema.json, the table of docs/HEADLINE.md and the crates' pages aren't checked"
+        echo "no python3 here, so docs/lines.schema.json, the table of docs/HEADLINE.md, the crates' pages and" \
+            "docs/life.svg aren't checked"
     fi
 }
