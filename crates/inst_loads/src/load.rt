@@ -53,6 +53,9 @@ pub(crate) fn threads_of(words: &[String]) -> Option<(u8, u32)> {
     Some((threads, rounds))
 }
 
+/// How many words choose a load at most, with the program's name and without `open`.
+const MOST_WORDS: usize = 5;
+
 /// What the threads do.
 #[derive(Clone, Copy)]
 pub(crate) struct Load {
@@ -61,12 +64,26 @@ pub(crate) struct Load {
     pub(crate) threads: u8,
     /// How many transfers each thread makes in a round.
     pub(crate) share: u32,
+    /// Whether the hub of a round isn't closed, so that the program's time is that of the load.
+    pub(crate) is_left_open: bool,
+}
+
+/// These words without the last one, if it is `open`, and whether it is.
+fn split_open(words: &[String]) -> (&[String], bool) {
+    match words.split_last() {
+        Some((last, others)) if last.as_str() == "open" => (others, true),
+        _ => (words, false),
+    }
 }
 
 impl Load {
     /// The load that these words choose, and the number of rounds. Without a word for it each thread makes as many
     /// transfers as find places.
     pub(crate) fn of(words: &[String]) -> Option<(Load, u32)> {
+        let (words, is_left_open) = split_open(words);
+        if words.len() > MOST_WORDS {
+            return None;
+        }
         let pattern = match words.get(1)?.as_str() {
             "uniform" => Pattern::Uniform,
             "split" => Pattern::Split,
@@ -82,6 +99,7 @@ impl Load {
             pattern,
             threads,
             share,
+            is_left_open,
         };
         Some((load, count))
     }

@@ -7,21 +7,22 @@ pub(crate) const HELP: &str = "\
 Loads and stresses of a hub that threads share, races over shared boards, and worked rows in want of memory.
 
 Usage:
-  inst_loads uniform THREADS ROUNDS [TRANSFERS]  threads submit and confirm transfers, any two of 64 participants'
-  inst_loads split THREADS ROUNDS [TRANSFERS]    .. each thread those of participants of its own
-  inst_loads hot THREADS ROUNDS [TRANSFERS]      .. all threads those of the same two participants
-  inst_loads stress THREADS ROUNDS [scarce]      threads race for outcomes; with the last word in want of memory
-  inst_loads race ROUNDS                         slots of two threads race for the outcomes of 200 transfers
-  inst_loads race rows                           worked rows of three slots, in one thread
-  inst_loads scarce                              worked rows in want of memory
-  inst_loads --help                              these words
+  inst_loads uniform THREADS ROUNDS [TRANSFERS] [open]  threads submit and confirm transfers, any two of 64 participants'
+  inst_loads split THREADS ROUNDS [TRANSFERS] [open]    .. each thread those of participants of its own
+  inst_loads hot THREADS ROUNDS [TRANSFERS] [open]      .. all threads those of the same two participants
+  inst_loads stress THREADS ROUNDS [scarce]             threads race for outcomes; with the last word in want of memory
+  inst_loads race ROUNDS                                slots of two threads race for the outcomes of 200 transfers
+  inst_loads race rows                                  worked rows of three slots, in one thread
+  inst_loads scarce                                     worked rows in want of memory
+  inst_loads --help                                     these words
 
 There are 1 to 15 THREADS, and TRANSFERS are those that each of them makes in a round, by default as many as find
-places. How it ended is told on standard error. The exit status is 0, or 1 where something isn't as it must be, or 2
+places. After each round a run in one thread is rebuilt from the books; with `open` the hub of a load isn't closed, so
+that the program's time is that of the load. How it ended is told on standard error. The exit status is 0, or 1 where something isn't as it must be, or 2
 where the words are others.
 ";
 
-/// How many words there are at most, with the program's name.
+/// How many words choose a stress at most, with the program's name.
 const MOST_WORDS: usize = 5;
 
 /// What is run.
@@ -43,12 +44,9 @@ pub(crate) enum Task {
 impl Task {
     /// What these words ask for, the first of which is the program's name.
     pub(crate) fn of(words: &[String]) -> Option<Task> {
-        if words.len() > MOST_WORDS {
-            return None;
-        }
         match words.get(1)?.as_str() {
             "--help" if words.len() == 2 => Some(Task::Help),
-            "stress" => Some(Task::Stress(Stress::of(words)?)),
+            "stress" if words.len() <= MOST_WORDS => Some(Task::Stress(Stress::of(words)?)),
             "race" if words.len() == 3 => race_of(words.get(2)?),
             "scarce" if words.len() == 2 => Some(Task::Scarce),
             _ => {

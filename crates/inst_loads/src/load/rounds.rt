@@ -139,14 +139,16 @@ fn settle_all<R: Threads + Wait + Sync>(
     Ok((settled, jobs))
 }
 
-/// A round: how many transfers were accepted, which are all, if the positions still sum to the funding and the books are
-/// those of a run in one thread.
+/// A round: how many transfers were accepted, which are all, if the positions still sum to the funding and, unless the
+/// hub is left open, its books are those of a run in one thread.
 fn round<R: Threads + Wait + Sync>(rt: &R, alloc: Global, load: Load) -> Result<u32, Failure> {
     let (hub, mut tellers) = open(alloc, SIZE, load.threads)?;
     let mut teller = last(&hub, &mut tellers)?;
     let jobs = jobs(alloc, &hub, tellers)?;
     let (settled, jobs) = settle_all(rt, alloc, &hub, &mut teller, jobs, load)?;
-    close_and_explain(alloc, hub, jobs, teller)?;
+    if !load.is_left_open {
+        close_and_explain(alloc, hub, jobs, teller)?;
+    }
     Ok(settled)
 }
 
