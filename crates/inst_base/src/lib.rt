@@ -1,19 +1,24 @@
-//! The values of the clearing core that have a rule of their own, and the names of its refusals.
+//! Checked values, the rules of time, the eighteen faults, and the bytes of a line: where it ends, and what a
+//! writer was given of it.
 #![tactic(auto)]
 
 mod cents;
 mod code;
 mod fault;
+mod handing;
 mod ident;
 mod moment;
 mod naming;
+mod newline;
 mod reason;
 mod short_text;
 
 pub use cents::{Cents, MOST_CENTS};
 pub use code::{BRANCH_CODE_LENGTH, CODE_LENGTH, Code};
 pub use fault::Fault;
+pub use handing::{Unwritten, write_bytes};
 pub use ident::{Ident, MOST_IDENTIFIER_LENGTH};
 pub use moment::Moment;
 pub use naming::mention;
+pub use newline::find_newline;
 pub use reason::{REASON_LENGTH, Reason};

@@ -21,7 +21,7 @@ use Rattle.inst_journal.specs.declared.event.Event.TheVariants.{Funded, Defunded
 use Rattle.inst_json.specs.Refusals.{◌>>=◌}
 use Rattle.inst_json.proofs.Json.{json_of-value}
 use Rattle.inst_json.proofs.Reading.{ReadsBack, from_parts}
-use Rattle.inst_bytes.specs.Newline.{NoNewline}
+use Rattle.inst_base.specs.Newline.{NoNewline}
 use Rattle.inst_books.specs.Events.{event_data, event_line, event_can_be_written}
 use Rattle.inst_books.specs.declared.fault.BookFault.{BookFault}
 use Rattle.inst_books.specs.Reading.{Entry, or_bad_line, event_of_line, entry_of_line, entry_in}

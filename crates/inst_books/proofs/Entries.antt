@@ -15,7 +15,7 @@ use Rattle.inst_command.specs.declared.outcome.Outcome.{Outcome}
 use Rattle.inst_command.specs.declared.outcome.Outcome.TheVariants.{Accepted, Rejected, TimedOut}
 use Rattle.inst_journal.specs.declared.event.Event.{Event}
 use Rattle.inst_journal.specs.declared.event.Event.TheVariants.{Funded, Defunded, Taken, Forwarded, Booked, Fetched, Opened}
-use Rattle.inst_scan.specs.Fields.{text, whole}
+use Rattle.inst_json.specs.LineFields.{text, whole}
 use Rattle.inst_json.specs.Fields.{code_in, reason_in, count_in}
 use Rattle.inst_books.specs.Events.{event_data, outcome_data, event_can_be_written}
 use Rattle.inst_books.specs.Reading.{identifier_in, amount_in, moment_in, participant_in, outcome_in, funded_in, defunded_in, taken_in, forwarded_in, booked_in, fetched_in, entry_in}

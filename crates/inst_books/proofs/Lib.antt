@@ -7,3 +7,7 @@ pub mod Journals
 pub mod Whole
 pub mod Sound
 pub mod Saying
+pub mod Tallying
+pub mod Deciding
+pub mod Agreeing
+pub mod Replaying

@@ -11,7 +11,7 @@ use Rattle.inst_base.specs.declared.fault.Fault.TheVariants.{UnknownParticipant}
 use Rattle.inst_settings.specs.Codes.{index_of}
 use Rattle.inst_settings.specs.Settings.{same_text, HubSettings, participants, is_participant}
 use Rattle.inst_journal.specs.declared.event.Event.{Event}
-use Rattle.inst_scan.specs.Fields.{Found}
+use Rattle.inst_json.specs.LineFields.{Found}
 use Rattle.inst_json.specs.Refusals.{◌>>=◌}
 use Rattle.inst_json.specs.Fields.{text_in, code_in}
 use Rattle.inst_json.specs.Checks.{participant_of}

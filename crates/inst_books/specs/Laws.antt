@@ -13,7 +13,7 @@ use Rattle.inst_journal.specs.declared.event.Event.{Event}
 use Rattle.inst_journal.specs.declared.event.Event.TheVariants.{Funded, Defunded, Taken, Forwarded}
 use Rattle.inst_journal.specs.declared.event.Event.TheVariants.{Booked, Fetched, Opened}
 use Rattle.inst_journal.specs.Sound.{IsSound}
-use Rattle.inst_bytes.specs.Newline.{NoNewline}
+use Rattle.inst_base.specs.Newline.{NoNewline}
 use Rattle.inst_log.specs.Layout.{gate, recovered, blocks, IsWhole}
 use Rattle.inst_books.specs.Events.{event_line, event_can_be_written}
 use Rattle.inst_books.specs.declared.fault.BookFault.{BookFault}

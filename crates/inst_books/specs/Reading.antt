@@ -14,7 +14,7 @@ use Rattle.inst_command.specs.declared.outcome.Outcome.TheVariants.{Accepted, Re
 use Rattle.inst_journal.specs.declared.event.Event.{Event}
 use Rattle.inst_journal.specs.declared.event.Event.TheVariants.{Funded, Defunded, Taken, Forwarded}
 use Rattle.inst_journal.specs.declared.event.Event.TheVariants.{Booked, Fetched, Opened}
-use Rattle.inst_scan.specs.Fields.{Found, found}
+use Rattle.inst_json.specs.LineFields.{Found, found}
 use Rattle.inst_json.specs.Refusals.{◌>>=◌}
 use Rattle.inst_json.specs.Fields.{text_in, whole_in, code_in, reason_in, count_in}
 use Rattle.inst_json.specs.Checks.{participant_of}

@@ -1,3 +1,5 @@
 pub mod Members
 pub mod Events
 pub mod Books
+pub mod Agreeing
+pub mod Replaying

@@ -1,7 +1,7 @@
 -- Chains that share a mark.
 use Rattle.std.proofs.Common.{◌≡◌, ◌⊎◌, inl, inr, ℕ, true, List, [], ◌∷◌, ◌++◌, refl, sym, ◌∙◌, ap, subst, append_assoc}
 use Rattle.std.proofs.lemmas.List.{append-nil, append_cancel_right}
-use Rattle.inst_bytes.specs.Newline.{newline}
+use Rattle.inst_base.specs.Newline.{newline}
 use Rattle.inst_log.specs.Layout.{recovered, blocks}
 use Rattle.inst_log.proofs.Lines.{AllLines, recovered_blocks, all_lines, blocks-append}
 use Rattle.sha2.specs.Sha256.{sha256}

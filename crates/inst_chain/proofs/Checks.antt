@@ -1,7 +1,7 @@
 -- How a checker goes on, line by line.
 use Rattle.std.proofs.Common.{◌≡◌, inl, inr, ℕ, ◌<◌, true, false, List, [], ◌∷◌, ◌++◌, length, refl, sym, ◌∙◌, ap, subst, arith, append_assoc, length-append}
 use Rattle.std.proofs.lemmas.List.{append-nil}
-use Rattle.inst_bytes.specs.Newline.{newline}
+use Rattle.inst_base.specs.Newline.{newline}
 use Rattle.inst_log.specs.Layout.{recovered, blocks}
 use Rattle.inst_log.proofs.Lines.{blocks-append}
 use Rattle.inst_chain.specs.Chain.{is_mark, mark_of, front_of, chained, HasNoMark, HaveNoMark, IsChain}

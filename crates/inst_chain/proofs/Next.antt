@@ -1,6 +1,6 @@
 -- A batch with its mark goes behind a chain, or begins one.
 use Rattle.std.proofs.Common.{◌≡◌, ◌<◌, ℕ, List, [], ◌∷◌, ◌++◌, length, sym, ◌∙◌, ap, subst, arith, append_assoc, length-append}
-use Rattle.inst_bytes.specs.Newline.{newline}
+use Rattle.inst_base.specs.Newline.{newline}
 use Rattle.inst_log.specs.Layout.{recovered, blocks, IsWhole, IsShut}
 use Rattle.inst_log.proofs.Lines.{AllLines, all_lines, AllLines-append, blocks-append}
 use Rattle.inst_log.proofs.Pieces.{lines_back}

@@ -2,7 +2,7 @@
 -- before it, that one included, up to itself; the first mark's digest covers the file from its beginning. So each digest
 -- stands for all that is before it.
 use Rattle.std.specs.Prelude.{◌≡◌, ◌≢◌, ◌⊎◌, ◌<◌, ℕ, Bool, true, false, List, [], ◌∷◌, ◌++◌, length, ◌==◌, ◌&&◌, ◌||◌, not, bytes_eq, if◌then◌else◌, Option, None, Some}
-use Rattle.inst_bytes.specs.Newline.{newline}
+use Rattle.inst_base.specs.Newline.{newline}
 use Rattle.inst_log.specs.Layout.{gate, recovered, blocks, IsShut}
 use Rattle.inst_log.specs.Escape.{escape}
 use Rattle.inst_log.specs.Opening.{kept}

@@ -1,6 +1,6 @@
 //! The digest of what was written since the last mark.
 ghost use Rattle.std.specs.Prelude.{◌≡◌, ◌<◌, ◌++◌, [], ◌∷◌, List, ℕ, slice_index, bytes_eq, true, false, OnOk};
-ghost use Rattle.inst_bytes.specs.Newline.{newline};
+ghost use Rattle.inst_base.specs.Newline.{newline};
 ghost use Rattle.inst_log.specs.Layout.{recovered, IsWhole};
 ghost use Rattle.inst_chain.specs.Chain.{is_mark, mark_of, mark_with, has_mark, has_digest, said, HasNoMark};
 ghost use Rattle.inst_chain.specs.Checking.{Digests};

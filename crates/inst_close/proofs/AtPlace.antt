@@ -7,8 +7,8 @@ use Rattle.inst_board.specs.declared.place.Place.{Place}
 use Rattle.inst_journal.specs.declared.event.Event.{Event}
 use Rattle.inst_slot.specs.Book.{events_of, Book}
 use Rattle.inst_slot.specs.OwnState.{own_state}
-use Rattle.inst_together.specs.Together.{histories}
-use Rattle.inst_together.specs.Told.{told}
+use Rattle.inst_participant.specs.Together.{histories}
+use Rattle.inst_participant.specs.InTheBooks.{told}
 
 pub told_at : (books : List Book) (k : Place) (book : Book) (r : State) → slice_get books k.owner ≡ Some book → r ≡ own_state k.owner book.events k.index → r ≡ told (histories books) k
 told_at books k book r found said = said ∙ sym (ap (λ (J : List Event). own_state k.owner J k.index) (ap events_of found))

@@ -12,10 +12,10 @@ use Rattle.inst_journal.specs.Opened.{openings, HasOpeningsLeft}
 use Rattle.inst_slot.specs.Book.{events_of, Book}
 use Rattle.inst_world.specs.NextOpening.{kept_by, books_of, CanOpenFrom}
 use Rattle.inst_world.proofs.Journals.{can_open_from}
-use Rattle.inst_together.specs.Together.{histories}
+use Rattle.inst_participant.specs.Together.{histories}
 use Rattle.inst_close.specs.ClosedHub.{IsClosed}
-use Rattle.inst_together.specs.Wider.{widened}
-use Rattle.inst_together.proofs.Wider.{closed_wider}
+use Rattle.inst_participant.specs.Wider.{widened}
+use Rattle.inst_participant.proofs.Wider.{closed_wider}
 use Rattle.inst_close.specs.inner.NextOpening.{AreCopies, AreCopiesAnd}
 
 -- the first n are copied

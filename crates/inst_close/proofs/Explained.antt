@@ -7,7 +7,7 @@ use Rattle.inst_model.specs.Opening.{Opening}
 use Rattle.inst_model.specs.Opening.Opening.{FromBooks}
 use Rattle.inst_slot.specs.Book.{Book}
 use Rattle.inst_world.specs.NextOpening.{books_of, opening_from}
-use Rattle.inst_together.specs.Together.{histories}
+use Rattle.inst_participant.specs.Together.{histories}
 use Rattle.inst_order.specs.Order.{Explains, ExplainsJournals}
 use Rattle.inst_order.proofs.Explaining.{same_books, nobody_else}
 use Rattle.inst_close.specs.inner.NextOpening.{AreCopies, AreCopiesAnd}

@@ -10,11 +10,11 @@ use Rattle.inst_board.specs.Standing.{about}
 use Rattle.inst_cell.specs.Held.{knows}
 use Rattle.inst_journal.specs.declared.event.Event.{Event}
 use Rattle.inst_model.specs.Closing.{OnlyTold}
-use Rattle.inst_together.specs.Together.{histories}
-use Rattle.inst_together.specs.Told.{IsInTheBooks}
-use Rattle.inst_parts.proofs.PlaceByPlace.{told_on}
-use Rattle.inst_parts.specs.declared.parts.Parts.{Parts}
-use Rattle.inst_parts.specs.Apart.{IsPartsOf, AreLater, histories_of, board_of, hub_of}
+use Rattle.inst_participant.specs.Together.{histories}
+use Rattle.inst_participant.specs.InTheBooks.{IsInTheBooks}
+use Rattle.inst_participant.proofs.PlaceByPlace.{told_on}
+use Rattle.inst_participant.specs.declared.parts.Parts.{Parts}
+use Rattle.inst_participant.specs.Apart.{IsPartsOf, AreLater, histories_of, board_of, hub_of}
 use Rattle.inst_hub.specs.declared.hub.Hub.{Hub}
 use Rattle.inst_hub.specs.declared.teller.Teller.{Teller}
 use Rattle.inst_hub.specs.Calls.{knows_of}

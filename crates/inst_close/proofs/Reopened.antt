@@ -14,8 +14,8 @@ use Rattle.inst_model.specs.Opening.{BooksCanOpen}
 use Rattle.inst_model.specs.Opening.Opening.{FromBooks}
 use Rattle.inst_slot.specs.Book.{Book}
 use Rattle.inst_world.specs.NextOpening.{books_of, CanOpenFrom}
-use Rattle.inst_together.specs.Together.{histories}
-use Rattle.inst_together.specs.Wider.{widened}
+use Rattle.inst_participant.specs.Together.{histories}
+use Rattle.inst_participant.specs.Wider.{widened}
 use Rattle.inst_row.specs.declared.view.Front.{Front}
 use Rattle.inst_row.specs.Row.{row_id, key_of}
 use Rattle.inst_hub.specs.declared.hub.Hub.{Hub}

@@ -11,9 +11,9 @@ use Rattle.inst_model.specs.Closing.{is_told, OnlyTold}
 use Rattle.inst_model.specs.Opening.{Opening, beginning}
 use Rattle.inst_slot.proofs.Growing.{slice_get_at}
 use Rattle.inst_slot.specs.Book.{events_of}
-use Rattle.inst_together.specs.Together.{histories}
-use Rattle.inst_parts.specs.declared.parts.Parts.{Parts}
-use Rattle.inst_parts.specs.Apart.{IsPartsOf, histories_of, hub_of}
+use Rattle.inst_participant.specs.Together.{histories}
+use Rattle.inst_participant.specs.declared.parts.Parts.{Parts}
+use Rattle.inst_participant.specs.Apart.{IsPartsOf, histories_of, hub_of}
 use Rattle.inst_hub.specs.declared.hub.Hub.{Hub}
 use Rattle.inst_hub.specs.declared.teller.Teller.{Teller}
 use Rattle.inst_close.specs.ClosedHub.{ClosedHub}

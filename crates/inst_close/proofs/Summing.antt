@@ -22,7 +22,7 @@ use Rattle.inst_model.specs.Untold.{sum_below, signed_sum_below, total, signed_t
 use Rattle.inst_model.proofs.Closing.{closed_books_sum_to_the_net}
 use Rattle.inst_model.proofs.Totals.{signed_sum_is}
 use Rattle.inst_slot.specs.Book.{events_of, Book}
-use Rattle.inst_together.specs.Together.{histories}
+use Rattle.inst_participant.specs.Together.{histories}
 use Rattle.inst_close.specs.ClosedHub.{IsClosed}
 
 -- the most that the event can fund

@@ -5,7 +5,7 @@ use Rattle.inst_settings.specs.Settings.{HubSettings, participants}
 use Rattle.inst_settings.specs.Lawful.{IsSettings}
 use Rattle.inst_model.specs.Closing.{AreClosed}
 use Rattle.inst_slot.specs.Book.{Book}
-use Rattle.inst_together.specs.Together.{histories}
+use Rattle.inst_participant.specs.Together.{histories}
 
 pub record ClosedHub : Type 0 where
   pub settings : HubSettings

@@ -17,13 +17,13 @@ use Rattle.inst_journal.specs.Opened.{carried}
 use Rattle.inst_model.specs.Closing.{OnlyTold}
 use Rattle.inst_model.specs.Opening.{Opening, FromBooks, IsOpening, beginning}
 use Rattle.inst_slot.specs.Book.{Book}
-use Rattle.inst_together.specs.Together.{histories}
+use Rattle.inst_participant.specs.Together.{histories}
 use Rattle.inst_row.specs.declared.view.Front.{Front}
 use Rattle.inst_row.specs.Row.{row_id, key_of}
 use Rattle.inst_row.specs.Seated.{HasSeen}
-use Rattle.inst_together.specs.Told.{told, IsTakenWith}
-use Rattle.inst_parts.specs.declared.parts.Parts.{Parts}
-use Rattle.inst_parts.specs.Apart.{IsPartsOf, histories_of, board_of, hub_of}
+use Rattle.inst_participant.specs.InTheBooks.{told, IsTakenWith}
+use Rattle.inst_participant.specs.declared.parts.Parts.{Parts}
+use Rattle.inst_participant.specs.Apart.{IsPartsOf, histories_of, board_of, hub_of}
 use Rattle.inst_hub.specs.declared.hub.Hub.{Hub}
 use Rattle.inst_hub.specs.declared.teller.Teller.{Teller}
 use Rattle.inst_hub.specs.Calls.{knows_of, AreOf}

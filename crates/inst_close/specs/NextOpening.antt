@@ -3,9 +3,9 @@ use Rattle.std.specs.Prelude.{ℕ, List}
 use Rattle.inst_settings.specs.Lawful.{IsSettings}
 use Rattle.inst_cell.specs.Opening.{MayOpen}
 use Rattle.inst_journal.specs.Opened.{HasOpeningsLeft}
-use Rattle.inst_together.specs.Wider.{widened}
+use Rattle.inst_participant.specs.Wider.{widened}
 use Rattle.inst_close.specs.ClosedHub.{ClosedHub}
-use Rattle.inst_together.specs.Together.{histories}
+use Rattle.inst_participant.specs.Together.{histories}
 
 -- Books can be opened from with participants of these codes behind the others
 -- few: none was opened from too often

@@ -3,8 +3,8 @@ ghost use Rattle.inst_settings.specs.Lawful.{IsSettings};
 ghost use Rattle.inst_settings.specs.Settings.{participants};
 ghost use Rattle.inst_journal.specs.Sound.{IsSound};
 ghost use Rattle.inst_model.specs.Closing.{AreClosed};
-ghost use Rattle.inst_together.specs.Together.{histories};
-ghost use Rattle.inst_together.specs.Told.{told};
+ghost use Rattle.inst_participant.specs.Together.{histories};
+ghost use Rattle.inst_participant.specs.InTheBooks.{told};
 ghost use Rattle.inst_close.specs.ClosedHub.{AreNumbered};
 
 use inst_board::Place;

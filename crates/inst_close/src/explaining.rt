@@ -1,11 +1,11 @@
 //! One order of events that explains the books of a closed hub.
 ghost use Rattle.std.specs.Prelude.{IfOk, IfSome};
 ghost use Rattle.inst_model.specs.Opening.{Opening};
-ghost use Rattle.inst_together.specs.Together.{histories};
+ghost use Rattle.inst_participant.specs.Together.{histories};
 ghost use Rattle.inst_order.specs.Order.{Explains};
 
 use crate::Books;
-use inst_audit::can_open;
+use inst_books::can_open;
 use inst_command::Step;
 use inst_order::{interleaving, interleaving_from};
 use std::alloc::{AllocError, Global};

@@ -1,8 +1,8 @@
 //! The hub of the next opening.
 ghost use Rattle.std.specs.Prelude.{◌≡◌, ◌⊎◌, [], ℕ, true, false, length, IfOk, IfErr, Err};
 ghost use Rattle.inst_journal.specs.Opened.{HasOpeningsLeft};
-ghost use Rattle.inst_together.specs.Together.{histories};
-ghost use Rattle.inst_together.specs.Wider.{widened};
+ghost use Rattle.inst_participant.specs.Together.{histories};
+ghost use Rattle.inst_participant.specs.Wider.{widened};
 ghost use Rattle.inst_close.specs.NextOpening.{MayOpenWider};
 ghost use Rattle.inst_close.specs.inner.NextOpening.{AreCopies, AreCopiesAnd};
 ghost use Rattle.inst_close.specs.Closing.{IsNextOf, AreNextTellers};

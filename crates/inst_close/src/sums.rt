@@ -3,7 +3,7 @@ ghost use Rattle.std.specs.Prelude.{◌≡◌, pos};
 ghost use Rattle.inst_journal.specs.Money.{position};
 ghost use Rattle.inst_journal.specs.Sums.{net};
 ghost use Rattle.inst_model.specs.Untold.{total, signed_total};
-ghost use Rattle.inst_together.specs.Together.{histories};
+ghost use Rattle.inst_participant.specs.Together.{histories};
 
 use crate::Books;
 

@@ -1,7 +1,7 @@
 //! The settings of a hub that participants join.
 ghost use Rattle.std.specs.Prelude.{◌≡◌, ◌⊎◌, ◌++◌, Err, IfOk, IfErr};
 ghost use Rattle.inst_settings.specs.Lawful.{IsSettings};
-ghost use Rattle.inst_together.specs.Wider.{widened};
+ghost use Rattle.inst_participant.specs.Wider.{widened};
 
 use inst_base::{Code, Fault};
 use inst_settings::Settings;

@@ -12,7 +12,7 @@ use Rattle.inst_journal.specs.Opened.{is_opening, has_opening, openings, carried
 use Rattle.inst_journal.proofs.Counting.{count_push}
 use Rattle.inst_model.specs.Opening.{Opening, FromBooks}
 use Rattle.inst_slot.specs.Book.{events_of}
-use Rattle.inst_together.specs.Together.{histories}
+use Rattle.inst_participant.specs.Together.{histories}
 use Rattle.inst_close.specs.ClosedHub.{ClosedHub, IsClosed}
 use Rattle.inst_settings.specs.Lawful.{IsSettings}
 use Rattle.inst_hub.specs.declared.hub.Hub.{Hub}

@@ -6,7 +6,7 @@ use Rattle.std.proofs.lemmas.Option.{none-some}
 use Rattle.inst_settings.specs.Settings.{HubSettings}
 use Rattle.inst_command.specs.declared.step.Step.{Step}
 use Rattle.inst_model.specs.Opening.{Opening, First, FromBooks}
-use Rattle.inst_together.specs.Together.{histories}
+use Rattle.inst_participant.specs.Together.{histories}
 use Rattle.inst_close.specs.ClosedHub.{ClosedHub}
 use Rattle.inst_drill.specs.declared.report.Report.{Report}
 use Rattle.inst_drill.specs.inner.Chain.{IsAfter, AreAfter, opening_of}

@@ -10,7 +10,7 @@ use Rattle.inst_journal.specs.Money.{position}
 use Rattle.inst_journal.specs.Opened.{current}
 use Rattle.inst_journal.specs.Sums.{net}
 use Rattle.inst_model.specs.Untold.{total, signed_total}
-use Rattle.inst_together.specs.Together.{histories}
+use Rattle.inst_participant.specs.Together.{histories}
 use Rattle.inst_close.specs.ClosedHub.{ClosedHub}
 use Rattle.inst_drill.specs.declared.report.Report.{Report}
 

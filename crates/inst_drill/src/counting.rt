@@ -1,7 +1,7 @@
 //! How the transfers of an opening ended, and whether the books have what was seen of them.
 ghost use Rattle.std.specs.Prelude.{◌≡◌, ◌+◌, ◌<◌, ◌≤◌, true, false, length};
 ghost use Rattle.inst_command.specs.declared.outcome.Outcome.TheVariants.{Accepted, TimedOut};
-ghost use Rattle.inst_together.specs.Together.{histories};
+ghost use Rattle.inst_participant.specs.Together.{histories};
 ghost use Rattle.inst_journal.specs.Opened.{is_opening};
 ghost use Rattle.inst_drill.specs.Report.{books_end, ended, is_same_end};
 ghost use Rattle.inst_drill.specs.inner.Report.{Contradicts, NoneContradicts, counted_after};

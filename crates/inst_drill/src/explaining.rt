@@ -1,7 +1,7 @@
 //! Steps of the hub in one thread that explain what the threads did.
 ghost use Rattle.std.specs.Prelude.{IfOk, IfSome};
 ghost use Rattle.inst_order.specs.Order.{Explains};
-ghost use Rattle.inst_together.specs.Together.{histories};
+ghost use Rattle.inst_participant.specs.Together.{histories};
 ghost use Rattle.inst_drill.specs.inner.Chain.{opening_of};
 
 use inst_close::Books;

@@ -19,7 +19,7 @@ use Rattle.inst_hub.specs.Closing.{OneHasSeen}
 use Rattle.inst_hub.specs.inner.Closing.{IsSeated, AreSeated, IsTakenOut, AreTakenOut}
 use Rattle.inst_hub.specs.Opening.{parts_of}
 use Rattle.inst_hub.proofs.Starting.{parts_more}
-use Rattle.inst_parts.proofs.Joining.{got_last, got_more, got_only}
+use Rattle.inst_participant.proofs.Joining.{got_last, got_more, got_only}
 
 abbrev pub Seat : Type 0
 Seat = RowSeat (Box Participant) Event Outset

@@ -15,8 +15,8 @@ use Rattle.inst_row.specs.Row.{key_of, size}
 use Rattle.inst_row.specs.Seated.{HasSeen}
 use Rattle.inst_slot.specs.Book.{events_of, Book}
 use Rattle.inst_slot.proofs.Growing.{slice_get_at}
-use Rattle.inst_together.specs.Together.{histories}
-use Rattle.inst_parts.specs.Uniting.{AreSeparate, AreAtOne, AreSights}
+use Rattle.inst_participant.specs.Together.{histories}
+use Rattle.inst_participant.specs.Uniting.{AreSeparate, AreAtOne, AreSights}
 use Rattle.inst_hub.specs.declared.hub.Hub.{Hub}
 use Rattle.inst_hub.specs.declared.teller.Teller.{Teller}
 use Rattle.inst_hub.specs.Calls.{AreOf}

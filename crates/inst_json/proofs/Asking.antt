@@ -21,7 +21,7 @@ use Rattle.inst_command.specs.declared.command.Command.{Command}
 use Rattle.inst_command.specs.declared.command.Command.TheVariants as command
 use Rattle.inst_command.specs.declared.step.Step.{Step}
 use Rattle.inst_command.specs.declared.step.Step.TheVariants as step
-use Rattle.inst_scan.specs.Fields.{LineFields, fields_of, missing, text, whole}
+use Rattle.inst_json.specs.LineFields.{LineFields, fields_of, missing, text, whole}
 use Rattle.inst_json.specs.Asker.{asker_of, known_of}
 use Rattle.inst_json.specs.Checks.{amount_of, stamp_of, participant_of}
 use Rattle.inst_json.specs.Commands.{funding_of, submit_of, received_of, reject_of, investigate_of, fetch_of, statement_of, command_of, ask_of}

@@ -7,3 +7,11 @@ pub mod Rows
 pub mod Tables
 pub mod Asking
 pub mod StepLines
+pub mod Grammar
+pub mod Lexing
+pub mod Ascii
+pub mod Told
+pub mod OrderedMembers
+pub mod Runs
+pub mod Starts
+pub mod NoText

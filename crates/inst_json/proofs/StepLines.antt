@@ -20,7 +20,7 @@ use Rattle.inst_command.specs.declared.command.Command.{Command}
 use Rattle.inst_command.specs.declared.command.Command.TheVariants as command
 use Rattle.inst_command.specs.declared.step.Step.{Step}
 use Rattle.inst_command.specs.declared.step.Step.TheVariants as step
-use Rattle.inst_scan.specs.Fields.{fields_of}
+use Rattle.inst_json.specs.LineFields.{fields_of}
 use Rattle.inst_json.specs.Laws.{is_word, has_code, command_has_form, step_has_form, has_place, IsStepOf}
 use Rattle.inst_json.specs.Lines.{blamed_step_of_line, step_of_line}
 use Rattle.inst_json.specs.Members.{is_printable, is_plain}

@@ -5,7 +5,7 @@ use Rattle.inst_base.specs.Moment.{moment_of}
 use Rattle.inst_settings.specs.Settings.{HubSettings}
 use Rattle.inst_command.specs.declared.ask.Ask.{Ask}
 use Rattle.inst_command.specs.declared.command.Command.{Command}
-use Rattle.inst_scan.specs.Fields.{LineFields}
+use Rattle.inst_json.specs.LineFields.{LineFields}
 use Rattle.inst_json.specs.Refusals.{◌>>=◌, in_field}
 use Rattle.inst_json.specs.Fields.{whole_in, code_in}
 use Rattle.inst_json.specs.Checks.{participant_of}

@@ -7,7 +7,7 @@ use Rattle.inst_base.specs.Text.{identifier_of}
 use Rattle.inst_settings.specs.Settings.{HubSettings}
 use Rattle.inst_command.specs.declared.ask.Ask.{Ask}
 use Rattle.inst_command.specs.declared.command.Command.TheVariants as command
-use Rattle.inst_scan.specs.Fields.{LineFields}
+use Rattle.inst_json.specs.LineFields.{LineFields}
 use Rattle.inst_json.specs.Refusals.{◌>>=◌, in_field}
 use Rattle.inst_json.specs.Fields.{text_in, whole_in, code_in, reason_in, count_in}
 use Rattle.inst_json.specs.Checks.{amount_of, stamp_of, participant_of}

@@ -5,7 +5,7 @@ use Rattle.inst_base.specs.declared.fault.Fault.{Fault}
 use Rattle.inst_base.specs.declared.fault.Fault.TheVariants.{BadField}
 use Rattle.inst_settings.specs.declared.ranges.TheConstants.{MOST_PLACES}
 use Rattle.inst_command.specs.Ask.{is_count}
-use Rattle.inst_scan.specs.Fields.{Found, missing, text, whole, other}
+use Rattle.inst_json.specs.LineFields.{Found, missing, text, whole, other}
 use Rattle.inst_json.specs.Refusals.{◌>>=◌}
 
 -- a text

@@ -12,5 +12,6 @@ pub mod Members
 pub mod StepLines
 pub mod Lines
 pub mod Laws
+pub mod LineFields
 -- Only inner functions and proofs cite these.
 pub mod inner

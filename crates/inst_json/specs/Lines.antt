@@ -10,7 +10,7 @@ use Rattle.inst_settings.specs.Settings.{HubSettings}
 use Rattle.inst_command.specs.declared.ask.Ask.{Ask}
 use Rattle.inst_json.specs.Refusals.{◌>>=◌, as_whole, by_fault}
 use Rattle.inst_command.specs.declared.step.Step.{Step}
-use Rattle.inst_scan.specs.Fields.{fields_of}
+use Rattle.inst_json.specs.LineFields.{fields_of}
 use Rattle.inst_json.specs.Commands.{ask_of}
 use Rattle.inst_json.specs.Steps.{step_of}
 use Rattle.inst_json.specs.declared.refusal.Refusal.{Refusal}

@@ -5,7 +5,7 @@ use Rattle.inst_base.specs.declared.fault.Fault.TheVariants.{BadField}
 use Rattle.inst_settings.specs.Settings.{HubSettings, same_text}
 use Rattle.inst_command.specs.declared.step.Step.{Step}
 use Rattle.inst_command.specs.declared.step.Step.TheVariants as step
-use Rattle.inst_scan.specs.Fields.{LineFields}
+use Rattle.inst_json.specs.LineFields.{LineFields}
 use Rattle.inst_json.specs.Refusals.{◌>>=◌, in_field}
 use Rattle.inst_json.specs.Fields.{text_in, code_in, place_in, is_there}
 use Rattle.inst_json.specs.Checks.{participant_of}

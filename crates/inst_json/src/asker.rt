@@ -1,16 +1,16 @@
 //! What every command has: who asks, and when.
 ghost use Rattle.std.specs.Prelude.{◌≡◌, true, IfOk};
 ghost use Rattle.inst_settings.specs.Settings.{is_participant};
-ghost use Rattle.inst_scan.specs.Fields.{fields_told};
+ghost use Rattle.inst_json.specs.LineFields.{fields_told};
 ghost use Rattle.inst_json.specs.Asker.{asker_of, known_of, asking};
 
 use crate::checks::{moment, participant};
 use crate::fields::{code, whole};
 use crate::refusal::in_field;
+use crate::scanning::Fields;
 use crate::{Name, Refusal};
 use inst_base::{Code, Moment};
 use inst_command::{Ask, Command};
-use inst_scan::Fields;
 use inst_settings::Settings;
 
 /// Who asks and when, as a line gives them: the reading is in absolute milliseconds.

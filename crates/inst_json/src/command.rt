@@ -1,6 +1,6 @@
 //! The asks of the nine commands: each reads all its fields, and then checks what they hold.
 ghost use Rattle.std.specs.Prelude.{◌≡◌, true, IfOk};
-ghost use Rattle.inst_scan.specs.Fields.{fields_told};
+ghost use Rattle.inst_json.specs.LineFields.{fields_told};
 ghost use Rattle.inst_settings.specs.Settings.{is_participant, is_within_ceiling};
 ghost use Rattle.inst_command.specs.Ask.{ask_fits};
 ghost use Rattle.inst_json.specs.Commands.{funding_of, submit_of, received_of, reject_of, investigate_of, fetch_of, statement_of, ask_of};
@@ -9,11 +9,11 @@ use crate::asker::{Asker, KnownAsker, asker_of};
 use crate::checks::{amount, participant, time_stamp};
 use crate::fields::{code, count, reason, text, whole};
 use crate::refusal::in_field;
+use crate::scanning::Fields;
 use crate::verb::{Verb, verb_in};
 use crate::{Name, Refusal};
 use inst_base::{Cents, Ident};
 use inst_command::{Ask, Command, Submission};
-use inst_scan::Fields;
 use inst_settings::Settings;
 
 /// What is funded or defunded, and by whom.

@@ -1,13 +1,13 @@
 //! What a line's fields hold.
 ghost use Rattle.std.specs.Prelude.{◌≡◌, true, IfOk};
 ghost use Rattle.inst_command.specs.Ask.{is_count};
-ghost use Rattle.inst_scan.specs.Fields.{told};
+ghost use Rattle.inst_json.specs.LineFields.{told};
 ghost use Rattle.inst_json.specs.Refusals.{Gives};
 ghost use Rattle.inst_json.specs.Fields.{text_in, whole_in, code_in, reason_in, count_in, place_in, is_there};
 
+use crate::scanning::Field;
 use inst_base::{Code, Fault, Reason};
 use inst_command::is_count;
-use inst_scan::Field;
 use inst_settings::MOST_PLACES;
 
 /// The text in a field, or `BadField` where there is none.

@@ -4,11 +4,11 @@ ghost use Rattle.serde_json.specs.Data.{Data};
 ghost use Rattle.serde_json.specs.Find.{get};
 ghost use Rattle.serde_json.specs.View.{view};
 ghost use Rattle.inst_base.specs.declared.fault.Fault.TheVariants.{NotJson};
-ghost use Rattle.inst_scan.specs.declared.form.Form.TheVariants.{Plain, Broken};
-ghost use Rattle.inst_scan.specs.Fields.{found, told, fields_of, fields_told};
+ghost use Rattle.inst_json.specs.declared.scanning.form.Form.TheVariants.{Plain, Broken};
+ghost use Rattle.inst_json.specs.LineFields.{found, told, fields_of, fields_told};
 ghost use Rattle.inst_json.specs.Lines.{json_of};
 
-use inst_scan::{Field, Fields, Form, scan_into};
+use crate::scanning::{Field, Fields, Form, scan_into};
 use serde_json::Value;
 
 /// What one pass over a line finds.

@@ -1,6 +1,6 @@
 //! The steps of a script: deliveries, bookings and expiries, and the asks.
 ghost use Rattle.std.specs.Prelude.{◌≡◌, true, IfOk};
-ghost use Rattle.inst_scan.specs.Fields.{fields_told};
+ghost use Rattle.inst_json.specs.LineFields.{fields_told};
 ghost use Rattle.inst_settings.specs.Settings.{is_participant};
 ghost use Rattle.inst_command.specs.Step.{step_fits};
 ghost use Rattle.inst_json.specs.Steps.{passing_of, deliver_of, learn_of, expire_of, move_of, step_of};
@@ -10,10 +10,10 @@ use crate::checks::participant;
 use crate::command::ask_of;
 use crate::fields::{code, is_there, place, text};
 use crate::refusal::in_field;
+use crate::scanning::Fields;
 use crate::{Name, Refusal};
 use inst_base::Fault;
 use inst_command::Step;
-use inst_scan::Fields;
 use inst_settings::Settings;
 
 /// The step of a script line's fields, or the first refusal of the line: what its field `step` names,

@@ -1,10 +1,10 @@
 ghost use Rattle.std.specs.Prelude.{◌≡◌};
-ghost use Rattle.inst_scan.specs.Fields.{told};
+ghost use Rattle.inst_json.specs.LineFields.{told};
 ghost use Rattle.inst_json.specs.Verb.{verb_of, verb_in};
 
 use crate::fields::text;
+use crate::scanning::Field;
 use inst_base::Fault;
-use inst_scan::Field;
 
 /// What a command line asks for, by its field `cmd`.
 #[derive(Clone, Copy)]

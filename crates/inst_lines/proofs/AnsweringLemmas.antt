@@ -29,7 +29,7 @@ use Rattle.inst_world.specs.HasRun.{settings_of, Runs}
 use Rattle.inst_agenda.specs.Watching.{Watches}
 use Rattle.inst_model.specs.Trace.{answer as the_answer}
 use Rattle.inst_lines.specs.Limits.{most_line_bytes}
-use Rattle.inst_bytes.specs.Newline.{newline}
+use Rattle.inst_base.specs.Newline.{newline}
 
 -- a line that is read whole is answered as one of any length
 whole : (mode : Mode) (old new : Runner) (line : List ℕ) (answer : Answer) → length line ≤ most_line_bytes → ((past : Past) → Keeps mode past old → answer ≡ line_answer mode past line)

@@ -1,7 +1,7 @@
 -- Replies to one line more, at any world.
 use Rattle.std.proofs.Common.{◌≡◌, ℕ, ◌+◌, cond, List, [], ◌∷◌, ◌++◌, refl, sym, ap, ◌∙◌, arith, append_assoc}
 use Rattle.std.proofs.lemmas.List.{append-nil}
-use Rattle.inst_bytes.specs.Newline.{newline}
+use Rattle.inst_base.specs.Newline.{newline}
 use Rattle.inst_lines.specs.Answers.{Answerer, reply_to, state_after_line, is_refused, output, state_after, refusals}
 
 pub output-append : {S : Type 0} (a : Answerer S) (s : S) (xs ys : List (List ℕ)) → output a s (xs ++ ys) ≡ output a s xs ++ output a (state_after a s xs) ys

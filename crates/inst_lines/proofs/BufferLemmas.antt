@@ -5,10 +5,10 @@ use Rattle.std.proofs.lemmas.List.{append-nil, take-append-le, take_at, drop-app
 use Rattle.std.proofs.lemmas.Slice.{between_is}
 use borrow.Rule.Slice.PartMut.{put_mid, post_of}
 use lib.Seq.{paste}
-use Rattle.inst_bytes.specs.Newline.{NoNewline}
+use Rattle.inst_base.specs.Newline.{NoNewline}
 use Rattle.inst_lines.specs.Answers.{MakesRoom}
 use Rattle.inst_lines.specs.Limits.{most_line_bytes}
-use Rattle.inst_bytes.proofs.Searching.{NoNewline-append}
+use Rattle.inst_base.proofs.Searching.{NoNewline-append}
 
 -- a front of known length, and then some more
 take-append-length : (xs ys : List ℕ) (n : ℕ) → take (length xs + n) (xs ++ ys) ≡ xs ++ take n ys

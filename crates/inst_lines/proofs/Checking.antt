@@ -3,7 +3,7 @@ use Rattle.std.proofs.Common.{◌≡◌, ℕ, ◌+◌, ◌<◌, ◌≤◌, List,
 use Rattle.std.proofs.lemmas.List.{append-nil, length-drop}
 use Rattle.inst_settings.specs.Settings.{HubSettings}
 use Rattle.inst_lines.specs.Check.{told_line, told_lines, told_of}
-use Rattle.inst_bytes.specs.Newline.{NoNewline, BreaksAt}
+use Rattle.inst_base.specs.Newline.{NoNewline, BreaksAt}
 use Rattle.inst_lines.specs.Lines.{lines_of}
 use Rattle.inst_lines.proofs.LinesLemmas.{lines_of-line, lines_of-part}
 

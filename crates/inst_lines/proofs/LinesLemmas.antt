@@ -1,7 +1,7 @@
 -- Lines from the front: the first one, and what is left.
 use Rattle.std.proofs.Common.{◌≡◌, ℕ, ◌<◌, List, [], ◌∷◌, ◌++◌, length, refl, arith}
 use Rattle.std.proofs.lemmas.Bool.{ne_eqb}
-use Rattle.inst_bytes.specs.Newline.{newline, NoNewline}
+use Rattle.inst_base.specs.Newline.{newline, NoNewline}
 use Rattle.inst_lines.specs.Lines.{lines_of, whole_lines_of}
 
 -- the first line of bytes that begin with a line and its newline

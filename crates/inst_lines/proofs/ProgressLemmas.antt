@@ -3,14 +3,14 @@ use Rattle.std.proofs.Common.{◌≡◌, ℕ, ◌+◌, ◌<◌, ◌≤◌, Bool,
 use Rattle.std.proofs.lemmas.List.{append-nil, take_all, take_at}
 use Rattle.std.proofs.lemmas.Bool.{false≢true}
 use Rattle.std.specs.Io.KnownBytes.{Appends}
-use Rattle.inst_bytes.specs.Newline.{newline, NoNewline}
+use Rattle.inst_base.specs.Newline.{newline, NoNewline}
 use Rattle.inst_lines.specs.Lines.{lines_of, whole_lines_of, whole_lines_within}
 use Rattle.inst_lines.specs.Limits.{most_line_bytes, most_lines, most_bytes}
 use Rattle.inst_lines.specs.Answers.{Answerer, reply_to, state_after_line, is_refused, output, state_after, refusals, IsFront, MakesRoom}
-use Rattle.inst_bytes.specs.Handing.{WritesPart, WritesFirst}
+use Rattle.inst_base.specs.Handing.{WritesPart, WritesFirst}
 use Rattle.inst_lines.specs.Progress.{Splits, Progress, Stopped, Finished, CutOff}
-use Rattle.inst_bytes.proofs.Searching.{NoNewline-append}
-use Rattle.inst_bytes.proofs.Streams.{Appends-append, Appends-keeps, Keeps-same}
+use Rattle.inst_base.proofs.Searching.{NoNewline-append}
+use Rattle.inst_base.proofs.Streams.{Appends-append, Appends-keeps, Keeps-same}
 use Rattle.inst_lines.proofs.LinesLemmas.{lines_of-line, whole_lines_of-line, lines_of-part, whole_lines_of-part}
 use Rattle.inst_lines.proofs.AnswersLemmas.{output-append, output-push, state_after-push, refusals-push}
 

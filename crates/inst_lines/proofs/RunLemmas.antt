@@ -11,7 +11,7 @@ use Rattle.inst_lines.specs.Answers.{Answerer, output, state_after, refusals}
 use Rattle.inst_lines.specs.LineBuffer.{held}
 use Rattle.inst_lines.specs.Progress.{Progress, Finished}
 use Rattle.inst_lines.specs.Session.{Reached, IsReady, Turns, Ends, Fails, FailsAfter}
-use Rattle.inst_bytes.proofs.Streams.{Consumes-append, Consumes-keeps, Keeps-same}
+use Rattle.inst_base.proofs.Streams.{Consumes-append, Consumes-keeps, Keeps-same}
 use Rattle.inst_lines.proofs.ProgressLemmas.{progress-start}
 
 -- the session is ready for its next read, and has come this far in what the reader gave

@@ -8,15 +8,15 @@ use Rattle.inst_base.specs.declared.fault.Fault.TheVariants.{Memory, ReadFault, 
 use Rattle.inst_lines.specs.declared.session.Session.{Session}
 use Rattle.inst_lines.specs.declared.session.Counts.{Counts}
 use Rattle.inst_lines.specs.declared.line_buffer.LineBuffer.{LineBuffer}
-use Rattle.inst_bytes.specs.Newline.{newline, NoNewline, BreaksAt}
+use Rattle.inst_base.specs.Newline.{newline, NoNewline, BreaksAt}
 use Rattle.inst_lines.specs.Limits.{most_line_bytes, most_lines, most_bytes}
 use Rattle.inst_lines.specs.Answers.{Answerer, AnswersLine, MakesRoom, state_after_line, output, state_after, refusals}
 use Rattle.inst_lines.specs.LineBuffer.{held, Fills, FillFails}
-use Rattle.inst_bytes.specs.Handing.{WritesPart, WritesFirst}
+use Rattle.inst_base.specs.Handing.{WritesPart, WritesFirst}
 use Rattle.inst_lines.specs.Progress.{Progress, Stopped, Finished}
 use Rattle.inst_lines.specs.Session.{Reached, IsAnswered, IsReady, Finishes, Leaves, Turns, Ends, Fails}
 use Rattle.inst_lines.specs.inner.Session.{TakesLine, Advances, Stops, AnsweredAll, AnswersLast, IsNoReadFault}
-use Rattle.inst_bytes.proofs.Streams.{writes-none}
+use Rattle.inst_base.proofs.Streams.{writes-none}
 use Rattle.inst_lines.proofs.ProgressLemmas.{progress-read, progress-line, progress-last, progress-write, progress-stop, progress-end, progress-room, progress-full, progress-cut}
 
 -- an error that is passed on

@@ -1,7 +1,7 @@
 -- What is answered to lines, at any world that holds a state. This hub's own choice.
 use Rattle.std.specs.Prelude.{◌≡◌, ℕ, ◌+◌, ◌<◌, Bool, true, false, List, [], ◌∷◌, ◌++◌, length, nat_lt, if◌then◌else◌}
 use Rattle.inst_lines.specs.Limits.{most_line_bytes}
-use Rattle.inst_bytes.specs.Newline.{newline, NoNewline}
+use Rattle.inst_base.specs.Newline.{newline, NoNewline}
 
 -- how a line is answered at a state: by which reply, into which state, and whether the reply is a refusal; and the reply
 -- to a line that is too long, which is a refusal and changes no state

@@ -9,9 +9,9 @@ use Rattle.inst_json.specs.Name.{text_of}
 use Rattle.inst_json.specs.declared.name.Name.{Name}
 use Rattle.inst_json.specs.declared.refusal.Refusal.{Refusal}
 use Rattle.inst_lines.specs.Answers.{is_too_long}
-use Rattle.inst_bytes.specs.Newline.{newline}
+use Rattle.inst_base.specs.Newline.{newline}
 use Rattle.inst_lines.specs.Lines.{lines_of}
-use Rattle.inst_bytes.specs.Handing.{WritesPart}
+use Rattle.inst_base.specs.Handing.{WritesPart}
 
 -- why something is refused, if it is
 abbrev pub refusal_in : {A : Type 0} → Result A Refusal → Option Refusal

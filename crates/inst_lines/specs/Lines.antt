@@ -1,6 +1,6 @@
 -- The lines of a text of bytes, and how many a run may have. This hub's own choice.
 use Rattle.std.specs.Prelude.{ℕ, ◌≤◌, List, [], ◌∷◌, length, take, ◌==◌, if◌then◌else◌}
-use Rattle.inst_bytes.specs.Newline.{newline, onto_whole}
+use Rattle.inst_base.specs.Newline.{newline, onto_whole}
 use Rattle.inst_lines.specs.Limits.{most_lines, most_bytes}
 
 -- the byte goes onto the front of the first line, which is a new one where there is none

@@ -5,7 +5,7 @@ use Rattle.inst_base.specs.declared.fault.Fault.{Fault}
 use Rattle.inst_base.specs.declared.fault.Fault.TheVariants.{Memory, ReadFault, WriteFault}
 use Rattle.inst_lines.specs.declared.session.Session.{Session}
 use Rattle.inst_lines.specs.declared.session.Counts.{Counts}
-use Rattle.inst_bytes.specs.Newline.{NoNewline}
+use Rattle.inst_base.specs.Newline.{NoNewline}
 use Rattle.inst_lines.specs.Limits.{most_lines, most_line_bytes}
 use Rattle.inst_lines.specs.Answers.{Answerer}
 use Rattle.inst_lines.specs.LineBuffer.{held}

@@ -3,7 +3,7 @@ ghost use Rattle.std.specs.Prelude.{◌≡◌, ◌≢◌, ◌++◌, ◌∷◌, [
 ghost use Rattle.serde_json.specs.Written.{compact_text};
 ghost use Rattle.inst_json.specs.Replies.{answer_data, answer_can_be_written};
 ghost use Rattle.inst_json.specs.Lines.{command_of_line, step_of_line};
-ghost use Rattle.inst_bytes.specs.Newline.{newline};
+ghost use Rattle.inst_base.specs.Newline.{newline};
 ghost use Rattle.inst_lines.specs.Answers.{AnswersLine};
 ghost use Rattle.inst_lines.specs.Answering.{Keeps, is_refusal, answering};
 ghost use Rattle.inst_lines.specs.Answering.{command_answer, after_command, script_answer, after_script};

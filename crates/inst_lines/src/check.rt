@@ -5,8 +5,7 @@ ghost use Rattle.inst_lines.specs.Check.{refusal_of, refusal_text, field_text, t
 
 use crate::limits::MOST_LINE_BYTES;
 use crate::replies::ReplyBuffer;
-use inst_base::Fault;
-use inst_bytes::find_newline;
+use inst_base::{Fault, find_newline};
 use inst_json::piece::{push_number, push_text};
 use inst_json::{LineReader, Name, Refusal};
 use inst_settings::Settings;

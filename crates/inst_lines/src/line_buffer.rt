@@ -4,7 +4,7 @@ ghost use Rattle.std.specs.Prelude.{OnErr, false, length, drop, vec_len};
 ghost use Rattle.std.specs.Io.{ReadsAtMost};
 ghost use Rattle.std.specs.Io.KnownBytes.{ReadConsumes};
 ghost use Rattle.inst_lines.specs.Limits.{most_bytes, most_line_bytes, buffer_bytes};
-ghost use Rattle.inst_bytes.specs.Newline.{NoNewline};
+ghost use Rattle.inst_base.specs.Newline.{NoNewline};
 
 use crate::limits::{BUFFER_BYTES, MOST_BYTES, MOST_LINE_BYTES};
 use inst_base::Fault;

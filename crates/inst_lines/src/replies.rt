@@ -2,11 +2,10 @@
 ghost use Rattle.std.specs.Prelude.{◌≡◌, ◌<◌, ◌||◌, [], true, false, nat_lt, length, OnOk, OnErr, IsErrOf};
 ghost use Rattle.std.specs.Io.KnownBytes.{Appends};
 ghost use Rattle.inst_lines.specs.Limits.{buffer_bytes};
-ghost use Rattle.inst_bytes.specs.Handing.{WritesPart, WritesFirst};
+ghost use Rattle.inst_base.specs.Handing.{WritesPart, WritesFirst};
 
 use crate::limits::BUFFER_BYTES;
-use inst_base::Fault;
-use inst_bytes::write_bytes;
+use inst_base::{Fault, write_bytes};
 use std::alloc::Global;
 use std::io::Write;
 

@@ -8,8 +8,7 @@ use crate::line_buffer::LineBuffer;
 use crate::mode::Mode;
 use crate::replies::ReplyBuffer;
 use inst_agenda::Runner;
-use inst_base::Fault;
-use inst_bytes::find_newline;
+use inst_base::{Fault, find_newline};
 use inst_json::LineReader;
 use std::alloc::{AllocError, Global};
 use std::io::{Read, Write};
@@ -35,7 +34,7 @@ pub struct Session {
 }
 
 impl Session {
-    ghost use Rattle.inst_bytes.specs.Newline.{NoNewline};
+    ghost use Rattle.inst_base.specs.Newline.{NoNewline};
     ghost use Rattle.inst_lines.specs.Limits.{most_lines};
     ghost use Rattle.inst_lines.specs.Answering.{answering, Keeps};
     ghost use Rattle.inst_lines.specs.LineBuffer.{held};

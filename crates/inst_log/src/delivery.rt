@@ -1,10 +1,10 @@
 //! Replies are handed to a writer, and what was handed to it before a failure is known.
 ghost use Rattle.std.specs.Prelude.{OnOk, IsOkUnless};
 ghost use Rattle.std.specs.Io.KnownBytes.{Appends};
-ghost use Rattle.inst_bytes.specs.Handing.{WritesPart};
+ghost use Rattle.inst_base.specs.Handing.{WritesPart};
 
 use crate::LogError;
-use inst_bytes::write_bytes;
+use inst_base::write_bytes;
 use std::io::Write;
 
 /// Writes these bytes, and flushes. At `Err` a front of them was written.

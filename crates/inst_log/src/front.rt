@@ -2,7 +2,7 @@
 ghost use Rattle.std.specs.Prelude.{◌≡◌, ◌≢◌, ◌⊎◌, ◌<◌, ◌≤◌, [], length, slice_index, MatchBool, MatchOption};
 ghost use Rattle.inst_log.specs.Layout.{recovered, blocks, IsFirstLine};
 
-use inst_bytes::find_newline;
+use inst_base::find_newline;
 
 /// The whole lines with which bytes begin, each with its newline.
 pub fn whole_lines(bytes: &[u8]) -> &[u8]

@@ -1,5 +1,5 @@
 //! The file of the lines that a hub has read, ahead of their replies: what is acknowledged is on the disk,
-//! whatever moment a crash comes at.
+//! whatever moment a crash comes at. And a run that a crash cuts off, with another one that resumes its log.
 #![tactic(auto)]
 
 mod answers;
@@ -15,6 +15,7 @@ mod opening;
 mod reading;
 mod recorder;
 mod repair;
+mod restart;
 mod start;
 mod surveying;
 mod synced;
@@ -31,5 +32,6 @@ pub use log::Log;
 pub use opening::read_file;
 pub use reading::{count_lines, lines_len, read_lines};
 pub use recorder::Recorder;
+pub use restart::{Twice, run_twice};
 pub use start::Start;
 pub use surveying::survey;

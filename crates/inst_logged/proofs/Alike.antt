@@ -4,7 +4,7 @@ use Rattle.std.proofs.lemmas.Bool.{cases_Bool, ltb-true, ltb-false, lt-ltb}
 use Rattle.std.proofs.lemmas.List.{take_all, length-take-le}
 use Rattle.inst_lines.specs.declared.mode.Mode.{Mode}
 use Rattle.inst_lines.specs.Limits.{most_line_bytes}
-use Rattle.inst_bytes.specs.Newline.{newline}
+use Rattle.inst_base.specs.Newline.{newline}
 use Rattle.inst_lines.specs.Answers.{Answerer, is_too_long, reply_to, state_after_line, output}
 use Rattle.inst_lines.specs.Answering.{Past, answering}
 use Rattle.inst_log.specs.Escape.{line_of}

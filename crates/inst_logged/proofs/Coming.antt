@@ -4,7 +4,7 @@ use Rattle.std.proofs.Math.Seq.{take-append-add}
 use Rattle.std.proofs.lemmas.List.{append-nil, map-append}
 use Rattle.std.specs.Io.KnownBytes.{Consumes}
 use Rattle.inst_lines.specs.Lines.{lines_of, whole_lines_of}
-use Rattle.inst_bytes.proofs.Streams.{Consumes-append, Consumes-keeps, Appends-append, Appends-keeps, Keeps-same}
+use Rattle.inst_base.proofs.Streams.{Consumes-append, Consumes-keeps, Appends-append, Appends-keeps, Keeps-same}
 use Rattle.inst_log.specs.Layout.{recovered}
 use Rattle.inst_log.specs.Log.{IsSettled}
 use Rattle.inst_log.specs.Serving.{Replies, Tells, TellsKept, SaysOn}

@@ -3,9 +3,9 @@ use Rattle.std.proofs.Common.{◌≡◌, ◌≢◌, ℕ, zero, suc, true, false,
 use Rattle.std.proofs.lemmas.Bool.{cases_Bool, ne_eqb, eq-eqb, eqb-true}
 use Rattle.std.proofs.lemmas.Bool.{true≢false}
 use Rattle.std.proofs.lemmas.List.{append-nil}
-use Rattle.inst_bytes.specs.Newline.{newline, NoNewline}
+use Rattle.inst_base.specs.Newline.{newline, NoNewline}
 use Rattle.inst_lines.specs.Lines.{lines_of, whole_lines_of}
-use Rattle.inst_bytes.proofs.Searching.{NoNewline-append}
+use Rattle.inst_base.proofs.Searching.{NoNewline-append}
 use Rattle.inst_lines.proofs.LinesLemmas.{lines_of-line, whole_lines_of-line, lines_of-part, whole_lines_of-part}
 use Rattle.inst_log.specs.Escape.{raw_of}
 use Rattle.inst_logged.specs.Input.{cut, logged}

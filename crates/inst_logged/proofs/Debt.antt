@@ -4,8 +4,8 @@ use Rattle.std.proofs.lemmas.List.{append-nil, drop_all, drop_at, drop-drop, dro
 use Rattle.std.proofs.Math.Seq.{take-append-add}
 use Rattle.std.proofs.lemmas.Bool.{cases_lt}
 use Rattle.std.specs.Io.KnownBytes.{Appends}
-use Rattle.inst_bytes.specs.Handing.{WritesPart}
-use Rattle.inst_bytes.proofs.Streams.{Appends-append, Appends-keeps, Keeps-same}
+use Rattle.inst_base.specs.Handing.{WritesPart}
+use Rattle.inst_base.proofs.Streams.{Appends-append, Appends-keeps, Keeps-same}
 use Rattle.inst_agenda.specs.declared.runner.Runner.{Runner}
 use Rattle.inst_lines.specs.declared.mode.Mode.{Mode}
 use Rattle.inst_lines.specs.Answering.{Past, Keeps}

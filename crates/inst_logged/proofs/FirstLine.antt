@@ -31,7 +31,7 @@ use Rattle.inst_json.specs.Replies.{items, members, whole}
 use Rattle.inst_json.proofs.Json.{json_of-value}
 use Rattle.inst_json.proofs.Plain.{escape-code}
 use Rattle.inst_json.proofs.Reading.{ReadsBack, from_parts}
-use Rattle.inst_bytes.specs.Newline.{newline, NoNewline}
+use Rattle.inst_base.specs.Newline.{newline, NoNewline}
 use Rattle.inst_books.specs.Laws.{is_printable}
 use Rattle.inst_books.proofs.Printable.{Printable, joined}
 use Rattle.inst_books.proofs.Back.{quiet}

@@ -6,7 +6,7 @@ use Rattle.std.proofs.Math.Seq.{take-append-add}
 use borrow.Rule.Slice.PartMut.{put_mid, post_of}
 use lib.Seq.{paste}
 use Rattle.std.proofs.lemmas.Bool.{cases_lt}
-use Rattle.inst_bytes.specs.Newline.{NoNewline, BreaksAt}
+use Rattle.inst_base.specs.Newline.{NoNewline, BreaksAt}
 use Rattle.inst_log.specs.Escape.{raw_of}
 use Rattle.inst_logged.specs.Input.{cut, logged}
 use Rattle.inst_logged.specs.inner.Input.{lines_from, rest_from, last_line}

@@ -6,7 +6,7 @@ use Rattle.inst_lines.specs.declared.mode.Mode.{Mode}
 use Rattle.inst_world.specs.Headline.{KeepsTheHeadline}
 use Rattle.inst_lines.specs.Answering.{Past}
 use Rattle.inst_lines.specs.Headline.{run_through}
-use Rattle.inst_bytes.proofs.Streams.{Consumes-keeps, Appends-append, Keeps-same}
+use Rattle.inst_base.proofs.Streams.{Consumes-keeps, Appends-append, Keeps-same}
 use Rattle.inst_log.specs.Layout.{recovered}
 use Rattle.inst_log.specs.Opening.{kept, Begins, IsSameOrBegun}
 use Rattle.inst_log.specs.Serving.{Covers, Replies, Tells, TellsKept, SaysOn}

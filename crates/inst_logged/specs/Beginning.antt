@@ -2,7 +2,7 @@
 use Rattle.std.specs.Prelude.{◌≡◌, ◌⊎◌, ◌<◌, ◌^◌, ℕ, List, [], ◌∷◌, ◌++◌, Option, IfSome}
 use Rattle.inst_settings.specs.Settings.{HubSettings}
 use Rattle.inst_settings.specs.Lawful.{AreOfAHub}
-use Rattle.inst_bytes.specs.Newline.{newline}
+use Rattle.inst_base.specs.Newline.{newline}
 use Rattle.inst_lines.specs.declared.mode.Mode.{Mode}
 use Rattle.inst_logged.specs.declared.version.Version.{Version}
 use Rattle.inst_logged.specs.declared.beginning.Beginning.{Beginning}

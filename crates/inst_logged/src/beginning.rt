@@ -7,7 +7,7 @@ ghost use Rattle.inst_base.specs.Text.{is_code};
 ghost use Rattle.inst_base.specs.declared.fault.Fault.TheVariants.{NotJson};
 ghost use Rattle.inst_settings.specs.Settings.{HubSettings};
 ghost use Rattle.inst_settings.specs.Lawful.{IsSettings, AreOfAHub, numbers_of};
-ghost use Rattle.inst_bytes.specs.Newline.{newline, NoNewline};
+ghost use Rattle.inst_base.specs.Newline.{newline, NoNewline};
 ghost use Rattle.inst_json.specs.Replies.{items};
 ghost use Rattle.inst_json.specs.Lines.{json_of};
 ghost use Rattle.inst_logged.specs.Header.{mode_word};

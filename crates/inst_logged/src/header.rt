@@ -11,8 +11,8 @@ ghost use Rattle.inst_logged.specs.Marking.{BeginsBy};
 ghost use Rattle.inst_logged.specs.Header.{marked, header, header_from, CanBeginFrom, header_line, books_field, field, mode_field, participants_field, mode_word, version_word, listed, comma_if, quoted};
 
 use crate::Version;
+use inst_base::find_newline;
 use inst_books::append_books;
-use inst_bytes::find_newline;
 use inst_chain::{Marker, has_mark, mark_lines};
 use inst_journal::Journal;
 use inst_json::code_text;

@@ -1,7 +1,7 @@
 //! A hub with a log: its opening, and whole runs of lines.
 ghost use Rattle.std.specs.Prelude.{◌≡◌, ◌≤◌, ◌^◌, [], List, ℕ, length, IsTrue, IfOk, IfErr, OnOk, MatchBool};
 ghost use Rattle.std.specs.Io.KnownBytes.{IsAtEnd};
-ghost use Rattle.inst_bytes.specs.Newline.{NoNewline};
+ghost use Rattle.inst_base.specs.Newline.{NoNewline};
 ghost use Rattle.inst_log.specs.Layout.{recovered, blocks};
 ghost use Rattle.inst_log.specs.Log.{IsSettled};
 ghost use Rattle.inst_log.specs.inner.Serving.{TellsPart};

@@ -3,7 +3,7 @@ ghost use Rattle.std.specs.Prelude.{◌≡◌, ◌+◌, ◌≤◌, ◌++◌, [],
 ghost use Rattle.std.specs.Io.{ReadsAtMost};
 ghost use Rattle.std.specs.Io.KnownBytes.{Consumes, ReadConsumes};
 ghost use Rattle.inst_lines.specs.Limits.{buffer_bytes, most_line_bytes};
-ghost use Rattle.inst_bytes.specs.Newline.{NoNewline};
+ghost use Rattle.inst_base.specs.Newline.{NoNewline};
 ghost use Rattle.inst_log.specs.Layout.{recovered, IsWhole};
 ghost use Rattle.inst_log.specs.Escape.{raw_of};
 ghost use Rattle.inst_chain.specs.Chain.{HasNoMark};
@@ -11,7 +11,7 @@ ghost use Rattle.inst_logged.specs.Input.{cut, logged};
 ghost use Rattle.inst_logged.specs.inner.Input.{last_line, lines_from, rest_from, CutsLines};
 
 use crate::LoggedError;
-use inst_bytes::find_newline;
+use inst_base::find_newline;
 use inst_lines::{BUFFER_BYTES, MOST_LINE_BYTES};
 use inst_log::push_line;
 use std::alloc::{AllocError, Global};

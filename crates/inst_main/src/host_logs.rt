@@ -3,7 +3,7 @@ ghost use Rattle.std.specs.Prelude.{◌≡◌, None, is_some, option_map, string
 ghost use Rattle.inst_program.specs.Logs.{IsLogsError};
 ghost use Rattle.inst_main.specs.HostLogs.{IsNew, host_files, last_closed};
 
-use inst_faults::LogFault;
+use inst_options::LogFault;
 use inst_program::{Logs, LogsError};
 use sqlite_disk::{Disk, Files};
 use sqlite_std_file::{FileFrom, OpenError, Unknown};

@@ -2,3 +2,4 @@ pub mod Given
 pub mod Naming
 pub mod Refused
 pub mod Ranges
+pub mod FaultNames

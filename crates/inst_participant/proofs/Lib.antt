@@ -8,3 +8,9 @@ pub mod Serving
 pub mod Sweeping
 pub mod Due
 pub mod Refusing
+pub mod Listing
+pub mod Fitting
+pub mod Wider
+pub mod PlaceByPlace
+pub mod Parted
+pub mod Joining

@@ -1,7 +1,7 @@
 -- Whether a log has a first line.
 use Rattle.std.proofs.Common.{◌≡◌, ◌<◌, ◌==◌, ℕ, zero, suc, Bool, true, false, List, [], ◌∷◌, ◌++◌, length, take, MatchBool, MatchResult, Result, Ok, Err, is_ok, IfOk, refl, sym, ◌∙◌, ap, subst, arith, length-append}
 use Rattle.std.proofs.lemmas.Bool.Decides.{nat_tests}
-use Rattle.inst_bytes.specs.Newline.{newline}
+use Rattle.inst_base.specs.Newline.{newline}
 use Rattle.inst_log.specs.Layout.{blocks, recovered}
 use Rattle.inst_program.specs.Keeping.{IsUntaken, KeptRun}
 use Rattle.inst_program.specs.Keeping.IsUntaken.{Foreign}

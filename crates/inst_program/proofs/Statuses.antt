@@ -2,9 +2,9 @@
 use Rattle.std.proofs.Common.{◌≡◌, ◌⊎◌, inl, inr, ℕ, List, Option, refl, subst, arith}
 use Rattle.inst_base.specs.declared.fault.Fault.{Fault}
 use Rattle.inst_base.specs.declared.fault.Fault.TheVariants.{BadSettings, Memory}
-use Rattle.inst_faults.specs.LogFault.{status_of_log}
-use Rattle.inst_faults.specs.declared.log_fault.LogFault.{LogFault}
-use Rattle.inst_faults.specs.declared.log_fault.LogFault.TheVariants.{BadBooks, ChangedLog, DamagedLog, DiskFault, LastOpening, LogInUse, NoLog, OtherDigest, OtherSettings, ToldAhead}
+use Rattle.inst_options.specs.LogFault.{status_of_log}
+use Rattle.inst_options.specs.declared.log_fault.LogFault.{LogFault}
+use Rattle.inst_options.specs.declared.log_fault.LogFault.TheVariants.{BadBooks, ChangedLog, DamagedLog, DiskFault, LastOpening, LogInUse, NoLog, OtherDigest, OtherSettings, ToldAhead}
 use Rattle.inst_lines.specs.Answers.{Answerer}
 use Rattle.inst_lines.specs.Session.{Leaves}
 use Rattle.inst_program.specs.Program.{status_of}

@@ -1,5 +1,5 @@
 -- Why a log isn't opened or read. This hub's own choice.
-use Rattle.inst_faults.specs.declared.log_fault.LogFault.TheVariants.{DiskFault, OtherSettings, NoLog, ToldAhead, LogInUse, BadBooks, LastOpening, DamagedLog, OtherDigest, ChangedLog}
+use Rattle.inst_options.specs.declared.log_fault.LogFault.TheVariants.{DiskFault, OtherSettings, NoLog, ToldAhead, LogInUse, BadBooks, LastOpening, DamagedLog, OtherDigest, ChangedLog}
 use Rattle.inst_program.specs.declared.logs.LogsError.{LogsError}
 use Rattle.inst_program.specs.declared.logs.LogsError.TheVariants.{Memory, Log}
 

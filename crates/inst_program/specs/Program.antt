@@ -19,8 +19,8 @@ use Rattle.inst_lines.specs.declared.mode.Mode.TheVariants as mode
 use Rattle.inst_drill.specs.declared.explaining.DrillResult.{DrillResult}
 use Rattle.inst_drill.specs.Plan.{MayDrill}
 use Rattle.inst_drill.specs.Drilled.{HasDrilledAll}
-use Rattle.inst_faults.specs.AnyFault.{IsNamed, name_of, number_of}
-use Rattle.inst_faults.specs.declared.any_fault.AnyFault.{AnyFault}
+use Rattle.inst_options.specs.AnyFault.{IsNamed, name_of, number_of}
+use Rattle.inst_options.specs.declared.any_fault.AnyFault.{AnyFault}
 use Rattle.inst_options.specs.CommandLine.{command_line}
 use Rattle.inst_options.specs.Options.{HasAHub, Task}
 use Rattle.inst_options.specs.Options.Task.{Run, Play, Drill, Check}

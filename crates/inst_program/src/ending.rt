@@ -6,9 +6,9 @@ use crate::logs::LogsError;
 use inst_base::Fault;
 use inst_chain::Prefix;
 use inst_drill::DrillError;
-use inst_faults::LogFault;
 use inst_log::LogError;
 use inst_logged::LoggedError;
+use inst_options::LogFault;
 use std::alloc::AllocError;
 use std::io::Write;
 

@@ -4,7 +4,7 @@ ghost use Rattle.sqlite_disk.specs.Disk.{Only};
 ghost use Rattle.inst_program.specs.Files.{AllAreIn, Files, IfKept, IsClosed, IsOpened, IsUntouched};
 ghost use Rattle.inst_program.specs.Logs.{IsLogsError};
 
-use inst_faults::LogFault;
+use inst_options::LogFault;
 use sqlite_disk::Disk;
 use std::io::Read;
 

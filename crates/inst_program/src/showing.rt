@@ -11,8 +11,8 @@ use crate::ending::{Ending, ending_of, tell_damage};
 use crate::logs::Logs;
 use inst_base::Fault;
 use inst_chain::{Digest, Prefix, Summary, summarize};
-use inst_faults::LogFault;
 use inst_logged::{LoggedError, Version, read_beginning, version_of};
+use inst_options::LogFault;
 use std::alloc::{AllocError, Global};
 use std::io::Write;
 

@@ -4,7 +4,7 @@ ghost use Rattle.inst_program.specs.Logs.{IsLogsError};
 ghost use Rattle.sqlite_disk.specs.Memory.{memory_bytes, memory_is_usable};
 ghost use Rattle.inst_program_tests.specs.MemoryLogs.{IsCopy, file_at, memory_files, which_of};
 
-use inst_faults::LogFault;
+use inst_options::LogFault;
 use inst_program::{Logs, LogsError};
 use sqlite_disk::{Crash, Disk, Fuse, Memory};
 use std::alloc::Global;

@@ -3,7 +3,7 @@ ghost use Rattle.std.specs.Prelude.{◌≡◌, None};
 
 use crate::memory_logs::{Calls, MemoryLogs, Which};
 use crate::scene::{Ended, LINES, NEXT, REPLIES, RUN, run, run_to};
-use inst_rows::Pieces;
+use inst_fixtures::Pieces;
 use std::alloc::Global;
 use std::process::Abort;
 use std::sync::Wait;

@@ -3,9 +3,8 @@ ghost use Rattle.std.specs.Prelude.{◌≡◌, true};
 ghost use Rattle.inst_command.specs.Ask.{command_fits};
 ghost use Rattle.inst_settings.specs.Settings.{is_participant};
 
-use inst_audit::can_open;
 use inst_base::{Cents, Fault, Ident, Moment};
-use inst_books::{BookFault, append_books, read_books};
+use inst_books::{BookFault, append_books, can_open, read_books};
 use inst_command::{Command, Line, Reply, Step};
 use inst_journal::{Handled, Journal, reply_of};
 use inst_ledger::Ledger;

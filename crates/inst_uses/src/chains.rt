@@ -1,7 +1,7 @@
 //! Logs whose batches end with marks, and files that are read in pieces.
 ghost use Rattle.std.specs.Prelude.{IsTrue};
 ghost use Rattle.sqlite_disk.specs.Disk.{Only};
-ghost use Rattle.inst_bytes.specs.Newline.{NoNewline};
+ghost use Rattle.inst_base.specs.Newline.{NoNewline};
 ghost use Rattle.inst_log.specs.Layout.{IsBatch};
 
 use inst_chain::{ChainError, Digest, Marker, mark_lines, verify};

@@ -3,12 +3,12 @@ ghost use Rattle.std.specs.Prelude.{◌≡◌, ◌⊎◌, ◌++◌, ◌∷◌, L
 ghost use Rattle.inst_log.specs.Layout.{recovered};
 ghost use Rattle.inst_chain.specs.Chain.{is_mark, IsSealed, Collision};
 ghost use Rattle.inst_model.specs.OneOutcome.{OutcomeStays};
-ghost use Rattle.inst_together.specs.Together.{TogetherTheyFit};
+ghost use Rattle.inst_participant.specs.Together.{TogetherTheyFit};
 
 use inst_board::Board;
 use inst_chain::one_digest_one_log;
 use inst_model::laws::a_transfer_has_one_outcome;
-use inst_together::laws::together_books_fit;
+use inst_participant::laws::together_books_fit;
 
 /// An outcome never changes.
 pub fn model()

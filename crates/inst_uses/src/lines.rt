@@ -4,8 +4,7 @@ ghost use Rattle.inst_command.specs.Ask.{ask_fits};
 ghost use Rattle.inst_world.specs.HasRun.{IsOfModel};
 
 use inst_agenda::{Runner, follow_up};
-use inst_base::Fault;
-use inst_bytes::{Unwritten, find_newline, write_bytes};
+use inst_base::{Fault, Unwritten, find_newline, write_bytes};
 use inst_command::{Answer, Ask, Reply, Step};
 use inst_json::{read_command, write_reply};
 use inst_lines::{Counts, run_lines};

@@ -1,14 +1,13 @@
 //! Logs of lines over any disk.
 ghost use Rattle.std.specs.Prelude.{IsTrue};
 ghost use Rattle.sqlite_disk.specs.Disk.{Only};
-ghost use Rattle.inst_bytes.specs.Newline.{NoNewline};
+ghost use Rattle.inst_base.specs.Newline.{NoNewline};
 ghost use Rattle.inst_log.specs.Layout.{IsBatch};
 ghost use Rattle.inst_log.specs.Serving.{Replies, AllBatches};
-ghost use Rattle.inst_log_restart.specs.Restart.{Begins};
+ghost use Rattle.inst_log.specs.Restart.{Begins};
 
 use inst_lines::Mode;
-use inst_log::{Answers, Log, LogError, close_batch, push_line};
-use inst_log_restart::run_twice;
+use inst_log::{Answers, Log, LogError, close_batch, push_line, run_twice};
 use inst_logged::{LoggedError, NewHub, Version};
 use inst_settings::Settings;
 use sqlite_disk::{Crash, Disk};

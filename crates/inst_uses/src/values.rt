@@ -5,8 +5,7 @@ ghost use Rattle.inst_command.specs.Ask.{ask_fits};
 
 use inst_base::{Cents, Code, Fault, Moment};
 use inst_command::{Ask, Command};
-use inst_faults::fault_of;
-use inst_options::{Wish, wished};
+use inst_options::{Wish, fault_of, wished};
 use inst_settings::{Numbers, Settings, parse_codes};
 use std::alloc::Global;
 

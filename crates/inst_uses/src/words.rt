@@ -3,7 +3,7 @@
 use inst_base::{Cents, Fault, Ident, Moment};
 use inst_command::Outcome;
 use inst_due::Due;
-use inst_scan::{Field, scan};
+use inst_json::{Field, scan};
 use inst_terms::{Terms, Word, pack, pack_outcome, read_outcome, unpack};
 use std::alloc::Global;
 

@@ -2,7 +2,7 @@
 use Rattle.std.proofs.Common.{◌≡◌, ℕ, List, [], ◌∷◌, ◌++◌, Result, Ok, Err, OnOk, refl, sym, ◌∙◌, ap, subst, append_assoc}
 use Rattle.inst_log.specs.Layout.{blocks}
 use Rattle.inst_log.specs.Serving.{Replies, SaysOn}
-use Rattle.inst_log_restart.specs.Restart.{Begins}
+use Rattle.inst_log.specs.Restart.{Begins}
 
 pub blocks-append : (a b : List (List ℕ)) → blocks (a ++ b) ≡ blocks a ++ blocks b
 blocks-append [] b = refl

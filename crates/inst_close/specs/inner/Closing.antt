@@ -1,6 +1,6 @@
 -- A close that left the parts of a hub.
-use Rattle.inst_parts.specs.declared.parts.Parts.{Parts}
-use Rattle.inst_parts.specs.Apart.{AreLater}
+use Rattle.inst_participant.specs.declared.parts.Parts.{Parts}
+use Rattle.inst_participant.specs.Apart.{AreLater}
 use Rattle.inst_close.specs.declared.closing.Rest.{Rest}
 use Rattle.inst_close.specs.declared.closing.Rest.TheVariants.{Whole, Apart}
 

@@ -4,7 +4,7 @@ use Rattle.std.specs.Prelude.{◌≡◌, ℕ, ◌<◌, Option, Some, None}
 use Rattle.inst_settings.specs.Settings.{HubSettings, participants}
 use Rattle.inst_journal.specs.Opened.{openings}
 use Rattle.inst_model.specs.Opening.{Opening, First, FromBooks}
-use Rattle.inst_together.specs.Together.{histories}
+use Rattle.inst_participant.specs.Together.{histories}
 use Rattle.inst_close.specs.ClosedHub.{ClosedHub}
 
 -- the books of a hub of these settings, which were opened from fewer than n times

@@ -7,7 +7,7 @@ use Rattle.inst_board.specs.declared.place.Place.{Place}
 use Rattle.inst_command.specs.declared.outcome.Outcome.TheVariants.{Accepted, TimedOut}
 use Rattle.inst_journal.specs.Opened.{is_opening}
 use Rattle.inst_journal.specs.declared.event.Event.{Event}
-use Rattle.inst_together.specs.Told.{told}
+use Rattle.inst_participant.specs.InTheBooks.{told}
 use Rattle.inst_drill.specs.Report.{books_end}
 
 -- the pair is an outcome that the books don't tell

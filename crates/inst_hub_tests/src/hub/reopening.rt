@@ -6,8 +6,8 @@ use crate::asking::{ACCEPTED, Deed, Line, Told};
 use crate::tellers::played;
 use inst_base::Fault;
 use inst_command::Step;
+use inst_fixtures::{A, B, books, settings};
 use inst_hub::Hub;
-use inst_rows::{A, B, books, settings};
 use std::alloc::Global;
 use std::process::Abort;
 use std::sync::Wait;
@@ -32,12 +32,12 @@ fn one_settled() -> Result<[Step; 7], Fault>
         index: 0,
     };
     Ok([
-        inst_rows::fund(A, "F1", 50_000, 0)?,
-        inst_rows::submit(A, "T1", B, 100, 1000, 1000)?,
-        inst_rows::submit(A, "T2", B, 100, 1000, 1000)?,
+        inst_fixtures::fund(A, "F1", 50_000, 0)?,
+        inst_fixtures::submit(A, "T1", B, 100, 1000, 1000)?,
+        inst_fixtures::submit(A, "T2", B, 100, 1000, 1000)?,
         first,
         second,
-        inst_rows::confirm(B, A, "T1", 2000)?,
+        inst_fixtures::confirm(B, A, "T1", 2000)?,
         learn,
     ])
 }

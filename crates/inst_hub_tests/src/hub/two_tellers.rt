@@ -8,8 +8,8 @@ use crate::hub::setting::submitted;
 use crate::tellers::last_two;
 use inst_base::Fault;
 use inst_command::State;
+use inst_fixtures::settings;
 use inst_hub::{Hub, Teller};
-use inst_rows::settings;
 use std::process::Abort;
 use std::sync::Wait;
 

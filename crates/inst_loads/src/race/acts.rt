@@ -1,7 +1,7 @@
 //! What a participant does, by short texts and plain numbers.
 use inst_base::{Fault, Moment};
 use inst_command::{Command, Step};
-use inst_rows::{ask, confirm, fund, submit};
+use inst_fixtures::{ask, confirm, fund, submit};
 
 /// A command, or a step at a place of an originator.
 #[derive(Clone, Copy)]

@@ -7,7 +7,7 @@ ghost use Rattle.inst_cell.specs.Opening.{AreOpened};
 use crate::race::participant::Participant;
 use inst_base::Fault;
 use inst_cell::SharedBoard;
-use inst_rows::settings_with;
+use inst_fixtures::settings_with;
 use inst_settings::Settings;
 use std::alloc::Global;
 

@@ -11,8 +11,8 @@ use crate::told::Told;
 use inst_base::{Fault, Ident, mention};
 use inst_close::{Books, CloseFault, close};
 use inst_command::{Outcome, State, Step};
+use inst_fixtures::{A, B, confirm, fund, settings, submit};
 use inst_hub::{Hub, Teller, Ticket};
-use inst_rows::{A, B, confirm, fund, settings, submit};
 use std::alloc::Global;
 use std::sync::Wait;
 

@@ -9,8 +9,8 @@ use crate::scarce::want::{MOST_TRIES, Need, QUANTUM, Want, check_answer};
 use crate::told::Told;
 use inst_base::{Fault, Moment};
 use inst_command::{Command, Outcome, State, Step};
+use inst_fixtures::{A, B, ask, confirm, fund, settings, submit};
 use inst_hub::{Hub, Teller, Ticket};
-use inst_rows::{A, B, ask, confirm, fund, settings, submit};
 use std::alloc::Global;
 use std::sync::Wait;
 

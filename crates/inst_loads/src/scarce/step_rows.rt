@@ -12,8 +12,8 @@ use crate::scarce::want::{MOST_TRIES, Need, QUANTUM, Want, check_answer};
 use inst_base::{Fault, Moment, mention};
 use inst_board::Place;
 use inst_command::{Answer, Ask, Command, Outcome, Reply, Step, Submission};
+use inst_fixtures::{A, Act, B, C, Slots, settings};
 use inst_journal::Event;
-use inst_rows::{A, Act, B, C, Slots, settings};
 use inst_world::World;
 use std::alloc::Global;
 

@@ -1,6 +1,6 @@
 -- The file of a log whose end isn't closed.
 use Rattle.std.specs.Prelude.{◌≡◌, ℕ, List, ◌++◌, length}
-use Rattle.inst_bytes.specs.Newline.{NoNewline}
+use Rattle.inst_base.specs.Newline.{NoNewline}
 use Rattle.inst_log.specs.Layout.{recovered, blocks}
 
 -- behind its lines the file has no further newline

@@ -1,6 +1,6 @@
 -- How bytes that come behind a part of a line are cut into lines.
 use Rattle.std.specs.Prelude.{◌≡◌, ℕ, ◌≤◌, List, [], ◌∷◌, ◌++◌, map, length, drop, ◌==◌, if◌then◌else◌}
-use Rattle.inst_bytes.specs.Newline.{newline}
+use Rattle.inst_base.specs.Newline.{newline}
 use Rattle.inst_log.specs.Layout.{recovered, IsWhole}
 use Rattle.inst_logged.specs.Input.{logged}
 

@@ -1,6 +1,6 @@
 //! The lines of a log are answered again, piece by piece.
 ghost use Rattle.std.specs.Prelude.{◌≡◌, ◌⊎◌, ◌<◌, ◌≤◌, ℕ, Some, length, IsTrue, IfOk, IfErr, OnOk, OnErr, ⊤};
-ghost use Rattle.inst_bytes.specs.Handing.{WritesPart};
+ghost use Rattle.inst_base.specs.Handing.{WritesPart};
 ghost use Rattle.inst_log.specs.Layout.{recovered, IsBatch};
 ghost use Rattle.inst_log.specs.Opening.{Begins};
 ghost use Rattle.inst_log.specs.Pieces.{Starts};

@@ -12,9 +12,9 @@ use Rattle.inst_lines.specs.Session.{FailsAfter}
 use Rattle.inst_lines.specs.declared.mode.Mode.{Mode}
 use Rattle.inst_drill.specs.declared.error.DrillError.{DrillError}
 use Rattle.inst_drill.specs.declared.error.DrillError.TheVariants as drill
-use Rattle.inst_faults.specs.AnyFault.{IsNamed}
-use Rattle.inst_faults.specs.LogFault.{status_of_log}
-use Rattle.inst_faults.specs.declared.any_fault.AnyFault.{AnyFault}
+use Rattle.inst_options.specs.AnyFault.{IsNamed}
+use Rattle.inst_options.specs.LogFault.{status_of_log}
+use Rattle.inst_options.specs.declared.any_fault.AnyFault.{AnyFault}
 use Rattle.inst_options.specs.declared.error.WordsError.{WordsError}
 use Rattle.inst_options.specs.declared.error.WordsError.TheVariants as error
 use Rattle.inst_options.specs.declared.wish.LogOptions.{LogOptions}

@@ -2,7 +2,7 @@
 use crate::comparing::same_at;
 use crate::json::hub::{MOST, refusal};
 use inst_base::Fault;
-use inst_scan::{Fields, Form, scan_into};
+use inst_json::{Fields, Form, scan_into};
 use std::process::Abort;
 
 /// Lines that are no JSON, and are known to be none where the pass stops.

@@ -1,7 +1,7 @@
 //! Which lines are read in one pass, without a tree. What they are read as a contract says, whichever way it is.
 use crate::comparing::same_at;
 use inst_base::Fault;
-use inst_scan::scan;
+use inst_json::scan;
 use std::alloc::Global;
 use std::process::Abort;
 

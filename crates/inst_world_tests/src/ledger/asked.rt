@@ -1,7 +1,7 @@
 //! What is asked, by short texts and plain numbers.
 use inst_base::{Cents, Fault, Ident, Moment, Reason};
 use inst_command::{Command, Outcome, Submission};
-use inst_rows::End;
+use inst_fixtures::End;
 
 /// A command.
 #[derive(Clone, Copy)]

@@ -5,7 +5,7 @@ use crate::ledger::cases::{Does, First, goes};
 use crate::ledger::told::Told;
 use inst_base::Fault;
 use inst_command::LineKind;
-use inst_rows::End;
+use inst_fixtures::End;
 
 const FETCHES: &[Row] = &[
     (

@@ -7,9 +7,9 @@ use crate::comparing::{same, same_at};
 use crate::ledger::answering::{Row, answers, walks};
 use inst_base::{Cents, Fault, Ident, Moment};
 use inst_command::Outcome;
+use inst_fixtures::{End, Shown, is_end, settings};
 use inst_journal::{Event, Journal};
 use inst_ledger::Ledger;
-use inst_rows::{End, Shown, is_end, settings};
 use std::alloc::Global;
 use std::process::Abort;
 

@@ -4,7 +4,7 @@ use crate::ledger::asked::Asks;
 use crate::ledger::cases::{Does, First, goes};
 use crate::ledger::told::Told;
 use inst_base::Fault;
-use inst_rows::End;
+use inst_fixtures::End;
 
 const REFUSED: &[Row] = &[
     (Asks::Fund("F1", 1000), 0, None, Told::Done("F1")),

@@ -7,7 +7,7 @@ use crate::ledger::openings::FUNDED_AGAIN;
 use crate::ledger::told::Told;
 use inst_base::Fault;
 use inst_command::LineKind;
-use inst_rows::{End, Shown};
+use inst_fixtures::{End, Shown};
 
 const MOVES: &[Row] = &[
     (Asks::Statement(0, 10), 1000, None, Told::Lines(&[])),

@@ -1,7 +1,7 @@
 //! What is told, by short texts and plain numbers.
 use inst_base::{Fault, Ident};
 use inst_command::{Reply, State};
-use inst_rows::{Came, End, Shown, are_entries, are_lines, is_end};
+use inst_fixtures::{Came, End, Shown, are_entries, are_lines, is_end};
 
 #[derive(Clone, Copy)]
 pub(crate) enum Told {

@@ -1,8 +1,8 @@
 //! Input that is cut after each byte.
 use crate::comparing::same;
 use crate::lines::serving::{Row, are_replies, lines_of, written};
+use inst_fixtures::settings;
 use inst_lines::Mode;
-use inst_rows::settings;
 use inst_settings::Settings;
 use std::alloc::Global;
 use std::process::Abort;

@@ -1,8 +1,8 @@
 //! When a run writes and flushes, as a reader and a writer note it.
 use crate::comparing::same;
 use crate::lines::serving::{BAD_FIELD, Row, are_replies};
+use inst_fixtures::{Pieces, settings};
 use inst_lines::{Counts, run_lines};
-use inst_rows::{Pieces, settings};
 use inst_settings::Settings;
 use std::cell::Cell;
 use std::io::{self, Read, Write};

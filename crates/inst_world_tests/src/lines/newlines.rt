@@ -2,8 +2,8 @@
 use crate::comparing::same;
 use crate::lines::serving::NOT_JSON;
 use inst_base::Fault;
+use inst_fixtures::settings;
 use inst_lines::{Counts, run_lines};
-use inst_rows::settings;
 use inst_settings::Settings;
 use std::io::{self, Write};
 use std::process::Abort;

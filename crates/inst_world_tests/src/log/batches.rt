@@ -2,7 +2,7 @@
 ghost use Rattle.std.specs.Prelude.{◌<◌, length, IfOk, OnOk};
 ghost use Rattle.inst_log.specs.Layout.{recovered, IsBatch, IsWhole};
 
-use inst_bytes::find_newline;
+use inst_base::find_newline;
 use inst_log::{close_batch, push_line};
 use std::process::Abort;
 use std::test::Fail;

@@ -2,10 +2,10 @@
 use crate::comparing::{same, same_at};
 use crate::disks::filled;
 use crate::logged::keeping::text_of;
+use inst_fixtures::settings;
 use inst_lines::Mode;
 use inst_log::LogError;
 use inst_logged::{LoggedError, NewHub};
-use inst_rows::settings;
 use inst_settings::Settings;
 use sqlite_disk::Memory;
 use std::alloc::Global;

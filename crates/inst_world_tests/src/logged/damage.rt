@@ -160,14 +160,14 @@ fn log_with_books(alloc: Global, settings: &Settings) -> Result<Vec<u8>, Fail> {
 
 #[test]
 fn no_flipped_bit_is_taken(rt: HostRuntime) -> Result<(), Fail> {
-    let settings = inst_rows::settings(rt.alloc())?;
+    let settings = inst_fixtures::settings(rt.alloc())?;
     let log = vector::made(rt.alloc(), &settings, &mut Vec::new(rt.alloc()))?;
     flip_each(&rt, &settings, &log, 1)
 }
 
 #[test]
 fn no_flipped_bit_of_books_is_taken(rt: HostRuntime) -> Result<(), Fail> {
-    let settings = inst_rows::settings(rt.alloc())?;
+    let settings = inst_fixtures::settings(rt.alloc())?;
     let log = log_with_books(rt.alloc(), &settings)?;
     flip_each(&rt, &settings, &log, 7)
 }
@@ -311,7 +311,7 @@ fn change_each(
 #[test]
 fn no_changed_line_is_taken(rt: HostRuntime) -> Result<(), Fail> {
     change_each(&rt, &vector::settings(rt.alloc())?, vector::LOG)?;
-    let settings = inst_rows::settings(rt.alloc())?;
+    let settings = inst_fixtures::settings(rt.alloc())?;
     let log = log_with_books(rt.alloc(), &settings)?;
     change_each(&rt, &settings, &log)
 }

@@ -1,9 +1,9 @@
 //! A reader that fails behind each byte, and another run that goes on behind the lines that it gave.
 use crate::comparing::same_at;
 use crate::logged::keeping::{Case, case_of, front_len, go_on, newlines, serve};
+use inst_fixtures::Pieces;
 use inst_lines::Mode;
 use inst_logged::LoggedError;
-use inst_rows::Pieces;
 use sqlite_disk::Memory;
 use std::alloc::Global;
 use std::process::Abort;

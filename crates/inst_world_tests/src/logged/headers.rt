@@ -1,8 +1,8 @@
 //! With which bytes a log begins. Each digest is what `sha256sum` prints for the line before it.
 use crate::comparing::same;
+use inst_fixtures::{settings, settings_with};
 use inst_lines::Mode;
 use inst_logged::{Version, first_batch};
-use inst_rows::{settings, settings_with};
 use inst_settings::Settings;
 use std::process::Abort;
 use std::test::Fail;

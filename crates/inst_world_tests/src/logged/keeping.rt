@@ -4,10 +4,10 @@ ghost use Rattle.sqlite_disk.specs.Disk.{Only};
 
 use crate::disks::filled;
 use crate::lines::serving::written;
-use inst_bytes::find_newline;
+use inst_base::find_newline;
+use inst_fixtures::settings;
 use inst_lines::Mode;
 use inst_logged::{LoggedError, NewHub, Version};
-use inst_rows::settings;
 use inst_settings::Settings;
 use sqlite_disk::{Disk, Memory};
 use std::alloc::Global;

@@ -1,8 +1,8 @@
 //! Lines of each length, read in pieces of each size, and answered again.
 use crate::comparing::same_at;
 use crate::logged::keeping::{Case, case_with, go_on, serve};
+use inst_fixtures::Pieces;
 use inst_lines::Mode;
-use inst_rows::Pieces;
 use sqlite_disk::Memory;
 use std::alloc::Global;
 use std::process::Abort;

@@ -1,7 +1,7 @@
 //! Logs of version 1, which have no marks, are resumed without marks; their next opening has marks.
 use crate::comparing::same;
 use crate::logged::openings::{log_of, next, run_on};
-use inst_rows::settings;
+use inst_fixtures::settings;
 use std::test::Fail;
 
 /// A log of version 1.

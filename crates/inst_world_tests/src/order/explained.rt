@@ -1,11 +1,10 @@
 use crate::comparing::{same, same_at};
 use crate::logged::keeping::text_of;
 use crate::order::books::{Books, EXPLAINED, UNEXPLAINED};
-use inst_audit::can_open;
-use inst_books::read_books;
+use inst_books::{can_open, read_books};
+use inst_fixtures::{settings, settings_with};
 use inst_journal::Journal;
 use inst_order::{interleaving, interleaving_from};
-use inst_rows::{settings, settings_with};
 use inst_settings::Settings;
 use std::alloc::Global;
 use std::process::Abort;

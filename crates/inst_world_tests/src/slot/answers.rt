@@ -1,7 +1,7 @@
 //! What is answered, by short texts and plain numbers.
 use inst_base::Fault;
 use inst_command::{Answer, Entry, Line, LineKind, Reply, State};
-use inst_rows::{End, is_end};
+use inst_fixtures::{End, is_end};
 
 /// What is told: of entries the identifiers, and of statement lines their numbers, what they show and the
 /// positions after them.

@@ -5,7 +5,7 @@ use crate::slot::histories::{Kept, are_copied, copied, keeps};
 use inst_base::{Fault, Ident, Moment, mention};
 use inst_board::Place;
 use inst_command::Answer;
-use inst_rows::{Act, Slots};
+use inst_fixtures::{Act, Slots};
 use std::alloc::Global;
 use std::process::Abort;
 use std::test::Fail;

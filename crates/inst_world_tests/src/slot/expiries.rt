@@ -3,7 +3,7 @@ use crate::slot::answers::Told;
 use crate::slot::cases::{Case, Does, comes};
 use crate::slot::histories::Kept;
 use inst_base::Fault;
-use inst_rows::End;
+use inst_fixtures::End;
 use std::test::Fail;
 
 const EXPIRE_BEFORE_CONFIRM: Case = Case {

@@ -1,6 +1,6 @@
 //! The events of a history, by short texts and plain numbers.
+use inst_fixtures::{End, is_end};
 use inst_journal::Event;
-use inst_rows::{End, is_end};
 use std::process::Abort;
 
 #[derive(Clone, Copy)]

@@ -4,7 +4,7 @@ use crate::slot::cases::{Case, Does, comes_again};
 use crate::slot::histories::Kept;
 use inst_base::Fault;
 use inst_command::LineKind;
-use inst_rows::End;
+use inst_fixtures::End;
 use std::test::Fail;
 
 /// T1 is settled, and T2 is pending.

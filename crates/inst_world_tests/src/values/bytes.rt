@@ -1,6 +1,6 @@
 //! Where a line ends, and how it comes to a writer.
 use crate::comparing::same;
-use inst_bytes::{Unwritten, find_newline, write_bytes};
+use inst_base::{Unwritten, find_newline, write_bytes};
 use std::process::Abort;
 use std::test::Fail;
 

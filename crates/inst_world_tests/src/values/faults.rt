@@ -2,7 +2,7 @@
 use crate::comparing::{same, same_at};
 use inst_base::Fault;
 use inst_command::{Reply, refusals_told};
-use inst_faults::{AnyFault, LogFault, excerpt, fault_of};
+use inst_options::{AnyFault, LogFault, excerpt, fault_of};
 use std::test::Fail;
 
 const WORDS: &[(&str, Option<AnyFault>)] = &[

@@ -2,7 +2,7 @@
 use crate::comparing::same_at;
 use inst_base::{Fault, Ident, Moment};
 use inst_command::{Answer, Outcome, Reply, State, Step};
-use inst_rows::{Came, Shown, are_entries, are_lines};
+use inst_fixtures::{Came, Shown, are_entries, are_lines};
 use inst_world::World;
 use std::process::Abort;
 use std::test::Fail;

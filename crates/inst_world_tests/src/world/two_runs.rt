@@ -6,7 +6,7 @@ use crate::comparing::same;
 use crate::world::told::{Told, is_told};
 use inst_base::Fault;
 use inst_command::{Answer, Command, LineKind, Outcome, Step};
-use inst_rows::{A, B, C, ask, confirm, fund, settings, submit};
+use inst_fixtures::{A, B, C, ask, confirm, fund, settings, submit};
 use inst_settings::Settings;
 use inst_world::run_both;
 use std::alloc::Global;

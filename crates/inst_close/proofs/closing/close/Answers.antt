@@ -1,8 +1,8 @@
 use Rattle.inst_settings.specs.Settings.{participants}
-use Rattle.inst_together.specs.Together.{histories}
-use Rattle.inst_parts.proofs.Parted.{if_ok}
-use Rattle.inst_parts.proofs.PlaceByPlace.{told_nothing}
-use Rattle.inst_parts.specs.Apart.{histories_of}
+use Rattle.inst_participant.specs.Together.{histories}
+use Rattle.inst_participant.proofs.Parted.{if_ok}
+use Rattle.inst_participant.proofs.PlaceByPlace.{told_nothing}
+use Rattle.inst_participant.specs.Apart.{histories_of}
 use Rattle.inst_model.specs.Opening.{Opening}
 use Rattle.inst_close.specs.Closing.{IsOpenedSo, HaveOpened, GoOnFrom, AreOnlyTold, TellAll, AreOfHub}
 use Rattle.inst_close.proofs.Left.{books_of_parts, left_then}

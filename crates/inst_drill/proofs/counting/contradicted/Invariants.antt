@@ -1,5 +1,5 @@
 use Rattle.std.proofs.Common.{◌≡◌}
-use Rattle.inst_together.specs.Together.{histories}
+use Rattle.inst_participant.specs.Together.{histories}
 use Rattle.inst_drill.specs.inner.Report.{NoneContradicts}
 use Rattle.inst_drill.proofs.counting.contradicted.Given as goal
 

@@ -4,7 +4,7 @@ use Rattle.inst_command.specs.declared.outcome.Outcome.TheVariants.{Accepted, Ti
 use Rattle.inst_command.specs.declared.outcome.State.{State}
 use Rattle.inst_settings.specs.Settings.{HubSettings}
 use Rattle.inst_order.specs.Order.{Explains}
-use Rattle.inst_together.specs.Together.{histories}
+use Rattle.inst_participant.specs.Together.{histories}
 use Rattle.inst_drill.specs.Report.{ended}
 use Rattle.inst_drill.specs.inner.Chain.{opening_of}
 use Rattle.inst_drill.specs.inner.Report.{NoneContradicts}

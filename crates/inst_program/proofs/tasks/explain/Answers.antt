@@ -1,6 +1,6 @@
 use Rattle.std.proofs.Common.{ℕ, List, subst}
 use Rattle.std.specs.Io.KnownBytes.{Appends}
-use Rattle.inst_faults.specs.AnyFault.{name_of}
+use Rattle.inst_options.specs.AnyFault.{name_of}
 use Rattle.inst_program.specs.Program.{explanation_text}
 use Rattle.inst_program.proofs.tasks.explain.Goals as goal
 

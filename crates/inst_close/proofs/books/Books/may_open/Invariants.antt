@@ -1,6 +1,6 @@
 use Rattle.std.proofs.Common.{◌<◌, ℕ}
 use Rattle.inst_journal.specs.Opened.{HasOpeningsLeft}
-use Rattle.inst_together.specs.Together.{histories}
+use Rattle.inst_participant.specs.Together.{histories}
 use Rattle.inst_close.proofs.books.Books.may_open.Given as goal
 
 abbrev pub invariant-loop-slot : goal.invariant-loop-slot

@@ -5,9 +5,9 @@ use Rattle.inst_settings.specs.Lawful.{IsSettings}
 use Rattle.inst_cell.specs.Opening.{MayOpen}
 use Rattle.inst_journal.specs.History.{History}
 use Rattle.inst_world.specs.NextOpening.{CanOpenFrom, books_of}
-use Rattle.inst_together.specs.Together.{histories}
-use Rattle.inst_parts.proofs.Parted.{if_ok}
-use Rattle.inst_together.specs.Wider.{widened}
+use Rattle.inst_participant.specs.Together.{histories}
+use Rattle.inst_participant.proofs.Parted.{if_ok}
+use Rattle.inst_participant.specs.Wider.{widened}
 use Rattle.inst_close.specs.Closing.{IsNextOf, AreNextTellers}
 use Rattle.inst_close.specs.NextOpening.{MayOpenWider}
 use Rattle.inst_close.proofs.Reopened.{if_both, both, widened_as, can_open_as, next_is, next_tellers, seats_if_ok}

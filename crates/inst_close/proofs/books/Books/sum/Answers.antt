@@ -2,7 +2,7 @@ use Rattle.std.proofs.Common.{◌≡◌, ◌<◌, ◌+◌, ℕ, arith, length, g
 use Rattle.inst_journal.specs.Money.{position}
 use Rattle.inst_slot.specs.Book.{Book}
 use Rattle.inst_model.specs.Untold.{sum_below, total}
-use Rattle.inst_together.specs.Together.{histories}
+use Rattle.inst_participant.specs.Together.{histories}
 use Rattle.inst_settings.specs.Settings.{participants}
 use Rattle.inst_close.specs.ClosedHub.{ClosedHub, IsClosed}
 use Rattle.inst_close.proofs.Summing.{one_summed, summed_small, net_is_positions}

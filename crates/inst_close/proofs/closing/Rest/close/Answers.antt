@@ -1,7 +1,7 @@
 use Rattle.std.proofs.Common.{List, subst}
 use Rattle.inst_hub.specs.declared.teller.Teller.{Teller}
 use Rattle.inst_hub.specs.declared.hub.Hub.{Hub}
-use Rattle.inst_parts.proofs.Parted.{if_ok}
+use Rattle.inst_participant.proofs.Parted.{if_ok}
 use Rattle.inst_close.specs.declared.closing.Rest.{Rest}
 use Rattle.inst_close.specs.Closing.{IsLeftOf, IsClosedFrom, rest_of}
 use Rattle.inst_close.specs.inner.Closing.{IsPartly}

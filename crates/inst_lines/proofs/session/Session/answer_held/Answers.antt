@@ -1,5 +1,5 @@
 use Rattle.std.proofs.Common.{ℕ, List, refl, subst, ◌∙◌}
-use Rattle.inst_bytes.specs.Newline.{BreaksAt}
+use Rattle.inst_base.specs.Newline.{BreaksAt}
 use Rattle.inst_lines.specs.Answering.{answering, Keeps}
 use Rattle.inst_lines.proofs.SessionLemmas.{on_err, advances-line, stops-unwritten, stops-line}
 use Rattle.inst_lines.proofs.session.Session.answer_held.Goals as goal

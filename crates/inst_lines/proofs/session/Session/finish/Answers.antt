@@ -1,11 +1,11 @@
 use Rattle.std.proofs.Common.{refl}
 use Rattle.std.proofs.lemmas.Result.{on_ok_weaker, on_err_weaker}
 use Rattle.std.specs.Io.KnownBytes.{Appends}
-use Rattle.inst_bytes.specs.Handing.{WritesPart}
+use Rattle.inst_base.specs.Handing.{WritesPart}
 use Rattle.inst_lines.specs.Session.{Finishes}
 use Rattle.inst_lines.specs.inner.Session.{Stops}
 use Rattle.inst_lines.specs.Answering.{answering, Keeps}
-use Rattle.inst_bytes.proofs.Streams.{writes-all}
+use Rattle.inst_base.proofs.Streams.{writes-all}
 use Rattle.inst_lines.proofs.SessionLemmas.{on_err, advances-none, stops-unwritten, finishes-delivered, stops-last}
 use Rattle.inst_lines.proofs.session.Session.finish.Goals as goal
 

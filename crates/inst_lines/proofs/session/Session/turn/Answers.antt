@@ -5,7 +5,7 @@ use Rattle.inst_base.specs.declared.fault.Fault.TheVariants.{ReadFault, WriteFau
 use Rattle.inst_lines.specs.Answering.{answering, Keeps}
 use Rattle.inst_lines.specs.Session.{Fails}
 use Rattle.inst_lines.specs.inner.Session.{IsNoReadFault}
-use Rattle.inst_bytes.proofs.Streams.{writes-all}
+use Rattle.inst_base.proofs.Streams.{writes-all}
 use Rattle.inst_lines.proofs.SessionLemmas.{err_passed, answered-read, turn-fill_fails, turn-stops, stops-after, turn-ends, turn-full, turn-goes_on}
 use Rattle.inst_lines.proofs.session.Session.turn.Goals as goal
 use Rattle.inst_lines.proofs.session.Session.turn.Goals.{else-self-eq-MOST_LINES-via-then-self-eq-MOST_LINES+else-is_in_line, else-self-eq-MOST_LINES-via-else-self-eq-MOST_LINES}

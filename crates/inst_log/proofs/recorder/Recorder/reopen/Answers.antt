@@ -3,7 +3,7 @@ use Rattle.std.proofs.lemmas.Result.{on_ok_weaker}
 use Rattle.std.proofs.lemmas.List.{take_rest}
 use Rattle.std.specs.Io.KnownBytes.{Appends}
 use Rattle.inst_log.specs.Opening.{kept}
-use Rattle.inst_bytes.specs.Handing.{WritesPart}
+use Rattle.inst_base.specs.Handing.{WritesPart}
 use Rattle.inst_log.specs.Serving.{Owing}
 use Rattle.inst_log.proofs.Serve.{text_behind, all_told, part_told, owed_now}
 use Rattle.inst_log.proofs.recorder.Recorder.reopen.Goals as goal

@@ -1,7 +1,7 @@
 use Rattle.std.proofs.Common.{◌≡◌, ◌∙◌, ap, rules}
 use Rattle.std.proofs.lemmas.Result.{on_ok_weaker}
 use Rattle.inst_log.specs.Layout.{recovered}
-use Rattle.inst_bytes.specs.Handing.{WritesPart}
+use Rattle.inst_base.specs.Handing.{WritesPart}
 use Rattle.inst_log.proofs.Serve.{kept_before, kept_after, only_these, part_told, all_told}
 use Rattle.inst_log.proofs.recorder.Recorder.serve.Goals as goal
 

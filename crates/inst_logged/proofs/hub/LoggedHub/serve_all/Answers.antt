@@ -1,7 +1,7 @@
 use Rattle.std.proofs.Common.{inl, inr, [], ◌∙◌, refl, sym, subst, arith}
 use Rattle.std.proofs.lemmas.Result.{err_from_is_err_and}
 use Rattle.std.proofs.lemmas.Bool.{MatchBool-at_true, MatchBool-at_false}
-use Rattle.inst_bytes.specs.Newline.{NoNewline}
+use Rattle.inst_base.specs.Newline.{NoNewline}
 use Rattle.inst_logged.specs.inner.Input.{rest_from}
 use Rattle.inst_logged.proofs.Coming.{come_none, come_more, come_longer, come_end, come_kept, come_so_far, served_as}
 use Rattle.inst_logged.specs.Marking.{IsIntact, IsIntactBy}

@@ -1,5 +1,5 @@
 use Rattle.std.proofs.Common.{◌≡◌, ◌≤◌, length, IsTrue}
-use Rattle.inst_bytes.specs.Newline.{NoNewline}
+use Rattle.inst_base.specs.Newline.{NoNewline}
 use Rattle.inst_logged.specs.Intake.{held}
 use Rattle.sqlite_disk.specs.Disk.{Only}
 use Rattle.inst_logged.specs.Marking.{IsIntactBy}

@@ -2,7 +2,7 @@ use Rattle.std.proofs.Common.{inr, [], ℕ, Option, Some, drop, sym, ◌∙◌, 
 use Rattle.std.proofs.lemmas.List.{take_rest}
 use Rattle.std.proofs.lemmas.Result.{err_from_is_err_and}
 use Rattle.std.specs.Io.KnownBytes.{Appends}
-use Rattle.inst_bytes.specs.Handing.{WritesPart}
+use Rattle.inst_base.specs.Handing.{WritesPart}
 use Rattle.inst_log.specs.Layout.{recovered}
 use Rattle.std.specs.Prelude.{⊤}
 use Rattle.inst_log.specs.declared.error.LogError.{LogError}

@@ -1,6 +1,6 @@
 use Rattle.std.proofs.Common.{rules, ◌++◌, [], List, ℕ, refl, sym, ◌∙◌, ap, subst, append-nil}
 use Rattle.std.proofs.lemmas.Result.{err_from_is_err_and, on_ok_weaker, IfErr-weaker}
-use Rattle.inst_bytes.specs.Handing.{WritesPart}
+use Rattle.inst_base.specs.Handing.{WritesPart}
 use Rattle.inst_log.specs.Layout.{recovered}
 use Rattle.inst_log.specs.Pieces.{IsReading}
 use Rattle.inst_chain.specs.Chain.{said}

@@ -1,4 +1,0 @@
-pub mod Tallying
-pub mod Deciding
-pub mod Agreeing
-pub mod Replaying

@@ -1,5 +1,0 @@
-use Rattle.std.proofs.Common.{rules}
-use Rattle.inst_audit.proofs.replay.Replay.may_open.Goals as goal
-
-pub returns : goal.returns
-returns c = search rules

@@ -1,7 +1,0 @@
-use Rattle.std.proofs.Common.{ℕ, ◌<◌}
-use Rattle.std.specs.List.{All}
-use Rattle.inst_audit.specs.inner.Agreeing.{Agrees, histories_of}
-use Rattle.inst_audit.proofs.sides.books_agree.Given as goal
-
-abbrev pub invariant-loop-who : goal.invariant-loop-who
-invariant-loop-who l = (p : ℕ) → p < l.who → All (Agrees l.limit (histories_of l.ledgers) p) (histories_of l.ledgers p)

@@ -1,0 +1,5 @@
+use Rattle.inst_base.proofs.Searching.{breaks_from_search}
+use Rattle.inst_base.proofs.newline.find_newline.Goals as goal
+
+pub returns : goal.returns
+returns c = breaks_from_search c.args.bytes.now c.memchr.result c.memchr.ensures

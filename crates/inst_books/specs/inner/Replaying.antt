@@ -1,0 +1,25 @@
+-- Journals that are kept again, each by a ledger of its own. This hub's own choice.
+use Rattle.std.specs.Prelude.{◌≡◌, ℕ, ◌<◌, List, length}
+use Rattle.inst_settings.specs.Settings.{HubSettings}
+use Rattle.inst_journal.specs.declared.event.Event.{Event}
+use Rattle.inst_journal.specs.History.{History}
+use Rattle.inst_journal.specs.Opened.{HasOpeningsLeft}
+use Rattle.inst_journal.specs.Sound.{IsSound}
+use Rattle.inst_ledger.specs.Book.{BookAndRoom}
+use Rattle.inst_world.specs.NextOpening.{books_of}
+use Rattle.inst_books.specs.inner.Agreeing.{histories_of}
+
+-- a history that a participant can open from, whatever the others have
+pub record CanBeBook (s : HubSettings) (who : ℕ) (J : List Event) : Type 0 where
+  pub sound : IsSound s who J
+  pub few : HasOpeningsLeft J
+
+-- the first of the journals can be books, and are kept by the ledgers
+pub record AreKept (s : HubSettings) (journals : List History) (ledgers : List BookAndRoom) : Type 0 where
+  pub can : (p : ℕ) → p < length ledgers → CanBeBook s p (books_of journals p)
+  pub same : (p : ℕ) → p < length ledgers → histories_of ledgers p ≡ books_of journals p
+
+-- each of the journals, kept by a ledger
+pub record AreAllKept (s : HubSettings) (journals : List History) (ledgers : List BookAndRoom) : Type 0 where
+  pub one_each : length ledgers ≡ length journals
+  pub kept : AreKept s journals ledgers

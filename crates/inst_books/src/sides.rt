@@ -1,0 +1,148 @@
+//! Whether both sides of each transfer agree.
+ghost use Rattle.std.specs.Prelude.{◌≡◌, ◌↔◌, ◌≤◌, ℕ, IsTrue, length};
+ghost use Rattle.std.specs.List.{All};
+ghost use Rattle.inst_base.specs.TimeLimit.{deadline_of};
+ghost use Rattle.inst_journal.specs.Booked.{first_some, booked};
+ghost use Rattle.inst_ledger.specs.Kept.{sending_of, forwarding_of};
+ghost use Rattle.inst_books.specs.inner.Agreeing.{IsReleased, IsReceived, IsSent, Agrees, histories_of};
+
+use inst_base::{Cents, Ident, Moment, mention};
+use inst_command::Outcome;
+use inst_journal::Event;
+use inst_ledger::{Forwarding, Ledger, Sending};
+
+/// Whether an end is booked that releases the amount.
+fn is_released(outcome: &Option<Outcome>) -> bool
+    ensures { IsTrue result ↔ IsReleased outcome.now }
+{
+    matches!(outcome, Some(Outcome::Rejected(_) | Outcome::TimedOut))
+}
+
+/// Whether both have booked the same, or neither anything.
+fn is_same(one: &Option<Outcome>, other: &Option<Outcome>) -> bool
+    ensures { IsTrue result ↔ (one.now ≡ other.now) }
+{
+    one == other
+}
+
+/// Whether a transfer with this time stamp has this deadline.
+fn is_deadline(stamp: Moment, limit: u32, deadline: Moment) -> bool
+    ensures { IsTrue result ↔ (deadline_of limit stamp ≡ deadline) }
+{
+    // No effect: that the deadline is a moment is known where it is read.
+    let _ = deadline.past_base();
+    stamp.has_deadline(limit) && stamp.deadline(limit) == deadline
+}
+
+/// Whether what came to the beneficiary agrees with what was submitted at `stamp`, and what was booked `there` with what
+/// its originator has booked `here`.
+fn is_received(
+    came: &Option<Forwarding>,
+    cents: Cents,
+    stamp: Moment,
+    limit: u32,
+    here: &Option<Outcome>,
+    there: &Option<Outcome>,
+) -> bool
+    ensures { IsTrue result ↔ IsReceived cents (deadline_of limit stamp) here.now there.now came.now }
+{
+    match came {
+        Some(forwarding) => {
+            forwarding.cents == cents
+                && is_deadline(stamp, limit, forwarding.deadline)
+                && is_same(there, here)
+        }
+        None => is_released(here),
+    }
+}
+
+/// Whether what was sent agrees with what came to the beneficiary `to`.
+fn is_sent(sent: &Option<Sending>, limit: u32, to: u8, cents: Cents, deadline: Moment) -> bool
+    ensures { IsTrue result ↔ IsSent limit to cents deadline sent.now }
+{
+    match sent {
+        Some(sending) => {
+            sending.to == to
+                && sending.cents == cents
+                && is_deadline(sending.stamp, limit, deadline)
+        }
+        None => false,
+    }
+}
+
+/// What came of the transfer to the participant `who`.
+fn forwarding(ledgers: &[Ledger], who: u8, from: u8, id: &Ident) -> Option<Forwarding>
+    ensures { result ≡ first_some (forwarding_of (from, id.now)) (histories_of ledgers.now who) }
+{
+    ledgers.get(usize::from(who))?.forwarding(from, id)
+}
+
+/// What the participant `who` has sent with the transfer.
+fn sending(ledgers: &[Ledger], who: u8, id: &Ident) -> Option<Sending>
+    ensures { result ≡ first_some (sending_of id.now) (histories_of ledgers.now who) }
+{
+    ledgers.get(usize::from(who))?.sending(id)
+}
+
+/// The outcome that the participant `who` has booked for the transfer.
+fn booked(ledgers: &[Ledger], who: u8, from: u8, id: &Ident) -> Option<Outcome>
+    ensures { result ≡ booked from id.now (histories_of ledgers.now who) }
+{
+    ledgers.get(usize::from(who))?.booked(from, id)
+}
+
+/// Whether what the event of the participant `who` says of a transfer agrees with what the other side has. It
+/// costs three looks at a table at most.
+fn agrees(ledgers: &[Ledger], limit: u32, who: u8, event: &Event) -> bool
+    ensures { IsTrue result ↔ Agrees limit (histories_of ledgers.now) who event.now }
+{
+    match event {
+        Event::Taken {
+            id,
+            to,
+            cents,
+            stamp,
+        } => is_received(
+            &forwarding(ledgers, *to, who, id),
+            *cents,
+            *stamp,
+            limit,
+            &booked(ledgers, who, who, id),
+            &booked(ledgers, *to, who, id),
+        ),
+        Event::Forwarded {
+            from,
+            id,
+            cents,
+            deadline,
+        } => is_sent(&sending(ledgers, *from, id), limit, who, *cents, *deadline),
+        Event::Funded { .. }
+        | Event::Defunded { .. }
+        | Event::Booked { .. }
+        | Event::Fetched { .. }
+        | Event::Opened => true,
+    }
+}
+
+/// Whether each of these events of the participant `who` agrees with the other side.
+fn all_agree(ledgers: &[Ledger], limit: u32, who: u8, events: &[Event]) -> bool
+    ensures { IsTrue result ↔ All (Agrees limit (histories_of ledgers.now) who) events.now }
+{
+    mention::<Outcome>();
+    events
+        .iter()
+        .all(|event| agrees(ledgers, limit, who, event))
+}
+
+/// Whether all that the ledgers have of each transfer agrees, event by event.
+pub(crate) fn books_agree(ledgers: &[Ledger], limit: u32) -> bool
+    requires { length ledgers.now ≤ 256 }
+    ensures { IsTrue result ↔ ((p : ℕ) → All (Agrees limit (histories_of ledgers.now) p) (histories_of ledgers.now p)) }
+{
+    for (who, ledger) in ledgers.iter().enumerate() {
+        if !all_agree(ledgers, limit, who as u8, ledger.journal().events()) {
+            return false;
+        }
+    }
+    true
+}

@@ -1,5 +1,0 @@
-use Rattle.inst_bytes.proofs.Searching.{breaks_from_search}
-use Rattle.inst_bytes.proofs.newline.find_newline.Goals as goal
-
-pub returns : goal.returns
-returns c = breaks_from_search c.args.bytes.now c.memchr.result c.memchr.ensures

@@ -1,2 +1,0 @@
-pub mod Newline
-pub mod Handing

@@ -1,3 +1,0 @@
-pub mod LogFault
-pub mod AnyFault
-pub mod Excerpt

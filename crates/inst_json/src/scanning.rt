@@ -1,0 +1,12 @@
+//! Lines that are flat objects of plain texts and whole numbers, read in one pass with no tree.
+
+mod broken;
+mod fields;
+mod form;
+mod line;
+mod member;
+mod parts;
+
+pub use fields::{Field, Fields};
+pub use form::Form;
+pub use line::{scan, scan_into};

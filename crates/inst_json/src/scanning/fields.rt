@@ -1,0 +1,87 @@
+//! What a line has under the names that lines know.
+ghost use Rattle.std.specs.Prelude.{◌≡◌, set};
+ghost use Rattle.inst_json.specs.inner.Names.{place_of};
+ghost use Rattle.inst_json.specs.LineFields.{listed, no_fields};
+
+/// What a line has under one name.
+#[derive(Clone, Copy, Drop)]
+pub enum Field<'a> {
+    Missing,
+    /// A text, with its escapes resolved.
+    Text(&'a str),
+    /// A whole number of 64 bits.
+    Whole(u64),
+    /// Neither a text nor a whole number of 64 bits.
+    Other,
+}
+
+/// What a line has under each name that lines know; other names are let go.
+#[derive(Clone, Copy, Drop)]
+pub struct Fields<'a> {
+    pub cmd: Field<'a>,
+    pub who: Field<'a>,
+    pub at: Field<'a>,
+    pub reference: Field<'a>,
+    pub id: Field<'a>,
+    pub to: Field<'a>,
+    pub from: Field<'a>,
+    pub cents: Field<'a>,
+    pub stamp: Field<'a>,
+    pub reason: Field<'a>,
+    pub max: Field<'a>,
+    pub skip: Field<'a>,
+    pub count: Field<'a>,
+    pub step: Field<'a>,
+    pub place: Field<'a>,
+}
+
+impl<'a> Fields<'a> {
+    /// No field.
+    #[inline(always)]
+    pub fn new() -> Fields<'a>
+        ensures { listed result ≡ no_fields }
+    {
+        Fields {
+            cmd: Field::Missing,
+            who: Field::Missing,
+            at: Field::Missing,
+            reference: Field::Missing,
+            id: Field::Missing,
+            to: Field::Missing,
+            from: Field::Missing,
+            cents: Field::Missing,
+            stamp: Field::Missing,
+            reason: Field::Missing,
+            max: Field::Missing,
+            skip: Field::Missing,
+            count: Field::Missing,
+            step: Field::Missing,
+            place: Field::Missing,
+        }
+    }
+
+    /// Puts what stands under a name into its field, where there is one.
+    #[inline(always)]
+    pub(crate) fn put(&mut self, name: &str, field: Field<'a>)
+        ensures { listed self.new ≡ set (listed self.old) (place_of name.now) field.entry }
+    {
+        match name {
+            "cmd" => self.cmd = field,
+            "who" => self.who = field,
+            "at" => self.at = field,
+            "ref" => self.reference = field,
+            "id" => self.id = field,
+            "to" => self.to = field,
+            "from" => self.from = field,
+            "cents" => self.cents = field,
+            "stamp" => self.stamp = field,
+            "reason" => self.reason = field,
+            "max" => self.max = field,
+            "skip" => self.skip = field,
+            "count" => self.count = field,
+            "step" => self.step = field,
+            "place" => self.place = field,
+            _ => {}
+        }
+    }
+}

@@ -1,0 +1,158 @@
+//! The parts of a line: spaces, a plain text, a whole number.
+ghost use Rattle.std.specs.Prelude.{◌≡◌, ◌+◌, ◌<◌, ◌≤◌, ◌^◌, ◌++◌, ◌∷◌, [], true, false, not, map, length, drop, slice_index, Some, IfSome, decimal};
+ghost use Rattle.std.specs.List.{prefix_len};
+ghost use Rattle.std.specs.Str.{IsAscii};
+ghost use Rattle.inst_json.specs.inner.Scalar.{is_text};
+ghost use Rattle.std.specs.Simd.Lanes.{mask_l};
+ghost use Rattle.json.specs.Word.{is_space, ends_word};
+ghost use Rattle.json.specs.Text.{content, plain};
+ghost use Rattle.json.specs.Token.{number};
+ghost use Rattle.json.specs.Lex.{lex, between, in_string, token};
+
+use std::simd::prelude::*;
+use std::str;
+
+/// Whether the byte is one of the four spaces of JSON.
+#[inline(always)]
+fn is_space(byte: u8) -> bool
+    ensures { result ≡ is_space byte }
+{
+    byte == b' ' || byte == b'\t' || byte == b'\n' || byte == b'\r'
+}
+
+/// The first place from `from` on where no space stands.
+#[inline(always)]
+pub(crate) fn skip_space(text: &[u8], from: usize) -> usize
+    requires { from ≤ length text.now }
+    ensures from { from ≤ result }
+    ensures within { result ≤ length text.now }
+    ensures stops { result < length text.now → is_space (slice_index text.now result) ≡ false }
+    ensures same { lex between (drop result text.now) ≡ lex between (drop from text.now) }
+    ensures ascii { IsAscii (drop result text.now) → IsAscii (drop from text.now) }
+{
+    let mut at = from;
+    while at < text.len() && is_space(text[at]) {
+        at += 1;
+    }
+    at
+}
+
+/// Which of sixteen bytes are a quote, a backslash, a control byte or no ASCII.
+#[inline(always)]
+fn stops(bytes: u8x16) -> u64
+    ensures { result ≡ mask_l (map (λ x. not (is_text x)) bytes) }
+{
+    (bytes.simd_eq(u8x16::splat(b'"'))
+        | bytes.simd_eq(u8x16::splat(b'\\'))
+        | bytes.simd_lt(u8x16::splat(0x20))
+        | bytes.simd_ge(u8x16::splat(0x80))).to_bitmask()
+}
+
+/// The same, where fewer than sixteen bytes may be left.
+#[inline(always)]
+fn plain_end_slowly(text: &[u8], from: usize) -> usize
+    requires { from ≤ length text.now }
+    ensures value { result ≡ from + prefix_len is_text (drop from text.now) }
+    ensures within { result ≤ length text.now }
+{
+    let mut at = from;
+    while at < text.len()
+        && text[at] != b'"'
+        && text[at] != b'\\'
+        && text[at] >= 0x20
+        && text[at] < 0x80
+    {
+        at += 1;
+    }
+    at
+}
+
+/// The first quote, backslash, control byte or byte that is not ASCII from `from` on, or the end.
+#[inline(always)]
+pub(crate) fn plain_end(text: &[u8], from: usize) -> usize
+    requires { from ≤ length text.now }
+    ensures value { result ≡ from + prefix_len is_text (drop from text.now) }
+    ensures within { result ≤ length text.now }
+{
+    let mut at = from;
+    while text.len() - at >= 16 {
+        let found = stops(u8x16::from_slice(&text[at..]));
+        if found != 0 {
+            return at + found.trailing_zeros() as usize;
+        }
+        at += 16;
+    }
+    plain_end_slowly(text, at)
+}
+
+/// The text that begins behind a quote, where it has no escape, and the place behind its closing quote.
+#[inline(always)]
+pub(crate) fn string(text: &[u8], from: usize) -> Option<(&str, usize)>
+    requires { from ≤ length text.now }
+    ensures within { IfSome result (λ p. (from < p.1) × (p.1 ≤ length text.now)) }
+    ensures value { IfSome result (λ p. content plain (drop from text.now) ≡ Some p.0.now) }
+    ensures rest { IfSome result (λ p. lex in_string (drop from text.now) ≡ lex between (drop p.1 text.now)) }
+    ensures ascii { IfSome result (λ p. IsAscii (drop p.1 text.now) → IsAscii (drop from text.now)) }
+{
+    let end = plain_end(text, from);
+    if end < text.len() && text[end] == b'"' {
+        // Only ASCII stands before `end`.
+        let word = unsafe { str::from_utf8_unchecked(&text[from..end]) };
+        Some((word, end + 1))
+    } else {
+        None
+    }
+}
+
+/// The digits from `from` on, where none stands for nothing: their value, of at most 19 digits, and
+/// the place behind them.
+#[inline(always)]
+fn digits(text: &[u8], from: usize) -> Option<(u64, usize)>
+    requires { from ≤ length text.now }
+    ensures within { IfSome result (λ p. (from < p.1) × (p.1 ≤ length text.now)) }
+    ensures small { IfSome result (λ p. p.0 < 2 ^ 64) }
+    ensures value { IfSome result (λ p. drop from text.now ≡ decimal p.0 ++ drop p.1 text.now) }
+{
+    if from >= text.len() || !text[from].is_ascii_digit() {
+        return None;
+    }
+    let mut value = u64::from(text[from] - b'0');
+    let mut at = from + 1;
+    if value == 0 {
+        return Some((value, at));
+    }
+    while at < text.len() && text[at].is_ascii_digit() {
+        if value >= 1_000_000_000_000_000_000 {
+            return None;
+        }
+        value = value * 10 + u64::from(text[at] - b'0');
+        at += 1;
+    }
+    Some((value, at))
+}
+
+/// Whether a number may end before this byte.
+#[inline(always)]
+fn ends_number(byte: u8) -> bool
+    ensures { result ≡ true → ends_word (byte ∷ []) ≡ true }
+{
+    byte == b',' || byte == b'}' || byte == b' '
+}
+
+/// A whole number of at most 19 digits behind which its word ends, and the place behind it.
+#[inline(always)]
+pub(crate) fn whole(text: &[u8], from: usize) -> Option<(u64, usize)>
+    requires { from ≤ length text.now }
+    ensures within { IfSome result (λ p. (from < p.1) × (p.1 ≤ length text.now)) }
+    ensures small { IfSome result (λ p. p.0 < 2 ^ 64) }
+    ensures lexed { IfSome result (λ p. lex between (drop from text.now)
+        ≡ token (number (decimal p.0)) ∷ lex between (drop p.1 text.now)) }
+    ensures ascii { IfSome result (λ p. IsAscii (drop p.1 text.now) → IsAscii (drop from text.now)) }
+{
+    let (value, end) = digits(text, from)?;
+    if end < text.len() && ends_number(text[end]) {
+        Some((value, end))
+    } else {
+        None
+    }
+}

@@ -1,0 +1,100 @@
+ghost use Rattle.std.specs.Prelude.{◌≡◌, ◌↔◌, IfSome, None, true};
+ghost use Rattle.inst_options.specs.AnyFault.{number_of, name_of, IsNamed};
+ghost use Rattle.inst_options.specs.declared.any_fault.AnyFault.{AnyFault as SomeFault};
+
+use crate::log_fault::LogFault;
+use inst_base::Fault;
+
+/// What a line is refused by, or a program ends by.
+#[derive(Clone, Copy, Debug, PartialEq, Eq)]
+pub enum AnyFault {
+    /// Of a line, a command or a run, from 1 to 18.
+    Hub(Fault),
+    /// Of the log of a run, from 19 to 28.
+    Log(LogFault),
+    /// No run of the hub in one thread was found that leaves the books of a drill's opening: 29.
+    NoInterleaving,
+}
+
+/// All there are, by their numbers.
+const ALL: &'static [AnyFault] = &[
+    AnyFault::Hub(Fault::NotJson),
+    AnyFault::Hub(Fault::BadField),
+    AnyFault::Hub(Fault::BadIdentifier),
+    AnyFault::Hub(Fault::BadAmount),
+    AnyFault::Hub(Fault::BadMoment),
+    AnyFault::Hub(Fault::UnknownParticipant),
+    AnyFault::Hub(Fault::SelfTransfer),
+    AnyFault::Hub(Fault::UnknownTransfer),
+    AnyFault::Hub(Fault::Duplicate),
+    AnyFault::Hub(Fault::StampAhead),
+    AnyFault::Hub(Fault::Expired),
+    AnyFault::Hub(Fault::Full),
+    AnyFault::Hub(Fault::Shortage),
+    AnyFault::Hub(Fault::Memory),
+    AnyFault::Hub(Fault::BadSettings),
+    AnyFault::Hub(Fault::LineTooLong),
+    AnyFault::Hub(Fault::ReadFault),
+    AnyFault::Hub(Fault::WriteFault),
+    AnyFault::Log(LogFault::DiskFault),
+    AnyFault::Log(LogFault::OtherSettings),
+    AnyFault::Log(LogFault::NoLog),
+    AnyFault::Log(LogFault::ToldAhead),
+    AnyFault::Log(LogFault::LogInUse),
+    AnyFault::Log(LogFault::BadBooks),
+    AnyFault::Log(LogFault::LastOpening),
+    AnyFault::Log(LogFault::DamagedLog),
+    AnyFault::Log(LogFault::OtherDigest),
+    AnyFault::Log(LogFault::ChangedLog),
+    AnyFault::NoInterleaving,
+];
+
+impl AnyFault {
+    /// The number that the reply or the fault line shows.
+    pub fn number(self) -> u8
+        ensures { result ≡ number_of self }
+    {
+        match self {
+            AnyFault::Hub(fault) => fault.number(),
+            AnyFault::Log(fault) => fault.number(),
+            AnyFault::NoInterleaving => 29,
+        }
+    }
+
+    /// The name that the reply or the fault line shows.
+    pub fn name(self) -> &'static str
+        ensures { result.now ≡ name_of self }
+    {
+        match self {
+            AnyFault::Hub(fault) => fault.name(),
+            AnyFault::Log(fault) => fault.name(),
+            AnyFault::NoInterleaving => "NoInterleaving",
+        }
+    }
+}
+
+/// The fault that this word names, by its number in digits, which may follow a plus, or by its name.
+///
+/// ```text
+/// fault_of("13")       // Some(AnyFault::Hub(Fault::Shortage))
+/// fault_of("Shortage") // the same
+/// fault_of("30")       // None
+/// ```
+pub fn fault_of(word: &str) -> Option<AnyFault>
+    ensures named { IfSome result (λ fault. IsNamed word.now fault) }
+    ensures none { result ≡ None → (fault : SomeFault) → ¬ IsNamed word.now fault }
+{
+    for fault in ALL {
+        if is_named(word, *fault) {
+            return Some(*fault);
+        }
+    }
+    None
+}
+
+/// Whether this word names the fault.
+fn is_named(word: &str, fault: AnyFault) -> bool
+    ensures { (result ≡ true) ↔ IsNamed word.now fault }
+{
+    word == fault.name() || word.parse::<u8>() == Ok(fault.number())
+}

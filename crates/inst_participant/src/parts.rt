@@ -1,0 +1,78 @@
+ghost use Rattle.std.specs.Prelude.{◌≡◌, ◌<◌, IfOk};
+ghost use Rattle.inst_board.specs.declared.about.About.TheVariants.{Opened};
+ghost use Rattle.inst_board.specs.declared.place.Place.{Place};
+ghost use Rattle.inst_board.specs.Standing.{about};
+ghost use Rattle.inst_cell.specs.Held.{knows};
+ghost use Rattle.inst_model.specs.Closing.{AreClosed};
+ghost use Rattle.inst_model.specs.Opening.{Opening};
+ghost use Rattle.inst_settings.specs.Settings.{participants};
+ghost use Rattle.inst_participant.specs.Sweeping.{new_events};
+ghost use Rattle.inst_participant.specs.Together.{histories};
+ghost use Rattle.inst_participant.specs.InTheBooks.{IsInTheBooks};
+ghost use Rattle.inst_participant.specs.Apart.{IsPartsOf, AreLater, histories_of};
+ghost use Rattle.inst_participant.specs.Parts.{IsSettledAt};
+
+use crate::settled::{settle_each, settle_one};
+use inst_cell::SharedBoard;
+use inst_settings::Settings;
+use inst_slot::Slot;
+use std::alloc::AllocError;
+
+/// What a hub is taken apart into: the slots of its participants, by number, and one board with the roles of all of them.
+#[derive(Drop)]
+pub struct Parts {
+    pub(crate) settings: Settings,
+    pub(crate) slots: Vec<Slot>,
+    pub(crate) board: SharedBoard,
+}
+
+impl Parts {
+    /// These slots over this board.
+    pub fn of(settings: Settings, slots: Vec<Slot>, board: SharedBoard) -> Parts
+        ensures settings { result.settings ≡ settings }
+        ensures slots { result.slots.items ≡ slots.items }
+        ensures board { result.board ≡ board }
+    {
+        Parts {
+            settings,
+            slots,
+            board,
+        }
+    }
+
+    /// Books what is decided of the transfers in the book of `who`, its own by place and then those that came in order of
+    /// arrival, and gets what is pending for it, by originator and place. How many of these were new. Refused
+    /// memory ends it, and what was done before stands.
+    pub fn settle(&mut self, who: u8) -> Result<u32, AllocError>
+        requires parts { (O : Opening) × IsPartsOf O self.old }
+        requires participant { who < participants self.old.settings }
+        ensures later { AreLater self.old self.new }
+        ensures settled { IfOk result (λ _. IsSettledAt knows self.new.board who self.new.slots.items) }
+        ensures count { IfOk result (λ count. count ≡ new_events (histories_of self.old who) (histories_of self.new who)) }
+    {
+        settle_one(&mut self.slots, &mut self.board, who)
+    }
+
+    /// Settles each participant by number: then the books are closed, and all that the board knew is in them.
+    pub fn settle_all(&mut self) -> Result<(), AllocError>
+        requires parts { (O : Opening) × IsPartsOf O self.old }
+        ensures later { AreLater self.old self.new }
+        ensures closed { IfOk result (λ _. AreClosed self.old.settings (histories self.new.slots.items)) }
+        ensures told { IfOk result (λ _. (k : Place) → knows self.old.board (about k Opened) → IsInTheBooks knows self.old.board (histories self.new.slots.items) k) }
+    {
+        settle_each(&self.settings, &mut self.slots, &mut self.board)
+    }
+
+    /// The settings and the slots. The board is dropped.
+    pub fn into_slots(self) -> (Settings, Vec<Slot>)
+        ensures settings { result.0 ≡ self.settings }
+        ensures slots { result.1.items ≡ self.slots.items }
+    {
+        let Parts {
+            settings,
+            slots,
+            ..
+        } = self;
+        (settings, slots)
+    }
+}

@@ -1,3 +1,0 @@
-pub mod PlaceByPlace
-pub mod Parted
-pub mod Joining

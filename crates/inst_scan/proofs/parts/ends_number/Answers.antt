@@ -1,5 +1,0 @@
-use Rattle.std.proofs.Common.{rules}
-use Rattle.inst_scan.proofs.parts.ends_number.Goals as goal
-
-pub returns-else-byte-eq125 : goal.returns-else-byte-eq125
-returns-else-byte-eq125 c = search rules

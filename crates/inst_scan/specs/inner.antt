@@ -1,3 +1,0 @@
-pub mod Scalar
-pub mod Names
-pub mod Begin

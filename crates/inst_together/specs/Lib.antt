@@ -1,3 +1,0 @@
-pub mod Together
-pub mod Wider
-pub mod Told
