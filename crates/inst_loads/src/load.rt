@@ -3,6 +3,8 @@
 //! funding.
 pub(crate) mod rounds;
 
+use crate::words::MOST_WORDS;
+
 /// How many participants the hub has.
 pub(crate) const PARTICIPANTS: u16 = 64;
 
@@ -52,9 +54,6 @@ pub(crate) fn threads_of(words: &[String]) -> Option<(u8, u32)> {
     let rounds = words.get(3)?.parse().ok()?;
     Some((threads, rounds))
 }
-
-/// How many words choose a load at most, with the program's name and without `open`.
-const MOST_WORDS: usize = 5;
 
 /// What the threads do.
 #[derive(Clone, Copy)]

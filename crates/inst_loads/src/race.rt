@@ -46,6 +46,21 @@ pub(crate) struct Finish {
 }
 
 impl Finish {
+    /// How the race of the first two of these participants ended, with so many expiries that booked an outcome.
+    fn of(alloc: Global, hub: &[Participant], expired: u16) -> Result<Finish, Fault> {
+        let [first, second, ..] = hub else {
+            return Err(Fault::BadSettings);
+        };
+        let (accepted, timed_out) = outcomes(alloc, first, second)?;
+        Ok(Finish {
+            expired,
+            accepted,
+            timed_out,
+            sum: sum(first, second),
+            is_explained: are_explained(alloc, hub)?,
+        })
+    }
+
     /// Whether it is a finish that a race may have: each expiry booked an outcome, both books have the same one of each
     /// transfer, no cent came or went, and a run in one thread leaves the books.
     pub(crate) fn is_whole(&self) -> bool {
@@ -131,14 +146,14 @@ fn sum(first: &Participant, second: &Participant) -> u128 {
     first.saturating_add(second.journal().position())
 }
 
-/// The race of these two for transfers that are pending.
+/// The race of these two for transfers that are pending: of how many an expiry booked an outcome.
 fn run<R: Threads + Sync>(
     rt: &R,
     alloc: Global,
     first: &mut Participant,
     second: &mut Participant,
     margin: u32,
-) -> Result<Finish, Fault> {
+) -> Result<u16, Fault> {
     let deadline = Moment::new(0, DEADLINE)?;
     let last = Moment::new(0, DEADLINE.saturating_sub(u64::from(margin) + 1))?;
     let (expired, confirmed) = join_mut(
@@ -147,14 +162,7 @@ fn run<R: Threads + Sync>(
         &mut || confirm_all(alloc, second, last),
     );
     confirmed?;
-    let (accepted, timed_out) = outcomes(alloc, first, second)?;
-    Ok(Finish {
-        expired: expired?,
-        accepted,
-        timed_out,
-        sum: sum(first, second),
-        is_explained: false,
-    })
+    expired
 }
 
 /// The beneficiary confirms all transfers at the last moment in time, while the originator lets them expire
@@ -165,9 +173,6 @@ pub(crate) fn race<R: Threads + Sync>(rt: &R, alloc: Global, margin: u32) -> Res
         return Err(Fault::BadSettings);
     };
     submit_all(alloc, first, second)?;
-    let finish = run(rt, alloc, first, second, margin)?;
-    Ok(Finish {
-        is_explained: are_explained(alloc, &hub)?,
-        ..finish
-    })
+    let expired = run(rt, alloc, first, second, margin)?;
+    Finish::of(alloc, &hub, expired)
 }

@@ -22,8 +22,8 @@ that the program's time is that of the load. How it ended is told on standard er
 where the words are others.
 ";
 
-/// How many words choose a stress at most, with the program's name.
-const MOST_WORDS: usize = 5;
+/// How many words choose a load or a stress at most, with the program's name and without `open`.
+pub(crate) const MOST_WORDS: usize = 5;
 
 /// What is run.
 #[derive(Clone, Copy)]
